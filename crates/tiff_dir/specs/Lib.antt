@@ -1,1 +1,10 @@
-
+pub mod Number
+pub mod File
+pub mod Profile
+pub mod Level
+pub mod Needs
+pub mod Fault
+pub mod Packets
+pub mod Query
+pub mod Window
+pub mod Faulty

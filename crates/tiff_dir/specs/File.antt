@@ -1,0 +1,135 @@
+-- What a file's bytes say: its numbers, directories, fields and values (TIFF 6.0, section 2).
+use Rattle.std.specs.Prelude.{◌≡◌, ℕ, zero, suc, ◌+◌, ◌*◌, ◌-◌, ◌<◌, Bool, true, false, ◌&&◌, nat_eq, nat_lt, nat_le, ◌==◌, if◌then◌else◌, List, [], ◌∷◌, length, codes, slice_get, Option, Some, None}
+use Rattle.std.specs.Option.{option_map_or}
+use Rattle.std.specs.List.{filter, find, range_with_len, starts_with}
+use Rattle.tiff_dir.specs.declared.order.Order.{Order}
+use Rattle.tiff_dir.specs.declared.order.Order.TheVariants.{Little, Big}
+use Rattle.tiff_dir.specs.declared.level.Kind.{Kind}
+use Rattle.tiff_dir.specs.declared.level.Kind.TheVariants as kind
+use Rattle.tiff_dir.specs.Number.{number_in}
+
+infixl 10 ◌>>=◌
+abbrev pub ◌>>=◌ : {A B : Type 0} → Option A → (A → Option B) → Option B
+(Some x) >>= f = f x
+None >>= f = None
+
+-- the order that the first two bytes name
+unfoldable pub order_of : List ℕ → Option Order
+order_of f =
+    if starts_with nat_eq f (codes "II") then Some Little else if starts_with nat_eq f (codes "MM") then Some Big else None
+
+-- The number of the n bytes from at, in the file's order, where they are in the file.
+unfoldable pub number : List ℕ → ℕ → ℕ → Option ℕ
+number f at n = do
+  order ← order_of f
+  if nat_le (at + n) (length f) then Some (number_in order at n f) else None
+
+-- Where directory k begins: the header says it of the first, and each directory of the next.
+unfoldable pub directory : List ℕ → ℕ → Option ℕ
+directory f zero = number f 4 4
+directory f (suc k) = do
+  at ← directory f k
+  entries ← number f at 2
+  number f (at + 2 + 12 * entries) 4
+
+abbrev pub is_above_zero : Option ℕ → Bool
+is_above_zero None = false
+is_above_zero (Some n) = nat_lt 0 n
+
+-- none of the places of the directories 1 to k is 0 or missing
+unfoldable pub has_directory : List ℕ → ℕ → Bool
+has_directory f zero = true
+has_directory f (suc k) = has_directory f k && is_above_zero (directory f (suc k))
+
+-- the file's directories, by their numbers: 16 at most
+unfoldable pub directories : List ℕ → List ℕ
+directories f = filter (has_directory f) (range_with_len 0 16)
+
+-- how many entries directory k has
+unfoldable pub entry_count : List ℕ → ℕ → Option ℕ
+entry_count f k = directory f k >>= λ at. number f at 2
+
+-- what the first 8 of an entry's 12 bytes say, and where the entry stands
+pub record Field : Type 0 where
+  pub tag : ℕ
+  pub kind : ℕ
+  pub count : ℕ
+  pub place : ℕ
+
+abbrev pub field_at : Order → ℕ → List ℕ → Field
+field_at order at f = record {
+  tag = number_in order at 2 f;
+  kind = number_in order (at + 2) 2 f;
+  count = number_in order (at + 4) 4 f;
+  place = at;
+}
+
+-- the n entries from at
+unfoldable pub fields_from : Order → ℕ → ℕ → List ℕ → List Field
+fields_from order at zero f = []
+fields_from order at (suc n) f = field_at order at f ∷ fields_from order (at + 12) n f
+
+-- The entries of directory k, where its table with the next offset is in the file.
+unfoldable pub table : List ℕ → ℕ → Option (List Field)
+table f k = do
+  order ← order_of f
+  at ← directory f k
+  n ← entry_count f k
+  if nat_le (at + 2 + 12 * n + 4) (length f) then Some (fields_from order (at + 2) n f) else None
+
+-- the first entry with the tag
+abbrev pub with_tag : ℕ → List Field → Option Field
+with_tag tag fields = find (λ e. e.tag == tag) fields
+
+unfoldable pub field : List ℕ → ℕ → ℕ → Option Field
+field f k tag = table f k >>= with_tag tag
+
+-- the types 1 to 12
+abbrev pub kinds : List Kind
+kinds =
+    kind.Byte ∷ kind.Ascii ∷ kind.Short ∷ kind.Long ∷ kind.Rational ∷ kind.SignedByte ∷ kind.Undefined
+    ∷ kind.SignedShort ∷ kind.SignedLong ∷ kind.SignedRational ∷ kind.Float ∷ kind.Double ∷ []
+
+abbrev pub kind_of : ℕ → Option Kind
+kind_of zero = None
+kind_of (suc n) = slice_get kinds n
+
+-- how many bytes a value of the type has
+abbrev pub size_of : Kind → ℕ
+size_of kind.Byte = 1
+size_of kind.Ascii = 1
+size_of kind.Short = 2
+size_of kind.Long = 4
+size_of kind.Rational = 8
+size_of kind.SignedByte = 1
+size_of kind.Undefined = 1
+size_of kind.SignedShort = 2
+size_of kind.SignedLong = 4
+size_of kind.SignedRational = 8
+size_of kind.Float = 4
+size_of kind.Double = 8
+
+-- Where values of this size begin: left-justified in the entry's last four bytes where all of them fit,
+-- otherwise at the offset that stands there.
+unfoldable pub values_at : List ℕ → Field → ℕ → Option ℕ
+values_at f e size = if nat_le (e.count * size) 4 then Some (e.place + 8) else number f (e.place + 8) 4
+
+-- value i of a field
+unfoldable pub field_value : List ℕ → Field → ℕ → Option ℕ
+field_value f e i = do
+  kind ← kind_of e.kind
+  at ← values_at f e (size_of kind)
+  if nat_lt i e.count then number f (at + i * size_of kind) (size_of kind) else None
+
+-- what each value of an absent field stands for
+abbrev pub default_of : ℕ → Option ℕ
+default_of tag =
+    if tag == 254 then Some 0
+    else if tag == 277 then Some 1
+    else if tag == 284 then Some 1
+    else if tag == 339 then Some 1
+    else None
+
+-- Value i of the field with this tag in directory k.
+unfoldable pub value : List ℕ → ℕ → ℕ → ℕ → Option ℕ
+value f k tag i = table f k >>= λ fields. option_map_or (λ e. field_value f e i) (with_tag tag fields) (default_of tag)

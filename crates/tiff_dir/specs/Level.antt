@@ -1,0 +1,82 @@
+-- The levels of a file: its picture and the reduced pictures of it (TIFF 6.0, section 15; OGC 21-026).
+use Rattle.std.specs.Prelude.{◌≡◌, ℕ, ◌+◌, ◌*◌, Bool, false, ◌||◌, ◌==◌, nat_lt, nat_le, if◌then◌else◌, List, map, length, slice_get, slice_range, Option, Some, None}
+use Rattle.std.specs.Option.{option_map_or}
+use Rattle.std.specs.List.{filter, last_or, range_with_len}
+use Rattle.tiff_dir.specs.declared.level.Place.{Place}
+use Rattle.tiff_dir.specs.declared.level.Level.{Level}
+use Rattle.tiff_dir.specs.declared.level.Compression.{Compression}
+use Rattle.tiff_dir.specs.declared.level.Compression.TheVariants.{Plain, PackBits}
+use Rattle.tiff_dir.specs.File.{◌>>=◌, number, Field, field, kind_of, size_of, values_at, value, directories}
+use Rattle.tiff_dir.specs.Profile.{tile_bytes, tiles_along}
+
+-- directory 0, and each later one whose NewSubfileType is 1
+unfoldable pub is_level : List ℕ → ℕ → Bool
+is_level f k = k == 0 || option_map_or (λ v. v == 1) (value f k 254 0) false
+
+-- the directories that are levels, in order
+unfoldable pub level_directories : List ℕ → List ℕ
+level_directories f = filter (is_level f) (directories f)
+
+-- the directory of the level before directory k
+unfoldable pub previous_level : List ℕ → ℕ → Option ℕ
+previous_level f k = last_or None (filter (is_level f) (range_with_len 0 k))
+
+-- where the values of a field stand, in its entry or outside
+unfoldable pub place_of : List ℕ → Field → Option Place
+place_of f e = do
+  kind ← kind_of e.kind
+  first ← values_at f e (size_of kind)
+  Some (record { first = first; len = e.count * size_of kind; count = e.count; kind = kind })
+
+abbrev pub compression_of : ℕ → Option Compression
+compression_of v = if v == 1 then Some Plain else if v == 32773 then Some PackBits else None
+
+-- the level that the fields of directory k describe, where all that it says is there
+unfoldable pub level_at : List ℕ → ℕ → Option Level
+level_at f k = do
+  width ← value f k 256 0
+  length ← value f k 257 0
+  tile_width ← value f k 322 0
+  tile_length ← value f k 323 0
+  samples ← value f k 277 0
+  bits ← value f k 258 0
+  compression ← value f k 259 0 >>= compression_of
+  offsets ← field f k 324 >>= place_of f
+  counts ← field f k 325 >>= place_of f
+  Some (record { width = width; length = length; tile_width = tile_width; tile_length = tile_length; samples = samples; bits = bits; compression = compression; offsets = offsets; counts = counts })
+
+-- the levels in order, each where it is described
+unfoldable pub levels : List ℕ → List (Option Level)
+levels f = map (level_at f) (level_directories f)
+
+-- the directory of level n, and the level itself
+unfoldable pub level_directory : List ℕ → ℕ → Option ℕ
+level_directory f n = slice_get (level_directories f) n
+
+unfoldable pub level_of : List ℕ → ℕ → Option Level
+level_of f n = level_directory f n >>= level_at f
+
+-- value i of the field with this tag in level n
+unfoldable pub level_value : List ℕ → ℕ → ℕ → ℕ → Option ℕ
+level_value f n tag i = level_directory f n >>= λ k. value f k tag i
+
+-- The bytes of tile t of level n, where they are in the file.
+unfoldable pub segment : List ℕ → ℕ → ℕ → Option (List ℕ)
+segment f n t = do
+  first ← level_value f n 324 t
+  count ← level_value f n 325 t
+  if nat_le (first + count) (length f) then Some (slice_range f first (first + count)) else None
+
+-- how many tiles stand side by side, and how many there are
+abbrev pub across : Level → ℕ
+across l = tiles_along l.width l.tile_width
+
+abbrev pub tile_total : Level → ℕ
+tile_total l = across l * tiles_along l.length l.tile_length
+
+-- how many bytes a tile has when it is unpacked, and a row of it
+abbrev pub plain_size : Level → ℕ
+plain_size l = tile_bytes l.tile_width l.tile_length l.samples
+
+abbrev pub plain_row : Level → ℕ
+plain_row l = l.tile_width * l.samples

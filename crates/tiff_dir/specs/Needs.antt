@@ -1,0 +1,51 @@
+-- The bytes of a file that its reader needs: those of its directories, which every query needs.
+use Rattle.std.specs.Prelude.{ℕ, ◌+◌, ◌*◌, Bool, ◌&&◌, nat_lt, nat_le, if◌then◌else◌, List, [], ◌∷◌, ◌++◌, length, Option, Some, None}
+use Rattle.std.specs.List.{flat_map}
+use Rattle.std.specs.Option.{option_to_list}
+use Rattle.tiff_dir.specs.declared.level.Place.{Place}
+use Rattle.tiff_dir.specs.File.{◌>>=◌, directory, directories, entry_count, field}
+use Rattle.tiff_dir.specs.Level.{is_level, place_of}
+
+-- len bytes from first
+pub record Range : Type 0 where
+  pub first : ℕ
+  pub len : ℕ
+
+abbrev pub ends_past : List ℕ → Range → Bool
+ends_past f r = nat_lt (length f) (r.first + r.len)
+
+-- a directory has 1 to 256 entries
+abbrev pub is_entry_count : ℕ → Bool
+is_entry_count n = nat_lt 0 n && nat_le n 256
+
+abbrev pub header_range : Range
+header_range = record { first = 0; len = 8 }
+
+-- the count of directory k
+unfoldable pub count_range : List ℕ → ℕ → Option Range
+count_range f k = directory f k >>= λ at. Some (record { first = at; len = 2 })
+
+-- its table of 1 to 256 entries, with the offset of the next directory
+unfoldable pub table_range : List ℕ → ℕ → Option Range
+table_range f k = do
+  at ← directory f k
+  n ← entry_count f k
+  if is_entry_count n then Some (record { first = at + 2; len = 12 * n + 4 }) else None
+
+-- a field's values, where they stand outside its entry
+abbrev pub outside_entry : Place → Option Range
+outside_entry p = if nat_lt 4 p.len then Some (record { first = p.first; len = p.len }) else None
+
+unfoldable pub outside_range : List ℕ → ℕ → ℕ → Option Range
+outside_range f k tag = field f k tag >>= place_of f >>= outside_entry
+
+-- what is read of directory k: of a level also BitsPerSample and SampleFormat
+unfoldable pub ranges_of_directory : List ℕ → ℕ → List Range
+ranges_of_directory f k =
+    option_to_list (count_range f k) ++ option_to_list (table_range f k)
+    ++ (if is_level f k then option_to_list (outside_range f k 258) ++ option_to_list (outside_range f k 339) else [])
+
+-- The ranges that every query needs, in the order in which they are read. A range is among them where each
+-- value that gives its place is in the file.
+unfoldable pub needs_of_directories : List ℕ → List Range
+needs_of_directories f = header_range ∷ flat_map (ranges_of_directory f) (directories f)

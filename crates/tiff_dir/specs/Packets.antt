@@ -1,0 +1,42 @@
+-- PackBits (TIFF 6.0, section 9).
+use Rattle.std.specs.Prelude.{◌≡◌, ℕ, ◌+◌, ◌-◌, ◌%◌, ◌≤◌, List, [], ◌∷◌, length, replicate, ⊤}
+use Rattle.std.specs.List.{flat_map, AllByRecursion}
+
+pub data Packet : Type 0 where
+  -- the bytes themselves
+  Copied : (bytes : List ℕ) → Packet
+  -- one byte several times
+  Repeated : (times byte : ℕ) → Packet
+  -- nothing
+  Passed : Packet
+
+-- a signed byte n from 0 to 127 copies n + 1 bytes, one from -127 to -1 repeats a byte 1 - n times
+abbrev pub IsPacket : Packet → Type 0
+IsPacket (Copied bytes) = (1 ≤ length bytes) × (length bytes ≤ 128)
+IsPacket (Repeated times byte) = (2 ≤ times) × (times ≤ 128)
+IsPacket Passed = ⊤
+
+-- how a packet is written
+abbrev pub written : Packet → List ℕ
+written (Copied bytes) = (length bytes - 1) ∷ bytes
+written (Repeated times byte) = (257 - times) ∷ byte ∷ []
+written Passed = 128 ∷ []
+
+-- what it stands for
+abbrev pub output : Packet → List ℕ
+output (Copied bytes) = bytes
+output (Repeated times byte) = replicate times byte
+output Passed = []
+
+-- no output crosses a multiple of row, the first one beginning at this place
+abbrev pub KeepRows : ℕ → ℕ → List Packet → Type 0
+KeepRows row at [] = ⊤
+KeepRows row at (p ∷ ps) = (at % row + length (output p) ≤ row) × KeepRows row (at + length (output p)) ps
+
+-- The bytes are packets whose outputs, joined, are out, and each row is packed by itself.
+pub record Packs (row : ℕ) (bytes out : List ℕ) : Type 0 where
+  pub packets : List Packet
+  pub lawful : AllByRecursion IsPacket packets
+  pub bytes_are : flat_map written packets ≡ bytes
+  pub out_is : flat_map output packets ≡ out
+  pub rows : KeepRows row 0 packets

@@ -1,0 +1,79 @@
+-- The fields of a level in this project's profile of tiled TIFF (TIFF 6.0, sections 8 and 15).
+use Rattle.std.specs.Prelude.{ℕ, ◌+◌, ◌-◌, ◌*◌, ◌/◌, ◌%◌, Bool, true, false, not, ◌&&◌, ◌||◌, ◌==◌, nat_lt, nat_le, if◌then◌else◌, List, [], ◌∷◌, Option, Some, None}
+use Rattle.tiff_dir.specs.declared.rule.Typing.{Typing}
+use Rattle.tiff_dir.specs.declared.rule.Typing.TheVariants as typing
+use Rattle.tiff_dir.specs.declared.rule.Count.{Count}
+use Rattle.tiff_dir.specs.declared.rule.Count.TheVariants.{One, Samples, Tiles}
+use Rattle.tiff_dir.specs.declared.rule.Rule.{Rule}
+
+-- NewSubfileType, which is looked at in every directory
+abbrev pub subfile_rule : Rule
+subfile_rule = record { tag = 254; typing = typing.Long; count = One; required = false }
+
+-- the fields that are read of a level, in the order of their tags
+unfoldable pub profile : List Rule
+profile =
+    record { tag = 254; typing = typing.Long; count = One; required = false }  -- NewSubfileType
+    ∷ record { tag = 256; typing = typing.ShortOrLong; count = One; required = true }  -- ImageWidth
+    ∷ record { tag = 257; typing = typing.ShortOrLong; count = One; required = true }  -- ImageLength
+    ∷ record { tag = 258; typing = typing.Short; count = Samples; required = true }  -- BitsPerSample
+    ∷ record { tag = 259; typing = typing.Short; count = One; required = true }  -- Compression
+    ∷ record { tag = 262; typing = typing.Short; count = One; required = true }  -- PhotometricInterpretation
+    ∷ record { tag = 277; typing = typing.Short; count = One; required = false }  -- SamplesPerPixel
+    ∷ record { tag = 284; typing = typing.Short; count = One; required = false }  -- PlanarConfiguration
+    ∷ record { tag = 322; typing = typing.ShortOrLong; count = One; required = true }  -- TileWidth
+    ∷ record { tag = 323; typing = typing.ShortOrLong; count = One; required = true }  -- TileLength
+    ∷ record { tag = 324; typing = typing.Long; count = Tiles; required = true }  -- TileOffsets
+    ∷ record { tag = 325; typing = typing.ShortOrLong; count = Tiles; required = true }  -- TileByteCounts
+    ∷ record { tag = 339; typing = typing.Short; count = Samples; required = false }  -- SampleFormat
+    ∷ []
+
+-- 3 is SHORT and 4 is LONG
+abbrev pub has_typing : Typing → ℕ → Bool
+has_typing typing.Short kind = kind == 3
+has_typing typing.Long kind = kind == 4
+has_typing typing.ShortOrLong kind = kind == 3 || kind == 4
+
+-- the field has as many values as the rule says; the arrays of tiles have a fault of their own
+abbrev pub has_count : Count → ℕ → ℕ → Bool
+has_count One samples count = count == 1
+has_count Samples samples count = count == samples
+has_count Tiles samples count = true
+
+-- the values that the profile accepts of a field
+abbrev pub accepts : ℕ → ℕ → Bool
+accepts tag v =
+    if tag == 258 then v == 8
+    else if tag == 259 then v == 1 || v == 32773
+    else if tag == 262 then v == 1 || v == 2
+    else if tag == 277 then v == 1 || v == 3
+    else if tag == 284 then v == 1 || v == 2
+    else if tag == 339 then v == 1
+    else true
+
+-- one sample with BlackIsZero, three with RGB
+abbrev pub samples_fit : ℕ → ℕ → Bool
+samples_fit samples photometric = (samples == 1 && photometric == 1) || (samples == 3 && photometric == 2)
+
+-- chunky samples, or the samples of planes of their own where there is one: the same layout
+abbrev pub planes_fit : ℕ → ℕ → Bool
+planes_fit planar samples = planar == 1 || (planar == 2 && samples == 1)
+
+-- a tile's side is a multiple of 16, and at least 16
+abbrev pub is_tile_side : ℕ → Bool
+is_tile_side side = nat_lt 0 side && (side % 16 == 0)
+
+-- how many bytes a tile has whose samples have one byte
+abbrev pub tile_bytes : ℕ → ℕ → ℕ → ℕ
+tile_bytes tile_width tile_length samples = tile_width * tile_length * samples
+
+-- how many tiles cover a side
+abbrev pub tiles_along : ℕ → ℕ → ℕ
+tiles_along side tile_side = (side + tile_side - 1) / tile_side
+
+-- the greatest number of bytes of a tile, and of tiles of a level
+abbrev pub max_tile_bytes : ℕ
+max_tile_bytes = 1048576
+
+abbrev pub max_tiles : ℕ
+max_tiles = 65536
