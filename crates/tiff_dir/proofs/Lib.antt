@@ -1,1 +1,2 @@
 pub mod Fixtures
+pub mod PacketLemmas
