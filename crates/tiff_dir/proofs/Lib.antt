@@ -1,2 +1,3 @@
 pub mod Fixtures
 pub mod PacketLemmas
+pub mod WindowLemmas

@@ -2,6 +2,7 @@
 #![tactic(auto)]
 
 mod fault;
+mod laws;
 mod level;
 mod memory;
 mod order;
@@ -10,6 +11,7 @@ mod rule;
 mod span;
 
 pub use fault::FileFault;
+pub use laws::one_window;
 pub use level::{Compression, Kind, Level, Place};
 pub use memory::Memory;
 pub use order::Order;
