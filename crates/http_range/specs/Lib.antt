@@ -1,0 +1,16 @@
+pub mod Tag
+pub mod Names
+pub mod Text
+pub mod Digits
+pub mod Fields
+pub mod Reply
+pub mod Ask
+pub mod Seen
+pub mod Request
+pub mod Range
+pub mod Head
+pub mod AnswerHead
+pub mod Piece
+pub mod ContentRange
+pub mod Steps
+pub mod Reading
