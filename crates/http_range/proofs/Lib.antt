@@ -10,3 +10,7 @@ pub mod RangeLemmas
 pub mod RequestLemmas
 pub mod TableLemmas
 pub mod RangeForms
+pub mod BookLemmas
+pub mod ServedLemmas
+pub mod HonestLemmas
+pub mod AskedLemmas

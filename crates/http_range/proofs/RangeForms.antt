@@ -123,7 +123,7 @@ behind_form text unit rest spec is_unit parts is =
         form_of text x y spec (record { unit = unit; is_unit = is_unit; parts = parts ∙ ap (λ (t : List ℕ). unit ++ t) split ∙ sym (append_assoc unit x (45 ∷ y)) }) is
     by_test false inside is = absurd (cc)
 
-read_form : (text : List ℕ) (spec : RangeSpec) → range_spec text ≡ Some spec → IsRangeText text spec
+pub read_form : (text : List ℕ) (spec : RangeSpec) → range_spec text ≡ Some spec → IsRangeText text spec
 unfolding range_spec
 read_form text spec is = by_test (bytes_eq (str_to_ascii_lowercase (take 6 text)) (codes "bytes=")) refl is
   where

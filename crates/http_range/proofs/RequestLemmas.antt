@@ -177,3 +177,12 @@ pub asked_read : (host name : List ℕ) (first last : ℕ) (tag : Option (List �
     → r ≡ Some (asked_request host name first last tag)
 asked_read host name first last tag more can bytes is r found =
     finds host name first last tag can bytes (whole host name first last tag can bytes more is) r found
+
+pub asked_has : (host name : List ℕ) (first last : ℕ) (tag : Option (List ℕ)) (more : List ℕ) → CanAsk host name first last tag
+    → (bytes : List ℕ) → bytes ≡ request_text host name first last tag ++ more
+    → HasRequest bytes (Some (asked_request host name first last tag))
+asked_has host name first last tag more can bytes is = (
+  head host name first last tag can,
+  whole host name first last tag can bytes more is,
+  sym (seen_is host name first last tag can),
+)

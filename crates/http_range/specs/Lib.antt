@@ -14,3 +14,7 @@ pub mod Piece
 pub mod ContentRange
 pub mod Steps
 pub mod Reading
+pub mod Book
+pub mod Served
+pub mod Honest
+pub mod Laws

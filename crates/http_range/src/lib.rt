@@ -8,6 +8,7 @@ mod ask;
 mod bytes;
 mod digits;
 mod fields;
+mod laws;
 mod line;
 mod numeral;
 mod range;
@@ -17,6 +18,9 @@ mod request;
 mod tag;
 
 pub use ask::write_request;
+pub use laws::{
+    answers_are_unique, clients_are_answered, publications_replace, tags_tell_versions,
+};
 pub use range::{RangeSpec, Resolved, read_range, resolve};
 pub use reading::{Piece, Reading, Why, read_answer};
 pub use reply::{Reply, write_head};

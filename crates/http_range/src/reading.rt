@@ -1,5 +1,5 @@
 //! A client's reading of answers.
-ghost use Rattle.std.specs.Prelude.{◌≡◌, ◌≤◌, length, option_copied, Some, Ok, IfOk, ℕ, Bool, List, ◌++◌, take};
+ghost use Rattle.std.specs.Prelude.{◌≡◌, ◌≤◌, length, option_copied, Some, Ok, IfOk, IsErr, ℕ, Bool, List, ◌++◌, take};
 ghost use Rattle.http_range.specs.Head.{front_of, FindsHead};
 ghost use Rattle.http_range.specs.AnswerHead.{head_seen, found_seen};
 ghost use Rattle.http_range.specs.Piece.{piece_seen, reading_seen, result_seen, number_of_why, piece_by};
@@ -7,6 +7,8 @@ ghost use Rattle.http_range.specs.ContentRange.{range_of, range_by, IsRange};
 ghost use Rattle.http_range.specs.Reading.{ReadsAnswer, front_seen};
 ghost use Rattle.http_range.specs.Steps.{whole_by, uncoded, tag_of, range_in, range_or, fits_range, length_or, length_in, answer_of, FoundAnswer};
 ghost use Rattle.http_range.specs.Reply.{IsSent, head_text};
+ghost use Rattle.http_range.specs.Book.{Publication};
+ghost use Rattle.http_range.specs.Honest.{IsHonestFor, IsNamelessFront, IsPieceOf};
 ghost use Rattle.http_range.specs.declared.reply.Reply.{Reply};
 
 use crate::answer_head::AnswerHead;
@@ -325,6 +327,12 @@ pub fn read_answer(bytes: &[u8]) -> Reading<'_>
     ensures front { (reply : Reply) (close : Bool) (body : List ℕ) (k : ℕ) → IsSent reply
         → bytes.now ≡ take k (head_text reply close ++ body)
         → reading_seen result ≡ front_seen reply close body k }
+
+    // A piece that is read of an honest answer for a publication is a piece of that file.
+    ensures honest { (p : Publication) → IsHonestFor bytes.now p → IfOk (reading_seen result) (IsPieceOf p) }
+
+    // An answer without a tag gives no piece.
+    ensures nameless { IsNamelessFront bytes.now → IsErr (reading_seen result) }
 {
     told(read(bytes))
 }

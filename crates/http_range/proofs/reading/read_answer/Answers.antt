@@ -1,4 +1,5 @@
 use Rattle.std.proofs.Common.{◌∙◌}
+use Rattle.http_range.proofs.HonestLemmas.{honest_read, nameless_read}
 use Rattle.http_range.proofs.RoundTrip.{front_read}
 use Rattle.http_range.proofs.TableLemmas.{found_reads}
 use Rattle.http_range.proofs.reading.read_answer.Goals as goal
@@ -9,3 +10,9 @@ returns-clause-reads c = rw c.told.ensures (found_reads _ _ c.read.ensures)
 pub returns-clause-front : goal.returns-clause-front
 returns-clause-front c reply close body k sent is =
     c.told.ensures ∙ front_read reply close body k sent c.args.bytes.now is _ c.read.ensures
+
+pub returns-clause-honest : goal.returns-clause-honest
+returns-clause-honest c p honest = rw c.told.ensures (honest_read c.args.bytes.now p honest _ c.read.ensures)
+
+pub returns-clause-nameless : goal.returns-clause-nameless
+returns-clause-nameless c front = rw c.told.ensures (nameless_read c.args.bytes.now front _ c.read.ensures)
