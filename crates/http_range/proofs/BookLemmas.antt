@@ -143,7 +143,7 @@ digits_tag (d ∷ ds) h =
     rw (digit_tag d parts.0, digits_tag ds parts.1)
 
 -- a text between quotes
-opaque_of : (m : List ℕ) → list_all is_tag_byte m ≡ true → is_opaque_tag (34 ∷ (m ++ 34 ∷ [])) ≡ true
+pub opaque_of : (m : List ℕ) → list_all is_tag_byte m ≡ true → is_opaque_tag (34 ∷ (m ++ 34 ∷ [])) ≡ true
 opaque_of m pass =
     let text = 34 ∷ (m ++ 34 ∷ []) in
     let long : length text ≡ length m + 2 = omega (arith, length-append m (34 ∷ [])) in

@@ -9,11 +9,13 @@ use Rattle.http_range.specs.Reply.{IsSent, head_text}
 use Rattle.http_range.specs.Piece.{SeenPiece}
 use Rattle.http_range.specs.Reading.{reply_seen, front_seen}
 use Rattle.http_range.specs.Steps.{FoundAnswer}
-use Rattle.http_range.specs.Book.{Publication, Catalogue, published}
-use Rattle.http_range.specs.Served.{Served, text_of}
-use Rattle.http_range.specs.Honest.{IsFront, IsHonestFor, IsNamelessFront, IsPieceOf}
+use Rattle.http_range.specs.Book.{Publication, Book, In, Includes, Covers, Catalogue, IsCatalogue, published}
+use Rattle.http_range.specs.Served.{Served, text_of, IsAnswer}
+use Rattle.http_range.specs.Honest.{IsFront, IsHonestFor, IsNamelessFront, IsHonest, IsPieceOf, IsPieceOfBook}
+use Rattle.http_range.specs.Laws.{HonestyIsKept}
+use Rattle.http_range.proofs.BookLemmas.{published_lawful}
 use Rattle.http_range.proofs.RoundTrip.{front_read}
-use Rattle.http_range.proofs.ServedLemmas.{Kind, IsRefusal, IsFileAnswer, kind_of}
+use Rattle.http_range.proofs.ServedLemmas.{Kind, IsRefusal, IsFileAnswer, kind_of, front_same, front_trans}
 
 front_is : (text whole : List ℕ) → IsFront text whole → text ≡ take (length text) whole
 front_is text whole front = sym (take-append_seam text front.0) ∙ ap (take (length text)) front.1
@@ -73,6 +75,13 @@ honest_read text p honest r found =
     (sym (front_told s text (sent_kind c s kind) honest.front r found))
     (honest_kind c s p (length text) honest.has honest.named kind)
 
+pub answer_read : (catalogue : Catalogue) (message : List ℕ) (s : Served) (k : ℕ) → IsCatalogue catalogue → IsAnswer catalogue message s
+    → (text : List ℕ) → text ≡ take k (text_of s) → (r : Result SeenPiece Why) → FoundAnswer text r
+    → r ≡ front_seen s.reply s.close s.body k
+answer_read catalogue message s k lawful answers text is r found =
+    let kind : Kind catalogue s = subst (Kind catalogue) (sym answers.2) (kind_of catalogue lawful answers.0) in
+    front_read s.reply s.close s.body k (sent_kind catalogue s kind) text is r found
+
 nameless_kind : (catalogue : Catalogue) (s : Served) (k : ℕ) → s.name ≡ None → Kind catalogue s
     → IsErr (front_seen s.reply s.close s.body k)
 nameless_kind catalogue s k none (inl is) = refusal_told s k is
@@ -86,3 +95,98 @@ nameless_read text front r found =
     subst (λ (x : Result SeenPiece Why). IsErr x)
     (sym (front_told s text (sent_kind c s kind) front.front r found))
     (nameless_kind c s (length text) front.nameless kind)
+
+in_book : (name : List ℕ) (book : Book) (p : Publication) → In p book → p.name ≡ name → (r : Result SeenPiece Why)
+    → IfOk r (IsPieceOf p) → IfOk r (IsPieceOfBook name book)
+in_book name book p there named (Ok piece) is = (p, there, named, is)
+in_book name book p there named (Err why) is = tt
+
+no_piece : (name : List ℕ) (book : Book) (r : Result SeenPiece Why) → IsErr r → IfOk r (IsPieceOfBook name book)
+no_piece name book (Ok piece) is = absurd (let wrong : false ≡ true = is in cc)
+no_piece name book (Err why) is = tt
+
+pub book_read : (text name : List ℕ) (book : Book) → IsHonest text name book → (r : Result SeenPiece Why) → FoundAnswer text r
+    → IfOk r (IsPieceOfBook name book)
+book_read text name book (inl of) r found =
+    in_book name book of.0 of.1 of.2 r (honest_read text of.0 of.3 r found)
+book_read text name book (inr nameless) r found = no_piece name book r (nameless_read text nameless r found)
+
+-- ---- honest answers stay honest
+
+honest_cut : (front text : List ℕ) (p : Publication) → IsFront front text → IsHonestFor text p → IsHonestFor front p
+honest_cut front text p cut h = record {
+  catalogue = h.catalogue;
+  message = h.message;
+  served = h.served;
+  lawful = h.lawful;
+  answers = h.answers;
+  has = h.has;
+  named = h.named;
+  front = front_trans front text (text_of h.served) cut h.front;
+}
+
+nameless_cut : (front text : List ℕ) → IsFront front text → IsNamelessFront text → IsNamelessFront front
+nameless_cut front text cut h = record {
+  catalogue = h.catalogue;
+  message = h.message;
+  served = h.served;
+  lawful = h.lawful;
+  answers = h.answers;
+  nameless = h.nameless;
+  front = front_trans front text (text_of h.served) cut h.front;
+}
+
+stays_cut : (front text name : List ℕ) (book : Book) → IsFront front text → IsHonest text name book → IsHonest front name book
+stays_cut front text name book cut (inl of) = inl (of.0, of.1, of.2, honest_cut front text of.0 cut of.3)
+stays_cut front text name book cut (inr nameless) = inr (nameless_cut front text cut nameless)
+
+stays_later : (text name : List ℕ) (book later : Book) → Includes later book → IsHonest text name book → IsHonest text name later
+stays_later text name book later more (inl of) = inl (of.0, more of.0 of.1, of.2, of.3)
+stays_later text name book later more (inr nameless) = inr nameless
+
+served_honest : (catalogue : Catalogue) (book : Book) (message : List ℕ) (s : Served) (name : List ℕ) → IsCatalogue catalogue
+    → Covers book catalogue → IsAnswer catalogue message s → (s.name ≡ Some name) ⊎ (s.name ≡ None) → IsHonest (text_of s) name book
+served_honest catalogue book message s name lawful covers answers named =
+    by_kind (subst (Kind catalogue) (sym answers.2) (kind_of catalogue lawful answers.0)) named
+  where
+    nameless : s.name ≡ None → IsHonest (text_of s) name book
+    nameless none = inr (record {
+      catalogue = catalogue;
+      message = message;
+      served = s;
+      lawful = lawful;
+      answers = answers;
+      nameless = none;
+      front = front_same (text_of s);
+    })
+
+    by_kind : Kind catalogue s → (s.name ≡ Some name) ⊎ (s.name ≡ None) → IsHonest (text_of s) name book
+    by_kind (inl is) named = nameless is.nameless
+    by_kind (inr file) (inr none) = nameless none
+    by_kind (inr file) (inl some) =
+        let p = file.0 in
+        let e : Some p.name ≡ Some name = sym file.1.named ∙ some in
+        let same : p.name ≡ name = cc in
+        inl (
+          p,
+          covers p.name p file.1.has,
+          same,
+          record {
+            catalogue = catalogue;
+            message = message;
+            served = s;
+            lawful = lawful;
+            answers = answers;
+            has = file.1.has;
+            named = inl file.1.named;
+            front = front_same (text_of s);
+          },
+        )
+
+pub honesty_is_kept : HonestyIsKept
+honesty_is_kept = record {
+  served = served_honest;
+  cut = stays_cut;
+  later = stays_later;
+  lawful = λ text p h. published_lawful p.name h.catalogue p h.lawful h.has;
+}

@@ -14,3 +14,4 @@ pub mod BookLemmas
 pub mod ServedLemmas
 pub mod HonestLemmas
 pub mod AskedLemmas
+pub mod FormLemmas

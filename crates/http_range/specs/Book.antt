@@ -55,6 +55,10 @@ abbrev pub published : List ℕ → Catalogue → Option Publication
 published name [] = None
 published name (p ∷ catalogue) = if bytes_eq p.name name then Some p else published name catalogue
 
+-- whatever the catalogue has stands in the book
+abbrev pub Covers : Book → Catalogue → Type 0
+Covers book catalogue = (name : List ℕ) (p : Publication) → published name catalogue ≡ Some p → In p book
+
 -- the catalogue after p: it replaces the one of its name, or is added at the end
 abbrev pub publish : Publication → Catalogue → Catalogue
 publish p [] = p ∷ []

@@ -34,10 +34,14 @@ abbrev pub IsHonest : List ℕ → List ℕ → Book → Type 0
 IsHonest text name book =
     ((p : Publication) × In p book × (p.name ≡ name) × IsHonestFor text p) ⊎ IsNamelessFront text
 
--- the piece is p's, where it says that it is
+-- the piece is a piece of p, where it says that it is
 pub record IsPieceOf (p : Publication) (piece : SeenPiece) : Type 0 where
   pub tag : piece.tag ≡ p.tag
   pub complete : piece.complete ≡ length p.file
   pub place : piece.first + length piece.body ≤ piece.complete
   pub from_start : IsTrue piece.whole → piece.first ≡ 0
   pub body : IsFront piece.body (drop piece.first p.file)
+
+-- it is a piece of a publication of that name in the book
+abbrev pub IsPieceOfBook : List ℕ → Book → SeenPiece → Type 0
+IsPieceOfBook name book piece = (p : Publication) × In p book × (p.name ≡ name) × IsPieceOf p piece

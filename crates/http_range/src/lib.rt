@@ -19,7 +19,8 @@ mod tag;
 
 pub use ask::write_request;
 pub use laws::{
-    answers_are_unique, clients_are_answered, publications_replace, tags_tell_versions,
+    answers_are_unique, clients_are_answered, honesty_is_kept, publications_replace,
+    tags_tell_versions, values_have_forms,
 };
 pub use range::{RangeSpec, Resolved, read_range, resolve};
 pub use reading::{Piece, Reading, Why, read_answer};

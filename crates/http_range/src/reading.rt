@@ -7,8 +7,9 @@ ghost use Rattle.http_range.specs.ContentRange.{range_of, range_by, IsRange};
 ghost use Rattle.http_range.specs.Reading.{ReadsAnswer, front_seen};
 ghost use Rattle.http_range.specs.Steps.{whole_by, uncoded, tag_of, range_in, range_or, fits_range, length_or, length_in, answer_of, FoundAnswer};
 ghost use Rattle.http_range.specs.Reply.{IsSent, head_text};
-ghost use Rattle.http_range.specs.Book.{Publication};
-ghost use Rattle.http_range.specs.Honest.{IsHonestFor, IsNamelessFront, IsPieceOf};
+ghost use Rattle.http_range.specs.Book.{Publication, Book, Catalogue, IsCatalogue};
+ghost use Rattle.http_range.specs.Served.{Served, IsAnswer, text_of};
+ghost use Rattle.http_range.specs.Honest.{IsHonestFor, IsNamelessFront, IsHonest, IsPieceOf, IsPieceOfBook};
 ghost use Rattle.http_range.specs.declared.reply.Reply.{Reply};
 
 use crate::answer_head::AnswerHead;
@@ -328,8 +329,17 @@ pub fn read_answer(bytes: &[u8]) -> Reading<'_>
         → bytes.now ≡ take k (head_text reply close ++ body)
         → reading_seen result ≡ front_seen reply close body k }
 
+    // The first k bytes of a server's answer are read as its reply, or as cut in its head.
+    ensures answer { (catalogue : Catalogue) (message : List ℕ) (s : Served) (k : ℕ) → IsCatalogue catalogue
+        → IsAnswer catalogue message s → bytes.now ≡ take k (text_of s)
+        → reading_seen result ≡ front_seen s.reply s.close s.body k }
+
     // A piece that is read of an honest answer for a publication is a piece of that file.
     ensures honest { (p : Publication) → IsHonestFor bytes.now p → IfOk (reading_seen result) (IsPieceOf p) }
+
+    // A piece that is read of an honest answer for a name is a piece of a file of that name in the book.
+    ensures book { (name : List ℕ) (book : Book) → IsHonest bytes.now name book
+        → IfOk (reading_seen result) (IsPieceOfBook name book) }
 
     // An answer without a tag gives no piece.
     ensures nameless { IsNamelessFront bytes.now → IsErr (reading_seen result) }
