@@ -1,0 +1,17 @@
+pub mod DigitsLemmas
+pub mod FieldLemmas
+pub mod HeadLemmas
+pub mod LineLemmas
+pub mod FrontLemmas
+pub mod ValueLemmas
+pub mod ReplyLemmas
+pub mod RoundTrip
+pub mod RangeLemmas
+pub mod RequestLemmas
+pub mod TableLemmas
+pub mod RangeForms
+pub mod BookLemmas
+pub mod ServedLemmas
+pub mod HonestLemmas
+pub mod AskedLemmas
+pub mod FormLemmas
