@@ -1,0 +1,4 @@
+pub mod Report
+pub mod Readable
+pub mod Client
+pub mod Calls

@@ -1,0 +1,15 @@
+//! The world: a schedule of publications, server restarts, clients, openings and exchanges is run, and what
+//! each event did is logged.
+#![tactic(auto)]
+
+mod client;
+mod event;
+mod names;
+mod outcome;
+mod pieces;
+mod read;
+mod server;
+
+pub use event::{Effect, Entry, Event, Exchange, Log};
+pub use outcome::{Outcome, Report};
+pub use server::{Answer, Refusal};
