@@ -16,6 +16,7 @@ mod reading;
 mod reply;
 mod request;
 mod tag;
+mod version;
 
 pub use ask::write_request;
 pub use laws::{

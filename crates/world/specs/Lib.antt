@@ -2,3 +2,4 @@ pub mod Report
 pub mod Readable
 pub mod Client
 pub mod Calls
+pub mod Server

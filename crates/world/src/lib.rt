@@ -9,6 +9,7 @@ mod outcome;
 mod pieces;
 mod read;
 mod server;
+mod shelf;
 
 pub use event::{Effect, Entry, Event, Exchange, Log};
 pub use outcome::{Outcome, Report};
