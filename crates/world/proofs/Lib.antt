@@ -1,2 +1,3 @@
 pub mod Agreement
 pub mod ShelfLemmas
+pub mod Lists

@@ -3,3 +3,5 @@ pub mod Readable
 pub mod Client
 pub mod Calls
 pub mod Server
+pub mod World
+pub mod Run

@@ -58,12 +58,12 @@ pub struct Client {
 }
 
 impl Client {
-    ghost use Rattle.std.specs.Prelude.{◌≡◌, List, ℕ, Some, None, IfOk, IfErr, OnErr, OnOk, option_map};
+    ghost use Rattle.std.specs.Prelude.{◌≡◌, List, ℕ, Some, None, IfOk, IfErr, OnErr, OnOk, option_copied, option_map};
     ghost use Rattle.http_range.specs.Book.{Book, HasDistinctTags};
     ghost use Rattle.http_range.specs.Honest.{IsHonest};
     ghost use Rattle.http_range.specs.Piece.{piece_seen};
     ghost use Rattle.world.specs.Report.{said_of, told};
-    ghost use Rattle.world.specs.Client.{client_refusal, IsRefusedBy, Agrees, name_of, query_of, report_by, report_of, revision_of};
+    ghost use Rattle.world.specs.Client.{client_refusal, IsRefusedBy, Agrees, asked_of, name_of, query_of, report_by, report_of, revision_of};
     ghost use Rattle.world.specs.Calls.{Delivers, Opens, Requests, SameClient, may_ask, Stands, Starts};
 
     /// A client of a file's name at a host. Its cache would have `blocks` blocks of 16,384 bytes.
@@ -112,6 +112,23 @@ impl Client {
         ensures { Stands self.now (option_map (λ r. told r.now) result) }
     {
         self.report.as_ref()
+    }
+
+    /// What was asked for last: None where nothing is asked.
+    pub fn asked(&self) -> Option<Span>
+        ensures { result ≡ asked_of self.now }
+    {
+        self.asked
+    }
+
+    /// The tag of the client's revision.
+    pub fn tag(&self) -> Option<&Tag>
+        ensures { option_copied result ≡ option_map (λ v. v.tag) (revision_of self.now) }
+    {
+        match &self.revision {
+            Some(revision) => Some(&revision.tag),
+            None => None,
+        }
     }
 
     /// The next request: the first 65,536 bytes, of whatever revision.

@@ -47,7 +47,7 @@ pub struct Exchange {
     /// The request's text.
     pub request: Vec<u8>,
     /// The answer's number: answers are counted from 0.
-    pub number: u32,
+    pub number: usize,
     pub answer: Answer,
     pub delivered: Delivered,
 }
@@ -60,7 +60,7 @@ pub enum Effect {
     Refused(Refusal),
     Epoch(u32),
     /// The new client's number: clients are counted from 0.
-    Made(u32),
+    Made(usize),
     Opened(u32),
     /// The client had no request.
     Nothing(u32),

@@ -2,6 +2,7 @@
 //! each event did is logged.
 #![tactic(auto)]
 
+mod calls;
 mod client;
 mod event;
 mod names;
