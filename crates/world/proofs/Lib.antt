@@ -1,3 +1,5 @@
 pub mod Agreement
 pub mod ShelfLemmas
 pub mod Lists
+pub mod Truth
+pub mod Whole

@@ -1,5 +1,5 @@
 -- A run: what each event does to the clients, and what is logged of it, by the contracts of the calls.
-use Rattle.std.specs.Prelude.{◌≡◌, ℕ, ◌+◌, ◌≤◌, Bool, nat_lt, if◌then◌else◌, List, [], ◌∷◌, ◌++◌, length, take, Option, Some, None, is_some, slice_get, slice_set}
+use Rattle.std.specs.Prelude.{◌≡◌, ℕ, ◌+◌, ◌^◌, ◌<◌, ◌≤◌, Bool, nat_lt, if◌then◌else◌, List, [], ◌∷◌, ◌++◌, length, take, Option, Some, None, is_some, slice_get, slice_set}
 use Rattle.std.specs.Option.{option_map}
 use Rattle.std.specs.Bool.{MatchBool}
 use Rattle.tiff_dir.specs.declared.query.Query.{Query}
@@ -74,6 +74,7 @@ pub record Publishes (name file : List ℕ) (n : Entry) (old new : Server) : Typ
 pub record Restarts (epoch : ℕ) (n : Entry) (old new : Server) : Type 0 where
   pub done : n.effect ≡ (if nat_lt (epoch_of old) epoch then effects.Epoch epoch else effects.Skipped)
   pub report : told_of n ≡ None
+  pub small : epoch < 2 ^ 32
   pub server_at : MatchBool (nat_lt (epoch_of old) epoch) (IsAt new epoch 0 []) (new ≡ old)
 
 -- a client is made
@@ -121,7 +122,7 @@ pub record ExchangesWith (catalogue : Catalogue) (sent i : ℕ) (effect : Effect
 -- One event, with what is logged of it.
 abbrev pub Step : World → List Client → Event → Entry → List Client → Type 0
 Step w old (Publish name file) n new = Quiet n (publish_effect (next_of w name.items file.items).tag (refused_at w name.items file.items)) old new
-Step w old (Epoch e) n new = Quiet n (if nat_lt w.epoch e then effects.Epoch e else effects.Skipped) old new
+Step w old (Epoch e) n new = (e < 2 ^ 32) × Quiet n (if nat_lt w.epoch e then effects.Epoch e else effects.Skipped) old new
 Step w old (NewClient name blocks) n new = MakesBy (client_refusal host name.items blocks) name.items n old new
 Step w old (Open i q) n new = AtClient (slice_get old i) (OpensWith q i n.effect) i n old new
 Step w old (Exchange i) n new = AtClient (slice_get old i) (ExchangesWith w.catalogue w.sent i n.effect) i n old new
@@ -133,18 +134,17 @@ Runs w old [] (n ∷ ns) new = ⊥
 Runs w old (e ∷ es) [] new = ⊥
 Runs w old (e ∷ es) (n ∷ ns) new = (mid : List Client) × Step w old e n mid × Runs (after w e n.effect) mid es ns new
 
--- The log of a schedule: it is a run, each report in it is true, and reports of one tag and one query are alike.
-pub record IsLog (events : List Event) (entries : List Entry) : Type 0 where
-  pub clients : List Client
-  pub runs : Runs start [] events entries clients
-  pub all_true : AllTrue start events entries
-  pub alike : AreAlike entries
+-- The log is what the schedule makes of the world and of clients that keep their contracts.
+abbrev pub IsRun : List Event → List Entry → Type 0
+IsRun events entries = (clients : List Client) × Runs start [] events entries clients
 
--- the log of the first events
+-- It is the log of the first events, with all that is said of a whole one.
 pub record IsBeginning (events : List Event) (entries : List Entry) : Type 0 where
   pub count : ℕ
   pub some : count ≤ length events
-  pub log : IsLog (take count events) entries
+  pub logged : IsRun (take count events) entries
+  pub true_reports : AllTrue start (take count events) entries
+  pub alike : AreAlike entries
 
 -- ---- the code's state
 

@@ -146,6 +146,7 @@ fn answer_request(
     requires asked { asked_of client.old ≡ Some span }
     ensures exchanged { IfOk result (λ effect. IsExchange (catalogue_of server.now) sent.old number request.items effect client.old client.new) }
     ensures sent { IfOk result (λ effect. sent.new ≡ sent_after effect sent.old) }
+    ensures few { sent.new ≤ sent.old + 1 }
 {
     clients_are_answered();
     let answer = server.answer(&request)?;
@@ -177,6 +178,7 @@ fn exchange_request(
     requires asked { IfSome request (λ _. IsSome (asked_of client.old)) }
     ensures exchanged { IfOk result (λ effect. IsExchanged (catalogue_of server.now) sent.old number (option_map (λ r. r.items) request) effect client.old client.new) }
     ensures sent { IfOk result (λ effect. sent.new ≡ sent_after effect sent.old) }
+    ensures few { sent.new ≤ sent.old + 1 }
 {
     match request {
         None => Ok(Effect::Nothing(number)),
@@ -197,6 +199,7 @@ fn exchange_one(
     requires { sent.old + 1 < 2 ^ 64 }
     ensures acts { IfOk result (λ n. Acts (ExchangesWith (catalogue_of server.now) sent.old number n.effect) n client.old client.new) }
     ensures sent { IfOk result (λ n. sent.new ≡ sent_after n.effect sent.old) }
+    ensures few { sent.new ≤ sent.old + 1 }
 {
     let had = has_report(client);
     let request = client.request()?;
@@ -215,6 +218,7 @@ pub fn exchange_at(
     requires { sent.old + 1 < 2 ^ 64 }
     ensures acts { IfOk result (λ n. AtClient (slice_get clients.old.items number) (ExchangesWith (catalogue_of server.now) sent.old number n.effect) number n clients.old.items clients.new.items) }
     ensures sent { IfOk result (λ n. sent.new ≡ sent_after n.effect sent.old) }
+    ensures few { sent.new ≤ sent.old + 1 }
 {
     let i = number as usize;
     if i >= clients.len() {

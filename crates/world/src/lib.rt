@@ -11,7 +11,9 @@ mod pieces;
 mod read;
 mod server;
 mod shelf;
+mod world;
 
 pub use event::{Effect, Entry, Event, Exchange, Log};
 pub use outcome::{Outcome, Report};
 pub use server::{Answer, Refusal};
+pub use world::run;
