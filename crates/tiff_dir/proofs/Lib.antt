@@ -1,1 +1,4 @@
 pub mod Fixtures
+pub mod Numbers
+pub mod Parts
+pub mod Finding
