@@ -5,3 +5,5 @@ pub mod Finding
 pub mod Ranges
 pub mod Chain
 pub mod GoingOn
+pub mod Fields
+pub mod Directories

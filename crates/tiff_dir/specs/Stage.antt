@@ -179,14 +179,17 @@ pub record EndsDirectory (f : List ℕ) (k : ℕ) (step : Step) : Type 0 where
 abbrev pub IsArrayPlace : Place → Type 0
 IsArrayPlace p = (p.len ≡ p.count * size_of p.kind) × (p.first < 2 ^ 33)
 
-pub record IsDraft (d : Draft) : Type 0 where
+pub record IsBounded (d : Draft) : Type 0 where
   pub width : d.width < 2 ^ 32
   pub length : d.length < 2 ^ 32
   pub tile_width : d.tile_width < 2 ^ 32
   pub tile_length : d.tile_length < 2 ^ 32
-  pub samples : (d.samples ≡ 1) ⊎ (d.samples ≡ 3)
   pub offsets : IsArrayPlace d.offsets
   pub counts : IsArrayPlace d.counts
+
+pub record IsDraft (d : Draft) : Type 0 where
+  pub bounded : IsBounded d
+  pub samples : (d.samples ≡ 1) ⊎ (d.samples ≡ 3)
   pub long : d.offsets.kind ≡ kind.Long
   pub whole : (d.counts.kind ≡ kind.Short) ⊎ (d.counts.kind ≡ kind.Long)
 

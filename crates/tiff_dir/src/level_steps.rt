@@ -1,5 +1,5 @@
 // The steps of the walk over a level: its table, its values outside the entries, and its end.
-ghost use Rattle.std.specs.Prelude.{◌≡◌, ℕ, suc, ◌+◌, ◌*◌, ◌<◌, ◌≤◌, ◌^◌, ◌&&◌, ◌==◌, List, true, Some, IsSome, IfOk, IfSome, length, MatchResult};
+ghost use Rattle.std.specs.Prelude.{◌≡◌, ℕ, suc, ◌+◌, ◌*◌, ◌<◌, ◌≤◌, ◌^◌, ◌%◌, ◌&&◌, ◌||◌, ◌==◌, List, true, Some, IsSome, IfOk, IfSome, length, MatchResult};
 ghost use Rattle.tiff_dir.specs.Number.{number_in};
 ghost use Rattle.tiff_dir.specs.File.{value};
 ghost use Rattle.tiff_dir.specs.Fault.{IsFaultOfDirectories, IsFaultOfDirectory};
@@ -17,6 +17,20 @@ use crate::stage::{Draft, Pending, Stage, Step};
 use crate::table::ascending;
 use crate::values::{check_counts, check_values, draft, long, short, single};
 use crate::{FileFault, Level, Order};
+
+/// The first directory is a reduced picture.
+fn is_reduced_first(index: u32, subfile: u32) -> bool
+    ensures { result ≡ ((index == 0) && (subfile % 2 == 1)) }
+{
+    index == 0 && subfile % 2 == 1
+}
+
+/// The directory is the first, or its NewSubfileType is 1.
+fn counts_as_level(index: u32, subfile: u32) -> bool
+    ensures { result ≡ ((index == 0) || (subfile == 1)) }
+{
+    index == 0 || subfile == 1
+}
 
 /// Whether the directory is a level, by the fields that are looked at in every directory.
 pub(crate) fn check_directory(
@@ -39,10 +53,10 @@ pub(crate) fn check_directory(
         return Err(fault);
     }
     let subfile = single(order, base, entries, bytes, 254, 0);
-    if index == 0 && subfile % 2 == 1 {
+    if is_reduced_first(index, subfile) {
         return Err(FileFault::LevelShape);
     }
-    Ok(index == 0 || subfile == 1)
+    Ok(counts_as_level(index, subfile))
 }
 
 /// What the entries of a level say of it, where they keep the profile.

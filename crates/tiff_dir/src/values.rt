@@ -1,6 +1,7 @@
 // The values and places of a level's fields, as the table of a directory has them.
 ghost use Rattle.std.specs.Prelude.{◌≡◌, ℕ, ◌+◌, ◌*◌, ◌<◌, ◌≤◌, ◌^◌, true, false, length, MatchResult, IfSome, if◌then◌else◌, ◌==◌};
 ghost use Rattle.tiff_dir.specs.Profile.{accepts, planes_fit, samples_fit};
+ghost use Rattle.tiff_dir.specs.Stage.{IsArrayPlace, IsBounded};
 ghost use Rattle.tiff_dir.specs.Table.{counts_samples, draft_in, entries as entry_list, long_in, place_in, place_or, short_or, single_or, HasCounts, HasValues, IsCountFault, IsValueFault};
 
 use crate::stage::Draft;
@@ -70,7 +71,8 @@ pub(crate) fn long(
 /// Where the values of an entry of SHORT or LONG stand.
 fn place_of_entry(entry: Entry) -> Place
     requires { entry.place + 8 < 2 ^ 33 }
-    ensures { result ≡ place_in entry }
+    ensures place { result ≡ place_in entry }
+    ensures array { IsArrayPlace result }
 {
     let (kind, size) = if entry.kind == 3 {
         (Kind::Short, 2)
@@ -96,7 +98,8 @@ fn place(order: Order, base: u64, entries: u16, bytes: &[u8], tag: u16) -> Place
     requires room { base ≤ 2 ^ 32 + 1 }
     requires few { entries ≤ 256 }
     requires whole { 12 * entries ≤ length bytes.now }
-    ensures { result ≡ place_or (entry_list order base 0 entries bytes.now) tag }
+    ensures place { result ≡ place_or (entry_list order base 0 entries bytes.now) tag }
+    ensures array { IsArrayPlace result }
 {
     match find_entry(order, base, entries, bytes, tag) {
         Some(entry) => place_of_entry(entry),
@@ -115,7 +118,8 @@ pub(crate) fn draft(order: Order, base: u64, entries: u16, bytes: &[u8]) -> Draf
     requires room { base ≤ 2 ^ 32 + 1 }
     requires few { entries ≤ 256 }
     requires whole { 12 * entries ≤ length bytes.now }
-    ensures { result ≡ draft_in (entry_list order base 0 entries bytes.now) }
+    ensures draft { result ≡ draft_in (entry_list order base 0 entries bytes.now) }
+    ensures bounded { IsBounded result }
 {
     Draft {
         width: single(order, base, entries, bytes, 256, 0),
