@@ -87,7 +87,7 @@ value_told f k es tag i has = rw has.told (rw (with_tag-map tag es) (through (fo
 
 -- Types and counts
 
-kind_told : (t : Typing) (kind : ℕ) → has_typing t kind ≡ true → (kind ≡ 3) ⊎ (kind ≡ 4)
+pub kind_told : (t : Typing) (kind : ℕ) → has_typing t kind ≡ true → (kind ≡ 3) ⊎ (kind ≡ 4)
 kind_told typing.Short kind ok = inl (eqb-true kind 3 ok)
 kind_told typing.Long kind ok = inr (eqb-true kind 4 ok)
 kind_told typing.ShortOrLong kind ok = elim (or_cases (kind == 3) (kind == 4) ok) [
@@ -95,10 +95,10 @@ kind_told typing.ShortOrLong kind ok = elim (or_cases (kind == 3) (kind == 4) ok
   | inr long ↦ inr (eqb-true kind 4 long)
 ]
 
-kind_short : (t : Typing) (kind : ℕ) → t ≡ typing.Short → has_typing t kind ≡ true → kind ≡ 3
+pub kind_short : (t : Typing) (kind : ℕ) → t ≡ typing.Short → has_typing t kind ≡ true → kind ≡ 3
 kind_short t kind is ok = eqb-true kind 3 (let P : Typing → Type 0 = λ x. has_typing x kind ≡ true in subst P is ok)
 
-kind_long : (t : Typing) (kind : ℕ) → t ≡ typing.Long → has_typing t kind ≡ true → kind ≡ 4
+pub kind_long : (t : Typing) (kind : ℕ) → t ≡ typing.Long → has_typing t kind ≡ true → kind ≡ 4
 kind_long t kind is ok = eqb-true kind 4 (let P : Typing → Type 0 = λ x. has_typing x kind ≡ true in subst P is ok)
 
 count_one : (c : Count) (n : ℕ) → c ≡ One → counts_one c n ≡ true → n ≡ 1
@@ -146,14 +146,15 @@ single_told f k es r d has met one default = value_told f k es r.tag 0 has ∙ a
       let ok = met_entry es r e met is in
       single_value f e (has.short r.tag e is) (has.long r.tag e is) (kind_told r.typing e.kind (typed r e ok)) (count_one r.count e.count one (counted r e ok))
 
-pub short_told : (f : List ℕ) (k : ℕ) (es : List Entry) (r : Rule) (d : ℕ) → HasTable f k es → meets es r ≡ true → r.typing ≡ typing.Short → r.count ≡ One → (default_of r.tag ≡ Some d) ⊎ (r.required ≡ true) → value f k r.tag 0 ≡ Some (short_or es r.tag d)
+pub short_told : (f : List ℕ) (k : ℕ) (es : List Entry) (r : Rule) (d : ℕ) → HasTable f k es → meets es r ≡ true → r.typing ≡ typing.Short
+    → ((e : Entry) → found r.tag es ≡ Some e → e.count ≡ 1) → (default_of r.tag ≡ Some d) ⊎ (r.required ≡ true) → value f k r.tag 0 ≡ Some (short_or es r.tag d)
 short_told f k es r d has met short one default = value_told f k es r.tag 0 has ∙ at (found r.tag es) refl default where
   at : (o : Option Entry) → found r.tag es ≡ o → (default_of r.tag ≡ Some d) ⊎ (r.required ≡ true) → option_map_or (λ e. field_value f (field_of e) 0) o (default_of r.tag) ≡ Some (option_map_or (λ e. e.short) o d)
   at None is (inl default) = default
   at None is (inr required) = let (e, there) = met_there es r met required in absurd (none-some e (sym is ∙ there))
   at (Some e) is default =
       let ok = met_entry es r e met is in
-      short_value f e (has.short r.tag e is) (kind_short r.typing e.kind short (typed r e ok)) (count_one r.count e.count one (counted r e ok))
+      short_value f e (has.short r.tag e is) (kind_short r.typing e.kind short (typed r e ok)) (one e is)
 
 -- each value of a field of one SHORT is that one
 pub short_only : (f : List ℕ) (k : ℕ) (es : List Entry) (r : Rule) (d : ℕ) → HasTable f k es → meets es r ≡ true → r.typing ≡ typing.Short

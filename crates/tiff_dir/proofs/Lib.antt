@@ -7,3 +7,4 @@ pub mod Chain
 pub mod GoingOn
 pub mod Fields
 pub mod Directories
+pub mod Levels
