@@ -8,3 +8,5 @@ pub mod GoingOn
 pub mod Fields
 pub mod Directories
 pub mod Levels
+pub mod Outside
+pub mod Ends
