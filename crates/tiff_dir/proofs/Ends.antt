@@ -1,8 +1,15 @@
 -- The end of a level: its shape, and the level itself.
-use Rattle.std.proofs.Common.{◌≡◌, ◌≢◌, ℕ, zero, suc, ◌+◌, ◌*◌, ◌%◌, ◌<◌, ◌≤◌, ◌⊎◌, inl, inr, Bool, true, false, ◌&&◌, ◌||◌, ◌==◌, nat_lt, nat_le, List, [], ◌∷◌, ◌++◌, Option, Some, None, IsSomeAnd, refl, sym, subst, ap, ◌∙◌, arith, add-one}
+use Rattle.std.proofs.Common.{◌≡◌, ◌≢◌, ℕ, zero, suc, ◌+◌, ◌*◌, ◌%◌, ◌<◌, ◌≤◌, ◌⊎◌, inl, inr, Bool, true, false, ◌&&◌, ◌||◌, ◌==◌, nat_lt, nat_le, List, [], ◌∷◌, ◌++◌, get_or, Option, Some, None, IsSomeAnd, refl, sym, subst, ap, ◌∙◌, arith, lit<, add-one}
 use Rattle.std.proofs.lemmas.Option.{same_Some, none-some}
-use Rattle.std.proofs.lemmas.Bool.{and_parts, and_cases, and_from, eqb-true, ltb-true, ltb-false, leb-true, lt-ltb, cases_eq, false≢true}
-use Rattle.std.specs.Option.{option_map, option_to_list}
+use Rattle.std.proofs.lemmas.Bool.{and_parts, and_cases, and_from, eqb-true, ltb-true, ltb-false, leb-true, lt-ltb, cases_eq, cases_Bool, false≢true}
+use Rattle.std.specs.Option.{option_map, option_map_or, option_to_list}
+use Rattle.std.specs.List.{AllPass}
+use Rattle.tiff_dir.specs.declared.table.Entry.{Entry}
+use Rattle.tiff_dir.specs.declared.rule.Rule.{Rule}
+use Rattle.tiff_dir.specs.declared.level.Kind.TheVariants as kind
+use Rattle.tiff_dir.specs.Table.{found, meets, short_or, place_in, place_or, draft_in, HasValues}
+use Rattle.tiff_dir.proofs.Fields.{kind_long, typed, met_entry, met_there}
+use Rattle.tiff_dir.proofs.Levels.{fits_cases}
 use Rattle.tiff_dir.specs.declared.order.Order.{Order}
 use Rattle.tiff_dir.specs.declared.level.Level.{Level}
 use Rattle.tiff_dir.specs.declared.level.Place.{Place}
@@ -14,9 +21,9 @@ use Rattle.tiff_dir.specs.declared.stage.Step.{Step}
 use Rattle.tiff_dir.specs.declared.fault.FileFault.{FileFault}
 use Rattle.tiff_dir.specs.declared.fault.FileFault.TheVariants.{Missing, FieldType, Unsupported, LevelShape, TileSize, TileArray}
 use Rattle.tiff_dir.specs.File.{◌>>=◌, Field, kind_of, size_of, values_at, field, value}
-use Rattle.tiff_dir.specs.Profile.{is_tile_side, tile_bytes, max_tile_bytes, max_tiles}
+use Rattle.tiff_dir.specs.Profile.{subfile_rule, profile, is_tile_side, tile_bytes, max_tile_bytes, max_tiles}
 use Rattle.tiff_dir.specs.Level.{is_level, previous_level, place_of, compression_of, level_at}
-use Rattle.tiff_dir.specs.Fault.{is_smaller, sides, plain_bytes, tile_count, IsUnsupported, IsNotSmaller, IsFaultOfLevel, IsFaultAt}
+use Rattle.tiff_dir.specs.Fault.{is_smaller, sides, plain_bytes, tile_count, IsUnsupported, IsNotSmaller, IsNoTileArray, IsFaultOfLevel, IsFaultAt}
 use Rattle.tiff_dir.specs.Shape.{has_sides, fits_under, has_tiles, tiles_of, has_arrays, level_from, IsShaped, IsShapeFault}
 use Rattle.tiff_dir.specs.Stage.{index_of, ranges_from, Follows, IsAt, IsArrayPlace, IsBefore, IsBounded, IsDraft, IsDrafted, IsPending, IsSupported, EndsDirectory}
 use Rattle.tiff_dir.specs.Walk.{IsArray, IsProfiled}
@@ -161,3 +168,129 @@ place_parts f e p told = at (kind_of e.kind) told where
 place_count : (f : List ℕ) (o : Option Field) (p : Place) → (o >>= place_of f) ≡ Some p → (o >>= λ e. Some e.count) ≡ Some p.count
 place_count f None p told = absurd (none-some p told)
 place_count f (Some e) p told = ap Some (place_parts f e p told)
+
+arrays_parts : (d : Draft) → has_arrays d ≡ true → (nat_le (tiles_of d) max_tiles ≡ true) × ((tiles_of d == d.offsets.count) ≡ true) × ((tiles_of d == d.counts.count) ≡ true)
+arrays_parts d good =
+    let one = and_parts (nat_le (tiles_of d) max_tiles) ((tiles_of d == d.offsets.count) && (tiles_of d == d.counts.count)) good in
+    let two = and_parts (tiles_of d == d.offsets.count) (tiles_of d == d.counts.count) one.1 in
+    (one.0, two.0, two.1)
+
+array_fault : (f : List ℕ) (k tag : ℕ) (d : Draft) (p : Place) → IsDrafted f k d → has_tiles d ≡ true → (field f k tag >>= place_of f) ≡ Some p → (tiles_of d == p.count) ≡ false → IsNoTileArray f k tag
+array_fault f k tag d p is tiles there bad =
+    some_and_from (tile_count f k) (λ n. IsSomeAnd (field f k tag >>= λ e. Some e.count) (λ c. (n == c) ≡ false)) _ (count_drafted f k d is tiles)
+    (some_and_from (field f k tag >>= λ e. Some e.count) (λ c. (tiles_of d == c) ≡ false) _ (place_count f (field f k tag) p there) bad)
+
+no_array_fault : (f : List ℕ) (k tag : ℕ) (d : Draft) (p : Place) → IsDrafted f k d → has_tiles d ≡ true → (field f k tag >>= place_of f) ≡ Some p → (tiles_of d == p.count) ≡ true → IsNoTileArray f k tag → ⊥
+no_array_fault f k tag d p is tiles there good bad =
+    let one = some_and_at (tile_count f k) (λ n. IsSomeAnd (field f k tag >>= λ e. Some e.count) (λ c. (n == c) ≡ false)) _ (count_drafted f k d is tiles) bad in
+    let two = some_and_at (field f k tag >>= λ e. Some e.count) (λ c. (tiles_of d == c) ≡ false) _ (place_count f (field f k tag) p there) one in
+    false≢true (sym two ∙ good)
+
+arrays_fault : (f : List ℕ) (k : ℕ) (d : Draft) → IsDrafted f k d → has_tiles d ≡ true → has_arrays d ≡ false → IsFaultOfLevel f k TileArray
+arrays_fault f k d is tiles bad = elim (and_cases (nat_le (tiles_of d) max_tiles) ((tiles_of d == d.offsets.count) && (tiles_of d == d.counts.count)) bad) [
+  | inl h ↦ inl (some_and_from (tile_count f k) (λ n. nat_le n max_tiles ≡ false) _ (count_drafted f k d is tiles) h)
+  | inr h ↦ elim (and_cases (tiles_of d == d.offsets.count) (tiles_of d == d.counts.count) h) [
+    | inl g ↦ inr (inl (array_fault f k 324 d d.offsets is tiles is.offsets g))
+    | inr g ↦ inr (inr (array_fault f k 325 d d.counts is tiles is.counts g))
+  ]
+]
+
+no_arrays_fault : (f : List ℕ) (k : ℕ) (d : Draft) → IsDrafted f k d → has_tiles d ≡ true → has_arrays d ≡ true → IsFaultOfLevel f k TileArray → ⊥
+no_arrays_fault f k d is tiles good (inl bad) = false≢true (sym (some_and_at (tile_count f k) (λ n. nat_le n max_tiles ≡ false) _ (count_drafted f k d is tiles) bad) ∙ (arrays_parts d good).0)
+no_arrays_fault f k d is tiles good (inr (inl bad)) = no_array_fault f k 324 d d.offsets is tiles is.offsets (arrays_parts d good).1 bad
+no_arrays_fault f k d is tiles good (inr (inr bad)) = no_array_fault f k 325 d d.counts is tiles is.counts (arrays_parts d good).2 bad
+
+-- The level as a whole
+
+pub shape_fault : (f : List ℕ) (k : ℕ) (d : Draft) (previous : Option Level) (fault : FileFault) → IsDrafted f k d → IsBefore f k previous → IsShapeFault previous d fault → IsFaultOfLevel f k fault
+shape_fault f k d previous LevelShape is before bad = sides_fault f k d previous is before bad
+shape_fault f k d previous TileSize is before bad = tiles_fault f k d is bad
+shape_fault f k d previous TileArray is before bad = arrays_fault f k d is bad.0 bad.1
+shape_fault f k d previous _ is before bad = absurd bad
+
+unsupported_clean : (f : List ℕ) (p : Pending) (tag : ℕ) → IsPending f p → IsSupported f p.index 258 → IsSupported f p.index 339 → IsUnsupported f p.index tag → ⊥
+unsupported_clean f p tag is bits formats bad = elim (cases_eq tag 258) [
+  | inl e ↦ bits (let P : ℕ → Type 0 = λ x. IsUnsupported f p.index x in subst P e bad)
+  | inr n1 ↦ elim (cases_eq tag 339) [
+    | inl e ↦ formats (let P : ℕ → Type 0 = λ x. IsUnsupported f p.index x in subst P e bad)
+    | inr n2 ↦ is.supported tag n1 n2 bad
+  ]
+]
+
+level_clean : (f : List ℕ) (p : Pending) (previous : Option Level) → IsPending f p → IsSupported f p.index 258 → IsSupported f p.index 339 → IsBefore f p.index previous → IsShaped previous p.draft
+    → (fault : FileFault) → IsFaultOfLevel f p.index fault → ⊥
+level_clean f p previous is bits formats before shaped (Missing tag) bad = is.whole tag bad
+level_clean f p previous is bits formats before shaped (FieldType tag) bad = is.typed tag bad
+level_clean f p previous is bits formats before shaped (Unsupported tag) bad = unsupported_clean f p tag is bits formats bad
+level_clean f p previous is bits formats before shaped LevelShape bad = no_sides_fault f p.index p.draft previous is.drafted before shaped.sides bad
+level_clean f p previous is bits formats before shaped TileSize bad = no_tiles_fault f p.index p.draft is.drafted shaped.tiles bad
+level_clean f p previous is bits formats before shaped TileArray bad = no_arrays_fault f p.index p.draft is.drafted shaped.tiles shaped.arrays bad
+level_clean f p previous is bits formats before shaped _ bad = bad
+
+pub level_follows : (f : List ℕ) (p : Pending) (previous : Option Level) → IsPending f p → IsSupported f p.index 258 → IsSupported f p.index 339 → IsBefore f p.index previous → IsShaped previous p.draft
+    → Follows f p.order (p.index + 1) p.next
+level_follows f p previous is bits formats before shaped =
+    let clean : (fault : FileFault) → IsFaultAt f p.index fault → ⊥ = λ fault bad. elim bad [ inl h ↦ is.sound fault h | inr h ↦ level_clean f p previous is bits formats before shaped fault h.1 ] in
+    goes_on f p.order p.index p.next is.walked is.few is.there is.next clean
+
+pub level_ends : (f : List ℕ) (p : Pending) (stage : Stage) → IsPending f p → value f p.index 258 0 ≡ Some 8 → index_of stage ≡ p.index + 1 → IsAt f (p.index + 1) stage
+    → EndsDirectory f p.index (record { stage = stage; level = Some (level_from p.draft) })
+level_ends f p stage is bits index at = record {
+  here = at.0;
+  index = index ∙ add-one p.index;
+  levels = levels_taken f p.index (level_from p.draft) is.level (level_told f p.index p.draft is.drafted bits);
+  come = rw add-one at at.1;
+}
+
+-- Its bounds
+
+is_multiple : (side : ℕ) → is_tile_side side ≡ true → (16 ≤ side) × (side % 16 ≡ 0)
+is_multiple side good =
+    let p = and_parts (nat_lt 0 side) (side % 16 == 0) good in
+    let some = ltb-true 0 side p.0 in
+    let whole : side % 16 ≡ 0 = eqb-true (side % 16) 0 p.1 in
+    (omega arith, whole)
+
+pub profiled : (previous : Option Level) (d : Draft) → IsDraft d → IsShaped previous d → IsProfiled (level_from d)
+profiled previous d draft shaped =
+    let some = and_parts (nat_lt 0 d.width) (nat_lt 0 d.length) (fits_sides previous d shaped.sides) in
+    let tiles = tiles_parts d shaped.tiles in
+    let arrays = arrays_parts d shaped.arrays in
+    let w = is_multiple d.tile_width tiles.0 in
+    let l = is_multiple d.tile_length tiles.1 in
+    record {
+      width = (ltb-true 0 d.width some.0, draft.bounded.width);
+      length = (ltb-true 0 d.length some.1, draft.bounded.length);
+      tile_width = (w.0, w.1, draft.bounded.tile_width);
+      tile_length = (l.0, l.1, draft.bounded.tile_length);
+      samples = draft.samples;
+      bits = refl;
+      plain = leb-true _ _ tiles.2;
+      tiles = leb-true _ _ arrays.0;
+      offsets = record { count = sym (eqb-true _ _ arrays.1); len = draft.bounded.offsets.0; near = draft.bounded.offsets.1 };
+      counts = record { count = sym (eqb-true _ _ arrays.2); len = draft.bounded.counts.0; near = draft.bounded.counts.1 };
+      long = draft.long;
+      whole = draft.whole;
+    }
+
+long_place : (es : List Entry) → AllPass (meets es) profile → (place_or es 324).kind ≡ kind.Long
+unfolding profile
+long_place es met =
+    let r : Rule = get_or profile 10 subfile_rule in
+    let ok = met 10 subfile_rule (lit< tt) in
+    let (e, there) = met_there es r ok refl in
+    let four : e.kind ≡ 4 = kind_long r.typing e.kind refl (typed r e (met_entry es r e ok there)) in
+    rw there (rw four refl)
+
+whole_place : (o : Option Entry) → ((option_map_or place_in o (record { first = 0; len = 0; count = 0; kind = kind.Long })).kind ≡ kind.Short) ⊎ ((option_map_or place_in o (record { first = 0; len = 0; count = 0; kind = kind.Long })).kind ≡ kind.Long)
+whole_place None = inr refl
+whole_place (Some e) = elim (cases_Bool (e.kind == 3)) [ inl h ↦ inl (rw h refl) | inr h ↦ inr (rw h refl) ]
+
+pub draft_bounds : (es : List Entry) (d : Draft) → AllPass (meets es) profile → HasValues es → d ≡ draft_in es → IsBounded d → IsDraft d
+unfolding draft_in
+draft_bounds es d met right is bounded = record {
+  bounded = bounded;
+  samples = (let P : Draft → Type 0 = λ x. (x.samples ≡ 1) ⊎ (x.samples ≡ 3) in subst P (sym is) (fits_cases (short_or es 277 1) (short_or es 262 0) right.samples));
+  long = ap (λ (x : Draft). x.offsets.kind) is ∙ long_place es met;
+  whole = (let P : Draft → Type 0 = λ x. (x.counts.kind ≡ kind.Short) ⊎ (x.counts.kind ≡ kind.Long) in subst P (sym is) (whole_place (found 325 es)));
+}

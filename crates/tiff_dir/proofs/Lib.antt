@@ -10,3 +10,4 @@ pub mod Directories
 pub mod Levels
 pub mod Outside
 pub mod Ends
+pub mod Shorts

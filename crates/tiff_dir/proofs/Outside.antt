@@ -163,3 +163,7 @@ table_to_end f o k at n step level bits formats ends =
     let none : outside_ranges f k ≡ [] = rw (level, bits, formats) refl in
     let come : still f (stages.Table o k at n) ≡ record { first = at + 2; len = 12 * n + 4 } ∷ ranges_from f (suc k) = rw none refl in
     ends_on f (stages.Table o k at n) k (record { first = at + 2; len = 12 * n + 4 }) step refl refl come ends
+
+pub draft_samples : (es : List Entry) (d : Draft) → IsReadIn es d → d.samples ≡ short_or es 277 1
+unfolding draft_in
+draft_samples es d read = ap (λ (x : Draft). x.samples) read.draft
