@@ -1,5 +1,5 @@
 -- The faults of every directory, and whether it is a level.
-use Rattle.std.proofs.Common.{◌≡◌, ℕ, suc, ◌+◌, ◌*◌, ◌%◌, ◌<◌, ◌≤◌, ◌⊎◌, inl, inr, true, false, ◌&&◌, ◌||◌, ◌==◌, List, map, length, Option, Some, None, IsSomeAnd, refl, sym, subst, ap, ◌∙◌, arith, take, drop}
+use Rattle.std.proofs.Common.{◌≡◌, ℕ, suc, ◌+◌, ◌*◌, ◌%◌, ◌<◌, ◌≤◌, ◌⊎◌, inl, inr, true, false, ◌&&◌, ◌||◌, ◌==◌, List, [], ◌∷◌, ◌++◌, map, length, Option, Some, None, IsSomeAnd, refl, sym, subst, ap, ◌∙◌, arith, add-one, take, drop}
 use Rattle.std.proofs.lemmas.Option.{same_Some, none-some}
 use Rattle.std.proofs.lemmas.Bool.{and_parts, and_from, eqb-true, eq-eqb, cases_Bool, false≢true}
 use Rattle.tiff_dir.specs.declared.order.Order.{Order}
@@ -10,10 +10,16 @@ use Rattle.tiff_dir.specs.File.{Field, directory, number, entry_count, table, va
 use Rattle.tiff_dir.specs.Profile.{subfile_rule}
 use Rattle.tiff_dir.specs.Level.{is_level}
 use Rattle.tiff_dir.specs.Needs.{is_entry_count}
-use Rattle.tiff_dir.specs.Fault.{is_directory_place, ascends, IsFaultOfDirectory, IsRuleFault}
+use Rattle.tiff_dir.specs.Fault.{is_directory_place, ascends, IsFaultAt, IsFaultOfDirectory, IsFaultOfDirectories, IsRuleFault}
 use Rattle.tiff_dir.specs.Table.{entries, field_of, found, meets, single_or, IsEntryFault}
-use Rattle.tiff_dir.specs.Stage.{Counts, HasTable}
-use Rattle.tiff_dir.proofs.Chain.{some_and_at, some_and_from}
+use Rattle.tiff_dir.specs.Stage.{Counts, EndsDirectory, Follows, HasTable, IsAt, StepsOn, index_of, outside_ranges, ranges_from, still}
+use Rattle.tiff_dir.specs.declared.stage.Stage.{Stage}
+use Rattle.tiff_dir.specs.declared.stage.Stage.TheVariants as stages
+use Rattle.tiff_dir.specs.Number.{number_in}
+use Rattle.tiff_dir.specs.Needs.{Range}
+use Rattle.std.proofs.lemmas.List.{append-nil}
+use Rattle.tiff_dir.proofs.GoingOn.{ends_on, levels_passed}
+use Rattle.tiff_dir.proofs.Chain.{some_and_at, some_and_from, goes_on, next_is}
 use Rattle.tiff_dir.proofs.Fields.{single_told, no_rule_fault, rule_fault}
 
 subfile_told : (f : List ℕ) (k : ℕ) (es : List Entry) → HasTable f k es → meets es subfile_rule ≡ true → value f k 254 0 ≡ Some (single_or es 254 0)
@@ -55,3 +61,28 @@ directory_clean f o k at n es counts has tags met shape LevelShape bad =
     let odd : single_or es 254 0 % 2 ≡ 1 = some_and_at (value f 0 254 0) (λ v. v % 2 ≡ 1) (single_or es 254 0) told bad.1 in
     false≢true (sym shape ∙ and_from (k == 0) (single_or es 254 0 % 2 == 1) (eq-eqb k 0 bad.0) (eq-eqb (single_or es 254 0 % 2) 1 odd))
 directory_clean f o k at n es counts has tags met shape _ bad = bad
+
+-- A directory that is no level
+
+pub passed_follows : (f bytes : List ℕ) (o : Order) (k at n : ℕ) → Counts f o k at n → bytes ≡ take (12 * n + 4) (drop (at + 2) f) → length bytes ≡ 12 * n + 4 → is_level f k ≡ false → ((fault : FileFault) → IsFaultOfDirectory f k fault → ⊥)
+    → Follows f o (k + 1) (number_in o (12 * n) 4 bytes)
+passed_follows f bytes o k at n counts part len passed sound =
+    let clean : (fault : FileFault) → IsFaultAt f k fault → ⊥ = λ fault bad. elim bad [ inl h ↦ sound fault h | inr h ↦ false≢true (sym passed ∙ h.0) ] in
+    goes_on f o k (number_in o (12 * n) 4 bytes) counts.reaches.walked counts.reaches.few counts.reaches.there (next_is f bytes o k at n counts part len) clean
+
+pub passed_on : (f : List ℕ) (o : Order) (k at n : ℕ) (stage : Stage) → is_level f k ≡ false → index_of stage ≡ k + 1 → IsAt f (k + 1) stage → StepsOn f (stages.Table o k at n) (record { stage = stage; level = None })
+unfolding outside_ranges
+passed_on f o k at n stage passed index here =
+    let ends : EndsDirectory f k (record { stage = stage; level = None }) = record {
+      here = here.0;
+      index = index ∙ add-one k;
+      levels = levels_passed f k passed ∙ sym (append-nil _);
+      come = rw add-one at here.1;
+    } in
+    let none : outside_ranges f k ≡ [] = rw passed refl in
+    let come : still f (stages.Table o k at n) ≡ record { first = at + 2; len = 12 * n + 4 } ∷ ranges_from f (suc k) = rw none refl in
+    ends_on f (stages.Table o k at n) k (record { first = at + 2; len = 12 * n + 4 }) (record { stage = stage; level = None }) refl refl come ends
+
+pub directory_fault : (f : List ℕ) (o : Order) (k at n : ℕ) (fault : FileFault) → Counts f o k at n → IsFaultOfDirectory f k fault → IsFaultOfDirectories f fault
+unfolding IsFaultOfDirectories
+directory_fault f o k at n fault counts bad = inr (k, (counts.reaches.few, counts.reaches.there), inl bad)

@@ -11,3 +11,5 @@ pub mod Levels
 pub mod Outside
 pub mod Ends
 pub mod Shorts
+pub mod Bounds
+pub mod Told

@@ -1,5 +1,5 @@
 // The steps of the walk over a level: its table, its values outside the entries, and its end.
-ghost use Rattle.std.specs.Prelude.{◌≡◌, ℕ, suc, ◌+◌, ◌*◌, ◌<◌, ◌≤◌, ◌^◌, ◌%◌, ◌&&◌, ◌||◌, ◌==◌, List, true, Some, IsSome, IfOk, IfSome, length, MatchResult};
+ghost use Rattle.std.specs.Prelude.{◌≡◌, ℕ, suc, ◌+◌, ◌*◌, ◌<◌, ◌≤◌, ◌^◌, ◌%◌, ◌&&◌, ◌||◌, ◌==◌, List, true, false, Some, IsSome, IfOk, IfSome, length, MatchResult};
 ghost use Rattle.tiff_dir.specs.Number.{number_in};
 ghost use Rattle.tiff_dir.specs.File.{value};
 ghost use Rattle.tiff_dir.specs.Fault.{IsFaultOfDirectories, IsFaultOfDirectory};
@@ -42,7 +42,8 @@ pub(crate) fn check_directory(
 ) -> Result<bool, FileFault>
     requires few { entries ≤ 256 }
     requires whole { length bytes.now ≡ 12 * entries + 4 }
-    ensures { (f : List ℕ) → IsTableOf f order index at entries bytes.now
+    ensures first { IfOk result (λ level. level ≡ false → 0 < index) }
+    ensures told { (f : List ℕ) → IsTableOf f order index at entries bytes.now
         → MatchResult result (λ level. (is_level f index ≡ level) × ((fault : Fault) → IsFaultOfDirectory f index fault → ⊥)) (IsFaultOfDirectory f index) }
 {
     let base = u64::from(at) + 2;

@@ -1,0 +1,166 @@
+-- What a walk knows of a file from one range to the next.
+use Rattle.std.proofs.Common.{◌≡◌, ◌≢◌, ℕ, zero, suc, ◌+◌, ◌-◌, ◌*◌, ◌<◌, ◌≤◌, ◌⊎◌, inl, inr, Bool, true, false, ◌||◌, nat_lt, List, [], ◌∷◌, ◌++◌, map, length, take, drop, Option, Some, None, IsSomeAnd, IfSome, refl, sym, subst, ap, ◌∙◌, arith}
+use Rattle.std.specs.Prelude.{slice_get, slice_range}
+use Rattle.std.proofs.lemmas.Option.{same_Some, none-some, slice_get-map}
+use Rattle.std.proofs.lemmas.Bool.{and_parts, or_left, lt-ltb, le-ltb, cases_lt, false≢true}
+use Rattle.std.proofs.lemmas.List.{map-append, append-nil}
+use Rattle.std.proofs.lemmas.List.Elements.{filter-append}
+use Rattle.std.specs.Option.{option_map, option_to_list}
+use Rattle.std.specs.List.{filter, list_any, last_or, range_with_len}
+use Rattle.tiff_dir.specs.declared.order.Order.{Order}
+use Rattle.tiff_dir.specs.declared.level.Level.{Level}
+use Rattle.tiff_dir.specs.declared.stage.Stage.{Stage}
+use Rattle.tiff_dir.specs.declared.stage.Stage.TheVariants as stages
+use Rattle.tiff_dir.specs.declared.stage.Step.{Step}
+use Rattle.tiff_dir.specs.declared.fault.FileFault.{FileFault}
+use Rattle.tiff_dir.specs.declared.fault.FileFault.TheVariants.{Header, PastEnd, TooManyDirs}
+use Rattle.tiff_dir.specs.File.{order_of, number, directory, has_directory, directories}
+use Rattle.tiff_dir.specs.Level.{is_level, level_directories, previous_level, level_at, levels, level_of, level_directory}
+use Rattle.tiff_dir.specs.Needs.{Range, header_range, ends_past, needs_of_directories}
+use Rattle.tiff_dir.specs.Fault.{IsFaultOfDirectories}
+use Rattle.tiff_dir.specs.Stage.{range_of, index_of, still, ranges_from, levels_below, AgreesAt, IsBefore, IsPart, IsOver, StepsOn}
+use Rattle.tiff_dir.specs.Walk.{Known, IsTold, Agrees, wanted, to_come, bytes_in, IsWantedOf, HasEnded, AreLevels}
+use Rattle.tiff_dir.proofs.Chain.{some_and_at, some_and_from, count_wanted, none_after}
+use Rattle.tiff_dir.proofs.Parts.{part_inside}
+use Rattle.tiff_dir.proofs.Ranges.{drop_next, filter_none, filter_all, range_split, last_or-map}
+
+pub told_new : (f : List ℕ) (ls : List Level) → ls ≡ [] → Agrees (record { stage = stages.Header; levels = ls; given = 0 }) f
+unfolding Agrees levels_below needs_of_directories directories ranges_from
+told_new f ls none = record { here = tt; levels = rw none refl; come = refl; inside = refl }
+
+pub come_new : (f : List ℕ) (w : Known) → w.given ≡ 0 → to_come w f ≡ needs_of_directories f
+unfolding to_come
+come_new f w none = rw none refl
+
+-- the range that is wanted is the first that is still needed
+first_still : (f : List ℕ) (stage : Stage) (r : Range) → AgreesAt f stage → range_of stage ≡ Some r → (rest : List Range) × (still f stage ≡ r ∷ rest)
+first_still f stages.Header r here e = (ranges_from f 0, ap (λ (x : Range). x ∷ ranges_from f 0) (same_Some _ _ e))
+first_still f (stages.Count o k at) r here e = let (rest, is) = count_wanted f o k at here in (rest, is ∙ ap (λ (x : Range). x ∷ rest) (same_Some _ _ e))
+first_still f (stages.Table o k at n) r here e = (_, ap (λ (x : Range). x ∷ _) (same_Some _ _ e))
+first_still f (stages.Bits p first formats) r here e = (_, ap (λ (x : Range). x ∷ _) (same_Some _ _ e))
+first_still f (stages.Formats p first eights) r here e = (_, ap (λ (x : Range). x ∷ _) (same_Some _ _ e))
+first_still f (stages.Ended o k) r here e = absurd (none-some r e)
+
+pub past_end : (w : Known) (f : List ℕ) (r : Range) → Agrees w f → wanted w ≡ Some r → length f < r.first + r.len → IsFaultOfDirectories f PastEnd
+unfolding Agrees wanted IsFaultOfDirectories
+past_end w f r told is past =
+    let (rest, first) = first_still f w.stage r told.here is in
+    inl (told.inside ∙ ap (list_any (ends_past f)) first ∙ or_left (ends_past f r) (list_any (ends_past f) rest) (lt-ltb (length f) (r.first + r.len) past))
+
+pub first_come : (w : Known) (f : List ℕ) → Agrees w f → slice_get (to_come w f) 0 ≡ wanted w
+unfolding Agrees wanted to_come
+first_come w f told = rw told.come (at w.stage told.here (range_of w.stage) refl) where
+  at : (stage : Stage) → AgreesAt f stage → (o : Option Range) → range_of stage ≡ o → slice_get (still f stage) 0 ≡ range_of stage
+  at stage here None is = ended stage is where
+    ended : (stage : Stage) → range_of stage ≡ None → slice_get (still f stage) 0 ≡ range_of stage
+    ended stages.Header is = absurd (none-some _ (sym is))
+    ended (stages.Count o k a) is = absurd (none-some _ (sym is))
+    ended (stages.Table o k a n) is = absurd (none-some _ (sym is))
+    ended (stages.Bits p first formats) is = absurd (none-some _ (sym is))
+    ended (stages.Formats p first eights) is = absurd (none-some _ (sym is))
+    ended (stages.Ended o k) is = refl
+  at stage here (Some r) is =
+      let (rest, first) = first_still f stage r here is in
+      ap (λ (xs : List Range). slice_get xs 0) first ∙ sym is
+
+-- the bytes of the file as a part of it
+pub wanted_part : (f bytes : List ℕ) (w : Known) (r : Range) → wanted w ≡ Some r → IsWantedOf f w bytes → IsPart f r bytes
+wanted_part f bytes w r is given =
+    let here : bytes ≡ bytes_in f r = some_and_at (wanted w) (λ x. bytes ≡ bytes_in f x) r is given in
+    let len : r.first + r.len - r.first ≡ r.len = omega arith in
+    here ∙ ap (λ (n : ℕ). take n (drop r.first f)) len
+
+-- The next range
+
+pub told_next : (f bytes : List ℕ) (w : Known) (step : Step) (r : Range) (ls : List Level) → Agrees w f → wanted w ≡ Some r → IsPart f r bytes → length bytes ≡ r.len → 0 < r.len → StepsOn f w.stage step
+    → ls ≡ w.levels ++ option_to_list step.level → Agrees (record { stage = step.stage; levels = ls; given = w.given + 1 }) f
+unfolding Agrees wanted
+told_next f bytes w step r ls told is part len some on same =
+    let come : still f w.stage ≡ r ∷ still f step.stage = on.come r is in
+    let ends : ends_past f r ≡ false = le-ltb (length f) (r.first + r.len) (part_inside f bytes r.first r.len part len some) in
+    record {
+      here = on.here;
+      levels = ap (map Some) same ∙ map-append Some w.levels (option_to_list step.level) ∙ ap (λ (xs : List (Option Level)). xs ++ map Some (option_to_list step.level)) told.levels ∙ sym on.levels;
+      come = drop_next w.given (needs_of_directories f) r (still f step.stage) (told.come ∙ come);
+      inside = told.inside ∙ ap (list_any (ends_past f)) come ∙ rw ends refl;
+    }
+
+pub come_next : (f : List ℕ) (w : Known) (r : Range) (next : Known) → Agrees w f → wanted w ≡ Some r → next.given ≡ w.given + 1 → to_come w f ≡ r ∷ to_come next f
+unfolding Agrees wanted to_come
+come_next f w r next told is given =
+    let (rest, first) = first_still f w.stage r told.here is in
+    let here : drop w.given (needs_of_directories f) ≡ r ∷ rest = told.come ∙ first in
+    let after : drop (w.given + 1) (needs_of_directories f) ≡ rest = drop_next w.given (needs_of_directories f) r rest here in
+    rw given (here ∙ ap (λ (xs : List Range). r ∷ xs) (sym after))
+
+-- the level before the next directory
+pub is_before : (f : List ℕ) (w : Known) → Agrees w f → IsBefore f (index_of w.stage) (last_or None w.levels)
+unfolding Agrees levels_below previous_level
+is_before f w told =
+    sym (last_or-map (level_at f) None (filter (is_level f) (range_with_len 0 (index_of w.stage))))
+    ∙ ap (last_or None) (sym told.levels)
+    ∙ last_or-map Some None w.levels
+
+pub here_is : (f : List ℕ) (w : Known) → Agrees w f → AgreesAt f w.stage
+unfolding Agrees
+here_is f w told = told.here
+
+-- The end
+
+ended_over : (f : List ℕ) (stage : Stage) → AgreesAt f stage → range_of stage ≡ None → (o : Order) × (k : ℕ) × IsOver f o k × (index_of stage ≡ k) × (still f stage ≡ [])
+ended_over f stages.Header here is = absurd (none-some _ (sym is))
+ended_over f (stages.Count o k a) here is = absurd (none-some _ (sym is))
+ended_over f (stages.Table o k a n) here is = absurd (none-some _ (sym is))
+ended_over f (stages.Bits p first formats) here is = absurd (none-some _ (sym is))
+ended_over f (stages.Formats p first eights) here is = absurd (none-some _ (sym is))
+ended_over f (stages.Ended o k) here is = (o, k, here, refl, refl)
+
+over_clean : (f : List ℕ) (o : Order) (k : ℕ) → IsOver f o k → list_any (ends_past f) (needs_of_directories f) ≡ false → (fault : FileFault) → IsFaultOfDirectories f fault → ⊥
+unfolding IsFaultOfDirectories
+over_clean f o zero over inside fault bad = absurd (omega (arith, over.some))
+over_clean f o (suc k) over inside fault (inr (j, there, bad)) =
+    elim (cases_lt j (suc k)) [
+      | inl lt ↦ over.follows.walked.clean j lt fault bad
+      | inr ge ↦ none_after f k j over.follows.place ge there.1
+    ]
+over_clean f o (suc k) over inside Header (inl (inl unnamed)) = let h = over.follows.walked.named in cc (h, unnamed.1)
+over_clean f o (suc k) over inside Header (inl (inr bad)) = some_and_at (number f 2 2) (λ (n : ℕ). n ≢ 42) 42 over.follows.walked.number bad refl
+over_clean f o (suc k) over inside PastEnd (inl past) = false≢true (sym inside ∙ past)
+over_clean f o (suc k) over inside TooManyDirs (inl there) = none_after f k 16 over.follows.place (omega (arith, over.follows.few)) there
+over_clean f o (suc k) over inside _ (inl bad) = bad
+
+pub ended_clean : (w : Known) (f : List ℕ) → HasEnded w → Agrees w f → (fault : FileFault) → IsFaultOfDirectories f fault → ⊥
+unfolding Agrees wanted
+ended_clean w f ended told =
+    let (o, k, over, index, none) = ended_over f w.stage told.here ended in
+    over_clean f o k over (told.inside ∙ ap (list_any (ends_past f)) none)
+
+there_below : (f : List ℕ) (k j : ℕ) → has_directory f k ≡ true → j ≤ k → has_directory f j ≡ true
+unfolding has_directory
+there_below f zero j there le = let e : j ≡ zero = omega arith in rw e refl
+there_below f (suc k) j there le = elim (cases_lt k j) [
+  | inl lt ↦ (let e : j ≡ suc k = omega arith in let P : ℕ → Type 0 = λ x. has_directory f x ≡ true in subst P (sym e) there)
+  | inr ge ↦ there_below f k j (and_parts (has_directory f k) _ there).0 ge
+]
+
+-- the directories are those below the end
+over_directories : (f : List ℕ) (o : Order) (k : ℕ) → IsOver f o k → directories f ≡ range_with_len 0 k
+unfolding directories
+over_directories f o zero over = absurd (omega (arith, over.some))
+over_directories f o (suc k) over =
+    let few = over.follows.few in
+    let e : 16 ≡ suc k + (15 - k) = omega arith in
+    let there : has_directory f k ≡ true = over.follows.before k refl in
+    let first : filter (has_directory f) (range_with_len 0 (suc k)) ≡ range_with_len 0 (suc k) = filter_all (has_directory f) 0 (suc k) (λ j _ lt. there_below f k j there (omega arith)) in
+    let rest : filter (has_directory f) (range_with_len (0 + suc k) (15 - k)) ≡ [] = filter_none (has_directory f) (0 + suc k) (15 - k) (λ j h bad. none_after f k j over.follows.place (omega arith) bad) in
+    ap (λ (n : ℕ). filter (has_directory f) (range_with_len 0 n)) e
+    ∙ ap (filter (has_directory f)) (range_split 0 (suc k) (15 - k))
+    ∙ filter-append (has_directory f) (range_with_len 0 (suc k)) (range_with_len (0 + suc k) (15 - k))
+    ∙ (rw (first, rest) (append-nil (range_with_len 0 (suc k))))
+
+pub ended_levels : (w : Known) (f : List ℕ) → HasEnded w → Agrees w f → AreLevels f w.levels
+unfolding Agrees wanted levels level_directories levels_below
+ended_levels w f ended told =
+    let (o, k, over, index, none) = ended_over f w.stage told.here ended in
+    told.levels ∙ ap (λ (n : ℕ). map (level_at f) (filter (is_level f) (range_with_len 0 n))) index
+    ∙ ap (λ (ks : List ℕ). map (level_at f) (filter (is_level f) ks)) (sym (over_directories f o k over))

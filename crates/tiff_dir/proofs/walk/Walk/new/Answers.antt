@@ -1,0 +1,5 @@
+use Rattle.tiff_dir.proofs.Told.{told_new, come_new}
+use Rattle.tiff_dir.proofs.walk.Walk.new.Goals as goal
+
+pub returns-clause-agrees : goal.returns-clause-agrees
+returns-clause-agrees c = λ f. told_new f _ c.new.ensures.items
