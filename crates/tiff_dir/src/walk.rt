@@ -1,4 +1,5 @@
-ghost use Rattle.std.specs.Prelude.{◌≡◌, ℕ, ◌+◌, ◌<◌, ◌≤◌, List, [], ◌∷◌, Some, All, IsSomeAnd, IfOk, IfErr, OnOk, OnErr, length, map, slice_get};
+ghost use Rattle.std.specs.Prelude.{◌≡◌, ℕ, ◌+◌, ◌<◌, ◌≤◌, List, [], ◌∷◌, ◌++◌, Some, All, IsSomeAnd, IfOk, IfErr, OnOk, OnErr, length, map, slice_get};
+ghost use Rattle.std.specs.Option.{option_to_list};
 ghost use Rattle.tiff_dir.specs.Fault.{IsFaultOfDirectories};
 ghost use Rattle.tiff_dir.specs.File.{order_of};
 ghost use Rattle.tiff_dir.specs.Level.{level_of};
@@ -33,6 +34,18 @@ impl Model for Walk {
     ghost view = { λ w. record { stage = w.stage; levels = w.levels.items; given = w.given } };
 
     ghost invariant = { λ w. IsSoFar w.stage w.levels.items w.given };
+}
+
+/// Adds the level, if there is one.
+fn keep(levels: &mut Vec<Level>, level: Option<Level>) -> Result<(), WalkError>
+    ensures ok { OnOk result (levels.new.items ≡ levels.old.items ++ option_to_list level) }
+    ensures err { OnErr result (levels.new.items ≡ levels.old.items) }
+    ensures memory { IfErr result (λ e. e ≡ WalkError.Memory) }
+{
+    if let Some(level) = level {
+        levels.push(level)?;
+    }
+    Ok(())
 }
 
 impl Walk {
@@ -118,9 +131,7 @@ impl Walk {
     {
         let previous = self.levels.last().copied();
         let step = step(self.stage, bytes, self.given, previous)?;
-        if let Some(level) = step.level {
-            self.levels.push(level)?;
-        }
+        keep(&mut self.levels, step.level)?;
         self.stage = step.stage;
         self.given += 1;
         Ok(())
