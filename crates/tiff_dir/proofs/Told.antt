@@ -269,3 +269,15 @@ offsets_at f n l told = let (k, there, here) = level_found f n l told in array_a
 
 pub counts_at : (f : List ℕ) (n : ℕ) (l : Level) → level_of f n ≡ Some l → array_range f n 325 ≡ Some (range_of_place l.counts)
 counts_at f n l told = let (k, there, here) = level_found f n l told in array_at f n k 325 l.counts there (level_parts f k l here).8
+
+pub wanted_as : (w : Known) → wanted w ≡ range_of w.stage
+unfolding wanted
+wanted_as w = refl
+
+pub ended_stage : (stage : Stage) → range_of stage ≡ None → (o : Order) × (k : ℕ) × (stage ≡ stages.Ended o k)
+ended_stage stages.Header is = absurd (none-some _ (sym is))
+ended_stage (stages.Count o k a) is = absurd (none-some _ (sym is))
+ended_stage (stages.Table o k a n) is = absurd (none-some _ (sym is))
+ended_stage (stages.Bits p first formats) is = absurd (none-some _ (sym is))
+ended_stage (stages.Formats p first eights) is = absurd (none-some _ (sym is))
+ended_stage (stages.Ended o k) is = (o, k, refl)
