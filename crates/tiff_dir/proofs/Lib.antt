@@ -13,3 +13,4 @@ pub mod Ends
 pub mod Shorts
 pub mod Bounds
 pub mod Told
+pub mod TileValues
