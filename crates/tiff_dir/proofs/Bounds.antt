@@ -1,11 +1,11 @@
 -- The bounds that a walk keeps.
-use Rattle.std.proofs.Common.{◌≡◌, ℕ, ◌+◌, ◌*◌, ◌<◌, ◌≤◌, None, refl, sym, arith}
+use Rattle.std.proofs.Common.{◌≡◌, ℕ, ◌<◌, ◌≤◌, None, refl, sym, arith}
 use Rattle.std.proofs.lemmas.Option.{none-some}
 use Rattle.tiff_dir.specs.declared.stage.Stage.{Stage}
 use Rattle.tiff_dir.specs.declared.stage.Stage.TheVariants.{Header, Count, Table, Bits, Formats, Ended}
 use Rattle.tiff_dir.specs.declared.stage.Step.{Step}
 use Rattle.tiff_dir.specs.Stage.{index_of, range_of, IsKept}
-use Rattle.tiff_dir.specs.Shape.{IsNext, IsEnd}
+use Rattle.tiff_dir.specs.Shape.{IsNext}
 
 pub kept_less : (stage : Stage) (m n : ℕ) → n ≤ m → IsKept stage m → IsKept stage n
 kept_less Header m n le kept = omega arith

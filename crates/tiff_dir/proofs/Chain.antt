@@ -1,21 +1,16 @@
 -- The chain of directories, step by step.
-use Rattle.std.proofs.Common.{[], ◌∷◌, ◌++◌, ◌-◌, ◌≡◌, ◌≢◌, ◌&&◌, ℕ, zero, suc, ◌+◌, ◌*◌, ◌<◌, ◌≤◌, ◌⊎◌, inl, inr, Bool, true, false, List, map, length, take, drop, Option, Some, None, IsSomeAnd, refl, sym, ap, subst, ◌∙◌, arith, add-one}
-use Rattle.std.proofs.lemmas.Bool.{le-leb, lt-ltb, and_from, and_parts, cases_Bool, cases_order, cases_lt, false≢true}
-use Rattle.std.proofs.lemmas.Option.{same_Some, none-some}
-use Rattle.std.proofs.lemmas.List.Concat.{flat_map-cons}
+use Rattle.std.proofs.Common.{[], ◌∷◌, ◌++◌, ◌-◌, ◌≡◌, ◌≢◌, ℕ, zero, suc, ◌+◌, ◌*◌, ◌<◌, ◌≤◌, ◌⊎◌, inl, inr, true, false, List, map, length, take, drop, Option, Some, None, IsSomeAnd, refl, sym, ap, subst, ◌∙◌, arith, add-one}
+use Rattle.std.proofs.lemmas.Bool.{le-leb, lt-ltb, and_from, and_parts, cases_order, cases_lt, false≢true}
 use Rattle.std.specs.Option.{option_to_list}
-use Rattle.std.specs.List.{filter, flat_map, range_with_len}
 use Rattle.tiff_dir.specs.declared.order.Order.{Order}
-use Rattle.tiff_dir.specs.declared.stage.Stage.{Stage}
 use Rattle.tiff_dir.specs.declared.fault.FileFault.{FileFault}
-use Rattle.tiff_dir.specs.declared.fault.FileFault.TheVariants.{Header, PastEnd, DirPlace, DirCount, TagOrder, TooManyDirs}
+use Rattle.tiff_dir.specs.declared.fault.FileFault.TheVariants.{Header, DirPlace, DirCount, TooManyDirs}
 use Rattle.tiff_dir.specs.Number.{number_in}
 use Rattle.tiff_dir.specs.File.{order_of, number, directory, has_directory, is_above_zero, entry_count, fields_from, table}
-use Rattle.tiff_dir.specs.Level.{is_level}
 use Rattle.tiff_dir.specs.Needs.{Range, is_entry_count, count_range, table_range, ranges_of_directory}
-use Rattle.tiff_dir.specs.Fault.{is_directory_place, ascends, IsFaultOfDirectory, IsFaultAt, IsFaultOfDirectories}
+use Rattle.tiff_dir.specs.Fault.{is_directory_place, IsFaultAt, IsFaultOfDirectories}
 use Rattle.tiff_dir.specs.Table.{entries, field_of}
-use Rattle.tiff_dir.specs.Stage.{ranges_from, outside_ranges, IsPart, IsWalked, Follows, Reaches, Counts, IsOver}
+use Rattle.tiff_dir.specs.Stage.{ranges_from, outside_ranges, IsWalked, Follows, Reaches, Counts, IsOver}
 use Rattle.tiff_dir.proofs.Parts.{part_inside, number_part, entries-part}
 use Rattle.tiff_dir.proofs.Ranges.{filter_none}
 
@@ -155,7 +150,6 @@ next_is f bytes o k at n counts part len =
     (number_part f bytes o (at + 2) (12 * n + 4) (12 * n) 4 counts.reaches.walked.named part len (omega arith) (omega arith))
 
 -- What is needed
-
 
 pub ranges_here : (f : List ℕ) (k : ℕ) → k < 16 → has_directory f k ≡ true → ranges_from f k ≡ ranges_of_directory f k ++ ranges_from f (suc k)
 unfolding ranges_from

@@ -1,22 +1,20 @@
 -- The faults of every directory, and whether it is a level.
-use Rattle.std.proofs.Common.{◌≡◌, ℕ, suc, ◌+◌, ◌*◌, ◌%◌, ◌<◌, ◌≤◌, ◌⊎◌, inl, inr, true, false, ◌&&◌, ◌||◌, ◌==◌, List, [], ◌∷◌, ◌++◌, map, length, Option, Some, None, IsSomeAnd, refl, sym, subst, ap, ◌∙◌, arith, add-one, take, drop}
-use Rattle.std.proofs.lemmas.Option.{same_Some, none-some}
-use Rattle.std.proofs.lemmas.Bool.{and_parts, and_from, eqb-true, eq-eqb, cases_Bool, false≢true}
+use Rattle.std.proofs.Common.{◌≡◌, ℕ, suc, ◌+◌, ◌*◌, ◌%◌, inl, inr, true, false, ◌&&◌, ◌||◌, ◌==◌, List, [], ◌∷◌, map, length, Some, None, refl, sym, ap, ◌∙◌, add-one, take, drop}
+use Rattle.std.proofs.lemmas.Bool.{and_parts, and_from, eqb-true, eq-eqb, false≢true}
 use Rattle.tiff_dir.specs.declared.order.Order.{Order}
 use Rattle.tiff_dir.specs.declared.table.Entry.{Entry}
 use Rattle.tiff_dir.specs.declared.fault.FileFault.{FileFault}
 use Rattle.tiff_dir.specs.declared.fault.FileFault.TheVariants.{Missing, DirPlace, DirCount, TagOrder, FieldType, LevelShape}
-use Rattle.tiff_dir.specs.File.{Field, directory, number, entry_count, table, value}
+use Rattle.tiff_dir.specs.File.{directory, entry_count, table, value}
 use Rattle.tiff_dir.specs.Profile.{subfile_rule}
 use Rattle.tiff_dir.specs.Level.{is_level}
 use Rattle.tiff_dir.specs.Needs.{is_entry_count}
-use Rattle.tiff_dir.specs.Fault.{is_directory_place, ascends, IsFaultAt, IsFaultOfDirectory, IsFaultOfDirectories, IsRuleFault}
-use Rattle.tiff_dir.specs.Table.{entries, field_of, found, meets, single_or, IsEntryFault}
+use Rattle.tiff_dir.specs.Fault.{is_directory_place, ascends, IsFaultAt, IsFaultOfDirectory, IsFaultOfDirectories}
+use Rattle.tiff_dir.specs.Table.{field_of, meets, single_or, IsEntryFault}
 use Rattle.tiff_dir.specs.Stage.{Counts, EndsDirectory, Follows, HasTable, IsAt, StepsOn, index_of, outside_ranges, ranges_from, still}
 use Rattle.tiff_dir.specs.declared.stage.Stage.{Stage}
 use Rattle.tiff_dir.specs.declared.stage.Stage.TheVariants as stages
 use Rattle.tiff_dir.specs.Number.{number_in}
-use Rattle.tiff_dir.specs.Needs.{Range}
 use Rattle.std.proofs.lemmas.List.{append-nil}
 use Rattle.tiff_dir.proofs.GoingOn.{ends_on, levels_passed}
 use Rattle.tiff_dir.proofs.Chain.{some_and_at, some_and_from, goes_on, next_is}

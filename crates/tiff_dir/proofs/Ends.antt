@@ -1,8 +1,8 @@
 -- The end of a level: its shape, and the level itself.
-use Rattle.std.proofs.Common.{◌≡◌, ◌≢◌, ℕ, zero, suc, ◌+◌, ◌*◌, ◌%◌, ◌<◌, ◌≤◌, ◌⊎◌, inl, inr, Bool, true, false, ◌&&◌, ◌||◌, ◌==◌, nat_lt, nat_le, List, [], ◌∷◌, ◌++◌, get_or, Option, Some, None, IsSomeAnd, refl, sym, subst, ap, ◌∙◌, arith, lit<, add-one}
+use Rattle.std.proofs.Common.{◌≡◌, ℕ, ◌+◌, ◌*◌, ◌%◌, ◌≤◌, ◌⊎◌, inl, inr, true, false, ◌&&◌, ◌==◌, nat_lt, nat_le, List, get_or, Option, Some, None, IsSomeAnd, refl, sym, subst, ap, ◌∙◌, arith, lit<, add-one}
 use Rattle.std.proofs.lemmas.Option.{same_Some, none-some}
-use Rattle.std.proofs.lemmas.Bool.{and_parts, and_cases, and_from, eqb-true, ltb-true, ltb-false, leb-true, lt-ltb, cases_eq, cases_Bool, false≢true}
-use Rattle.std.specs.Option.{option_map, option_map_or, option_to_list}
+use Rattle.std.proofs.lemmas.Bool.{and_parts, and_cases, eqb-true, ltb-true, ltb-false, leb-true, cases_eq, cases_Bool, false≢true}
+use Rattle.std.specs.Option.{option_map, option_map_or}
 use Rattle.std.specs.List.{AllPass}
 use Rattle.tiff_dir.specs.declared.table.Entry.{Entry}
 use Rattle.tiff_dir.specs.declared.rule.Rule.{Rule}
@@ -10,23 +10,21 @@ use Rattle.tiff_dir.specs.declared.level.Kind.TheVariants as kind
 use Rattle.tiff_dir.specs.Table.{found, meets, short_or, place_in, place_or, draft_in, HasValues}
 use Rattle.tiff_dir.proofs.Fields.{kind_long, typed, met_entry, met_there}
 use Rattle.tiff_dir.proofs.Levels.{fits_cases}
-use Rattle.tiff_dir.specs.declared.order.Order.{Order}
 use Rattle.tiff_dir.specs.declared.level.Level.{Level}
 use Rattle.tiff_dir.specs.declared.level.Place.{Place}
 use Rattle.tiff_dir.specs.declared.level.Compression.{Compression}
 use Rattle.tiff_dir.specs.declared.stage.Draft.{Draft}
 use Rattle.tiff_dir.specs.declared.stage.Pending.{Pending}
 use Rattle.tiff_dir.specs.declared.stage.Stage.{Stage}
-use Rattle.tiff_dir.specs.declared.stage.Step.{Step}
 use Rattle.tiff_dir.specs.declared.fault.FileFault.{FileFault}
 use Rattle.tiff_dir.specs.declared.fault.FileFault.TheVariants.{Missing, FieldType, Unsupported, LevelShape, TileSize, TileArray}
 use Rattle.tiff_dir.specs.File.{◌>>=◌, Field, kind_of, size_of, values_at, field, value}
 use Rattle.tiff_dir.specs.Profile.{subfile_rule, profile, is_tile_side, tile_bytes, max_tile_bytes, max_tiles}
-use Rattle.tiff_dir.specs.Level.{is_level, previous_level, place_of, compression_of, level_at}
+use Rattle.tiff_dir.specs.Level.{previous_level, place_of, compression_of, level_at}
 use Rattle.tiff_dir.specs.Fault.{is_smaller, sides, plain_bytes, tile_count, IsUnsupported, IsNotSmaller, IsNoTileArray, IsFaultOfLevel, IsFaultAt}
 use Rattle.tiff_dir.specs.Shape.{has_sides, fits_under, has_tiles, tiles_of, has_arrays, level_from, IsShaped, IsShapeFault}
-use Rattle.tiff_dir.specs.Stage.{index_of, ranges_from, Follows, IsAt, IsArrayPlace, IsBefore, IsBounded, IsDraft, IsDrafted, IsPending, IsSupported, EndsDirectory}
-use Rattle.tiff_dir.specs.Walk.{IsArray, IsProfiled}
+use Rattle.tiff_dir.specs.Stage.{index_of, Follows, IsAt, IsBefore, IsBounded, IsDraft, IsDrafted, IsPending, IsSupported, EndsDirectory}
+use Rattle.tiff_dir.specs.Walk.{IsProfiled}
 use Rattle.tiff_dir.proofs.Chain.{some_and_at, some_and_from, goes_on}
 use Rattle.tiff_dir.proofs.GoingOn.{levels_taken}
 

@@ -1,10 +1,8 @@
 -- What the entries of a table tell of the file's fields.
-use Rattle.std.proofs.Common.{◌≡◌, ℕ, zero, suc, ◌+◌, ◌*◌, ◌<◌, ◌≤◌, ◌⊎◌, inl, inr, true, false, not, ◌&&◌, ◌||◌, ◌==◌, nat_le, nat_lt, if◌then◌else◌, Bool, List, [], ◌∷◌, map, length, get_or, Option, Some, None, IsSomeAnd, refl, sym, subst, ap, ◌∙◌, arith, add-zero, zero-add, lit<, take, drop}
+use Rattle.std.proofs.Common.{◌≡◌, ℕ, zero, suc, ◌+◌, ◌*◌, ◌<◌, ◌≤◌, ◌⊎◌, inl, inr, true, false, not, ◌==◌, nat_lt, if◌then◌else◌, List, [], ◌∷◌, map, length, Option, Some, None, IsSomeAnd, refl, sym, subst, ◌∙◌, arith, add-zero, zero-add}
 use Rattle.std.proofs.lemmas.Option.{same_Some, none-some}
-use Rattle.std.proofs.lemmas.List.{get_or_default}
 use Rattle.std.proofs.lemmas.Bool.{and_parts, and_cases, or_cases, eqb-true, cases_Bool, false≢true, not_from_true, le-ltb}
 use Rattle.std.specs.Option.{option_map, option_map_or}
-use Rattle.std.specs.List.{find, AllPass, Any}
 use Rattle.tiff_dir.specs.declared.order.Order.{Order}
 use Rattle.tiff_dir.specs.declared.table.Entry.{Entry}
 use Rattle.tiff_dir.specs.declared.rule.Rule.{Rule}
@@ -12,16 +10,14 @@ use Rattle.tiff_dir.specs.declared.rule.Typing.{Typing}
 use Rattle.tiff_dir.specs.declared.rule.Typing.TheVariants as typing
 use Rattle.tiff_dir.specs.declared.rule.Count.{Count}
 use Rattle.tiff_dir.specs.declared.rule.Count.TheVariants.{One, Samples, Tiles}
-use Rattle.tiff_dir.specs.declared.level.Place.{Place}
 use Rattle.tiff_dir.specs.declared.fault.FileFault.{FileFault}
 use Rattle.tiff_dir.specs.declared.fault.FileFault.TheVariants.{Missing, FieldType}
 use Rattle.tiff_dir.specs.Number.{number_in}
-use Rattle.tiff_dir.specs.File.{◌>>=◌, Field, order_of, number, table, with_tag, field, values_at, field_value, value, default_of}
-use Rattle.tiff_dir.specs.Profile.{subfile_rule, profile, has_typing}
-use Rattle.tiff_dir.specs.Level.{is_level, place_of}
+use Rattle.tiff_dir.specs.File.{Field, order_of, number, with_tag, field, values_at, field_value, value, default_of}
+use Rattle.tiff_dir.specs.Profile.{has_typing}
 use Rattle.tiff_dir.specs.Fault.{IsMiscounted, IsRuleFault}
-use Rattle.tiff_dir.specs.Stage.{Counts, HasTable, IsTableOf}
-use Rattle.tiff_dir.specs.Table.{entry, entries, field_of, found, allows, counts_one, meets, IsEntryFault, IsFaultOfEntries, single_of, single_or, short_or, counts_samples, long_in, len_of, place_in, place_or}
+use Rattle.tiff_dir.specs.Stage.{HasTable, IsTableOf}
+use Rattle.tiff_dir.specs.Table.{entry, entries, field_of, found, allows, counts_one, meets, IsEntryFault, single_of, single_or, short_or}
 use Rattle.tiff_dir.proofs.Parts.{part_inside, number_inside}
 use Rattle.tiff_dir.proofs.Chain.{some_and_at, some_and_from, same_entries, table_is}
 
@@ -166,6 +162,7 @@ short_only f k es r d has met short one default i v told = at (found r.tag es) r
   at (Some e) is default told = which i told where
     kind : e.kind ≡ 3
     kind = kind_short r.typing e.kind short (typed r e (met_entry es r e met is))
+
     which : (j : ℕ) → field_value f (field_of e) j ≡ Some v → v ≡ e.short
     which zero told = sym (same_Some _ _ (sym (short_value f e (has.short r.tag e is) kind (one e is)) ∙ told))
     which (suc j) told = absurd (none-some v (sym (no_value f e (suc j) kind (one e is) (omega arith)) ∙ told))
@@ -190,6 +187,7 @@ rule_fault f k es r (FieldType tag) has bad = (bad.0, at (found r.tag es) refl b
   wrong One e bad = bad
   wrong Samples e bad = absurd (false≢true (sym bad))
   wrong Tiles e bad = absurd (false≢true (sym bad))
+
   at : (o : Option Entry) → found r.tag es ≡ o → IsSomeAnd o (λ e. allows r e ≡ false) → IsSomeAnd (field f k r.tag) (λ e. (has_typing r.typing e.kind ≡ false) ⊎ IsMiscounted f k r.count e)
   at None is bad = absurd bad
   at (Some e) is bad =
@@ -209,6 +207,7 @@ no_rule_fault f k es r has met right (FieldType tag) bad = at (found r.tag es) r
   wrong One e is at ok bad = false≢true (sym bad ∙ ok)
   wrong Samples e is at ok bad = let (s, told, same) = right is e at in false≢true (sym (some_and_at _ (λ n. (e.count == n) ≡ false) _ told bad) ∙ same)
   wrong Tiles e is at ok bad = bad
+
   at : (o : Option Entry) → found r.tag es ≡ o → IsSomeAnd (option_map field_of o) (λ e. (has_typing r.typing e.kind ≡ false) ⊎ IsMiscounted f k r.count e) → ⊥
   at None is bad = bad
   at (Some e) is (inl h) = false≢true (sym h ∙ typed r e (met_entry es r e met is))

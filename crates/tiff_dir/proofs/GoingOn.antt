@@ -1,7 +1,6 @@
 -- The walk goes on from one stage to the next.
-use Rattle.std.proofs.Common.{[], ◌∷◌, ◌++◌, ◌≡◌, ℕ, zero, suc, ◌+◌, ◌*◌, ◌<◌, ◌≤◌, ◌⊎◌, inl, inr, Bool, true, false, List, map, length, take, drop, Option, Some, None, IsSomeAnd, refl, sym, ap, subst, ◌∙◌, arith, add-one}
-use Rattle.std.specs.Option.{option_map, option_to_list}
-use Rattle.std.proofs.lemmas.Option.{same_Some, none-some}
+use Rattle.std.proofs.Common.{[], ◌∷◌, ◌++◌, ◌≡◌, ℕ, suc, ◌+◌, ◌*◌, true, false, List, map, Some, None, refl, sym, ap, subst, ◌∙◌}
+use Rattle.std.proofs.lemmas.Option.{same_Some}
 use Rattle.std.proofs.lemmas.List.{append-nil, map-append}
 use Rattle.std.proofs.lemmas.List.Elements.{filter-append}
 use Rattle.std.specs.List.{filter, range_with_len}

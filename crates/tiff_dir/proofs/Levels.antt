@@ -1,32 +1,26 @@
 -- What the entries of a level tell of it.
-use Rattle.std.proofs.Common.{◌≡◌, ◌≢◌, ℕ, zero, suc, ◌+◌, ◌*◌, ◌<◌, ◌≤◌, ◌⊎◌, inl, inr, Bool, true, false, not, ◌&&◌, ◌||◌, ◌==◌, nat_le, nat_lt, if◌then◌else◌, List, [], ◌∷◌, ◌++◌, map, length, get_or, Option, Some, None, IsSomeAnd, refl, sym, subst, ap, ◌∙◌, arith, lit<, take, drop}
-use Rattle.std.proofs.lemmas.Option.{same_Some, none-some}
+use Rattle.std.proofs.Common.{◌≡◌, ◌≢◌, ℕ, zero, suc, ◌+◌, ◌*◌, ◌<◌, ◌⊎◌, inl, inr, true, false, ◌&&◌, ◌==◌, nat_le, if◌then◌else◌, List, length, get_or, Option, Some, None, IsSomeAnd, refl, sym, subst, ◌∙◌, arith, lit<}
 use Rattle.std.proofs.lemmas.List.{get_or_default}
-use Rattle.std.proofs.lemmas.Bool.{and_parts, or_cases, eqb-true, eq-eqb, ne_eqb, cases_Bool, cases_eq, false≢true}
-use Rattle.std.specs.Option.{option_map, option_map_or, option_to_list}
+use Rattle.std.proofs.lemmas.Bool.{and_parts, or_cases, eqb-true, ne_eqb, cases_Bool, cases_eq, false≢true}
+use Rattle.std.specs.Option.{option_map_or}
 use Rattle.std.specs.List.{AllPass, Any}
 use Rattle.tiff_dir.specs.declared.order.Order.{Order}
 use Rattle.tiff_dir.specs.declared.table.Entry.{Entry}
 use Rattle.tiff_dir.specs.declared.rule.Rule.{Rule}
 use Rattle.tiff_dir.specs.declared.rule.Count.TheVariants.{Samples}
-use Rattle.tiff_dir.specs.declared.level.Place.{Place}
-use Rattle.tiff_dir.specs.declared.level.Kind.{Kind}
-use Rattle.tiff_dir.specs.declared.level.Kind.TheVariants as kind
 use Rattle.tiff_dir.specs.declared.level.Compression.TheVariants.{Plain, PackBits}
 use Rattle.tiff_dir.specs.declared.stage.Draft.{Draft}
-use Rattle.tiff_dir.specs.declared.stage.Pending.{Pending}
 use Rattle.tiff_dir.specs.declared.fault.FileFault.{FileFault}
 use Rattle.tiff_dir.specs.declared.fault.FileFault.TheVariants.{Missing, FieldType, Unsupported}
 use Rattle.tiff_dir.specs.Number.{number_in}
-use Rattle.tiff_dir.specs.File.{◌>>=◌, Field, number, field, values_at, value}
+use Rattle.tiff_dir.specs.File.{◌>>=◌, number, field, values_at, value}
 use Rattle.tiff_dir.specs.Profile.{subfile_rule, profile, has_typing, accepts, samples_fit, planes_fit}
 use Rattle.tiff_dir.specs.Level.{is_level, place_of, compression_of}
-use Rattle.tiff_dir.specs.Needs.{Range, outside_range}
-use Rattle.tiff_dir.specs.Fault.{IsMiscounted, IsRuleFault, IsUnsupported, IsMisfit, IsFaultOfDirectory, IsFaultOfLevel, IsFaultOfDirectories}
-use Rattle.tiff_dir.specs.Table.{entries, field_of, found, allows, meets, IsFaultOfEntries, IsEntryFault, single_or, short_or, counts_samples, long_in, len_of, place_in, place_or, draft_in, HasValues, IsValueFault, HasCounts, IsCountFault, IsReadIn, IsReadFault}
-use Rattle.tiff_dir.specs.Stage.{Counts, HasTable, HasShorts, HasFormats, IsTableOf, IsSupported, IsDrafted, IsPending, outside_ranges, three_shorts}
+use Rattle.tiff_dir.specs.Fault.{IsMiscounted, IsRuleFault, IsUnsupported, IsMisfit, IsFaultOfDirectory, IsFaultOfLevel}
+use Rattle.tiff_dir.specs.Table.{field_of, found, meets, IsFaultOfEntries, short_or, counts_samples, place_in, place_or, draft_in, HasValues, IsValueFault, HasCounts, IsCountFault, IsReadIn, IsReadFault}
+use Rattle.tiff_dir.specs.Stage.{HasTable, IsTableOf, IsDrafted, IsPending}
 use Rattle.tiff_dir.proofs.Chain.{some_and_at, some_and_from, next_is}
-use Rattle.tiff_dir.proofs.Fields.{field_told, value_told, kind_told, kind_short, typed, met_entry, met_there, single_told, short_told, short_only, one_counted, three_values, rule_fault, no_rule_fault}
+use Rattle.tiff_dir.proofs.Fields.{field_told, kind_told, typed, met_entry, met_there, single_told, short_told, short_only, one_counted, rule_fault, no_rule_fault}
 
 -- rule j of the profile
 rule : ℕ → Rule

@@ -1,28 +1,25 @@
 -- The values of BitsPerSample and SampleFormat, in their entries and outside.
-use Rattle.std.proofs.Common.{◌≡◌, ◌≢◌, ℕ, zero, suc, ◌+◌, ◌*◌, ◌<◌, ◌≤◌, ◌⊎◌, inl, inr, true, false, ◌==◌, nat_lt, List, [], ◌∷◌, ◌++◌, get_or, Option, Some, None, IsSomeAnd, Result, Ok, Err, MatchResult, refl, sym, subst, ap, ◌∙◌, arith, lit<, take, drop}
+use Rattle.std.proofs.Common.{◌≡◌, ◌≢◌, ℕ, suc, ◌+◌, ◌*◌, ◌<◌, inl, inr, true, false, List, [], ◌∷◌, get_or, Option, Some, None, Result, Ok, Err, MatchResult, refl, sym, subst, ap, ◌∙◌, arith, lit<}
 use Rattle.std.proofs.lemmas.Option.{same_Some, none-some}
 use Rattle.std.proofs.lemmas.Bool.{eqb-true, ne_eqb}
-use Rattle.std.specs.Option.{option_map, option_map_or, option_to_list}
+use Rattle.std.specs.Option.{option_map, option_to_list}
 use Rattle.std.specs.List.{AllPass}
 use Rattle.tiff_dir.specs.declared.order.Order.{Order}
 use Rattle.tiff_dir.specs.declared.table.Entry.{Entry}
 use Rattle.tiff_dir.specs.declared.rule.Rule.{Rule}
 use Rattle.tiff_dir.specs.declared.rule.Typing.TheVariants as typing
-use Rattle.tiff_dir.specs.declared.rule.Count.TheVariants.{Samples}
 use Rattle.tiff_dir.specs.declared.stage.Draft.{Draft}
 use Rattle.tiff_dir.specs.declared.stage.Pending.{Pending}
-use Rattle.tiff_dir.specs.declared.stage.Stage.{Stage}
 use Rattle.tiff_dir.specs.declared.stage.Stage.TheVariants as stages
 use Rattle.tiff_dir.specs.declared.stage.Step.{Step}
 use Rattle.tiff_dir.specs.declared.fault.FileFault.{FileFault}
-use Rattle.tiff_dir.specs.declared.fault.FileFault.TheVariants.{Unsupported}
-use Rattle.tiff_dir.specs.File.{◌>>=◌, number, has_directory, field, field_value, values_at, value}
-use Rattle.tiff_dir.specs.Profile.{subfile_rule, profile, accepts, samples_fit}
+use Rattle.tiff_dir.specs.File.{◌>>=◌, has_directory, values_at, value}
+use Rattle.tiff_dir.specs.Profile.{subfile_rule, profile, accepts}
 use Rattle.tiff_dir.specs.Level.{is_level, place_of}
-use Rattle.tiff_dir.specs.Needs.{Range, outside_entry, outside_range}
+use Rattle.tiff_dir.specs.Needs.{outside_entry, outside_range}
 use Rattle.tiff_dir.specs.Fault.{IsUnsupported, IsFaultOfLevel, IsFaultOfDirectories}
 use Rattle.tiff_dir.specs.Table.{field_of, found, meets, short_or, counts_samples, long_in, draft_in, HasValues, HasCounts, IsReadIn}
-use Rattle.tiff_dir.specs.Stage.{Counts, HasTable, HasShorts, HasFormats, IsSupported, IsPending, StepsOn, EndsDirectory, outside_ranges, ranges_from, three_shorts, still}
+use Rattle.tiff_dir.specs.Stage.{HasTable, HasShorts, HasFormats, IsSupported, IsPending, StepsOn, EndsDirectory, outside_ranges, ranges_from, three_shorts, still}
 use Rattle.tiff_dir.proofs.Chain.{some_and_from}
 use Rattle.tiff_dir.proofs.Fields.{field_told, value_told, kind_short, typed, met_entry, met_there, short_told, short_only, three_values}
 use Rattle.tiff_dir.proofs.Levels.{fits_cases, count_is, supported_by}
@@ -82,18 +79,19 @@ unfolding profile
 formats_outside f k es formats has met right samples told =
     let P : Option ℕ → Type 0 = λ o. HasFormats f k o × (outside_range f k 339 ≡ option_map three_shorts o) in
     subst P told (at (found 339 es) refl) where
-  at : (o : Option Entry) → found 339 es ≡ o → HasFormats f k (option_map (λ e. e.long) o) × (outside_range f k 339 ≡ option_map three_shorts (option_map (λ e. e.long) o))
-  at None is =
-      let ok = met 12 subfile_rule (lit< tt) in
-      let none : (e : Entry) → found 339 es ≡ Some e → e.count ≡ 1 = λ e there. absurd (none-some e (sym is ∙ there)) in
-      let default : short_or es 339 1 ≡ 1 = rw is refl in
-      (supported_by f k 339 (λ e. absurd (omega arith)) (λ e. absurd (omega arith))
-      (λ i v here. rw (short_only f k es (get_or profile 12 subfile_rule) 1 has ok refl none (inl refl) i v here ∙ default) refl),
-      one_inside f k es (get_or profile 12 subfile_rule) has ok refl none)
-  at (Some x) is =
-      let ok = met 12 subfile_rule (lit< tt) in
-      let count = is_counted es 339 3 x right.1 samples is in
-      (three_told f k es (get_or profile 12 subfile_rule) x has ok refl count is, three_outside f k es (get_or profile 12 subfile_rule) x has ok refl count is)
+      at : (o : Option Entry) → found 339 es ≡ o → HasFormats f k (option_map (λ e. e.long) o) × (outside_range f k 339 ≡ option_map three_shorts (option_map (λ e. e.long) o))
+      at None is =
+          let ok = met 12 subfile_rule (lit< tt) in
+          let none : (e : Entry) → found 339 es ≡ Some e → e.count ≡ 1 = λ e there. absurd (none-some e (sym is ∙ there)) in
+          let default : short_or es 339 1 ≡ 1 = rw is refl in (
+            supported_by f k 339 (λ e. absurd (omega arith)) (λ e. absurd (omega arith))
+                (λ i v here. rw (short_only f k es (get_or profile 12 subfile_rule) 1 has ok refl none (inl refl) i v here ∙ default) refl),
+            one_inside f k es (get_or profile 12 subfile_rule) has ok refl none,
+          )
+      at (Some x) is =
+          let ok = met 12 subfile_rule (lit< tt) in
+          let count = is_counted es 339 3 x right.1 samples is in
+          (three_told f k es (get_or profile 12 subfile_rule) x has ok refl count is, three_outside f k es (get_or profile 12 subfile_rule) x has ok refl count is)
 
 -- the entry of BitsPerSample is there
 pub bits_there : (es : List Entry) → AllPass (meets es) profile → long_in es 258 ≡ None → ⊥
@@ -130,10 +128,11 @@ unfolding profile
 bits_inside f k es has met right samples good =
     let r : Rule = get_or profile 3 subfile_rule in
     let ok = met 3 subfile_rule (lit< tt) in
-    let one : (e : Entry) → found 258 es ≡ Some e → e.count ≡ 1 = λ e is. is_counted es 258 1 e right.0 samples is in
-    (bits_value f k es has met right samples ∙ ap Some good,
-    supported_by f k 258 (λ e. absurd (omega arith)) (λ e. absurd (omega arith)) (λ i v here. rw (short_only f k es r 0 has ok refl one (inr refl) i v here ∙ good) refl),
-    one_inside f k es r has ok refl one)
+    let one : (e : Entry) → found 258 es ≡ Some e → e.count ≡ 1 = λ e is. is_counted es 258 1 e right.0 samples is in (
+      bits_value f k es has met right samples ∙ ap Some good,
+      supported_by f k 258 (λ e. absurd (omega arith)) (λ e. absurd (omega arith)) (λ i v here. rw (short_only f k es r 0 has ok refl one (inr refl) i v here ∙ good) refl),
+      one_inside f k es r has ok refl one,
+    )
 
 pub formats_inside : (f : List ℕ) (k : ℕ) (es : List Entry) → HasTable f k es → AllPass (meets es) profile → HasCounts es → short_or es 277 1 ≡ 1 → short_or es 339 1 ≡ 1
     → IsSupported f k 339 × (outside_range f k 339 ≡ None)
@@ -141,9 +140,10 @@ unfolding profile
 formats_inside f k es has met right samples good =
     let r : Rule = get_or profile 12 subfile_rule in
     let ok = met 12 subfile_rule (lit< tt) in
-    let one : (e : Entry) → found 339 es ≡ Some e → e.count ≡ 1 = λ e is. is_counted es 339 1 e right.1 samples is in
-    (supported_by f k 339 (λ e. absurd (omega arith)) (λ e. absurd (omega arith)) (λ i v here. rw (short_only f k es r 1 has ok refl one (inl refl) i v here ∙ good) refl),
-    one_inside f k es r has ok refl one)
+    let one : (e : Entry) → found 339 es ≡ Some e → e.count ≡ 1 = λ e is. is_counted es 339 1 e right.1 samples is in (
+      supported_by f k 339 (λ e. absurd (omega arith)) (λ e. absurd (omega arith)) (λ i v here. rw (short_only f k es r 1 has ok refl one (inl refl) i v here ∙ good) refl),
+      one_inside f k es r has ok refl one,
+    )
 
 -- What is needed besides the table
 

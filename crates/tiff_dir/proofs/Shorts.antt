@@ -1,18 +1,15 @@
 -- Three values of two bytes that stand outside their entry.
-use Rattle.std.proofs.Common.{◌≡◌, ◌≢◌, ℕ, zero, suc, ◌+◌, ◌*◌, ◌<◌, ◌≤◌, ◌⊎◌, inl, inr, Bool, true, false, ◌&&◌, ◌==◌, nat_lt, List, [], ◌∷◌, ◌++◌, length, take, drop, Option, Some, None, IsSomeAnd, refl, sym, subst, ap, ◌∙◌, arith}
+use Rattle.std.proofs.Common.{◌≡◌, ℕ, zero, suc, ◌*◌, ◌<◌, ◌≤◌, inl, inr, Bool, true, false, ◌&&◌, ◌==◌, List, length, Some, None, IsSomeAnd, refl, sym, subst, ap, ◌∙◌, arith}
 use Rattle.std.proofs.lemmas.Option.{same_Some, none-some}
-use Rattle.std.proofs.lemmas.Bool.{and_parts, and_cases, eqb-true, lt-ltb, le-ltb, cases_Bool, false≢true}
-use Rattle.std.specs.Option.{option_map, option_to_list}
+use Rattle.std.proofs.lemmas.Bool.{and_parts, and_cases, eqb-true, lt-ltb, le-ltb}
 use Rattle.tiff_dir.specs.declared.order.Order.{Order}
 use Rattle.tiff_dir.specs.declared.stage.Pending.{Pending}
 use Rattle.tiff_dir.specs.declared.stage.Stage.TheVariants as stages
 use Rattle.tiff_dir.specs.declared.stage.Step.{Step}
 use Rattle.tiff_dir.specs.Number.{number_in}
-use Rattle.tiff_dir.specs.File.{order_of, number, value}
-use Rattle.tiff_dir.specs.Profile.{accepts}
-use Rattle.tiff_dir.specs.Needs.{Range}
+use Rattle.tiff_dir.specs.File.{order_of, value}
 use Rattle.tiff_dir.specs.Fault.{IsUnsupported}
-use Rattle.tiff_dir.specs.Stage.{three_shorts, still, ranges_from, HasShorts, HasBits, IsPart, IsPending, IsSupported, StepsOn, EndsDirectory}
+use Rattle.tiff_dir.specs.Stage.{three_shorts, HasShorts, HasBits, IsPart, IsPending, IsSupported, StepsOn, EndsDirectory}
 use Rattle.tiff_dir.proofs.Chain.{some_and_from}
 use Rattle.tiff_dir.proofs.Parts.{number_part}
 use Rattle.tiff_dir.proofs.Levels.{supported_by}
@@ -61,9 +58,10 @@ pub bits_wrong : (f bytes : List ℕ) (o : Order) (k first : ℕ) → order_of f
 bits_wrong f bytes o k first named shorts part len bad = inl (one_other f bytes o k 258 first 8 named shorts part len bad)
 
 pub bits_right : (f bytes : List ℕ) (o : Order) (k first : ℕ) → order_of f ≡ Some o → HasShorts f k 258 first → IsPart f (three_shorts first) bytes → length bytes ≡ 6 → all_are o bytes 8 ≡ true → (value f k 258 0 ≡ Some 8) × IsSupported f k 258
-bits_right f bytes o k first named shorts part len all =
-    (short_is f bytes o k 258 first 0 named shorts part len (omega arith) ∙ ap Some (eqb-true _ 8 (and_parts (number_in o 0 2 bytes == 8) _ all).0),
-    supported_by f k 258 (λ e. absurd (omega arith)) (λ e. absurd (omega arith)) (λ i v told. rw (all_same f bytes o k 258 first 8 named shorts part len all i v told) refl))
+bits_right f bytes o k first named shorts part len all = (
+  short_is f bytes o k 258 first 0 named shorts part len (omega arith) ∙ ap Some (eqb-true _ 8 (and_parts (number_in o 0 2 bytes == 8) _ all).0),
+  supported_by f k 258 (λ e. absurd (omega arith)) (λ e. absurd (omega arith)) (λ i v told. rw (all_same f bytes o k 258 first 8 named shorts part len all i v told) refl),
+)
 
 pub has_bits : (f bytes : List ℕ) (o : Order) (k first : ℕ) (b : Bool) → order_of f ≡ Some o → HasShorts f k 258 first → IsPart f (three_shorts first) bytes → length bytes ≡ 6 → b ≡ all_are o bytes 8 → HasBits f k b
 has_bits f bytes o k first true named shorts part len is = bits_right f bytes o k first named shorts part len (sym is)

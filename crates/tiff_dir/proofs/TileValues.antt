@@ -1,5 +1,5 @@
 -- The values of a level's arrays, by their bytes.
-use Rattle.std.proofs.Common.{◌≡◌, ℕ, zero, suc, ◌+◌, ◌-◌, ◌*◌, ◌<◌, ◌≤◌, List, length, take, drop, Option, Some, None, refl, sym, subst, ap, ◌∙◌, arith}
+use Rattle.std.proofs.Common.{◌≡◌, ℕ, ◌+◌, ◌-◌, ◌*◌, ◌<◌, ◌≤◌, List, length, take, drop, Option, Some, None, refl, subst, ap, ◌∙◌, arith}
 use Rattle.std.proofs.Math.Nat.{mul-le-mul_right}
 use Rattle.std.proofs.lemmas.Option.{same_Some, none-some}
 use Rattle.std.proofs.lemmas.Bool.{lt-ltb}
@@ -12,8 +12,7 @@ use Rattle.tiff_dir.specs.declared.level.Kind.TheVariants as kind
 use Rattle.tiff_dir.specs.Number.{number_in}
 use Rattle.tiff_dir.specs.File.{◌>>=◌, Field, order_of, number, kind_of, size_of, values_at, table, with_tag, field, field_value, value, default_of}
 use Rattle.tiff_dir.specs.Level.{place_of, level_directory, level_of, level_value}
-use Rattle.tiff_dir.specs.Stage.{IsPart}
-use Rattle.tiff_dir.specs.Walk.{range_of_place, IsArrayOf}
+use Rattle.tiff_dir.specs.Walk.{IsArrayOf}
 use Rattle.tiff_dir.proofs.Parts.{number_part}
 use Rattle.tiff_dir.proofs.Ends.{level_parts}
 use Rattle.tiff_dir.proofs.Told.{level_found}
@@ -64,6 +63,7 @@ field_value_told f k tag t p told less = at (table f k) told where
   found : (o : Option Field) → (o >>= place_of f) ≡ Some p → option_map_or (λ e. field_value f e t) o (default_of tag) ≡ number f (p.first + t * size_of p.kind) (size_of p.kind)
   found None told = absurd (none-some p told)
   found (Some e) told = entry_value f e p t told less
+
   at : (o : Option (List Field)) → (o >>= with_tag tag >>= place_of f) ≡ Some p → (o >>= λ fields. option_map_or (λ e. field_value f e t) (with_tag tag fields) (default_of tag)) ≡ number f (p.first + t * size_of p.kind) (size_of p.kind)
   at None told = absurd (none-some p told)
   at (Some fields) told = found (with_tag tag fields) told

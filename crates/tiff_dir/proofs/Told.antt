@@ -1,6 +1,6 @@
 -- What a walk knows of a file from one range to the next.
-use Rattle.std.proofs.Common.{◌≡◌, ◌≢◌, ℕ, zero, suc, ◌+◌, ◌-◌, ◌*◌, ◌<◌, ◌≤◌, ◌⊎◌, inl, inr, Bool, true, false, ◌||◌, nat_lt, List, [], ◌∷◌, ◌++◌, map, length, take, drop, Option, Some, None, IsSomeAnd, IfSome, Result, Ok, Err, refl, sym, subst, ap, ◌∙◌, arith}
-use Rattle.std.specs.Prelude.{slice_get, slice_range, IsErrAnd, IsSome, All}
+use Rattle.std.proofs.Common.{◌≡◌, ◌≢◌, ℕ, zero, suc, ◌+◌, ◌-◌, ◌<◌, ◌≤◌, ◌⊎◌, inl, inr, true, false, List, [], ◌∷◌, ◌++◌, map, length, take, drop, Option, Some, None, IsSomeAnd, IfSome, Result, Ok, Err, refl, sym, subst, ap, ◌∙◌, arith}
+use Rattle.std.specs.Prelude.{slice_get, IsErrAnd, IsSome, All}
 use Rattle.tiff_dir.specs.declared.fault.WalkError.{WalkError}
 use Rattle.tiff_dir.specs.declared.fault.WalkError.TheVariants as errors
 use Rattle.tiff_dir.specs.Shape.{IsNext, IsSoFar}
@@ -21,13 +21,13 @@ use Rattle.tiff_dir.specs.declared.fault.FileFault.TheVariants.{Header, PastEnd,
 use Rattle.tiff_dir.specs.Query.{array_range}
 use Rattle.tiff_dir.specs.declared.level.Place.{Place}
 use Rattle.tiff_dir.proofs.Ends.{level_parts}
-use Rattle.tiff_dir.specs.File.{◌>>=◌, Field, field, order_of, number, directory, has_directory, directories}
+use Rattle.tiff_dir.specs.File.{◌>>=◌, Field, field, order_of, number, has_directory, directories}
 use Rattle.tiff_dir.specs.Level.{is_level, place_of, level_directories, previous_level, level_at, levels, level_of, level_directory}
-use Rattle.tiff_dir.specs.Needs.{Range, header_range, ends_past, needs_of_directories}
+use Rattle.tiff_dir.specs.Needs.{Range, ends_past, needs_of_directories}
 use Rattle.tiff_dir.specs.Fault.{IsFaultOfDirectories}
 use Rattle.tiff_dir.specs.Stage.{range_of, index_of, still, outside_ranges, three_shorts, ranges_from, levels_below, AgreesAt, IsBefore, IsPart, IsOver, StepsOn}
-use Rattle.tiff_dir.specs.Walk.{Known, IsTold, IsWanted, Agrees, wanted, to_come, bytes_in, IsWantedOf, HasEnded, AreLevels, range_of_place, IfFile, IsProfiled}
-use Rattle.tiff_dir.proofs.Chain.{some_and_at, some_and_from, count_wanted, none_after}
+use Rattle.tiff_dir.specs.Walk.{Known, IsWanted, Agrees, wanted, to_come, bytes_in, IsWantedOf, HasEnded, AreLevels, range_of_place, IfFile, IsProfiled}
+use Rattle.tiff_dir.proofs.Chain.{some_and_at, count_wanted, none_after}
 use Rattle.tiff_dir.proofs.Parts.{part_inside}
 use Rattle.tiff_dir.proofs.Ranges.{drop_next, filter_none, filter_all, range_split, last_or-map}
 
@@ -224,6 +224,7 @@ so_far stage levels ls given step is next same = record {
     at : (o : Option Level) → IsSome o → 0 < length (levels ++ option_to_list o)
     at None h = absurd (false≢true h)
     at (Some l) h = omega (arith, length-append levels (l ∷ []))
+
   all_profiled : (o : Option Level) → IfSome o IsProfiled → All IsProfiled (levels ++ option_to_list o)
   all_profiled None h = rw append-nil is.profiled
   all_profiled (Some l) h = All-push IsProfiled levels l is.profiled h
@@ -242,11 +243,11 @@ level_number f ls n are =
     let same : option_map Some (slice_get ls n) ≡ option_map (level_at f) (slice_get (level_directories f) n) =
     sym (slice_get-map Some ls n) ∙ ap (λ (xs : List (Option Level)). slice_get xs n) are ∙ slice_get-map (level_at f) (level_directories f) n in
     at (slice_get ls n) (slice_get (level_directories f) n) same where
-  at : (a : Option Level) (b : Option ℕ) → option_map Some a ≡ option_map (level_at f) b → (b >>= level_at f) ≡ a
-  at None None e = refl
-  at None (Some k) e = absurd (none-some _ e)
-  at (Some l) None e = absurd (none-some _ (sym e))
-  at (Some l) (Some k) e = sym (same_Some _ _ e)
+      at : (a : Option Level) (b : Option ℕ) → option_map Some a ≡ option_map (level_at f) b → (b >>= level_at f) ≡ a
+      at None None e = refl
+      at None (Some k) e = absurd (none-some _ e)
+      at (Some l) None e = absurd (none-some _ (sym e))
+      at (Some l) (Some k) e = sym (same_Some _ _ e)
 
 -- the directory of a level
 pub level_found : (f : List ℕ) (n : ℕ) (l : Level) → level_of f n ≡ Some l → (k : ℕ) × (level_directory f n ≡ Some k) × (level_at f k ≡ Some l)

@@ -1,5 +1,5 @@
 -- What is known of a file at each stage of a walk over its directories.
-use Rattle.std.specs.Prelude.{◌≡◌, ◌≢◌, ℕ, zero, suc, ◌+◌, ◌-◌, ◌*◌, ◌<◌, ◌≤◌, ◌^◌, ◌⊎◌, ⊤, Bool, true, false, ◌&&◌, ◌||◌, ◌==◌, nat_lt, nat_le, if◌then◌else◌, List, [], ◌∷◌, ◌++◌, map, length, take, drop, Option, Some, None, IfSome, IsSome, slice_get}
+use Rattle.std.specs.Prelude.{◌≡◌, ◌≢◌, ℕ, suc, ◌+◌, ◌-◌, ◌*◌, ◌<◌, ◌≤◌, ◌^◌, ◌⊎◌, ⊤, Bool, true, false, nat_lt, if◌then◌else◌, List, [], ◌∷◌, ◌++◌, map, take, drop, Option, Some, None}
 use Rattle.std.specs.Option.{option_map, option_to_list}
 use Rattle.std.specs.List.{filter, flat_map, range_with_len}
 use Rattle.tiff_dir.specs.declared.order.Order.{Order}
@@ -8,14 +8,13 @@ use Rattle.tiff_dir.specs.declared.level.Level.{Level}
 use Rattle.tiff_dir.specs.declared.level.Place.{Place}
 use Rattle.tiff_dir.specs.declared.level.Kind.TheVariants as kind
 use Rattle.tiff_dir.specs.declared.fault.FileFault.{FileFault}
-use Rattle.tiff_dir.specs.declared.fault.FileFault.TheVariants.{Missing, FieldType, LevelShape, TileSize, TileArray}
+use Rattle.tiff_dir.specs.declared.fault.FileFault.TheVariants.{Missing, FieldType}
 use Rattle.tiff_dir.specs.declared.stage.Draft.{Draft}
 use Rattle.tiff_dir.specs.declared.stage.Pending.{Pending}
 use Rattle.tiff_dir.specs.declared.stage.Step.{Step}
 use Rattle.tiff_dir.specs.declared.stage.Stage.{Stage}
 use Rattle.tiff_dir.specs.declared.stage.Stage.TheVariants.{Header, Count, Table, Bits, Formats, Ended}
 use Rattle.tiff_dir.specs.File.{◌>>=◌, order_of, number, directory, has_directory, table, field, value, size_of}
-use Rattle.tiff_dir.specs.Profile.{is_tile_side, tile_bytes, tiles_along, max_tile_bytes, max_tiles}
 use Rattle.tiff_dir.specs.Level.{is_level, previous_level, place_of, level_at, compression_of}
 use Rattle.tiff_dir.specs.Needs.{Range, is_entry_count, header_range, ranges_of_directory, outside_range}
 use Rattle.tiff_dir.specs.Fault.{is_directory_place, IsUnsupported, IsFaultAt, IsFaultOfDirectory, IsFaultOfLevel}

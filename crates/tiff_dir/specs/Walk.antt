@@ -1,5 +1,5 @@
 -- What callers see of a walk over a file's directories, which is given one range of the file after another.
-use Rattle.std.specs.Prelude.{◌≡◌, ℕ, ◌+◌, ◌-◌, ◌*◌, ◌%◌, ◌<◌, ◌≤◌, ◌^◌, ◌⊎◌, List, map, drop, length, slice_range, Option, Some, None, Result, Ok, Err, IsSomeAnd}
+use Rattle.std.specs.Prelude.{◌≡◌, ℕ, ◌+◌, ◌-◌, ◌*◌, ◌%◌, ◌<◌, ◌≤◌, ◌^◌, ◌⊎◌, List, map, drop, slice_range, Option, Some, None, Result, Ok, Err, IsSomeAnd}
 use Rattle.tiff_dir.specs.declared.level.Level.{Level}
 use Rattle.tiff_dir.specs.declared.level.Place.{Place}
 use Rattle.tiff_dir.specs.declared.level.Kind.TheVariants as kind

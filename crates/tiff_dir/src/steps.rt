@@ -84,7 +84,11 @@ fn after_table(
 {
     match check_directory(order, index, at, entries, bytes) {
         Ok(true) => after_level(order, index, at, entries, bytes, previous),
-        Ok(false) => match next(order, index + 1, order.long_at(bytes, 12 * entries as usize)) {
+        Ok(false) => match next(
+            order,
+            index + 1,
+            order.long_at(bytes, 12 * entries as usize),
+        ) {
             Ok(stage) => Ok(Step { stage, level: None }),
             Err(fault) => Err(fault),
         },

@@ -50,13 +50,7 @@ pub(crate) fn short(
 }
 
 /// The last four bytes of a field's entry.
-pub(crate) fn long(
-    order: Order,
-    base: u64,
-    entries: u16,
-    bytes: &[u8],
-    tag: u16,
-) -> Option<u32>
+pub(crate) fn long(order: Order, base: u64, entries: u16, bytes: &[u8], tag: u16) -> Option<u32>
     requires room { base ≤ 2 ^ 32 + 1 }
     requires few { entries ≤ 256 }
     requires whole { 12 * entries ≤ length bytes.now }

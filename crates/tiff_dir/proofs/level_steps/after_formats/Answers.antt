@@ -1,4 +1,4 @@
-use Rattle.std.proofs.Common.{◌≡◌, ◌∙◌, true, false, sym}
+use Rattle.std.proofs.Common.{◌∙◌, sym}
 use Rattle.tiff_dir.specs.declared.stage.Stage.TheVariants.{Formats}
 use Rattle.tiff_dir.specs.declared.fault.FileFault.TheVariants.{Unsupported}
 use Rattle.tiff_dir.specs.Fault.{IsFaultOfDirectories}

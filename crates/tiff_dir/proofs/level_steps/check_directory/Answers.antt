@@ -1,4 +1,4 @@
-use Rattle.std.proofs.Common.{◌≡◌, ◌+◌, ◌∙◌, sym}
+use Rattle.std.proofs.Common.{◌+◌, ◌∙◌, sym}
 use Rattle.tiff_dir.specs.Table.{entries}
 use Rattle.tiff_dir.specs.Stage.{HasTable}
 use Rattle.tiff_dir.proofs.Fields.{has_table}
@@ -25,7 +25,8 @@ pub returns-clause-told : goal.returns-clause-told
 returns-clause-told c = λ f is.
     let has : HasTable f c.args.index (entries c.args.order (c.from-base.result + 2) 0 c.args.entries c.args.bytes.now) =
     rw c.from-base.ensures (has_table f _ _ _ _ _ is c.requires.whole) in
-    let level = is_level_told f c.args.index _ has c.in_default.ensures in
-    (rw (c.counts_as_level.ensures, c.single-subfile.ensures) level,
-    directory_clean f _ _ _ _ _ is.0 has (sym (c.ascending.ensures _) ∙ c.if-not-ascending.false) c.in_default.ensures
-    (rw (← c.single-subfile.ensures) (sym c.is_reduced_first.ensures ∙ c.if-is_reduced_first.false)))
+    let level = is_level_told f c.args.index _ has c.in_default.ensures in (
+      rw (c.counts_as_level.ensures, c.single-subfile.ensures) level,
+      directory_clean f _ _ _ _ _ is.0 has (sym (c.ascending.ensures _) ∙ c.if-not-ascending.false) c.in_default.ensures
+          (rw (← c.single-subfile.ensures) (sym c.is_reduced_first.ensures ∙ c.if-is_reduced_first.false)),
+    )

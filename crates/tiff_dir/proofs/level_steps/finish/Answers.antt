@@ -1,5 +1,4 @@
 use Rattle.std.proofs.Common.{refl}
-use Rattle.tiff_dir.specs.Fault.{IsFaultOfDirectories}
 use Rattle.tiff_dir.proofs.Outside.{level_fault}
 use Rattle.tiff_dir.proofs.Ends.{shape_fault, level_follows, level_ends, profiled}
 use Rattle.tiff_dir.proofs.level_steps.finish.Goals as goal

@@ -1,4 +1,4 @@
-use Rattle.std.proofs.Common.{◌≡◌, ℕ, ◌*◌, ◌<◌, ◌⊎◌, inl, inr, ◌∙◌, Some, sym, ap}
+use Rattle.std.proofs.Common.{◌≡◌, ◌*◌, ◌<◌, inl, inr, ◌∙◌, Some, sym, ap}
 use Rattle.tiff_dir.specs.declared.level.Kind.TheVariants.{Long}
 use Rattle.tiff_dir.specs.Level.{level_value}
 use Rattle.tiff_dir.specs.Number.{number_in}
@@ -29,13 +29,13 @@ returns-in_default c =
       offset = c.long_at-offset.ensures;
       count = rw long c.long_at-count.ensures;
       first = λ f n named level part. (
-      let less : c.args.t < c.args.level.now.offsets.count = rw is.offsets.count c.requires.tile in
-      let told : level_value f n 324 c.args.t ≡ Some (number_in c.args.order (c.args.t * 4) 4 c.args.offsets.now) =
-      rw is.long at (offset_told f c.args.offsets.now c.args.order n c.args.t c.args.level.now named level is.offsets.len less c.requires.offsets part) in
-      told ∙ ap Some (sym c.long_at-offset.ensures));
+          let less : c.args.t < c.args.level.now.offsets.count = rw is.offsets.count c.requires.tile in
+          let told : level_value f n 324 c.args.t ≡ Some (number_in c.args.order (c.args.t * 4) 4 c.args.offsets.now) =
+          rw is.long at (offset_told f c.args.offsets.now c.args.order n c.args.t c.args.level.now named level is.offsets.len less c.requires.offsets part) in
+          told ∙ ap Some (sym c.long_at-offset.ensures));
       len = λ f n named level part. (
-      let less : c.args.t < c.args.level.now.counts.count = rw is.counts.count c.requires.tile in
-      let told : level_value f n 325 c.args.t ≡ Some (number_in c.args.order (c.args.t * 4) 4 c.args.counts.now) =
-      rw long at (count_told f c.args.counts.now c.args.order n c.args.t c.args.level.now named level is.counts.len less c.requires.counts part) in
-      told ∙ ap Some (sym c.long_at-count.ensures));
+          let less : c.args.t < c.args.level.now.counts.count = rw is.counts.count c.requires.tile in
+          let told : level_value f n 325 c.args.t ≡ Some (number_in c.args.order (c.args.t * 4) 4 c.args.counts.now) =
+          rw long at (count_told f c.args.counts.now c.args.order n c.args.t c.args.level.now named level is.counts.len less c.requires.counts part) in
+          told ∙ ap Some (sym c.long_at-count.ensures));
     }

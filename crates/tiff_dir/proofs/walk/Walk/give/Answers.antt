@@ -1,10 +1,9 @@
-use Rattle.std.proofs.Common.{◌≡◌, ℕ, ◌+◌, ◌-◌, ◌++◌, ◌∙◌, List, length, None, sym, ap, subst, refl}
+use Rattle.std.proofs.Common.{◌≡◌, ◌+◌, ◌-◌, ◌∙◌, List, length, None, sym, ap, subst}
 use Rattle.std.specs.Prelude.{slice_get}
-use Rattle.std.specs.Option.{option_to_list}
 use Rattle.std.specs.List.{last_or}
 use Rattle.tiff_dir.specs.declared.level.Level.{Level}
 use Rattle.tiff_dir.specs.Stage.{IsBefore, index_of}
-use Rattle.tiff_dir.specs.Walk.{Known, Agrees, IsWanted, IsWantedOf, to_come, wanted}
+use Rattle.tiff_dir.specs.Walk.{Known, Agrees, IsWanted, IsWantedOf, wanted}
 use Rattle.tiff_dir.proofs.Chain.{some_and_from}
 use Rattle.tiff_dir.proofs.Ranges.{last_or-slice_get}
 use Rattle.tiff_dir.proofs.Told.{wanted_len, wanted_is, wanted_parts, wanted_part, here_is, is_before, told_next, come_next, if_file, so_far}

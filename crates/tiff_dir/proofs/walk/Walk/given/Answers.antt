@@ -1,6 +1,6 @@
-use Rattle.std.proofs.Common.{◌≡◌, None, ap, sym, ◌∙◌}
+use Rattle.std.proofs.Common.{ap, sym, ◌∙◌}
 use Rattle.tiff_dir.specs.Stage.{range_of}
-use Rattle.tiff_dir.specs.Walk.{Known, HasEnded}
+use Rattle.tiff_dir.specs.Walk.{Known}
 use Rattle.tiff_dir.proofs.Bounds.{few_given}
 use Rattle.tiff_dir.proofs.Told.{wanted_as}
 use Rattle.tiff_dir.proofs.walk.Walk.given.Goals as goal
