@@ -28,3 +28,6 @@ pub use rule::{Count, Rule, Typing};
 pub use span::Span;
 pub use tiles::tile_of;
 pub use walk::Walk;
+
+#[cfg(test)]
+mod tests;
