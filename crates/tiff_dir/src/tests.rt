@@ -228,17 +228,12 @@ fn one_tile_in_both_orders(rt: HostRuntime) -> Result<(), Fail> {
             offsets: place(102, 4, 1, Kind::Long),
             counts: place(114, 4, 1, Kind::Long),
         };
-        assert_eq!(rt; walk.levels(), [level].as_slice());
-        assert_eq!(rt;
-            tile_of(
-                order,
-                &walk.levels()[0],
-                0,
-                &file[102..106],
-                &file[114..118]
-            ),
-            (122, 256)
-        );
+        let levels = walk.levels();
+        assert_eq!(rt; levels, [level].as_slice());
+        let first = levels[0];
+        assert!(rt; first.offsets.len == 4 && first.counts.len == 4);
+        let (offsets, counts) = (&file[102..106], &file[114..118]);
+        assert_eq!(rt; tile_of(order, &first, 0, offsets, counts), (122, 256));
     }
     Ok(())
 }
