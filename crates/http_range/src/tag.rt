@@ -69,7 +69,7 @@ impl PartialEq for Tag {
     ghost laws = { Prim.search (comparing, rules) };
 
     fn eq(&self, other: &Tag) -> bool {
-        self.text.as_slice() == other.text.as_slice()
+        self.as_bytes() == other.as_bytes()
     }
 }
 
