@@ -1,5 +1,5 @@
 -- Worked rows of the definitions.
-use Rattle.std.specs.Prelude.{◌≡◌, ℕ, ◌+◌, Bool, true, false, List, [], ◌∷◌, ◌++◌, length, codes, replicate, Option, Some, None, ⊤}
+use Rattle.std.specs.Prelude.{◌≡◌, ℕ, Bool, true, false, List, [], ◌∷◌, ◌++◌, length, codes, replicate, Option, Some, None, ⊤}
 use Rattle.http_range.specs.declared.range.Resolved.{Resolved}
 use Rattle.http_range.specs.declared.range.Resolved.TheVariants.{Whole, Part, Unsatisfiable}
 use Rattle.http_range.specs.declared.reply.Reply.{Reply}
@@ -9,7 +9,7 @@ use Rattle.http_range.specs.Range.{part}
 use Rattle.http_range.specs.Reply.{head_text}
 use Rattle.http_range.specs.Ask.{request_text}
 use Rattle.http_range.specs.Seen.{SeenRequest}
-use Rattle.http_range.specs.Book.{Publication, Catalogue, version_tag}
+use Rattle.http_range.specs.Book.{Catalogue, version_tag}
 use Rattle.http_range.specs.Served.{Served, answer_by}
 
 -- ---- parts

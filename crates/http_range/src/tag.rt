@@ -7,7 +7,7 @@ use arrayvec::ArrayVec;
 use std::marker::Model;
 
 /// A strong entity tag of at most 64 bytes, its quotes among them. It is seen as the list of its bytes.
-#[derive(Drop)]
+#[derive(Debug, Drop)]
 pub struct Tag {
     text: ArrayVec<u8, 64>,
 }
