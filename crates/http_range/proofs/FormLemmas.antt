@@ -1,22 +1,21 @@
 -- Tags and Content-Range values, computed, have the forms of the standard.
-use Rattle.std.proofs.Common.{◌≡◌, ℕ, suc, ◌+◌, ◌-◌, ◌^◌, ◌<◌, ◌≤◌, Bool, true, false, cond, ◌&&◌, List, [], ◌∷◌, ◌++◌, length, get_or, take, drop, refl, sym, ap, ◌∙◌, subst, arith, append_assoc, take-append-drop, length-append, codes, Option, Some, None}
-use Rattle.std.specs.Prelude.{◌↔◌, IsTrue, nat_eq, slice_range}
-use Rattle.std.specs.List.{AllPass, list_all, before_first, after_first, position_or_len, starts_with}
+use Rattle.std.proofs.Common.{◌≡◌, ℕ, suc, ◌+◌, ◌-◌, ◌^◌, ◌<◌, ◌≤◌, Bool, true, false, cond, ◌&&◌, List, [], ◌∷◌, ◌++◌, length, get_or, take, drop, refl, sym, ap, ◌∙◌, subst, arith, append_assoc, take-append-drop, codes, Option, Some, None}
+use Rattle.std.specs.Prelude.{nat_eq}
+use Rattle.std.specs.List.{AllPass, before_first, after_first, position_or_len, starts_with}
 use Rattle.std.specs.Str.{all_ascii_digits}
 use Rattle.std.specs.Str.Parse.{digits_value}
 use Rattle.std.proofs.Math.Dec.{eqb, ltb, leb}
 use Rattle.std.proofs.Math.Seq.{split_at}
 use Rattle.std.proofs.lemmas.Bool.{lt-ltb, le-leb, ltb-true, ltb-false, leb-true, eqb-true}
 use Rattle.std.proofs.lemmas.List.{drop_all}
-use Rattle.std.proofs.lemmas.List.Sums.{AllPass-from_list_all, list_all-from_AllPass, split_at_first, passes_at_first}
+use Rattle.std.proofs.lemmas.List.Sums.{list_all-from_AllPass, split_at_first, passes_at_first}
 use Rattle.http_range.specs.declared.reading.ContentRange.{ContentRange}
 use Rattle.http_range.specs.Digits.{number_64}
 use Rattle.http_range.specs.Tag.{is_tag_byte, is_opaque_tag, is_weak_tag}
 use Rattle.http_range.specs.ContentRange.{IsContentRange, range_by, range_of}
 use Rattle.http_range.specs.Laws.{TagsAreQuoted, ContentRangesAreForms}
-use Rattle.http_range.proofs.DigitsLemmas.{number_none}
 use Rattle.http_range.proofs.ValueLemmas.{both, quoted_parts, before_at, after_at, digits_miss}
-use Rattle.http_range.proofs.BookLemmas.{same_bytes, bytes_same, opaque_of}
+use Rattle.http_range.proofs.BookLemmas.{same_bytes, opaque_of}
 
 -- ---- tags
 

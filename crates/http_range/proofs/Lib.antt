@@ -15,3 +15,4 @@ pub mod ServedLemmas
 pub mod HonestLemmas
 pub mod AskedLemmas
 pub mod FormLemmas
+pub mod ExampleLemmas

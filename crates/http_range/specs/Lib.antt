@@ -18,3 +18,4 @@ pub mod Book
 pub mod Served
 pub mod Honest
 pub mod Laws
+pub mod Examples

@@ -26,12 +26,10 @@ pub fn publications_replace()
 /// An answer of a server is honest, and stays so where it is cut and where the book grows.
 pub fn honesty_is_kept()
     ensures { HonestyIsKept }
-{
-}
+{}
 
 /// The tests and functions that read tags and Content-Range are the forms of the standard.
 pub fn values_have_forms()
     ensures tags { TagsAreQuoted }
     ensures ranges { ContentRangesAreForms }
-{
-}
+{}

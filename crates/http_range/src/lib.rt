@@ -29,3 +29,6 @@ pub use reply::{Reply, write_head};
 pub use request::{Request, read_request};
 pub use tag::Tag;
 pub use tiff_dir::{Memory, Span};
+
+#[cfg(test)]
+mod tests;

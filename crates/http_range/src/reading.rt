@@ -57,7 +57,7 @@ impl Why {
 }
 
 /// A piece of a file: the bytes of the revision with this tag from a first position on.
-#[derive(Drop)]
+#[derive(Debug, Drop)]
 pub struct Piece<'b> {
     pub tag: Tag,
     /// Whether the answer is the whole file.
@@ -70,7 +70,7 @@ pub struct Piece<'b> {
 }
 
 /// What an answer says to a client.
-#[derive(Drop)]
+#[derive(Debug, Drop)]
 pub enum Reading<'b> {
     Piece(Piece<'b>),
     NotUsed(Why),

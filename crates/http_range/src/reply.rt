@@ -10,7 +10,7 @@ use std::alloc::{AllocError, Global};
 use tiff_dir::Memory;
 
 /// What a server answers: a status with what its head says. Lengths and positions are in bytes.
-#[derive(Drop)]
+#[derive(Debug, Drop)]
 pub enum Reply {
     /// The whole file, of this length.
     R200(Tag, u64),

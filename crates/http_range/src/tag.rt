@@ -7,7 +7,7 @@ use arrayvec::ArrayVec;
 use std::marker::Model;
 
 /// A strong entity tag of at most 64 bytes, its quotes among them. It is seen as the list of its bytes.
-#[derive(Drop)]
+#[derive(Debug, Drop)]
 pub struct Tag {
     text: ArrayVec<u8, 64>,
 }
@@ -69,7 +69,7 @@ impl PartialEq for Tag {
     ghost laws = { Prim.search (comparing, rules) };
 
     fn eq(&self, other: &Tag) -> bool {
-        self.text.as_slice() == other.text.as_slice()
+        self.as_bytes() == other.as_bytes()
     }
 }
 
