@@ -3,3 +3,5 @@ pub mod ShelfLemmas
 pub mod Lists
 pub mod Truth
 pub mod Whole
+pub mod CutLemmas
+pub mod LevelLemmas

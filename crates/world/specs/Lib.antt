@@ -1,5 +1,7 @@
 pub mod Report
 pub mod Readable
+pub mod Walked
+pub mod Asked
 pub mod Client
 pub mod Calls
 pub mod Server

@@ -11,6 +11,7 @@ mod pieces;
 mod read;
 mod server;
 mod shelf;
+mod window;
 mod world;
 
 pub use event::{Effect, Entry, Event, Exchange, Log};
