@@ -4,6 +4,7 @@ use Rattle.std.specs.List.{AllPass}
 use Rattle.http_range.specs.Ask.{CanAsk, request_text}
 use Rattle.http_range.specs.Book.{Publication, IsPublication, Book, Includes, Covers, Catalogue, IsCatalogue, published, publish, version_tag}
 use Rattle.http_range.specs.Served.{Served, text_of, IsAnswer, served_to_client}
+use Rattle.http_range.specs.Stream.{AreAnswers}
 use Rattle.http_range.specs.Honest.{IsFront, IsHonestFor, IsHonest}
 use Rattle.http_range.specs.ContentRange.{IsContentRange, range_of}
 use Rattle.http_range.specs.declared.reading.ContentRange.{ContentRange}
@@ -24,6 +25,12 @@ abbrev pub AnswersAreUnique : Type 0
 AnswersAreUnique =
     (catalogue : Catalogue) (message : List ℕ) (s t : Served)
     → IsAnswer catalogue message s → IsAnswer catalogue message t → s ≡ t
+
+-- so has a stream
+abbrev pub StreamsAreAnsweredOnce : Type 0
+StreamsAreAnsweredOnce =
+    (catalogue : Catalogue) (n : ℕ) (stream text other : List ℕ)
+    → AreAnswers catalogue n stream text → AreAnswers catalogue n stream other → text ≡ other
 
 -- what is answered to a client's request, whatever follows it in the stream
 abbrev pub ClientsAreAnswered : Type 0

@@ -1,4 +1,4 @@
-ghost use Rattle.http_range.specs.Examples.{AreParts, part_rows, TextRows, AreAnswers, case_rows};
+ghost use Rattle.http_range.specs.Examples.{AreParts, part_rows, TextRows, MessageRows, AreAnswers, case_rows};
 
 use crate::{
     Memory, Piece, RangeSpec, Reading, Reply, Resolved, Span, Tag, Why, read_answer, read_range,
@@ -11,6 +11,7 @@ use std::test::Fail;
 fn rows_hold()
     ensures parts { AreParts part_rows }
     ensures texts { TextRows }
+    ensures messages { MessageRows }
     ensures answers { AreAnswers case_rows }
 {}
 
