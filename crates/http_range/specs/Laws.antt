@@ -40,6 +40,14 @@ ClientsAreAnswered =
     → IsAnswer catalogue (request_text host name first last tag ++ more) served
     ↔ (served ≡ served_to_client (published name catalogue) first last tag)
 
+-- the same where nothing follows it
+abbrev pub ClientsAreAnsweredAlone : Type 0
+ClientsAreAnsweredAlone =
+    (catalogue : Catalogue) (host name : List ℕ) (first last : ℕ) (tag : Option (List ℕ)) (served : Served)
+    → CanAsk host name first last tag → first ≤ last
+    → IsAnswer catalogue (request_text host name first last tag) served
+    ↔ (served ≡ served_to_client (published name catalogue) first last tag)
+
 -- a publication stands under its name, and changes no other name
 pub record PublishReplaces : Type 0 where
   pub stands : (p : Publication) (catalogue : Catalogue) → published p.name (publish p catalogue) ≡ Some p
