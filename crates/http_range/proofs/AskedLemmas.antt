@@ -1,5 +1,6 @@
 -- What a server answers to a client's request.
-use Rattle.std.proofs.Common.{◌≡◌, ℕ, ◌-◌, ◌^◌, ◌<◌, ◌≤◌, min, Bool, true, false, cond, List, ◌++◌, length, refl, sym, ap, ◌∙◌, Option, Some, None}
+use Rattle.std.proofs.Common.{◌≡◌, ℕ, ◌-◌, ◌^◌, ◌<◌, ◌≤◌, min, Bool, true, false, cond, List, ◌++◌, length, refl, sym, ap, ◌∙◌, Option, Some, None, [], subst, append-nil}
+use Rattle.std.specs.Prelude.{◌↔◌}
 use Rattle.std.proofs.Math.Dec.{ltb}
 use Rattle.std.specs.Str.{bytes_eq}
 use Rattle.httparse.specs.Grammar.{trim_ows}
@@ -9,8 +10,8 @@ use Rattle.http_range.specs.declared.reply.Reply.TheVariants.{R416}
 use Rattle.http_range.specs.Range.{resolved_or}
 use Rattle.http_range.specs.Ask.{range_value, asked_request, request_text}
 use Rattle.http_range.specs.Book.{Publication, Catalogue, published}
-use Rattle.http_range.specs.Served.{Served, part_or_whole, refused, serve_part, serve_file, answer_by, served_to_client}
-use Rattle.http_range.specs.Laws.{ClientsAreAnswered}
+use Rattle.http_range.specs.Served.{Served, part_or_whole, refused, serve_part, serve_file, answer_by, IsAnswer, served_to_client}
+use Rattle.http_range.specs.Laws.{ClientsAreAnswered, ClientsAreAnsweredAlone}
 use Rattle.http_range.proofs.RangeLemmas.{range_spec-range_value}
 use Rattle.http_range.proofs.RequestLemmas.{asked_read, asked_has}
 
@@ -58,3 +59,11 @@ clients_answered catalogue host name more first last tag served can ordered =
       λ is. is.2 ∙ ap (answer_by catalogue) (asked_read host name first last tag more can text refl is.0 is.1) ∙ answer,
       λ is. (Some (asked_request host name first last tag), asked_has host name first last tag more can text refl, is ∙ sym answer),
     )
+
+pub clients_answered_alone : ClientsAreAnsweredAlone
+clients_answered_alone catalogue host name first last tag served can ordered =
+    subst
+    (λ (message : List ℕ). IsAnswer catalogue message served
+    ↔ (served ≡ served_to_client (published name catalogue) first last tag))
+    (append-nil (request_text host name first last tag))
+    (clients_answered catalogue host name [] first last tag served can ordered)

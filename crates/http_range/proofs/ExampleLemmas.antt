@@ -7,7 +7,8 @@ use Rattle.http_range.specs.Range.{range_spec}
 use Rattle.http_range.specs.Reply.{content_range}
 use Rattle.http_range.specs.Ask.{range_value}
 use Rattle.http_range.specs.Book.{version_tag}
-use Rattle.http_range.specs.Examples.{AreParts, part_rows, TextRows, AreAnswers, case_rows}
+use Rattle.http_range.specs.Stream.{message_from}
+use Rattle.http_range.specs.Examples.{AreParts, part_rows, TextRows, MessageRows, AreAnswers, case_rows}
 
 pub parts_are : AreParts part_rows
 unfolding range_spec
@@ -30,6 +31,10 @@ texts_are = record {
   method = refl;
   unsatisfiable = refl;
 }
+
+pub messages_are : MessageRows
+unfolding message_from
+messages_are = record { first_of_two = refl; cut = refl; bare_feeds = refl; blank_lines_first = refl; blank_lines_alone = refl }
 
 pub answers_are : AreAnswers case_rows
 unfolding range_spec trim_ows

@@ -16,3 +16,4 @@ pub mod HonestLemmas
 pub mod AskedLemmas
 pub mod FormLemmas
 pub mod ExampleLemmas
+pub mod StreamLemmas

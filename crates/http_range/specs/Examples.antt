@@ -11,6 +11,7 @@ use Rattle.http_range.specs.Ask.{request_text}
 use Rattle.http_range.specs.Seen.{SeenRequest}
 use Rattle.http_range.specs.Book.{Catalogue, version_tag}
 use Rattle.http_range.specs.Served.{Served, answer_by}
+use Rattle.http_range.specs.Stream.{first_message}
 
 -- ---- parts
 
@@ -74,6 +75,18 @@ pub record TextRows : Type 0 where
   pub method : head_text R405 false ≡ codes "HTTP/1.1 405 Method Not Allowed\r\nAllow: GET, HEAD\r\nContent-Length: 0\r\n\r\n"
   pub unsatisfiable : head_text (R416 378) false
       ≡ codes "HTTP/1.1 416 Range Not Satisfiable\r\nContent-Range: bytes */378\r\nContent-Length: 0\r\n\r\n"
+
+-- ---- messages of a stream
+
+abbrev pub get_a : List ℕ
+get_a = codes "GET /a HTTP/1.1\r\nHost: h\r\n\r\n"
+
+pub record MessageRows : Type 0 where
+  pub first_of_two : first_message (get_a ++ get_a) ≡ Some get_a
+  pub cut : first_message (codes "GET /a HTTP/1.1\r\nHost: h\r\n\r") ≡ None
+  pub bare_feeds : first_message (codes "GET\n\nGET") ≡ Some (codes "GET\n\n")
+  pub blank_lines_first : first_message (codes "\r\n\n\r\nGET\r\n\r\n") ≡ Some (codes "\r\n\n\r\nGET\r\n\r\n")
+  pub blank_lines_alone : first_message (codes "\r\n\r\n\n") ≡ None
 
 -- ---- the server's cases
 

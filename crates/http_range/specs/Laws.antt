@@ -4,6 +4,7 @@ use Rattle.std.specs.List.{AllPass}
 use Rattle.http_range.specs.Ask.{CanAsk, request_text}
 use Rattle.http_range.specs.Book.{Publication, IsPublication, Book, Includes, Covers, Catalogue, IsCatalogue, published, publish, version_tag}
 use Rattle.http_range.specs.Served.{Served, text_of, IsAnswer, served_to_client}
+use Rattle.http_range.specs.Stream.{AreAnswers}
 use Rattle.http_range.specs.Honest.{IsFront, IsHonestFor, IsHonest}
 use Rattle.http_range.specs.ContentRange.{IsContentRange, range_of}
 use Rattle.http_range.specs.declared.reading.ContentRange.{ContentRange}
@@ -25,12 +26,26 @@ AnswersAreUnique =
     (catalogue : Catalogue) (message : List ℕ) (s t : Served)
     → IsAnswer catalogue message s → IsAnswer catalogue message t → s ≡ t
 
+-- so has a stream
+abbrev pub StreamsAreAnsweredOnce : Type 0
+StreamsAreAnsweredOnce =
+    (catalogue : Catalogue) (n : ℕ) (stream text other : List ℕ)
+    → AreAnswers catalogue n stream text → AreAnswers catalogue n stream other → text ≡ other
+
 -- what is answered to a client's request, whatever follows it in the stream
 abbrev pub ClientsAreAnswered : Type 0
 ClientsAreAnswered =
     (catalogue : Catalogue) (host name more : List ℕ) (first last : ℕ) (tag : Option (List ℕ)) (served : Served)
     → CanAsk host name first last tag → first ≤ last
     → IsAnswer catalogue (request_text host name first last tag ++ more) served
+    ↔ (served ≡ served_to_client (published name catalogue) first last tag)
+
+-- the same where nothing follows it
+abbrev pub ClientsAreAnsweredAlone : Type 0
+ClientsAreAnsweredAlone =
+    (catalogue : Catalogue) (host name : List ℕ) (first last : ℕ) (tag : Option (List ℕ)) (served : Served)
+    → CanAsk host name first last tag → first ≤ last
+    → IsAnswer catalogue (request_text host name first last tag) served
     ↔ (served ≡ served_to_client (published name catalogue) first last tag)
 
 -- a publication stands under its name, and changes no other name

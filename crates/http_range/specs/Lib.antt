@@ -16,6 +16,7 @@ pub mod Steps
 pub mod Reading
 pub mod Book
 pub mod Served
+pub mod Stream
 pub mod Honest
 pub mod Laws
 pub mod Examples

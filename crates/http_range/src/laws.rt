@@ -1,5 +1,5 @@
 //! Laws of the definitions, for the crates above. Each function does nothing: its contract is the law.
-ghost use Rattle.http_range.specs.Laws.{HonestyIsKept, TagsAreQuoted, ContentRangesAreForms, TagsTellVersions, VersionTagsAreKept, AnswersAreUnique, ClientsAreAnswered, PublishReplaces, PublishedIsNamed};
+ghost use Rattle.http_range.specs.Laws.{HonestyIsKept, TagsAreQuoted, ContentRangesAreForms, TagsTellVersions, VersionTagsAreKept, AnswersAreUnique, StreamsAreAnsweredOnce, ClientsAreAnswered, ClientsAreAnsweredAlone, PublishReplaces, PublishedIsNamed};
 
 /// Different epochs or numbers give different tags, and each is a tag that is kept.
 pub fn tags_tell_versions()
@@ -7,14 +7,16 @@ pub fn tags_tell_versions()
     ensures kept { VersionTagsAreKept }
 {}
 
-/// A message has one answer of a catalogue.
+/// A message has one answer of a catalogue, and a stream one text of answers.
 pub fn answers_are_unique()
-    ensures { AnswersAreUnique }
+    ensures message { AnswersAreUnique }
+    ensures stream { StreamsAreAnsweredOnce }
 {}
 
 /// What a server answers to the text of a client's request.
 pub fn clients_are_answered()
-    ensures { ClientsAreAnswered }
+    ensures followed { ClientsAreAnswered }
+    ensures alone { ClientsAreAnsweredAlone }
 {}
 
 /// What `publish` and `published` say of each other.

@@ -1,4 +1,4 @@
-ghost use Rattle.http_range.specs.Examples.{AreParts, part_rows, TextRows, AreAnswers, case_rows};
+ghost use Rattle.http_range.specs.Examples.{AreParts, part_rows, TextRows, MessageRows, AreAnswers, case_rows};
 
 use crate::{
     Memory, Piece, RangeSpec, Reading, Reply, Resolved, Span, Tag, Why, read_answer, read_range,
@@ -11,6 +11,7 @@ use std::test::Fail;
 fn rows_hold()
     ensures parts { AreParts part_rows }
     ensures texts { TextRows }
+    ensures messages { MessageRows }
     ensures answers { AreAnswers case_rows }
 {}
 
@@ -271,87 +272,89 @@ fn told_of(alloc: Global, fields: &[u8]) -> Result<u8, Memory> {
     Ok(told(text.as_slice()))
 }
 
+/// Fields of a 206, and the number of the reason why it is not used, or 0.
+const CHANGED_LINES: [(&[u8], u8); 22] = [
+    (
+        b"ETag: \"1-1\"\r\nContent-Range: bytes 0-65535/67706\r\nContent-Length: 65536",
+        0,
+    ),
+    (
+        b"ETag: W/\"1-1\"\r\nContent-Range: bytes 0-65535/67706\r\nContent-Length: 65536",
+        5,
+    ),
+    (
+        b"ETag: 1-1\r\nContent-Range: bytes 0-65535/67706\r\nContent-Length: 65536",
+        4,
+    ),
+    (
+        b"ETag: w/\"1-1\"\r\nContent-Range: bytes 0-65535/67706\r\nContent-Length: 65536",
+        4,
+    ),
+    (
+        b"ETag: \"1-1\"\r\neTag: \"1-1\"\r\nContent-Range: bytes 0-65535/67706\r\nContent-Length: 65536",
+        4,
+    ),
+    (
+        b"Content-Range: bytes 0-65535/67706\r\nContent-Length: 65536",
+        4,
+    ),
+    (b"ETag: \"1-1\"\r\nContent-Length: 65536", 7),
+    (
+        b"ETag: \"1-1\"\r\nContent-Range: bytes 0-65535/*\r\nContent-Length: 65536",
+        7,
+    ),
+    (
+        b"ETag: \"1-1\"\r\nContent-Range: bytes */67706\r\nContent-Length: 65536",
+        7,
+    ),
+    (
+        b"ETag: \"1-1\"\r\nContent-Range: Bytes 0-65535/67706\r\nContent-Length: 65536",
+        7,
+    ),
+    (
+        b"ETag: \"1-1\"\r\nContent-Range: bytes  0-65535/67706\r\nContent-Length: 65536",
+        7,
+    ),
+    (
+        b"ETag: \"1-1\"\r\nContent-Range: bytes 0-65535/65535\r\nContent-Length: 65536",
+        7,
+    ),
+    (
+        b"ETag: \"1-1\"\r\nContent-Range: bytes 1-0/67706\r\nContent-Length: 0",
+        7,
+    ),
+    (
+        b"ETag: \"1-1\"\r\nContent-Range: bytes 0-65535/99999999999999999999\r\nContent-Length: 65536",
+        7,
+    ),
+    (
+        b"ETag: \"1-1\"\r\nContent-Range: bytes 00-065535/067706\r\nContent-Length: 065536",
+        0,
+    ),
+    (
+        b"ETag: \"1-1\"\r\nContent-Range: bytes 0-65535/67706\r\nContent-Length: 65535",
+        8,
+    ),
+    (
+        b"ETag: \"1-1\"\r\nContent-Range: bytes 0-65535/67706\r\nContent-Length: +65536",
+        8,
+    ),
+    (b"ETag: \"1-1\"\r\nContent-Range: bytes 0-65535/67706", 8),
+    (
+        b"ETag: \"1-1\"\r\nContent-Range: bytes 0-65535/67706\r\nContent-Length: 65536\r\nContent-Length: 65536",
+        8,
+    ),
+    (
+        b"ETag: \"1-1\"\r\nContent-Range: bytes 0-65535/67706\r\nContent-Length: 65536\r\nContent-Encoding: identity",
+        9,
+    ),
+    (b"ETag: W/\"1-1\"\r\nTransfer-Encoding: chunked", 9),
+    (b"ETag: \"1-1", 4),
+];
+
 #[test]
 fn changed_lines(rt: HostRuntime) -> Result<(), Fail> {
-    let rows: [(&[u8], u8); 22] = [
-        (
-            b"ETag: \"1-1\"\r\nContent-Range: bytes 0-65535/67706\r\nContent-Length: 65536",
-            0,
-        ),
-        (
-            b"ETag: W/\"1-1\"\r\nContent-Range: bytes 0-65535/67706\r\nContent-Length: 65536",
-            5,
-        ),
-        (
-            b"ETag: 1-1\r\nContent-Range: bytes 0-65535/67706\r\nContent-Length: 65536",
-            4,
-        ),
-        (
-            b"ETag: w/\"1-1\"\r\nContent-Range: bytes 0-65535/67706\r\nContent-Length: 65536",
-            4,
-        ),
-        (
-            b"ETag: \"1-1\"\r\neTag: \"1-1\"\r\nContent-Range: bytes 0-65535/67706\r\nContent-Length: 65536",
-            4,
-        ),
-        (
-            b"Content-Range: bytes 0-65535/67706\r\nContent-Length: 65536",
-            4,
-        ),
-        (b"ETag: \"1-1\"\r\nContent-Length: 65536", 7),
-        (
-            b"ETag: \"1-1\"\r\nContent-Range: bytes 0-65535/*\r\nContent-Length: 65536",
-            7,
-        ),
-        (
-            b"ETag: \"1-1\"\r\nContent-Range: bytes */67706\r\nContent-Length: 65536",
-            7,
-        ),
-        (
-            b"ETag: \"1-1\"\r\nContent-Range: Bytes 0-65535/67706\r\nContent-Length: 65536",
-            7,
-        ),
-        (
-            b"ETag: \"1-1\"\r\nContent-Range: bytes  0-65535/67706\r\nContent-Length: 65536",
-            7,
-        ),
-        (
-            b"ETag: \"1-1\"\r\nContent-Range: bytes 0-65535/65535\r\nContent-Length: 65536",
-            7,
-        ),
-        (
-            b"ETag: \"1-1\"\r\nContent-Range: bytes 1-0/67706\r\nContent-Length: 0",
-            7,
-        ),
-        (
-            b"ETag: \"1-1\"\r\nContent-Range: bytes 0-65535/99999999999999999999\r\nContent-Length: 65536",
-            7,
-        ),
-        (
-            b"ETag: \"1-1\"\r\nContent-Range: bytes 00-065535/067706\r\nContent-Length: 065536",
-            0,
-        ),
-        (
-            b"ETag: \"1-1\"\r\nContent-Range: bytes 0-65535/67706\r\nContent-Length: 65535",
-            8,
-        ),
-        (
-            b"ETag: \"1-1\"\r\nContent-Range: bytes 0-65535/67706\r\nContent-Length: +65536",
-            8,
-        ),
-        (b"ETag: \"1-1\"\r\nContent-Range: bytes 0-65535/67706", 8),
-        (
-            b"ETag: \"1-1\"\r\nContent-Range: bytes 0-65535/67706\r\nContent-Length: 65536\r\nContent-Length: 65536",
-            8,
-        ),
-        (
-            b"ETag: \"1-1\"\r\nContent-Range: bytes 0-65535/67706\r\nContent-Length: 65536\r\nContent-Encoding: identity",
-            9,
-        ),
-        (b"ETag: W/\"1-1\"\r\nTransfer-Encoding: chunked", 9),
-        (b"ETag: \"1-1", 4),
-    ];
-    for (fields, want) in rows {
+    for (fields, want) in CHANGED_LINES {
         let got = told_of(rt.alloc(), fields)?;
         assert_eq!(rt; got, want);
     }

@@ -1,4 +1,4 @@
-use Rattle.http_range.proofs.ExampleLemmas.{parts_are, texts_are, answers_are}
+use Rattle.http_range.proofs.ExampleLemmas.{parts_are, texts_are, messages_are, answers_are}
 use Rattle.http_range.proofs.tests.rows_hold.Goals as goal
 
 pub returns-clause-parts : goal.returns-clause-parts
@@ -9,3 +9,6 @@ returns-clause-texts c = texts_are
 
 pub returns-clause-answers : goal.returns-clause-answers
 returns-clause-answers c = answers_are
+
+pub returns-clause-messages : goal.returns-clause-messages
+returns-clause-messages c = messages_are
