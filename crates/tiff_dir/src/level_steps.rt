@@ -18,6 +18,9 @@ use crate::table::ascending;
 use crate::values::{check_counts, check_values, draft, long, short, single};
 use crate::{FileFault, Level, Order};
 
+/// How many samples a pixel has whose BitsPerSample doesn't fit in the entry.
+const RGB: u16 = 3;
+
 /// The first directory is a reduced picture.
 fn is_reduced_first(index: u32, subfile: u32) -> bool
     ensures { result ≡ ((index == 0) && (subfile % 2 == 1)) }
@@ -108,7 +111,7 @@ pub(crate) fn after_level(
         next: order.long_at(bytes, 12 * entries as usize),
         draft,
     };
-    if draft.samples == 3 {
+    if draft.samples == RGB {
         let Some(first) = long(order, base, entries, bytes, 258) else {
             return Err(FileFault::Missing(258));
         };
