@@ -7,7 +7,7 @@ ghost use Rattle.tiff_dir.specs.Level.{is_level};
 ghost use Rattle.tiff_dir.specs.Needs.{Range};
 ghost use Rattle.tiff_dir.specs.Shape.{level_from, IsEnd, IsNext};
 ghost use Rattle.tiff_dir.specs.Stage.{three_shorts, EndsDirectory, HasBits, HasFormats, HasShorts, IsBefore, IsDraft, IsKept, IsPart, IsPending, IsSupported, IsTableOf, StepsOn};
-ghost use Rattle.tiff_dir.specs.Table.{entries as entry_list, IsReadFault, IsReadIn};
+ghost use Rattle.tiff_dir.specs.Table.{entries as entry_list, IsReadFault, IsReadIn, IsReadable};
 ghost use Rattle.tiff_dir.specs.declared.fault.FileFault.{FileFault as Fault};
 
 use crate::next::next;
@@ -65,9 +65,7 @@ pub(crate) fn check_directory(
 
 /// What the entries of a level say of it, where they keep the profile.
 fn read_level(order: Order, base: u64, entries: u16, bytes: &[u8]) -> Result<Draft, FileFault>
-    requires room { base ≤ 2 ^ 32 + 1 }
-    requires few { entries ≤ 256 }
-    requires whole { 12 * entries ≤ length bytes.now }
+    requires { IsReadable base entries bytes.now }
     ensures read { let es = entry_list order base 0 entries bytes.now in MatchResult result (IsReadIn es) (IsReadFault es) }
     ensures bounded { IfOk result IsDraft }
 {
