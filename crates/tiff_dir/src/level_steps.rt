@@ -1,12 +1,11 @@
 // The steps of the walk over a level: its table, its values outside the entries, and its end.
-ghost use Rattle.std.specs.Prelude.{◌≡◌, ℕ, suc, ◌+◌, ◌*◌, ◌<◌, ◌≤◌, ◌^◌, ◌%◌, ◌&&◌, ◌||◌, ◌==◌, List, true, false, Some, IsSome, IfOk, IfSome, length, MatchResult};
+ghost use Rattle.std.specs.Prelude.{◌≡◌, ℕ, ◌+◌, ◌*◌, ◌<◌, ◌≤◌, ◌%◌, ◌&&◌, ◌||◌, ◌==◌, List, true, false, Some, IfOk, length, MatchResult};
 ghost use Rattle.tiff_dir.specs.Number.{number_in};
 ghost use Rattle.tiff_dir.specs.File.{value};
 ghost use Rattle.tiff_dir.specs.Fault.{IsFaultOfDirectories, IsFaultOfDirectory};
 ghost use Rattle.tiff_dir.specs.Level.{is_level};
-ghost use Rattle.tiff_dir.specs.Needs.{Range};
 ghost use Rattle.tiff_dir.specs.Shape.{level_from, IsEnd, IsNext};
-ghost use Rattle.tiff_dir.specs.Stage.{three_shorts, EndsDirectory, HasBits, HasFormats, HasShorts, IsBefore, IsDraft, IsKept, IsPart, IsPending, IsSupported, IsTableOf, StepsOn};
+ghost use Rattle.tiff_dir.specs.Stage.{three_shorts, EndsDirectory, HasBits, HasFormats, HasShorts, IsBefore, IsDraft, IsPart, IsPending, IsSupported, IsTableOf, StepsOn};
 ghost use Rattle.tiff_dir.specs.Table.{entries as entry_list, IsReadFault, IsReadIn, IsReadable};
 ghost use Rattle.tiff_dir.specs.declared.fault.FileFault.{FileFault as Fault};
 

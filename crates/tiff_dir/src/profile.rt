@@ -1,7 +1,7 @@
 // The fields that a level has, as the table of a directory has them.
-ghost use Rattle.std.specs.Prelude.{◌≡◌, ℕ, ◌+◌, ◌*◌, ◌<◌, ◌≤◌, ◌^◌, true, false, length, MatchResult, IfSome};
+ghost use Rattle.std.specs.Prelude.{◌≡◌, true, false, MatchResult};
 ghost use Rattle.std.specs.List.{AllPass};
-ghost use Rattle.tiff_dir.specs.Profile.{accepts, planes_fit, profile, samples_fit, subfile_rule};
+ghost use Rattle.tiff_dir.specs.Profile.{profile};
 ghost use Rattle.tiff_dir.specs.Table.{allows, entries as entry_list, meets, IsEntryFault, IsFaultOfEntries, IsReadable};
 
 use crate::rule::{Count, Rule, Typing};

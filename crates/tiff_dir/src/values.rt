@@ -1,6 +1,6 @@
 // The values and places of a level's fields, as the table of a directory has them.
-ghost use Rattle.std.specs.Prelude.{◌≡◌, ℕ, ◌+◌, ◌*◌, ◌<◌, ◌≤◌, ◌^◌, true, false, length, MatchResult, IfSome, if◌then◌else◌, ◌==◌};
-ghost use Rattle.tiff_dir.specs.Profile.{accepts, planes_fit, samples_fit};
+ghost use Rattle.std.specs.Prelude.{◌≡◌, ◌+◌, ◌*◌, ◌<◌, ◌^◌, true, length, MatchResult, if◌then◌else◌, ◌==◌};
+ghost use Rattle.tiff_dir.specs.Profile.{planes_fit, samples_fit};
 ghost use Rattle.tiff_dir.specs.Stage.{IsArrayPlace, IsBounded};
 ghost use Rattle.tiff_dir.specs.Table.{counts_samples, draft_in, entries as entry_list, long_in, place_in, place_or, short_or, single_or, HasCounts, HasValues, IsCountFault, IsValueFault, IsReadable};
 
