@@ -8,5 +8,4 @@ ghost use Rattle.tiff_dir.specs.Faulty.{IsWindow};
 pub fn one_window()
     ensures window { (f : List ℕ) (q : Query) (v u : List ℕ) → IsWindow f q v → IsWindow f q u → v ≡ u }
     ensures unpacked { (row : ℕ) (bytes out other : List ℕ) → Packs row bytes out → Packs row bytes other → out ≡ other }
-{
-}
+{}
