@@ -1,0 +1,8 @@
+//! The fixtures, built as bytes, and a plain program that reads a whole file in memory by the
+//! definitions alone. Tests compare the product with it; nothing else stands on it.
+#![tactic(auto)]
+
+mod directories;
+mod numbers;
+
+pub use numbers::{number, order_of};
