@@ -3,6 +3,7 @@
 #![tactic(auto)]
 
 mod directories;
+mod fields;
 mod numbers;
 
 pub use numbers::{number, order_of};

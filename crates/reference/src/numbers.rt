@@ -48,7 +48,7 @@ pub fn number(file: &[u8], at: u64, size: usize) -> Option<u64>
     Some(number_in(order, file, at as usize, size))
 }
 
-fn short_in(order: Order, bytes: &[u8], at: usize) -> u16
+pub(crate) fn short_in(order: Order, bytes: &[u8], at: usize) -> u16
     requires { at + 2 ≤ length bytes.now }
     ensures { result ≡ number_in order at 2 bytes.now }
 {
@@ -58,7 +58,7 @@ fn short_in(order: Order, bytes: &[u8], at: usize) -> u16
     }
 }
 
-fn long_in(order: Order, bytes: &[u8], at: usize) -> u32
+pub(crate) fn long_in(order: Order, bytes: &[u8], at: usize) -> u32
     requires { at + 4 ≤ length bytes.now }
     ensures { result ≡ number_in order at 4 bytes.now }
 {
