@@ -107,17 +107,17 @@ fn values_at(file: &[u8], entry: Entry, size: usize) -> Option<u64>
 
 /// Value `i` of the field.
 #[tactic(auto, unfolding(tiff_dir::specs::File::field_value))]
-fn field_value(file: &[u8], entry: Entry, i: u32) -> Option<u64>
+fn field_value(file: &[u8], entry: Entry, i: u64) -> Option<u64>
     requires { entry.place < 2 ^ 62 }
     ensures { result ≡ field_value file.now (field_of entry) i }
 {
     let kind = kind_of(entry.kind)?;
     let size = size_of(kind);
     let at = values_at(file, entry, size)?;
-    if i >= entry.count {
+    if i >= u64::from(entry.count) {
         return None;
     }
-    number(file, at + u64::from(i) * size as u64, size)
+    number(file, at + i * size as u64, size)
 }
 
 /// What each value of an absent field stands for.
@@ -133,7 +133,7 @@ fn default_of(tag: u16) -> Option<u64>
 
 /// Value `i` of the field with this tag in directory `k`.
 #[tactic(auto, unfolding(tiff_dir::specs::File::value))]
-pub fn value(file: &[u8], k: u32, tag: u16, i: u32) -> Option<u64>
+pub fn value(file: &[u8], k: u32, tag: u16, i: u64) -> Option<u64>
     ensures { result ≡ value file.now k tag i }
 {
     match entry_with(file, k, tag)? {

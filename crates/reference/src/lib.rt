@@ -4,6 +4,7 @@
 
 mod directories;
 mod fields;
+mod levels;
 mod numbers;
 
 pub use numbers::{number, order_of};
