@@ -1,6 +1,8 @@
 -- Levels that the plain program reads: those whose numbers and products have 64 bits, and whose tiles
 -- have sides.
-use Rattle.std.specs.Prelude.{ℕ, ◌+◌, ◌^◌, Bool, ◌&&◌, nat_lt, nat_le, length, slice_range, if◌then◌else◌, List, Option, Some, None}
+use Rattle.std.specs.Prelude.{ℕ, ◌+◌, ◌^◌, Bool, ◌&&◌, nat_lt, nat_le, length, slice_range, if◌then◌else◌, List, Option, Some, None, IsSomeAnd, ◌≡◌, false}
+use Rattle.tiff_dir.specs.declared.query.Query.{Query}
+use Rattle.tiff_dir.specs.Query.{rectangle}
 use Rattle.tiff_dir.specs.declared.level.Level.{Level}
 use Rattle.tiff_dir.specs.File.{◌>>=◌}
 use Rattle.tiff_dir.specs.Level.{level_at, level_of}
@@ -27,3 +29,7 @@ modest_level f n = level_of f n >>= when_modest
 -- count bytes from first, where they are in the file
 abbrev pub part : List ℕ → ℕ → ℕ → Option (List ℕ)
 part f first count = if nat_le (first + count) (length f) then Some (slice_range f first (first + count)) else None
+
+-- the level of the query isn't modest
+abbrev pub IsImmodest : List ℕ → Query → Type 0
+IsImmodest f q = IsSomeAnd (rectangle f q) (λ r. IsSomeAnd (level_of f r.level) (λ l. is_modest l ≡ false))

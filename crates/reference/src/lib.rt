@@ -6,5 +6,6 @@ mod directories;
 mod fields;
 mod levels;
 mod numbers;
+mod query;
 
 pub use numbers::{number, order_of};
