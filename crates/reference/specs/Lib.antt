@@ -1,3 +1,4 @@
 pub mod Entry
 pub mod Modest
 pub mod Asked
+pub mod Ranges

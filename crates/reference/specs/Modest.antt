@@ -1,6 +1,6 @@
 -- Levels that the plain program reads: those whose numbers and products have 64 bits, and whose tiles
 -- have sides.
-use Rattle.std.specs.Prelude.{ℕ, ◌+◌, ◌^◌, Bool, ◌&&◌, nat_lt, nat_le, length, slice_range, if◌then◌else◌, List, Option, Some, None, IsSomeAnd, ◌≡◌, false}
+use Rattle.std.specs.Prelude.{ℕ, ◌+◌, ◌^◌, Bool, ◌&&◌, nat_lt, nat_le, length, slice_range, if◌then◌else◌, List, Option, Some, None, IsSomeAnd, ◌≡◌}
 use Rattle.tiff_dir.specs.declared.query.Query.{Query}
 use Rattle.tiff_dir.specs.Query.{rectangle}
 use Rattle.tiff_dir.specs.declared.level.Level.{Level}
@@ -9,7 +9,7 @@ use Rattle.tiff_dir.specs.Level.{level_at, level_of}
 
 abbrev pub are_modest : (width length tile_width tile_length samples bits : ℕ) → Bool
 are_modest width length tile_width tile_length samples bits =
-    nat_lt width (2 ^ 32) && nat_lt length (2 ^ 32)
+    nat_lt width (2 ^ 30) && nat_lt length (2 ^ 30)
     && nat_lt 0 tile_width && nat_lt tile_width (2 ^ 24) && nat_lt 0 tile_length && nat_lt tile_length (2 ^ 24)
     && nat_lt samples (2 ^ 12) && nat_lt bits (2 ^ 16)
 
@@ -30,6 +30,6 @@ modest_level f n = level_of f n >>= when_modest
 abbrev pub part : List ℕ → ℕ → ℕ → Option (List ℕ)
 part f first count = if nat_le (first + count) (length f) then Some (slice_range f first (first + count)) else None
 
--- the level of the query isn't modest
-abbrev pub IsImmodest : List ℕ → Query → Type 0
-IsImmodest f q = IsSomeAnd (rectangle f q) (λ r. IsSomeAnd (level_of f r.level) (λ l. is_modest l ≡ false))
+-- the plain program doesn't read the query's level
+abbrev pub HasNoModestLevel : List ℕ → Query → Type 0
+HasNoModestLevel f q = IsSomeAnd (rectangle f q) (λ r. modest_level f r.level ≡ None)

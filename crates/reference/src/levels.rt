@@ -1,7 +1,7 @@
 //! The levels of a file and the bytes of their tiles.
-ghost use Rattle.std.specs.Prelude.{◌≡◌, ◌<◌, ◌≤◌, ◌^◌, ◌+◌, ◌*◌, ◌/◌, ℕ, IfOk, IfSome, option_copied, length, Some, None, List};
+ghost use Rattle.std.specs.Prelude.{◌≡◌, ◌<◌, ◌≤◌, ◌^◌, ◌+◌, ◌*◌, ◌/◌, ℕ, IfOk, IfSome, IsTrue, option_copied, length, Some, None, List};
 ghost use Rattle.tiff_dir.specs.Level.{compression_of, is_level, level_directories, level_directory, level_value, level_at, segment};
-ghost use Rattle.reference.specs.Modest.{are_modest, modest_at, modest_level, part};
+ghost use Rattle.reference.specs.Modest.{are_modest, is_modest, modest_at, modest_level, part};
 
 use crate::directories::has_directory;
 use crate::fields::{place, value};
@@ -69,7 +69,7 @@ struct Numbers {
 fn are_modest(n: &Numbers) -> bool
     ensures { result ≡ are_modest n.now.width n.now.length n.now.tile_width n.now.tile_length n.now.samples n.now.bits }
 {
-    if n.width >= 1 << 32 || n.length >= 1 << 32 {
+    if n.width >= 1 << 30 || n.length >= 1 << 30 {
         return false;
     }
     if n.tile_width == 0 || n.tile_width >= 1 << 24 {
@@ -84,7 +84,8 @@ fn are_modest(n: &Numbers) -> bool
 /// The level that directory `k` describes, where its numbers are modest.
 #[tactic(auto, unfolding(tiff_dir::specs::Level::level_at))]
 pub fn level_at(file: &[u8], k: u32) -> Option<Level>
-    ensures { result ≡ modest_at file.now k }
+    ensures level { result ≡ modest_at file.now k }
+    ensures modest { IfSome result (λ l. IsTrue (is_modest l)) }
 {
     let width = value(file, k, 256, 0)?;
     let length = value(file, k, 257, 0)?;
@@ -122,7 +123,8 @@ pub fn level_at(file: &[u8], k: u32) -> Option<Level>
 /// Level `n`, where its numbers are modest.
 #[tactic(auto, unfolding(tiff_dir::specs::Level::level_of))]
 pub fn level_of(alloc: Global, file: &[u8], n: usize) -> Result<Option<Level>, AllocError>
-    ensures { IfOk result (λ l. l ≡ modest_level file.now n) }
+    ensures level { IfOk result (λ l. l ≡ modest_level file.now n) }
+    ensures modest { IfOk result (λ o. IfSome o (λ l. IsTrue (is_modest l))) }
 {
     match level_directory(alloc, file, n)? {
         Some(k) => Ok(level_at(file, k)),

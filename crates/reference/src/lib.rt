@@ -5,6 +5,7 @@
 mod directories;
 mod fields;
 mod levels;
+mod needs;
 mod numbers;
 mod query;
 
