@@ -1,10 +1,8 @@
 -- The definitions at small files, by computation: one plain tile of 16 by 16 whose sample in column x and
 -- row y is 16 * y + x, in both byte orders, and the same with one value wrong.
-use Rattle.std.proofs.Common.{◌≡◌, ℕ, zero, suc, ◌+◌, Bool, true, false, List, [], ◌∷◌, ◌++◌, length, Option, Some, None, refl}
-use Rattle.std.specs.Prelude.{slice_get, IsSomeAnd, ⊤}
+use Rattle.std.proofs.Common.{◌≡◌, ℕ, List, [], ◌∷◌, Some, refl}
 use Rattle.std.specs.List.{range_with_len}
 use Rattle.tiff_dir.specs.declared.order.Order.TheVariants.{Little, Big}
-use Rattle.tiff_dir.specs.declared.level.Level.{Level}
 use Rattle.tiff_dir.specs.declared.level.Kind.TheVariants as kind
 use Rattle.tiff_dir.specs.declared.level.Compression.TheVariants.{Plain}
 use Rattle.tiff_dir.specs.declared.query.Query.{Query}
@@ -13,7 +11,7 @@ use Rattle.tiff_dir.specs.declared.query.Pick.TheVariants as pick
 use Rattle.tiff_dir.specs.Number.{number_in}
 use Rattle.tiff_dir.specs.File.{order_of, number, directory, has_directory, directories, entry_count, fields_from, table, field, values_at, field_value, value}
 use Rattle.tiff_dir.specs.Level.{is_level, level_directories, place_of, level_at, levels, level_directory, level_of, level_value, segment}
-use Rattle.tiff_dir.specs.Needs.{Range, count_range, table_range, outside_range, ranges_of_directory, needs_of_directories, ends_past}
+use Rattle.tiff_dir.specs.Needs.{count_range, table_range, outside_range, ranges_of_directory, needs_of_directories}
 use Rattle.tiff_dir.specs.Query.{rectangle, is_outside, is_too_large, tiles_in, window_tiles, array_range, tile_range, groups, array_ranges, needs_of_query, needs, cost}
 
 -- the directory, and behind it the samples

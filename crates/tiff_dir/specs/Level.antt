@@ -1,12 +1,12 @@
 -- The levels of a file: its picture and the reduced pictures of it (TIFF 6.0, section 15; OGC 21-026).
-use Rattle.std.specs.Prelude.{◌≡◌, ℕ, ◌+◌, ◌*◌, Bool, false, ◌||◌, ◌==◌, nat_lt, nat_le, if◌then◌else◌, List, map, length, slice_get, slice_range, Option, Some, None}
+use Rattle.std.specs.Prelude.{ℕ, ◌+◌, ◌*◌, Bool, false, ◌||◌, ◌==◌, nat_le, if◌then◌else◌, List, map, length, slice_get, slice_range, Option, Some, None}
 use Rattle.std.specs.Option.{option_map_or}
 use Rattle.std.specs.List.{filter, last_or, range_with_len}
 use Rattle.tiff_dir.specs.declared.level.Place.{Place}
 use Rattle.tiff_dir.specs.declared.level.Level.{Level}
 use Rattle.tiff_dir.specs.declared.level.Compression.{Compression}
 use Rattle.tiff_dir.specs.declared.level.Compression.TheVariants.{Plain, PackBits}
-use Rattle.tiff_dir.specs.File.{◌>>=◌, number, Field, field, kind_of, size_of, values_at, value, directories}
+use Rattle.tiff_dir.specs.File.{◌>>=◌, Field, field, kind_of, size_of, values_at, value, directories}
 use Rattle.tiff_dir.specs.Profile.{tile_bytes, tiles_along}
 
 -- directory 0, and each later one whose NewSubfileType is 1

@@ -8,3 +8,7 @@ pub mod Packets
 pub mod Query
 pub mod Window
 pub mod Faulty
+pub mod Table
+pub mod Stage
+pub mod Shape
+pub mod Walk

@@ -1,5 +1,5 @@
 -- The fields of a level in this project's profile of tiled TIFF (TIFF 6.0, sections 8 and 15).
-use Rattle.std.specs.Prelude.{ℕ, ◌+◌, ◌-◌, ◌*◌, ◌/◌, ◌%◌, Bool, true, false, not, ◌&&◌, ◌||◌, ◌==◌, nat_lt, nat_le, if◌then◌else◌, List, [], ◌∷◌, Option, Some, None}
+use Rattle.std.specs.Prelude.{ℕ, ◌+◌, ◌-◌, ◌*◌, ◌/◌, ◌%◌, Bool, true, false, ◌&&◌, ◌||◌, ◌==◌, nat_lt, if◌then◌else◌, List, [], ◌∷◌}
 use Rattle.tiff_dir.specs.declared.rule.Typing.{Typing}
 use Rattle.tiff_dir.specs.declared.rule.Typing.TheVariants as typing
 use Rattle.tiff_dir.specs.declared.rule.Count.{Count}

@@ -1,11 +1,10 @@
 -- What a query asks for, and which bytes of the file it needs.
-use Rattle.std.specs.Prelude.{◌≡◌, ℕ, ◌+◌, ◌-◌, ◌*◌, ◌/◌, ◌%◌, Bool, true, false, not, ◌&&◌, ◌||◌, nat_lt, nat_le, ◌==◌, if◌then◌else◌, List, [], ◌∷◌, ◌++◌, length, Option, Some, None, is_none}
+use Rattle.std.specs.Prelude.{ℕ, ◌+◌, ◌-◌, ◌*◌, ◌/◌, ◌%◌, Bool, false, not, ◌&&◌, ◌||◌, nat_lt, ◌==◌, if◌then◌else◌, List, [], ◌++◌, Option, Some, is_none}
 use Rattle.std.specs.List.{filter, filter_map, range_with_len, sum_by}
 use Rattle.std.specs.Option.{option_map_or, option_to_list}
 use Rattle.tiff_dir.specs.declared.level.Level.{Level}
 use Rattle.tiff_dir.specs.declared.query.Query.{Query}
 use Rattle.tiff_dir.specs.declared.query.Query.TheVariants.{Window}
-use Rattle.tiff_dir.specs.declared.query.Pick.{Pick}
 use Rattle.tiff_dir.specs.declared.query.Pick.TheVariants as pick
 use Rattle.tiff_dir.specs.File.{◌>>=◌, field}
 use Rattle.tiff_dir.specs.Level.{place_of, level_directory, level_of, level_value, across, tile_total}

@@ -1,3 +1,8 @@
+ghost use Rattle.std.specs.Prelude.{◌≡◌};
+ghost use Rattle.tiff_dir.specs.declared.fault.WalkError.TheVariants.{File, Memory};
+
+use std::alloc::AllocFailed;
+
 /// What is wrong with a file, or with what is asked of it. A file may have several.
 #[derive(Clone, Copy, Debug, PartialEq, Eq)]
 pub enum FileFault {
@@ -37,4 +42,29 @@ pub enum FileFault {
     KeyOrder,
     /// A key's values are in no field, or past its end.
     KeyPlace,
+}
+
+/// Why a walk refused what it was given.
+#[derive(Clone, Copy, Debug, PartialEq, Eq)]
+pub enum WalkError {
+    /// The file has this fault.
+    File(FileFault),
+    /// No memory was left.
+    Memory,
+}
+
+impl From<FileFault> for WalkError {
+    ghost from_gives = { λ fault e. e ≡ File fault };
+
+    fn from(fault: FileFault) -> WalkError {
+        WalkError::File(fault)
+    }
+}
+
+impl<T: Drop> From<AllocFailed<T>> for WalkError {
+    ghost from_gives = { λ _ e. e ≡ Memory };
+
+    fn from(_refused: AllocFailed<T>) -> WalkError {
+        WalkError::Memory
+    }
 }

@@ -2,17 +2,34 @@
 #![tactic(auto)]
 
 mod fault;
+mod laws;
 mod level;
+mod level_steps;
 mod memory;
+mod next;
 mod order;
+mod profile;
 mod query;
 mod rule;
+mod shape;
 mod span;
+mod stage;
+mod steps;
+mod table;
+mod tiles;
+mod values;
+mod walk;
 
-pub use fault::FileFault;
+pub use fault::{FileFault, WalkError};
+pub use laws::one_window;
 pub use level::{Compression, Kind, Level, Place};
 pub use memory::Memory;
 pub use order::Order;
 pub use query::{Pick, Query};
 pub use rule::{Count, Rule, Typing};
 pub use span::Span;
+pub use tiles::tile_of;
+pub use walk::Walk;
+
+#[cfg(test)]
+mod tests;

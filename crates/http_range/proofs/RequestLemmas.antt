@@ -1,0 +1,188 @@
+-- A client's request is a head of the grammar, and is read as what was asked.
+use Rattle.std.proofs.Common.{◌≡◌, ℕ, ◌+◌, ◌-◌, ◌^◌, ◌<◌, ◌≤◌, Bool, true, List, [], ◌∷◌, ◌++◌, length, map, take, refl, sym, ap, ◌∙◌, arith, append_assoc, append-nil, length-append, codes, Option, Some, None, flat_map}
+use Rattle.std.specs.Prelude.{decimal, IfSome}
+use Rattle.std.specs.List.{list_all}
+use Rattle.std.proofs.Math.Seq.{take-append-add}
+use Rattle.std.proofs.lemmas.Bool.{ltb-true, leb-true}
+use Rattle.std.proofs.lemmas.Bool.Decides.{nat_tests}
+use Rattle.std.proofs.lemmas.List.Elements.{All-append, All-nil, All-cons}
+use Rattle.std.proofs.lemmas.Fmt.{decimal_nonempty}
+use Rattle.std.proofs.lemmas.Str.{IsUtf8-from_ascii}
+use Rattle.std.proofs.lemmas.Str.Ascii.{IsAscii-cons, IsAscii-nil}
+use Rattle.std.specs.Str.{IsAscii}
+use Rattle.httparse.specs.Grammar.{AllPass, is_token_byte, is_uri_byte, is_value_byte, crlf, RequestHead, IsRequestHead, print_request}
+use Rattle.httparse.proofs.GrammarLemmas.{request_unique, print_request-append}
+use Rattle.http_range.specs.Tag.{is_kept_tag}
+use Rattle.http_range.specs.Text.{NamedValue, line, message, closing}
+use Rattle.http_range.specs.Names.{is_name, is_name_byte, is_host, is_host_byte}
+use Rattle.http_range.specs.Ask.{CanAsk, request_line, range_value, if_range, request_fields, request_text, asked_request}
+use Rattle.http_range.specs.Seen.{SeenRequest, IsRequestFront, seen_request, HasRequest}
+use Rattle.http_range.proofs.ValueLemmas.{both, back_bare, decimal_pass}
+use Rattle.http_range.proofs.LineLemmas.{IsPlain, ArePlain, field_of, lines-are, fields-are, seen-are, length-fields, length-message}
+use Rattle.http_range.proofs.ReplyLemmas.{token_of, plain_visible, closing_plain, plain-append, pass_value, value_literal, length_20, tag_plain}
+
+abbrev head_by : List ℕ → List NamedValue → RequestHead
+head_by name ls = record {
+  blank = [];
+  method = codes "GET";
+  target = 47 ∷ name;
+  minor = 1;
+  line_end = crlf;
+  fields = map field_of ls;
+  last = crlf;
+}
+
+regroup : (g n v e f c r : List ℕ)
+    → (g ++ n ++ v ++ e ++ f ++ c) ++ r ≡ g ++ (n ++ (v ++ (e ++ ((f ++ c) ++ r))))
+regroup g n v e f c r = simp append_assoc
+
+request-append : (name : List ℕ) (ls : List NamedValue) (rest : List ℕ)
+    → message (request_line name) ls ++ rest ≡ print_request (head_by name ls) ++ rest
+request-append name ls rest =
+    regroup (codes "GET /") name (codes " HTTP/1.1") (codes "\r\n") (flat_map line ls) (codes "\r\n") rest
+    ∙ ap (λ (t : List ℕ). codes "GET /" ++ (name ++ (codes " HTTP/1.1" ++ (codes "\r\n" ++ ((t ++ codes "\r\n") ++ rest)))))
+    (sym (lines-are ls))
+    ∙ sym (print_request-append (head_by name ls) rest)
+
+request-is : (name : List ℕ) (ls : List NamedValue) → message (request_line name) ls ≡ print_request (head_by name ls)
+request-is name ls = sym (append-nil _) ∙ request-append name ls [] ∙ append-nil _
+
+-- ---- names and hosts
+
+name_uri : (b : ℕ) → is_name_byte b ≡ true → is_uri_byte b ≡ true
+name_uri b h = grind (arith, nat_tests)
+
+name_ascii : (b : ℕ) → is_name_byte b ≡ true → b < 128
+name_ascii b h = grind (arith, nat_tests)
+
+host_uri : (b : ℕ) → is_host_byte b ≡ true → is_uri_byte b ≡ true
+host_uri b h = grind (arith, nat_tests)
+
+name_parts : (name : List ℕ) → is_name name ≡ true
+    → (0 < length name) × (length name ≤ 200) × (list_all is_name_byte name ≡ true)
+name_parts name h =
+    let a = both _ _ h in let b = both _ _ a.0 in (ltb-true _ _ b.0, leb-true _ _ b.1, a.1)
+
+ascii_name : (name : List ℕ) → list_all is_name_byte name ≡ true → IsAscii name
+ascii_name [] h = IsAscii-nil
+ascii_name (c ∷ cs) h =
+    let parts = both (is_name_byte c) (list_all is_name_byte cs) h in
+    IsAscii-cons c cs (name_ascii c parts.0) (ascii_name cs parts.1)
+
+pass_uri : (test : ℕ → Bool) → ((b : ℕ) → test b ≡ true → is_uri_byte b ≡ true) → (xs : List ℕ) → list_all test xs ≡ true
+    → AllPass is_uri_byte xs
+pass_uri test step [] h = All-nil _
+pass_uri test step (x ∷ xs) h =
+    let parts = both (test x) (list_all test xs) h in
+    All-cons (λ b. is_uri_byte b ≡ true) x xs (step x parts.0) (pass_uri test step xs parts.1)
+
+host_plain : (host : List ℕ) → is_host host ≡ true → IsPlain (codes "Host", host)
+unfolding is_token_byte
+host_plain host h =
+    let a = both _ _ h in
+    let b = both _ _ a.0 in
+    let small = leb-true _ _ b.1 in
+    plain_visible (codes "Host") host refl (pass_uri is_host_byte host_uri host a.1) (ltb-true _ _ b.0) (omega arith)
+
+range_short : (x y : List ℕ) → length x ≤ 20 → length y ≤ 20
+    → length (codes "Range") + length (codes "bytes=" ++ x ++ codes "-" ++ y) ≤ 150
+range_short x y hx hy = simp length-append (omega arith)
+
+range_plain : (a b : ℕ) → a < 2 ^ 64 → b < 2 ^ 64 → IsPlain (codes "Range", range_value a b)
+unfolding is_token_byte range_value
+range_plain a b sa sb =
+    let P : ℕ → Type 0 = λ v. is_value_byte v ≡ true in
+    let digits : (n : ℕ) → n < 2 ^ 64 → AllPass is_value_byte (decimal n) = λ n small. pass_value (decimal n) (decimal_pass n small) in
+    let front : List ℕ = codes "bytes=" ++ decimal a ++ codes "-" in record {
+      name = token_of (codes "Range") refl;
+      value =
+          All-append P front (decimal b)
+          (All-append P (codes "bytes=" ++ decimal a) (codes "-")
+          (All-append P (codes "bytes=") (decimal a) (value_literal (codes "bytes=") refl) (digits a sa))
+          (value_literal (codes "-") refl)) (digits b sb);
+      front = refl;
+      back = back_bare front (decimal b) (decimal_pass b sb) (decimal_nonempty b sb);
+      short = range_short (decimal a) (decimal b) (length_20 a sa) (length_20 b sb);
+    }
+
+if_range_plain : (tag : Option (List ℕ)) → IfSome tag (λ t. is_kept_tag t ≡ true) → ArePlain (if_range tag)
+unfolding is_token_byte
+if_range_plain None kept = tt
+if_range_plain (Some tag) kept = (tag_plain (codes "If-Range") tag refl (omega arith) kept, tt)
+
+if_range_few : (tag : Option (List ℕ)) → length (if_range tag) ≤ 1
+if_range_few None = omega arith
+if_range_few (Some tag) = omega arith
+
+module _ (host name : List ℕ) (first last : ℕ) (tag : Option (List ℕ)) (can : CanAsk host name first last tag) where
+  abbrev lines : List NamedValue
+  lines = request_fields host first last tag
+
+  abbrev head : RequestHead
+  head = head_by name lines
+
+  plain : ArePlain lines
+  plain = (
+    host_plain host can.to_host,
+    (range_plain first last can.from_first can.to_last, plain-append (if_range tag) (closing true) (if_range_plain tag can.kept) (closing_plain true)),
+  )
+
+  few : length lines ≤ 20
+  few = omega (arith, length-append (if_range tag) (closing true), if_range_few tag)
+
+  valid : IsRequestHead head
+  unfolding is_token_byte
+  valid =
+      let passes = (name_parts name can.of_name).2 in record {
+        method = token_of (codes "GET") refl;
+        target = (omega arith, All-cons (λ b. is_uri_byte b ≡ true) 47 name refl (pass_uri is_name_byte name_uri name passes));
+        target_text = IsUtf8-from_ascii (47 ∷ name) (IsAscii-cons 47 name (omega arith) (ascii_name name passes));
+        minor = omega arith;
+        fields = fields-are lines plain;
+      }
+
+  line_short : length (request_line name) ≤ 300
+  line_short =
+      let small = (name_parts name can.of_name).1 in
+      simp length-append (omega arith)
+
+  whole : (bytes more : List ℕ) → bytes ≡ request_text host name first last tag ++ more → IsRequestFront bytes head
+  whole bytes more is =
+      let text = request_text host name first last tag in
+      let small = length-message (request_line name) lines plain line_short few in
+      let m = 8192 - length text in
+      let e : 8192 ≡ length text + m = omega arith in
+      let n = few in record {
+        rest = take m more;
+        reads = (
+          valid,
+          ap (take 8192) is ∙ ap (λ (k : ℕ). take k (text ++ more)) e ∙ take-append-add text more m
+              ∙ ap (λ (t : List ℕ). t ++ take m more) (request-is name lines),
+        );
+        room = omega (arith, length-fields lines);
+      }
+
+  seen_is : seen_request head ≡ asked_request host name first last tag
+  seen_is = λ i. record { method = codes "GET"; target = 47 ∷ name; minor = 1; fields = seen-are lines plain i }
+
+  finds : (bytes : List ℕ) → IsRequestFront bytes head → (r : Option SeenRequest) → HasRequest bytes r
+      → r ≡ Some (asked_request host name first last tag)
+  finds bytes is None none = absurd (none head is)
+  finds bytes is (Some q) found =
+      let same = request_unique (take 8192 bytes) found.0 head _ _ found.1.reads is.reads in
+      ap Some (found.2 ∙ ap seen_request same.0 ∙ seen_is)
+
+pub asked_read : (host name : List ℕ) (first last : ℕ) (tag : Option (List ℕ)) (more : List ℕ) → CanAsk host name first last tag
+    → (bytes : List ℕ) → bytes ≡ request_text host name first last tag ++ more → (r : Option SeenRequest) → HasRequest bytes r
+    → r ≡ Some (asked_request host name first last tag)
+asked_read host name first last tag more can bytes is r found =
+    finds host name first last tag can bytes (whole host name first last tag can bytes more is) r found
+
+pub asked_has : (host name : List ℕ) (first last : ℕ) (tag : Option (List ℕ)) (more : List ℕ) → CanAsk host name first last tag
+    → (bytes : List ℕ) → bytes ≡ request_text host name first last tag ++ more
+    → HasRequest bytes (Some (asked_request host name first last tag))
+asked_has host name first last tag more can bytes is = (
+  head host name first last tag can,
+  whole host name first last tag can bytes more is,
+  sym (seen_is host name first last tag can),
+)

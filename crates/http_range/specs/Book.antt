@@ -1,0 +1,71 @@
+-- Files that were published, and what a server has of them.
+use Rattle.std.specs.Prelude.{◌≡◌, ◌≤◌, ◌⊎◌, ℕ, IsTrue, if◌then◌else◌, List, [], ◌∷◌, ◌++◌, length, codes, decimal, Option, Some, None, ⊤}
+use Rattle.std.specs.Str.{bytes_eq}
+use Rattle.http_range.specs.Names.{is_name}
+use Rattle.http_range.specs.Tag.{is_kept_tag}
+
+-- one revision of a file: the name and the tag under which it was published, and its bytes
+pub record Publication : Type 0 where
+  pub name : List ℕ
+  pub tag : List ℕ
+  pub file : List ℕ
+
+-- name, tag and file lie inside the limits; a file has 1 to 67,108,864 bytes
+pub record IsPublication (p : Publication) : Type 0 where
+  pub named : IsTrue (is_name p.name)
+  pub tagged : IsTrue (is_kept_tag p.tag)
+  pub some : 1 ≤ length p.file
+  pub small : length p.file ≤ 67108864
+
+-- ---- books: all that was ever published, the newest first
+
+abbrev pub Book : Type 0
+Book = List Publication
+
+-- p is in the book
+abbrev pub In : Publication → Book → Type 0
+In p [] = ⊥
+In p (q ∷ book) = (p ≡ q) ⊎ In p book
+
+-- whatever is in the book is in the later one
+abbrev pub Includes : Book → Book → Type 0
+Includes later book = (p : Publication) → In p book → In p later
+
+-- each publication is lawful
+abbrev pub IsBook : Book → Type 0
+IsBook [] = ⊤
+IsBook (p ∷ book) = IsPublication p × IsBook book
+
+-- a tag tells one publication from all others, of whatever name
+abbrev pub HasDistinctTags : Book → Type 0
+HasDistinctTags book = (p q : Publication) → In p book → In q book → p.tag ≡ q.tag → p ≡ q
+
+-- ---- catalogues: the last publication of each name
+
+abbrev pub Catalogue : Type 0
+Catalogue = List Publication
+
+-- each publication is lawful
+abbrev pub IsCatalogue : Catalogue → Type 0
+IsCatalogue [] = ⊤
+IsCatalogue (p ∷ catalogue) = IsPublication p × IsCatalogue catalogue
+
+-- the publication under a name
+abbrev pub published : List ℕ → Catalogue → Option Publication
+published name [] = None
+published name (p ∷ catalogue) = if bytes_eq p.name name then Some p else published name catalogue
+
+-- whatever the catalogue has stands in the book
+abbrev pub Covers : Book → Catalogue → Type 0
+Covers book catalogue = (name : List ℕ) (p : Publication) → published name catalogue ≡ Some p → In p book
+
+-- the catalogue after p: it replaces the one of its name, or is added at the end
+abbrev pub publish : Publication → Catalogue → Catalogue
+publish p [] = p ∷ []
+publish p (q ∷ catalogue) = if bytes_eq q.name p.name then p ∷ catalogue else q ∷ publish p catalogue
+
+-- ---- tags
+
+-- `"E-N"`: the epoch, and the number of the publication in it
+unfoldable pub version_tag : ℕ → ℕ → List ℕ
+version_tag epoch n = codes "\"" ++ decimal epoch ++ codes "-" ++ decimal n ++ codes "\""

@@ -1,0 +1,42 @@
+-- The value of a Content-Range field (RFC 9110, section 14.4).
+use Rattle.std.specs.Prelude.{◌≡◌, ◌<◌, ◌≤◌, ℕ, ◌&&◌, ◌==◌, nat_lt, nat_le, nat_eq, if◌then◌else◌, List, ◌∷◌, ◌++◌, drop, codes, Option, Some, None, ⊤}
+use Rattle.std.specs.List.{before_first, after_first, starts_with}
+use Rattle.http_range.specs.declared.reading.ContentRange.{ContentRange}
+use Rattle.http_range.specs.Digits.{number_64}
+
+-- text is `bytes a-b/l`, each number of one or more digits and 64 bits, with a at most b, and b below l
+pub record IsContentRange (text : List ℕ) (range : ContentRange) : Type 0 where
+  pub first : List ℕ
+  pub last : List ℕ
+  pub complete : List ℕ
+  pub parts : text ≡ codes "bytes " ++ first ++ 45 ∷ (last ++ 47 ∷ complete)
+  pub first_is : number_64 first ≡ Some range.first
+  pub last_is : number_64 last ≡ Some range.last
+  pub complete_is : number_64 complete ≡ Some range.complete
+  pub ascending : range.first ≤ range.last
+  pub inside : range.last < range.complete
+
+-- the positions lie in the content
+abbrev pub IsRange : Option ContentRange → Type 0
+IsRange None = ⊤
+IsRange (Some r) = (r.first ≤ r.last) × (r.last < r.complete)
+
+-- ---- the same, computed
+
+-- three numbers, where the first isn't above the second, and the second is below the third
+abbrev pub range_by : Option ℕ → Option ℕ → Option ℕ → Option ContentRange
+range_by (Some a) (Some b) (Some l) =
+    if nat_le a b && nat_lt b l then Some (record { first = a; last = b; complete = l }) else None
+range_by (Some a) (Some b) None = None
+range_by (Some a) None l = None
+range_by None b l = None
+
+-- the range that the value of a Content-Range field names
+unfoldable pub range_of : List ℕ → Option ContentRange
+range_of text =
+    let span = drop 6 text in
+    let ends = after_first (λ b. b == 45) span in
+    if starts_with nat_eq text (codes "bytes ")
+    then range_by (number_64 (before_first (λ b. b == 45) span))
+    (number_64 (before_first (λ b. b == 47) ends)) (number_64 (after_first (λ b. b == 47) ends))
+    else None

@@ -1,0 +1,47 @@
+-- Answers as an honest network delivers them: whole, or cut anywhere.
+use Rattle.std.specs.Prelude.{◌≡◌, ◌≤◌, ◌⊎◌, ℕ, ◌+◌, IsTrue, List, ◌++◌, length, drop, Some, None}
+use Rattle.http_range.specs.Piece.{SeenPiece}
+use Rattle.http_range.specs.Book.{Publication, Book, In, Catalogue, IsCatalogue, published}
+use Rattle.http_range.specs.Served.{Served, text_of, IsAnswer}
+
+-- front is where whole begins
+abbrev pub IsFront : List ℕ → List ℕ → Type 0
+IsFront front whole = (rest : List ℕ) × (front ++ rest ≡ whole)
+
+-- text is a front of an answer for p: of a server that has p, to some message, carrying the tag of p or none
+pub record IsHonestFor (text : List ℕ) (p : Publication) : Type 0 where
+  pub catalogue : Catalogue
+  pub message : List ℕ
+  pub served : Served
+  pub lawful : IsCatalogue catalogue
+  pub answers : IsAnswer catalogue message served
+  pub has : published p.name catalogue ≡ Some p
+  pub named : (served.name ≡ Some p.name) ⊎ (served.name ≡ None)
+  pub front : IsFront text (text_of served)
+
+-- text is a front of an answer that carries no tag
+pub record IsNamelessFront (text : List ℕ) : Type 0 where
+  pub catalogue : Catalogue
+  pub message : List ℕ
+  pub served : Served
+  pub lawful : IsCatalogue catalogue
+  pub answers : IsAnswer catalogue message served
+  pub nameless : served.name ≡ None
+  pub front : IsFront text (text_of served)
+
+-- it is so for a publication of that name in the book, or the answer carries no tag
+abbrev pub IsHonest : List ℕ → List ℕ → Book → Type 0
+IsHonest text name book =
+    ((p : Publication) × In p book × (p.name ≡ name) × IsHonestFor text p) ⊎ IsNamelessFront text
+
+-- the piece is a piece of p, where it says that it is
+pub record IsPieceOf (p : Publication) (piece : SeenPiece) : Type 0 where
+  pub tag : piece.tag ≡ p.tag
+  pub complete : piece.complete ≡ length p.file
+  pub place : piece.first + length piece.body ≤ piece.complete
+  pub from_start : IsTrue piece.whole → piece.first ≡ 0
+  pub body : IsFront piece.body (drop piece.first p.file)
+
+-- it is a piece of a publication of that name in the book
+abbrev pub IsPieceOfBook : List ℕ → Book → SeenPiece → Type 0
+IsPieceOfBook name book piece = (p : Publication) × In p book × (p.name ≡ name) × IsPieceOf p piece

@@ -1,0 +1,52 @@
+-- What an answer says to a client: a piece of a file, or why it is not used.
+use Rattle.std.specs.Prelude.{ℕ, Bool, true, false, List, take, Option, Some, None, Result, Ok, Err}
+use Rattle.http_range.specs.declared.reading.Why.{Why}
+use Rattle.http_range.specs.declared.reading.Why.TheVariants.{Cut, Head, Status, NoTag, WeakTag, TagTooLong, NoRange, NoLength, Coding}
+use Rattle.http_range.specs.declared.reading.ContentRange.{ContentRange}
+use Rattle.http_range.specs.declared.reading.Piece.{Piece}
+use Rattle.http_range.specs.declared.reading.Reading.{Reading}
+use Rattle.http_range.specs.declared.reading.Reading.TheVariants.{Piece as APiece, NotUsed}
+
+-- a piece without where it lies in memory
+pub record SeenPiece : Type 0 where
+  pub tag : List ℕ
+  pub whole : Bool
+  pub first : ℕ
+  pub complete : ℕ
+  pub body : List ℕ
+
+abbrev pub piece_seen : Piece → SeenPiece
+piece_seen p = record { tag = p.tag; whole = p.whole; first = p.first; complete = p.complete; body = p.body.now }
+
+abbrev pub result_seen : Result Piece Why → Result SeenPiece Why
+result_seen (Ok p) = Ok (piece_seen p)
+result_seen (Err why) = Err why
+
+abbrev pub reading_seen : Reading → Result SeenPiece Why
+reading_seen (APiece p) = Ok (piece_seen p)
+reading_seen (NotUsed why) = Err why
+
+-- the piece of a whole file, or of the part that the range covers; n is the length that the head gives
+abbrev pub piece_by : List ℕ → Option ContentRange → ℕ → List ℕ → SeenPiece
+piece_by tag None n rest =
+    record { tag = tag; whole = true; first = 0; complete = n; body = take n rest }
+piece_by tag (Some range) n rest =
+    record { tag = tag; whole = false; first = range.first; complete = range.complete; body = take n rest }
+
+-- the numbers under which refusals are told
+abbrev pub number_of_why : Why → ℕ
+number_of_why Cut = 1
+number_of_why Head = 2
+number_of_why (Status code) = 3
+number_of_why NoTag = 4
+number_of_why WeakTag = 5
+number_of_why TagTooLong = 6
+number_of_why NoRange = 7
+number_of_why NoLength = 8
+number_of_why Coding = 9
+
+-- goes on with what was found, or stops at why it is not used
+infixl 10 ◌>>=◌
+abbrev pub ◌>>=◌ : {A B : Type 0} → Result A Why → (A → Result B Why) → Result B Why
+(Ok x) >>= f = f x
+(Err why) >>= f = Err why

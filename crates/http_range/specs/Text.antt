@@ -1,0 +1,19 @@
+-- The text of a head (RFC 9112, section 2.1): a first line, fields, and an empty line.
+use Rattle.std.specs.Prelude.{List, [], ◌∷◌, ◌++◌, ℕ, Bool, if◌then◌else◌, codes}
+use Rattle.std.specs.List.{flat_map}
+
+-- a field's name and value
+abbrev pub NamedValue : Type 0
+NamedValue = List ℕ × List ℕ
+
+-- the line of a field: its name, a colon, one space, and its value
+unfoldable pub line : NamedValue → List ℕ
+line field = field.0 ++ codes ": " ++ field.1 ++ codes "\r\n"
+
+-- a first line, the fields' lines, and an empty line
+abbrev pub message : List ℕ → List NamedValue → List ℕ
+message first fields = first ++ codes "\r\n" ++ flat_map line fields ++ codes "\r\n"
+
+-- the field that ends the connection (RFC 9112, section 9.6)
+abbrev pub closing : Bool → List NamedValue
+closing close = if close then (codes "Connection", codes "close") ∷ [] else []

@@ -1,0 +1,66 @@
+//! A client's requests.
+ghost use Rattle.std.specs.Prelude.{◌≡◌, ◌++◌, IfOk, OnOk, codes, option_map};
+ghost use Rattle.std.specs.List.{flat_map};
+ghost use Rattle.http_range.specs.Text.{line};
+ghost use Rattle.http_range.specs.Ask.{request_text, request_line, range_value, if_range};
+
+use crate::line::{push_closing, push_decimal, push_line};
+use crate::tag::Tag;
+use std::alloc::{AllocError, Global};
+use tiff_dir::{Memory, Span};
+
+/// The request for the bytes of a span of the file under a name; with a tag it asks for them of that revision alone.
+pub fn write_request(
+    alloc: Global,
+    host: &[u8],
+    name: &[u8],
+    span: Span,
+    tag: Option<&Tag>,
+) -> Result<Vec<u8>, Memory>
+    ensures { IfOk result (λ text. text.items
+        ≡ request_text host.now name.now span.first span.last (option_map (λ t. t.now) tag.entry)) }
+{
+    let mut text = Vec::new(alloc);
+    push_request_line(&mut text, name)?;
+    text.extend_from_slice(b"\r\n")?;
+    push_line(&mut text, b"Host", host)?;
+    push_range(&mut text, span.first, span.last)?;
+    push_if_range(&mut text, tag)?;
+    push_closing(&mut text, true)?;
+    text.extend_from_slice(b"\r\n")?;
+    Ok(text)
+}
+
+fn push_request_line(out: &mut Vec<u8>, name: &[u8]) -> Result<(), AllocError>
+    ensures { OnOk result (out.new.items ≡ out.old.items ++ request_line name.now) }
+{
+    out.extend_from_slice(b"GET /")?;
+    out.extend_from_slice(name)?;
+    out.extend_from_slice(b" HTTP/1.1")?;
+    Ok(())
+}
+
+#[tactic(auto, unfolding(crate::specs::Text::line, crate::specs::Ask::range_value))]
+fn push_range(out: &mut Vec<u8>, first: u64, last: u64) -> Result<(), AllocError>
+    ensures { OnOk result (out.new.items ≡ out.old.items ++ line (codes "Range", range_value first last)) }
+{
+    out.extend_from_slice(b"Range: bytes=")?;
+    push_decimal(out, first)?;
+    out.extend_from_slice(b"-")?;
+    push_decimal(out, last)?;
+    out.extend_from_slice(b"\r\n")?;
+    Ok(())
+}
+
+fn push_if_range(out: &mut Vec<u8>, tag: Option<&Tag>) -> Result<(), AllocError>
+    ensures { OnOk result (out.new.items
+        ≡ out.old.items ++ flat_map line (if_range (option_map (λ t. t.now) tag.entry))) }
+{
+    match tag {
+        None => Ok(()),
+        Some(tag) => {
+            push_line(out, b"If-Range", tag.as_bytes())?;
+            Ok(())
+        }
+    }
+}

@@ -1,0 +1,59 @@
+//! Parts of a slice.
+ghost use Rattle.std.specs.Prelude.{◌≡◌, ◌≤◌, ◌==◌, length, take, drop};
+ghost use Rattle.std.specs.List.{before_first, after_first, position, position_or_len};
+
+/// The bytes from a place inside them, or from their end, on.
+pub(crate) fn after(bytes: &[u8], at: usize) -> &[u8]
+    requires { at ≤ length bytes.now }
+    ensures { result.now ≡ drop at bytes.now }
+{
+    &bytes[at..]
+}
+
+/// The bytes from a place on, or none past the end.
+pub(crate) fn past(bytes: &[u8], at: usize) -> &[u8]
+    ensures { result.now ≡ drop at bytes.now }
+{
+    if at <= bytes.len() { &bytes[at..] } else { &[] }
+}
+
+/// The first `n` bytes, or all where there are fewer.
+pub(crate) fn up_to(bytes: &[u8], n: u64) -> &[u8]
+    ensures { result.now ≡ take n bytes.now }
+{
+    if (bytes.len() as u64) <= n {
+        bytes
+    } else {
+        &bytes[..n as usize]
+    }
+}
+
+fn position_of(text: &[u8], byte: u8) -> Option<usize>
+    ensures { result ≡ position (λ b. b == byte) text.now }
+{
+    text.iter().position(|b| *b == byte)
+}
+
+/// Where the first such byte stands, or the length.
+pub(crate) fn place_of(text: &[u8], byte: u8) -> usize
+    ensures { result ≡ position_or_len (λ b. b == byte) text.now }
+{
+    match position_of(text, byte) {
+        Some(i) => i,
+        None => text.len(),
+    }
+}
+
+/// What stands before and after the first such byte.
+pub(crate) fn split_first(text: &[u8], byte: u8) -> (&[u8], &[u8])
+    ensures front { result.0.now ≡ before_first (λ b. b == byte) text.now }
+    ensures back { result.1.now ≡ after_first (λ b. b == byte) text.now }
+{
+    let i = place_of(text, byte);
+    if i < text.len() {
+        let back = after(text, i + 1);
+        (&text[..i], back)
+    } else {
+        (text, &[])
+    }
+}

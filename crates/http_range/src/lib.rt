@@ -1,0 +1,34 @@
+//! Byte ranges, entity tags and heads of HTTP/1.1 (RFC 9110, RFC 9112), for files that are read by single ranges.
+//!
+//! Only `write_request` and `write_head` take memory. Positions and lengths are in bytes, and positions count from 0.
+#![tactic(auto)]
+
+mod answer_head;
+mod ask;
+mod bytes;
+mod digits;
+mod fields;
+mod laws;
+mod line;
+mod numeral;
+mod range;
+mod reading;
+mod reply;
+mod request;
+mod tag;
+mod version;
+
+pub use ask::write_request;
+pub use laws::{
+    answers_are_unique, clients_are_answered, honesty_is_kept, publications_replace,
+    tags_tell_versions, values_have_forms,
+};
+pub use range::{RangeSpec, Resolved, read_range, resolve};
+pub use reading::{Piece, Reading, Why, read_answer};
+pub use reply::{Reply, write_head};
+pub use request::{Request, read_request};
+pub use tag::Tag;
+pub use tiff_dir::{Memory, Span};
+
+#[cfg(test)]
+mod tests;

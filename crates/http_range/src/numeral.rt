@@ -1,0 +1,104 @@
+//! Numbers of any length as digits, kept in 64 bits.
+ghost use Rattle.std.specs.Prelude.{◌≡◌, ◌≤◌, ◌<◌, IsTrue, length, nat_le, option_map, is_some, Some};
+ghost use Rattle.std.specs.Str.{all_ascii_digits};
+ghost use Rattle.std.specs.List.{list_all};
+ghost use Rattle.std.specs.Char.{is_ascii_digit, digit_value};
+ghost use Rattle.std.specs.Str.Parse.{digits_value};
+ghost use Rattle.http_range.specs.Digits.{number, capped, padded_digit};
+
+fn all_pass(text: &[u8]) -> bool
+    ensures { result ≡ list_all is_ascii_digit text.now }
+{
+    text.iter().all(|b| b.is_ascii_digit())
+}
+
+fn are_digits(text: &[u8]) -> bool
+    ensures { result ≡ all_ascii_digits text.now }
+{
+    all_pass(text)
+}
+
+fn digit_of(b: u8) -> u64
+    requires { IsTrue (is_ascii_digit b) }
+    ensures value { result ≡ digit_value b }
+    ensures small { result < 10 }
+{
+    (b - b'0') as u64
+}
+
+/// The digit at place `i` where the text is padded with zeros in front to `n` places.
+fn padded_digit(text: &[u8], n: usize, i: usize) -> u64
+    requires digits { IsTrue (all_ascii_digits text.now) }
+    requires room { length text.now ≤ n }
+    requires inside { i < n }
+    ensures value { result ≡ padded_digit text.now n i }
+    ensures small { result < 10 }
+{
+    let skip = n - text.len();
+    if i < skip {
+        return 0;
+    }
+    digit_of(text[i - skip])
+}
+
+/// The number that the digits write, or the greatest of 64 bits where it is greater.
+pub(crate) fn capped(text: &[u8]) -> u64
+    requires { IsTrue (all_ascii_digits text.now) }
+    ensures { result ≡ capped (digits_value 10 text.now) }
+{
+    let mut n: u64 = 0;
+    for b in text {
+        let digit = digit_of(*b);
+        if n > (u64::MAX - digit) / 10 {
+            n = u64::MAX;
+        } else {
+            n = n * 10 + digit;
+        }
+    }
+    n
+}
+
+/// Whether the first number isn't above the second, however many digits they have.
+pub(crate) fn in_order(a: &[u8], b: &[u8]) -> bool
+    requires first { IsTrue (all_ascii_digits a.now) }
+    requires second { IsTrue (all_ascii_digits b.now) }
+    ensures { result ≡ nat_le (digits_value 10 a.now) (digits_value 10 b.now) }
+{
+    let n = a.len().max(b.len());
+    let mut below = false;
+    let mut above = false;
+    for i in 0..n {
+        let x = padded_digit(a, n, i);
+        let y = padded_digit(b, n, i);
+        if !below && !above {
+            below = x < y;
+            above = y < x;
+        }
+    }
+    !above
+}
+
+/// The number that the text writes, with those past 64 bits lowered to the greatest.
+pub(crate) fn number(text: &[u8]) -> Option<u64>
+    ensures { result ≡ option_map capped (number text.now) }
+{
+    if text.len() == 0 {
+        return None;
+    }
+    if !are_digits(text) {
+        return None;
+    }
+    Some(capped(text))
+}
+
+/// Whether the text writes a number.
+pub(crate) fn is_number(text: &[u8]) -> bool
+    ensures test { result ≡ is_some (number text.now) }
+    ensures digits { IsTrue result → IsTrue (all_ascii_digits text.now) }
+    ensures value { IsTrue result → number text.now ≡ Some (digits_value 10 text.now) }
+{
+    if text.len() == 0 {
+        return false;
+    }
+    are_digits(text)
+}

@@ -1,0 +1,95 @@
+//! The head of a request that came (RFC 9112, section 3).
+ghost use Rattle.std.specs.Prelude.{◌≡◌, ℕ, List, Option, ◌++◌, slice_get, option_copied, IsSomeAnd, Some};
+ghost use Rattle.http_range.specs.Fields.{values_of};
+ghost use Rattle.http_range.specs.Seen.{HasRequest};
+ghost use Rattle.http_range.specs.Ask.{CanAsk, request_text, asked_request};
+
+use crate::bytes::up_to;
+use crate::fields::nth_value;
+use httparse::Status;
+use httparse::spans::{EMPTY_HEADER_SPAN, HeaderSpan, parse_request};
+use std::marker::Model;
+
+/// A request's head. It lends its parts from the message, and is seen as them.
+#[derive(Drop)]
+pub struct Request<'b> {
+    method: &'b [u8],
+    target: &'b [u8],
+    minor: u8,
+    front: &'b [u8],
+    spans: [HeaderSpan; 32],
+    count: usize,
+}
+
+impl<'b> Model for Request<'b> {
+    ghost use Rattle.http_range.specs.Seen.{SeenRequest};
+
+    ghost Value = { SeenRequest };
+
+    ghost use Rattle.http_range.specs.Request.{request_view, IsRequestInside};
+
+    ghost view = { request_view };
+
+    ghost invariant = { IsRequestInside };
+}
+
+impl<'b> Request<'b> {
+    /// The method, whose case matters.
+    pub fn method(&self) -> &'b [u8]
+        ensures { result.now ≡ self.now.method }
+    {
+        self.method
+    }
+
+    /// The request target, as it was sent.
+    pub fn target(&self) -> &'b [u8]
+        ensures { result.now ≡ self.now.target }
+    {
+        self.target
+    }
+
+    /// The version's second number: 1 in HTTP/1.1.
+    pub fn minor(&self) -> u8
+        ensures { result ≡ self.now.minor }
+    {
+        self.minor
+    }
+
+    /// The value of the `i`-th field under a name, counted from 0. Names ignore case.
+    pub fn field(&self, name: &[u8], i: usize) -> Option<&'b [u8]>
+        ensures { option_copied result ≡ slice_get (values_of name.now self.now.fields) i }
+    {
+        nth_value(self.front, &self.spans[..self.count], name, i)
+    }
+}
+
+/// The head at the front of a message: None where no front of at most 8,192 bytes is a head of at most 32 fields.
+pub fn read_request(bytes: &[u8]) -> Option<Request<'_>>
+    ensures finds { HasRequest bytes.now result }
+
+    // The text of a client's request is read as what was asked, whatever follows it.
+    ensures asked { (host name : List ℕ) (first last : ℕ) (tag : Option (List ℕ)) (more : List ℕ)
+        → CanAsk host name first last tag
+        → bytes.now ≡ request_text host name first last tag ++ more
+        → result ≡ Some (asked_request host name first last tag) }
+{
+    find(bytes)
+}
+
+fn find(bytes: &[u8]) -> Option<Request<'_>>
+    ensures { HasRequest bytes.now result }
+{
+    let front = up_to(bytes, 8192);
+    let mut spans = [EMPTY_HEADER_SPAN; 32];
+    match parse_request(front, &mut spans) {
+        Ok(Status::Complete(head)) => Some(Request {
+            method: head.method.of(front),
+            target: head.path.of(front),
+            minor: head.version,
+            front,
+            spans,
+            count: head.headers,
+        }),
+        _ => None,
+    }
+}

@@ -1,0 +1,40 @@
+//! The tags of publications.
+ghost use Rattle.std.specs.Prelude.{◌≡◌, ◌≤◌, ◌+◌, ◌++◌, length};
+ghost use Rattle.arrayvec.specs.ArrayVec.{array_vec_len};
+ghost use Rattle.http_range.specs.Book.{version_tag};
+
+use crate::tag::Tag;
+use arrayvec::ArrayVec;
+use itoa::Buffer;
+
+impl Tag {
+    /// The tag `"E-N"` of publication `number` of an epoch. It takes no memory.
+    pub fn of_version(epoch: u32, number: u32) -> Tag
+        ensures { result ≡ version_tag epoch number }
+    {
+        let text = version_text(epoch, number);
+        Tag::new(text.as_slice()).unwrap()
+    }
+}
+
+#[tactic(auto, unfolding(crate::specs::Book::version_tag))]
+fn version_text(epoch: u32, number: u32) -> ArrayVec<u8, 64>
+    ensures { result.items ≡ version_tag epoch number }
+{
+    let mut text = ArrayVec::new();
+    let mut buffer = Buffer::new();
+    append(&mut text, b"\"");
+    append(&mut text, buffer.format(epoch).as_bytes());
+    append(&mut text, b"-");
+    append(&mut text, buffer.format(number).as_bytes());
+    append(&mut text, b"\"");
+    text
+}
+
+fn append(text: &mut ArrayVec<u8, 64>, bytes: &[u8])
+    requires { array_vec_len text.old + length bytes.now ≤ 64 }
+    ensures { text.new.items ≡ text.old.items ++ bytes.now }
+{
+    let added = text.try_extend_from_slice(bytes);
+    added.unwrap();
+}

@@ -1,0 +1,284 @@
+-- What the entries of a level tell of it.
+use Rattle.std.proofs.Common.{◌≡◌, ◌≢◌, ℕ, zero, suc, ◌+◌, ◌*◌, ◌<◌, ◌⊎◌, inl, inr, true, false, ◌&&◌, ◌==◌, nat_le, if◌then◌else◌, List, length, get_or, Option, Some, None, IsSomeAnd, refl, sym, subst, ◌∙◌, arith, lit<}
+use Rattle.std.proofs.lemmas.List.{get_or_default}
+use Rattle.std.proofs.lemmas.Bool.{and_parts, or_cases, eqb-true, ne_eqb, cases_Bool, cases_eq, false≢true}
+use Rattle.std.specs.Option.{option_map_or}
+use Rattle.std.specs.List.{AllPass, Any}
+use Rattle.tiff_dir.specs.declared.order.Order.{Order}
+use Rattle.tiff_dir.specs.declared.table.Entry.{Entry}
+use Rattle.tiff_dir.specs.declared.rule.Rule.{Rule}
+use Rattle.tiff_dir.specs.declared.rule.Count.TheVariants.{Samples}
+use Rattle.tiff_dir.specs.declared.level.Compression.TheVariants.{Plain, PackBits}
+use Rattle.tiff_dir.specs.declared.stage.Draft.{Draft}
+use Rattle.tiff_dir.specs.declared.fault.FileFault.{FileFault}
+use Rattle.tiff_dir.specs.declared.fault.FileFault.TheVariants.{Missing, FieldType, Unsupported}
+use Rattle.tiff_dir.specs.Number.{number_in}
+use Rattle.tiff_dir.specs.File.{◌>>=◌, number, field, values_at, value}
+use Rattle.tiff_dir.specs.Profile.{subfile_rule, profile, has_typing, accepts, samples_fit, planes_fit}
+use Rattle.tiff_dir.specs.Level.{is_level, place_of, compression_of}
+use Rattle.tiff_dir.specs.Fault.{IsMiscounted, IsRuleFault, IsUnsupported, IsMisfit, IsFaultOfDirectory, IsFaultOfLevel}
+use Rattle.tiff_dir.specs.Table.{field_of, found, meets, IsFaultOfEntries, short_or, counts_samples, place_in, place_or, draft_in, HasValues, IsValueFault, HasCounts, IsCountFault, IsReadIn, IsReadFault}
+use Rattle.tiff_dir.specs.Stage.{HasTable, IsTableOf, IsDrafted, IsPending}
+use Rattle.tiff_dir.proofs.Chain.{some_and_at, some_and_from, next_is}
+use Rattle.tiff_dir.proofs.Fields.{field_told, kind_told, typed, met_entry, met_there, single_told, short_told, short_only, one_counted, rule_fault, no_rule_fault}
+
+-- rule j of the profile
+rule : ℕ → Rule
+rule j = get_or profile j subfile_rule
+
+Met : List Entry → Type 0
+Met es = AllPass (meets es) profile
+
+some_and_cases : {A : Type 0} (o : Option A) (P : A → Type 0) → IsSomeAnd o P → (x : A) × (o ≡ Some x) × P x
+some_and_cases None P bad = absurd bad
+some_and_cases (Some x) P p = (x, refl, p)
+
+-- The values in the entries
+
+photometric_told : (f : List ℕ) (k : ℕ) (es : List Entry) → HasTable f k es → AllPass (meets es) profile → value f k 262 0 ≡ Some (short_or es 262 0)
+unfolding profile
+photometric_told f k es has met =
+    let r : Rule = get_or profile 5 subfile_rule in let ok = met 5 subfile_rule (lit< tt) in short_told f k es r 0 has ok refl (one_counted es r ok refl) (inr refl)
+
+pub samples_told : (f : List ℕ) (k : ℕ) (es : List Entry) → HasTable f k es → AllPass (meets es) profile → value f k 277 0 ≡ Some (short_or es 277 1)
+unfolding profile
+samples_told f k es has met =
+    let r : Rule = get_or profile 6 subfile_rule in let ok = met 6 subfile_rule (lit< tt) in short_told f k es r 1 has ok refl (one_counted es r ok refl) (inl refl)
+
+planar_told : (f : List ℕ) (k : ℕ) (es : List Entry) → HasTable f k es → AllPass (meets es) profile → value f k 284 0 ≡ Some (short_or es 284 1)
+unfolding profile
+planar_told f k es has met =
+    let r : Rule = get_or profile 7 subfile_rule in let ok = met 7 subfile_rule (lit< tt) in short_told f k es r 1 has ok refl (one_counted es r ok refl) (inl refl)
+
+compression_told : (f : List ℕ) (k : ℕ) (es : List Entry) → HasTable f k es → AllPass (meets es) profile → value f k 259 0 ≡ Some (short_or es 259 0)
+unfolding profile
+compression_told f k es has met =
+    let r : Rule = get_or profile 4 subfile_rule in let ok = met 4 subfile_rule (lit< tt) in short_told f k es r 0 has ok refl (one_counted es r ok refl) (inr refl)
+
+-- The faults of the fields
+
+pub profile_fault : (f : List ℕ) (k : ℕ) (es : List Entry) (fault : FileFault) → HasTable f k es → IsFaultOfEntries profile es fault → IsFaultOfLevel f k fault
+profile_fault f k es (Missing tag) has (j, d, inside, bad) = (j, get_or profile j d, inside, get_or_default profile j _ d inside, rule_fault f k es (get_or profile j d) (Missing tag) has bad)
+profile_fault f k es (FieldType tag) has (j, d, inside, bad) = (j, get_or profile j d, inside, get_or_default profile j _ d inside, rule_fault f k es (get_or profile j d) (FieldType tag) has bad)
+profile_fault f k es _ has (j, d, inside, bad) = absurd bad
+
+pub value_fault : (f : List ℕ) (k : ℕ) (es : List Entry) (fault : FileFault) → HasTable f k es → AllPass (meets es) profile → IsValueFault es fault → IsFaultOfLevel f k fault
+value_fault f k es fault has met (inl (is, bad)) =
+    let here : IsFaultOfLevel f k (Unsupported 262) = inl (0, some_and_from (value f k 262 0) (λ v. accepts 262 v ≡ false) _ (photometric_told f k es has met) bad) in
+    subst (IsFaultOfLevel f k) (sym is) here
+value_fault f k es fault has met (inr (inl (is, bad))) =
+    let misfit : IsMisfit samples_fit (value f k 277 0) (value f k 262 0) =
+    some_and_from (value f k 277 0) (λ x. IsSomeAnd (value f k 262 0) (λ y. samples_fit x y ≡ false)) _ (samples_told f k es has met)
+    (some_and_from (value f k 262 0) (λ y. samples_fit (short_or es 277 1) y ≡ false) _ (photometric_told f k es has met) bad) in
+    let here : IsFaultOfLevel f k (Unsupported 277) = inr (inl (refl, misfit)) in
+    subst (IsFaultOfLevel f k) (sym is) here
+value_fault f k es fault has met (inr (inr (inl (is, bad)))) =
+    let misfit : IsMisfit planes_fit (value f k 284 0) (value f k 277 0) =
+    some_and_from (value f k 284 0) (λ x. IsSomeAnd (value f k 277 0) (λ y. planes_fit x y ≡ false)) _ (planar_told f k es has met)
+    (some_and_from (value f k 277 0) (λ y. planes_fit (short_or es 284 1) y ≡ false) _ (samples_told f k es has met) bad) in
+    let here : IsFaultOfLevel f k (Unsupported 284) = inr (inr (refl, misfit)) in
+    subst (IsFaultOfLevel f k) (sym is) here
+value_fault f k es fault has met (inr (inr (inr (is, bad)))) =
+    let here : IsFaultOfLevel f k (Unsupported 259) = inl (0, some_and_from (value f k 259 0) (λ v. accepts 259 v ≡ false) _ (compression_told f k es has met) bad) in
+    subst (IsFaultOfLevel f k) (sym is) here
+
+-- a field that has another number of values than a pixel has samples
+miscounted : (f : List ℕ) (k : ℕ) (es : List Entry) (r : Rule) → HasTable f k es → AllPass (meets es) profile → r.count ≡ Samples → counts_samples es r.tag ≡ false → IsRuleFault f k r (FieldType r.tag)
+miscounted f k es r has met counts bad = (refl, at (found r.tag es) refl bad) where
+  at : (o : Option Entry) → found r.tag es ≡ o → option_map_or (λ e. e.count == short_or es 277 1) o true ≡ false → IsSomeAnd (field f k r.tag) (λ e. (has_typing r.typing e.kind ≡ false) ⊎ IsMiscounted f k r.count e)
+  at None is bad = absurd (false≢true (sym bad))
+  at (Some e) is bad =
+      let wrong : IsMiscounted f k Samples (field_of e) = some_and_from (value f k 277 0) (λ s. (e.count == s) ≡ false) _ (samples_told f k es has met) bad in
+      some_and_from (field f k r.tag) (λ x. (has_typing r.typing x.kind ≡ false) ⊎ IsMiscounted f k r.count x) (field_of e) (field_told f k es r.tag has ∙ rw is refl) (inr (rw counts wrong))
+
+pub count_fault : (f : List ℕ) (k : ℕ) (es : List Entry) (fault : FileFault) → HasTable f k es → AllPass (meets es) profile → IsCountFault es fault → IsFaultOfLevel f k fault
+unfolding profile
+count_fault f k es fault has met (inl (is, bad)) =
+    let here : IsFaultOfLevel f k (FieldType 258) = (3, get_or profile 3 subfile_rule, lit< tt, refl, miscounted f k es (get_or profile 3 subfile_rule) has met refl bad) in
+    subst (IsFaultOfLevel f k) (sym is) here
+count_fault f k es fault has met (inr (is, bad)) =
+    let here : IsFaultOfLevel f k (FieldType 339) = (12, get_or profile 12 subfile_rule, lit< tt, refl, miscounted f k es (get_or profile 12 subfile_rule) has met refl bad) in
+    subst (IsFaultOfLevel f k) (sym is) here
+
+pub read_fault : (f : List ℕ) (k : ℕ) (es : List Entry) (fault : FileFault) → HasTable f k es → IsReadFault es fault → IsFaultOfLevel f k fault
+read_fault f k es fault has (inl bad) = profile_fault f k es fault has bad
+read_fault f k es fault has (inr (met, inl bad)) = value_fault f k es fault has met bad
+read_fault f k es fault has (inr (met, inr bad)) = count_fault f k es fault has met bad.1
+
+-- a rule that counts samples is one of these two
+profile_counts : (es : List Entry) → HasCounts es → (j : ℕ) (d : Rule) → j < length profile → (get_or profile j d).count ≡ Samples → counts_samples es (get_or profile j d).tag ≡ true
+unfolding profile
+profile_counts es right zero d inside is = absurd (cc)
+profile_counts es right (suc zero) d inside is = absurd (cc)
+profile_counts es right (suc (suc zero)) d inside is = absurd (cc)
+profile_counts es right (suc (suc (suc zero))) d inside is = right.0
+profile_counts es right (suc (suc (suc (suc zero)))) d inside is = absurd (cc)
+profile_counts es right (suc (suc (suc (suc (suc zero))))) d inside is = absurd (cc)
+profile_counts es right (suc (suc (suc (suc (suc (suc zero)))))) d inside is = absurd (cc)
+profile_counts es right (suc (suc (suc (suc (suc (suc (suc zero))))))) d inside is = absurd (cc)
+profile_counts es right (suc (suc (suc (suc (suc (suc (suc (suc zero)))))))) d inside is = absurd (cc)
+profile_counts es right (suc (suc (suc (suc (suc (suc (suc (suc (suc zero))))))))) d inside is = absurd (cc)
+profile_counts es right (suc (suc (suc (suc (suc (suc (suc (suc (suc (suc zero)))))))))) d inside is = absurd (cc)
+profile_counts es right (suc (suc (suc (suc (suc (suc (suc (suc (suc (suc (suc zero))))))))))) d inside is = absurd (cc)
+profile_counts es right (suc (suc (suc (suc (suc (suc (suc (suc (suc (suc (suc (suc zero)))))))))))) d inside is = right.1
+profile_counts es right (suc (suc (suc (suc (suc (suc (suc (suc (suc (suc (suc (suc (suc j))))))))))))) d inside is = absurd (omega arith)
+
+pub count_is : (es : List Entry) (tag : ℕ) (e : Entry) → counts_samples es tag ≡ true → found tag es ≡ Some e → (e.count == short_or es 277 1) ≡ true
+count_is es tag e right is = rw is at right
+
+-- no field is missing or has another type or count
+pub no_field_fault : (f : List ℕ) (k : ℕ) (es : List Entry) → HasTable f k es → AllPass (meets es) profile → HasCounts es → (fault : FileFault) → Any (λ r. IsRuleFault f k r fault) profile → ⊥
+no_field_fault f k es has met right fault (j, r, inside, is, bad) =
+    no_rule_fault f k es (get_or profile j r) has (met j r inside)
+    (λ counts e there. (short_or es 277 1, samples_told f k es has met, count_is es (get_or profile j r).tag e (profile_counts es right j r inside counts) there))
+    fault (let P : Rule → Type 0 = λ x. IsRuleFault f k x fault in subst P (sym is) bad)
+
+-- The values of a level whose fields are right
+
+pub fits_cases : (s p : ℕ) → samples_fit s p ≡ true → (s ≡ 1) ⊎ (s ≡ 3)
+fits_cases s p ok = elim (or_cases (s == 1 && p == 1) (s == 3 && p == 2) ok) [
+  | inl one ↦ inl (eqb-true s 1 (and_parts (s == 1) (p == 1) one).0)
+  | inr three ↦ inr (eqb-true s 3 (and_parts (s == 3) (p == 2) three).0)
+]
+
+planes_cases : (v s : ℕ) → planes_fit v s ≡ true → (v ≡ 1) ⊎ (v ≡ 2)
+planes_cases v s ok = elim (or_cases (v == 1) (v == 2 && s == 1) ok) [
+  | inl one ↦ inl (eqb-true v 1 one)
+  | inr two ↦ inr (eqb-true v 2 (and_parts (v == 2) (s == 1) two).0)
+]
+
+accepts-samples : (s p : ℕ) → samples_fit s p ≡ true → accepts 277 s ≡ true
+accepts-samples s p ok = elim (fits_cases s p ok) [ inl e ↦ rw e refl | inr e ↦ rw e refl ]
+
+accepts-planar : (v s : ℕ) → planes_fit v s ≡ true → accepts 284 v ≡ true
+accepts-planar v s ok = elim (planes_cases v s ok) [ inl e ↦ rw e refl | inr e ↦ rw e refl ]
+
+-- a tag that the profile doesn't restrict
+accepts-other : (tag v : ℕ) → tag ≢ 258 → tag ≢ 259 → tag ≢ 262 → tag ≢ 277 → tag ≢ 284 → tag ≢ 339 → accepts tag v ≡ true
+accepts-other tag v n1 n2 n3 n4 n5 n6 =
+    rw (ne_eqb tag 258 n1, ne_eqb tag 259 n2, ne_eqb tag 262 n3, ne_eqb tag 277 n4, ne_eqb tag 284 n5, ne_eqb tag 339 n6) refl
+
+-- no value of the field is outside the profile
+AllAccepted : List ℕ → ℕ → ℕ → Type 0
+AllAccepted f k tag = (i v : ℕ) → value f k tag i ≡ Some v → accepts tag v ≡ true
+
+all_accepted : (f : List ℕ) (k : ℕ) (tag w : ℕ) → accepts tag w ≡ true → ((i v : ℕ) → value f k tag i ≡ Some v → v ≡ w) → AllAccepted f k tag
+unfolding AllAccepted
+all_accepted f k tag w ok only = λ i v told. rw (only i v told) ok
+
+accepted_here : (f : List ℕ) (k tag : ℕ) → AllAccepted f k tag → ((i : ℕ) × IsSomeAnd (value f k tag i) (λ v. accepts tag v ≡ false)) → ⊥
+unfolding AllAccepted
+accepted_here f k tag all (i, bad) = let (v, told, wrong) = some_and_cases _ _ bad in false≢true (sym wrong ∙ all i v told)
+
+compression_accepted : (f : List ℕ) (k : ℕ) (es : List Entry) → HasTable f k es → AllPass (meets es) profile → HasValues es → AllAccepted f k 259
+unfolding profile
+compression_accepted f k es has met right = let r : Rule = get_or profile 4 subfile_rule in let ok = met 4 subfile_rule (lit< tt) in
+    all_accepted f k 259 (short_or es 259 0) right.compression (short_only f k es r 0 has ok refl (one_counted es r ok refl) (inr refl))
+
+photometric_accepted : (f : List ℕ) (k : ℕ) (es : List Entry) → HasTable f k es → AllPass (meets es) profile → HasValues es → AllAccepted f k 262
+unfolding profile
+photometric_accepted f k es has met right = let r : Rule = get_or profile 5 subfile_rule in let ok = met 5 subfile_rule (lit< tt) in
+    all_accepted f k 262 (short_or es 262 0) right.photometric (short_only f k es r 0 has ok refl (one_counted es r ok refl) (inr refl))
+
+samples_accepted : (f : List ℕ) (k : ℕ) (es : List Entry) → HasTable f k es → AllPass (meets es) profile → HasValues es → AllAccepted f k 277
+unfolding profile
+samples_accepted f k es has met right = let r : Rule = get_or profile 6 subfile_rule in let ok = met 6 subfile_rule (lit< tt) in
+    all_accepted f k 277 (short_or es 277 1) (accepts-samples (short_or es 277 1) (short_or es 262 0) right.samples) (short_only f k es r 1 has ok refl (one_counted es r ok refl) (inl refl))
+
+planar_accepted : (f : List ℕ) (k : ℕ) (es : List Entry) → HasTable f k es → AllPass (meets es) profile → HasValues es → AllAccepted f k 284
+unfolding profile
+planar_accepted f k es has met right = let r : Rule = get_or profile 7 subfile_rule in let ok = met 7 subfile_rule (lit< tt) in
+    all_accepted f k 284 (short_or es 284 1) (accepts-planar (short_or es 284 1) (short_or es 277 1) right.planar) (short_only f k es r 1 has ok refl (one_counted es r ok refl) (inl refl))
+
+-- but for 258 and 339 each value is one that the profile accepts
+tag_accepted : (f : List ℕ) (k : ℕ) (es : List Entry) → HasTable f k es → AllPass (meets es) profile → HasValues es → (tag : ℕ) → tag ≢ 258 → tag ≢ 339 → AllAccepted f k tag
+unfolding AllAccepted
+tag_accepted f k es has met right tag n1 n6 = λ i v told. elim (cases_eq tag 259) [
+  | inl e ↦ at 259 e (compression_accepted f k es has met right) i v told
+  | inr n2 ↦ elim (cases_eq tag 262) [
+    | inl e ↦ at 262 e (photometric_accepted f k es has met right) i v told
+    | inr n3 ↦ elim (cases_eq tag 277) [
+      | inl e ↦ at 277 e (samples_accepted f k es has met right) i v told
+      | inr n4 ↦ elim (cases_eq tag 284) [
+        | inl e ↦ at 284 e (planar_accepted f k es has met right) i v told
+        | inr n5 ↦ accepts-other tag v n1 n2 n3 n4 n5 n6
+      ]
+    ]
+  ]
+] where
+  at : (t : ℕ) → tag ≡ t → AllAccepted f k t → AllAccepted f k tag
+  at t e all = let P : ℕ → Type 0 = λ x. AllAccepted f k x in subst P (sym e) all
+
+pub supported : (f : List ℕ) (k : ℕ) (es : List Entry) → HasTable f k es → AllPass (meets es) profile → HasValues es → (tag : ℕ) → tag ≢ 258 → tag ≢ 339 → IsUnsupported f k tag → ⊥
+supported f k es has met right tag n1 n6 (inl bad) = accepted_here f k tag (tag_accepted f k es has met right tag n1 n6) bad
+supported f k es has met right tag n1 n6 (inr (inl bad)) =
+    let one = some_and_at (value f k 277 0) (λ x. IsSomeAnd (value f k 262 0) (λ y. samples_fit x y ≡ false)) _ (samples_told f k es has met) bad.1 in
+    let two = some_and_at (value f k 262 0) (λ y. samples_fit (short_or es 277 1) y ≡ false) _ (photometric_told f k es has met) one in
+    false≢true (sym two ∙ right.samples)
+supported f k es has met right tag n1 n6 (inr (inr bad)) =
+    let one = some_and_at (value f k 284 0) (λ x. IsSomeAnd (value f k 277 0) (λ y. planes_fit x y ≡ false)) _ (planar_told f k es has met) bad.1 in
+    let two = some_and_at (value f k 277 0) (λ y. planes_fit (short_or es 284 1) y ≡ false) _ (samples_told f k es has met) one in
+    false≢true (sym two ∙ right.planar)
+
+-- 258 and 339 have no conditions besides
+pub supported_by : (f : List ℕ) (k tag : ℕ) → tag ≢ 277 → tag ≢ 284 → ((i v : ℕ) → value f k tag i ≡ Some v → accepts tag v ≡ true) → IsUnsupported f k tag → ⊥
+unfolding AllAccepted
+supported_by f k tag n4 n5 all (inl bad) = accepted_here f k tag all bad
+supported_by f k tag n4 n5 all (inr (inl bad)) = n4 bad.0
+supported_by f k tag n4 n5 all (inr (inr bad)) = n5 bad.0
+
+-- The draft
+
+compression_is : (c : ℕ) → accepts 259 c ≡ true → compression_of c ≡ Some (if c == 1 then Plain else PackBits)
+compression_is c ok = elim (or_cases (c == 1) (c == 32773) ok) [
+  | inl one ↦ rw (eqb-true c 1 one) refl
+  | inr packed ↦ rw (eqb-true c 32773 packed) refl
+]
+
+place_entry : (f : List ℕ) (e : Entry) → number f (e.place + 8) 4 ≡ Some e.long → (e.kind ≡ 3) ⊎ (e.kind ≡ 4) → place_of f (field_of e) ≡ Some (place_in e)
+unfolding place_of values_at
+place_entry f e long (inl kind) = elim (cases_Bool (nat_le (e.count * 2) 4)) [
+  | inl small ↦ rw (kind, small) refl
+  | inr large ↦ rw (kind, large, long) refl
+]
+place_entry f e long (inr kind) = elim (cases_Bool (nat_le (e.count * 4) 4)) [
+  | inl small ↦ rw (kind, small) refl
+  | inr large ↦ rw (kind, large, long) refl
+]
+
+place_told : (f : List ℕ) (k : ℕ) (es : List Entry) (r : Rule) → HasTable f k es → meets es r ≡ true → r.required ≡ true → (field f k r.tag >>= place_of f) ≡ Some (place_or es r.tag)
+place_told f k es r has met required =
+    let (e, there) = met_there es r met required in
+    let kind = kind_told r.typing e.kind (typed r e (met_entry es r e met there)) in
+    rw (field_told f k es r.tag has) (rw there (place_entry f e (has.long r.tag e there) kind))
+
+drafted : (f : List ℕ) (k : ℕ) (es : List Entry) → HasTable f k es → AllPass (meets es) profile → HasValues es → IsDrafted f k (draft_in es)
+unfolding draft_in profile
+drafted f k es has met right =
+    let d : Rule = subfile_rule in
+    let rule : ℕ → Rule = λ n. get_or profile n d in
+    record {
+      width = single_told f k es (rule 1) 0 has (met 1 d (lit< tt)) refl (inr refl);
+      length = single_told f k es (rule 2) 0 has (met 2 d (lit< tt)) refl (inr refl);
+      tile_width = single_told f k es (rule 8) 0 has (met 8 d (lit< tt)) refl (inr refl);
+      tile_length = single_told f k es (rule 9) 0 has (met 9 d (lit< tt)) refl (inr refl);
+      samples = samples_told f k es has met;
+      compression = rw (compression_told f k es has met) (compression_is (short_or es 259 0) right.compression);
+      offsets = place_told f k es (rule 10) has (met 10 d (lit< tt)) refl;
+      counts = place_told f k es (rule 11) has (met 11 d (lit< tt)) refl;
+    }
+
+pub pending_is : (f bytes : List ℕ) (o : Order) (k at n : ℕ) (es : List Entry) (d : Draft) → IsTableOf f o k at n bytes → length bytes ≡ 12 * n + 4 → HasTable f k es → IsReadIn es d → is_level f k ≡ true
+    → ((fault : FileFault) → IsFaultOfDirectory f k fault → ⊥) → IsPending f (record { order = o; index = k; next = number_in o (12 * n) 4 bytes; draft = d })
+pending_is f bytes o k at n es d (counts, part) len has read level sound = record {
+  walked = counts.reaches.walked;
+  few = counts.reaches.few;
+  there = has.there;
+  next = next_is f bytes o k at n counts part len;
+  level = level;
+  sound = sound;
+  whole = λ tag bad. no_field_fault f k es has read.met read.counts (Missing tag) bad;
+  typed = λ tag bad. no_field_fault f k es has read.met read.counts (FieldType tag) bad;
+  supported = supported f k es has read.met read.values;
+  drafted = (let P : Draft → Type 0 = λ x. IsDrafted f k x in subst P (sym read.draft) (drafted f k es has read.met read.values));
+}

@@ -1,0 +1,96 @@
+-- Three values of two bytes that stand outside their entry.
+use Rattle.std.proofs.Common.{◌≡◌, ℕ, zero, suc, ◌*◌, ◌<◌, ◌≤◌, inl, inr, Bool, true, false, ◌&&◌, ◌==◌, List, length, Some, None, IsSomeAnd, refl, sym, subst, ap, ◌∙◌, arith}
+use Rattle.std.proofs.lemmas.Option.{same_Some, none-some}
+use Rattle.std.proofs.lemmas.Bool.{and_parts, and_cases, eqb-true, lt-ltb, le-ltb}
+use Rattle.tiff_dir.specs.declared.order.Order.{Order}
+use Rattle.tiff_dir.specs.declared.stage.Pending.{Pending}
+use Rattle.tiff_dir.specs.declared.stage.Stage.TheVariants as stages
+use Rattle.tiff_dir.specs.declared.stage.Step.{Step}
+use Rattle.tiff_dir.specs.Number.{number_in}
+use Rattle.tiff_dir.specs.File.{order_of, value}
+use Rattle.tiff_dir.specs.Fault.{IsUnsupported}
+use Rattle.tiff_dir.specs.Stage.{three_shorts, HasShorts, HasBits, IsPart, IsPending, IsSupported, StepsOn, EndsDirectory}
+use Rattle.tiff_dir.proofs.Chain.{some_and_from}
+use Rattle.tiff_dir.proofs.Parts.{number_part}
+use Rattle.tiff_dir.proofs.Levels.{supported_by}
+use Rattle.tiff_dir.proofs.GoingOn.{steps_same, ends_on}
+
+-- all three are this number
+abbrev pub all_are : Order → List ℕ → ℕ → Bool
+all_are o bytes w = (number_in o 0 2 bytes == w) && ((number_in o 2 2 bytes == w) && (number_in o 4 2 bytes == w))
+
+short_is : (f bytes : List ℕ) (o : Order) (k tag first i : ℕ) → order_of f ≡ Some o → HasShorts f k tag first → IsPart f (three_shorts first) bytes → length bytes ≡ 6 → i < 3 → value f k tag i ≡ Some (number_in o (i * 2) 2 bytes)
+short_is f bytes o k tag first i named shorts part len few =
+    let test = lt-ltb i 3 few in
+    shorts i ∙ rw test (number_part f bytes o first 6 (i * 2) 2 named part len (omega arith) (omega arith))
+
+no_more : (f : List ℕ) (k tag first i v : ℕ) → HasShorts f k tag first → 3 ≤ i → value f k tag i ≡ Some v → ⊥
+no_more f k tag first i v shorts past told =
+    let test = le-ltb i 3 past in
+    none-some v (sym (shorts i ∙ rw test refl) ∙ told)
+
+all_same : (f bytes : List ℕ) (o : Order) (k tag first w : ℕ) → order_of f ≡ Some o → HasShorts f k tag first → IsPart f (three_shorts first) bytes → length bytes ≡ 6 → all_are o bytes w ≡ true
+    → (i v : ℕ) → value f k tag i ≡ Some v → v ≡ w
+all_same f bytes o k tag first w named shorts part len all zero v told =
+    same_Some _ _ (sym told ∙ short_is f bytes o k tag first 0 named shorts part len (omega arith)) ∙ eqb-true _ w (and_parts (number_in o 0 2 bytes == w) _ all).0
+all_same f bytes o k tag first w named shorts part len all (suc zero) v told =
+    let rest = (and_parts (number_in o 0 2 bytes == w) ((number_in o 2 2 bytes == w) && (number_in o 4 2 bytes == w)) all).1 in
+    same_Some _ _ (sym told ∙ short_is f bytes o k tag first 1 named shorts part len (omega arith)) ∙ eqb-true _ w (and_parts (number_in o 2 2 bytes == w) (number_in o 4 2 bytes == w) rest).0
+all_same f bytes o k tag first w named shorts part len all (suc (suc zero)) v told =
+    let rest = (and_parts (number_in o 0 2 bytes == w) ((number_in o 2 2 bytes == w) && (number_in o 4 2 bytes == w)) all).1 in
+    same_Some _ _ (sym told ∙ short_is f bytes o k tag first 2 named shorts part len (omega arith)) ∙ eqb-true _ w (and_parts (number_in o 2 2 bytes == w) (number_in o 4 2 bytes == w) rest).1
+all_same f bytes o k tag first w named shorts part len all (suc (suc (suc i))) v told = absurd (no_more f k tag first (suc (suc (suc i))) v shorts (omega arith) told)
+
+one_other : (f bytes : List ℕ) (o : Order) (k tag first w : ℕ) → order_of f ≡ Some o → HasShorts f k tag first → IsPart f (three_shorts first) bytes → length bytes ≡ 6 → all_are o bytes w ≡ false
+    → (i : ℕ) × IsSomeAnd (value f k tag i) (λ v. (v == w) ≡ false)
+one_other f bytes o k tag first w named shorts part len bad =
+    elim (and_cases (number_in o 0 2 bytes == w) ((number_in o 2 2 bytes == w) && (number_in o 4 2 bytes == w)) bad) [
+      | inl h ↦ (0, some_and_from (value f k tag 0) (λ v. (v == w) ≡ false) _ (short_is f bytes o k tag first 0 named shorts part len (omega arith)) h)
+      | inr rest ↦ elim (and_cases (number_in o 2 2 bytes == w) (number_in o 4 2 bytes == w) rest) [
+        | inl h ↦ (1, some_and_from (value f k tag 1) (λ v. (v == w) ≡ false) _ (short_is f bytes o k tag first 1 named shorts part len (omega arith)) h)
+        | inr h ↦ (2, some_and_from (value f k tag 2) (λ v. (v == w) ≡ false) _ (short_is f bytes o k tag first 2 named shorts part len (omega arith)) h)
+      ]
+    ]
+
+-- BitsPerSample
+
+pub bits_wrong : (f bytes : List ℕ) (o : Order) (k first : ℕ) → order_of f ≡ Some o → HasShorts f k 258 first → IsPart f (three_shorts first) bytes → length bytes ≡ 6 → all_are o bytes 8 ≡ false → IsUnsupported f k 258
+bits_wrong f bytes o k first named shorts part len bad = inl (one_other f bytes o k 258 first 8 named shorts part len bad)
+
+pub bits_right : (f bytes : List ℕ) (o : Order) (k first : ℕ) → order_of f ≡ Some o → HasShorts f k 258 first → IsPart f (three_shorts first) bytes → length bytes ≡ 6 → all_are o bytes 8 ≡ true → (value f k 258 0 ≡ Some 8) × IsSupported f k 258
+bits_right f bytes o k first named shorts part len all = (
+  short_is f bytes o k 258 first 0 named shorts part len (omega arith) ∙ ap Some (eqb-true _ 8 (and_parts (number_in o 0 2 bytes == 8) _ all).0),
+  supported_by f k 258 (λ e. absurd (omega arith)) (λ e. absurd (omega arith)) (λ i v told. rw (all_same f bytes o k 258 first 8 named shorts part len all i v told) refl),
+)
+
+pub has_bits : (f bytes : List ℕ) (o : Order) (k first : ℕ) (b : Bool) → order_of f ≡ Some o → HasShorts f k 258 first → IsPart f (three_shorts first) bytes → length bytes ≡ 6 → b ≡ all_are o bytes 8 → HasBits f k b
+has_bits f bytes o k first true named shorts part len is = bits_right f bytes o k first named shorts part len (sym is)
+has_bits f bytes o k first false named shorts part len is = bits_wrong f bytes o k first named shorts part len (sym is)
+
+pub bits_at_true : (f : List ℕ) (k : ℕ) (b : Bool) → b ≡ true → HasBits f k b → (value f k 258 0 ≡ Some 8) × IsSupported f k 258
+bits_at_true f k b is bits = let P : Bool → Type 0 = λ x. HasBits f k x in subst P is bits
+
+pub bits_at_false : (f : List ℕ) (k : ℕ) (b : Bool) → b ≡ false → HasBits f k b → IsUnsupported f k 258
+bits_at_false f k b is bits = let P : Bool → Type 0 = λ x. HasBits f k x in subst P is bits
+
+-- SampleFormat
+
+pub formats_wrong : (f bytes : List ℕ) (o : Order) (k first : ℕ) → order_of f ≡ Some o → HasShorts f k 339 first → IsPart f (three_shorts first) bytes → length bytes ≡ 6 → all_are o bytes 1 ≡ false → IsUnsupported f k 339
+formats_wrong f bytes o k first named shorts part len bad = inl (one_other f bytes o k 339 first 1 named shorts part len bad)
+
+pub formats_right : (f bytes : List ℕ) (o : Order) (k first : ℕ) → order_of f ≡ Some o → HasShorts f k 339 first → IsPart f (three_shorts first) bytes → length bytes ≡ 6 → all_are o bytes 1 ≡ true → IsSupported f k 339
+formats_right f bytes o k first named shorts part len all =
+    supported_by f k 339 (λ e. absurd (omega arith)) (λ e. absurd (omega arith)) (λ i v told. rw (all_same f bytes o k 339 first 1 named shorts part len all i v told) refl)
+
+-- Going on
+
+pub bits_to_formats : (f : List ℕ) (p : Pending) (first next : ℕ) (b : Bool) → IsPending f p → HasShorts f p.index 339 next → HasBits f p.index b
+    → StepsOn f (stages.Bits p first (Some next)) (record { stage = stages.Formats p next b; level = None })
+bits_to_formats f p first next b pending shorts bits =
+    steps_same f (stages.Bits p first (Some next)) (stages.Formats p next b) (three_shorts first) (pending, shorts, bits) refl refl refl
+
+pub bits_to_end : (f : List ℕ) (p : Pending) (first : ℕ) (step : Step) → EndsDirectory f p.index step → StepsOn f (stages.Bits p first None) step
+bits_to_end f p first step ends = ends_on f (stages.Bits p first None) p.index (three_shorts first) step refl refl refl ends
+
+pub formats_to_end : (f : List ℕ) (p : Pending) (first : ℕ) (b : Bool) (step : Step) → EndsDirectory f p.index step → StepsOn f (stages.Formats p first b) step
+formats_to_end f p first b step ends = ends_on f (stages.Formats p first b) p.index (three_shorts first) step refl refl refl ends

@@ -1,0 +1,93 @@
+-- The values of a level's arrays, by their bytes.
+use Rattle.std.proofs.Common.{◌≡◌, ℕ, ◌+◌, ◌-◌, ◌*◌, ◌<◌, ◌≤◌, List, length, take, drop, Option, Some, None, refl, subst, ap, ◌∙◌, arith}
+use Rattle.std.proofs.Math.Nat.{mul-le-mul_right}
+use Rattle.std.proofs.lemmas.Option.{same_Some, none-some}
+use Rattle.std.proofs.lemmas.Bool.{lt-ltb}
+use Rattle.std.specs.Option.{option_map_or}
+use Rattle.tiff_dir.specs.declared.order.Order.{Order}
+use Rattle.tiff_dir.specs.declared.level.Level.{Level}
+use Rattle.tiff_dir.specs.declared.level.Place.{Place}
+use Rattle.tiff_dir.specs.declared.level.Kind.{Kind}
+use Rattle.tiff_dir.specs.declared.level.Kind.TheVariants as kind
+use Rattle.tiff_dir.specs.Number.{number_in}
+use Rattle.tiff_dir.specs.File.{◌>>=◌, Field, order_of, number, kind_of, size_of, values_at, table, with_tag, field, field_value, value, default_of}
+use Rattle.tiff_dir.specs.Level.{place_of, level_directory, level_of, level_value}
+use Rattle.tiff_dir.specs.Walk.{IsArrayOf}
+use Rattle.tiff_dir.proofs.Parts.{number_part}
+use Rattle.tiff_dir.proofs.Ends.{level_parts}
+use Rattle.tiff_dir.proofs.Told.{level_found}
+
+size_some : (k : Kind) → 0 < size_of k
+size_some kind.Byte = omega arith
+size_some kind.Ascii = omega arith
+size_some kind.Short = omega arith
+size_some kind.Long = omega arith
+size_some kind.Rational = omega arith
+size_some kind.SignedByte = omega arith
+size_some kind.Undefined = omega arith
+size_some kind.SignedShort = omega arith
+size_some kind.SignedLong = omega arith
+size_some kind.SignedRational = omega arith
+size_some kind.Float = omega arith
+size_some kind.Double = omega arith
+
+-- the number of tile t is in the array
+pub within : (t count size : ℕ) → t < count → t * size + size ≤ count * size
+within t count size less =
+    let more : t + 1 ≤ count = omega arith in
+    omega (arith, mul-le-mul_right size more)
+
+place_told : (f : List ℕ) (e : Field) (p : Place) → place_of f e ≡ Some p → (kind_of e.kind ≡ Some p.kind) × (values_at f e (size_of p.kind) ≡ Some p.first) × (e.count ≡ p.count)
+unfolding place_of
+place_told f e p told = at (kind_of e.kind) told where
+  at : (o : Option Kind) → (o >>= λ k. values_at f e (size_of k) >>= λ first. Some (record { first = first; len = e.count * size_of k; count = e.count; kind = k })) ≡ Some p → (o ≡ Some p.kind) × (values_at f e (size_of p.kind) ≡ Some p.first) × (e.count ≡ p.count)
+  at None told = absurd (none-some p told)
+  at (Some k) told = more (values_at f e (size_of k)) refl told where
+    more : (o : Option ℕ) → values_at f e (size_of k) ≡ o → (o >>= λ first. Some (record { first = first; len = e.count * size_of k; count = e.count; kind = k })) ≡ Some p → (Some k ≡ Some p.kind) × (values_at f e (size_of p.kind) ≡ Some p.first) × (e.count ≡ p.count)
+    more None there told = absurd (none-some p told)
+    more (Some first) there told =
+        let q : Place = record { first = first; len = e.count * size_of k; count = e.count; kind = k } in
+        let P : Place → Type 0 = λ x. (Some k ≡ Some x.kind) × (values_at f e (size_of x.kind) ≡ Some x.first) × (e.count ≡ x.count) in
+        subst P (same_Some q p told) (refl, there, refl)
+
+entry_value : (f : List ℕ) (e : Field) (p : Place) (t : ℕ) → place_of f e ≡ Some p → t < p.count → field_value f e t ≡ number f (p.first + t * size_of p.kind) (size_of p.kind)
+unfolding field_value
+entry_value f e p t told less =
+    let is = place_told f e p told in
+    let test = lt-ltb t p.count less in
+    rw (is.0, is.1, is.2, test) refl
+
+field_value_told : (f : List ℕ) (k tag t : ℕ) (p : Place) → (field f k tag >>= place_of f) ≡ Some p → t < p.count → value f k tag t ≡ number f (p.first + t * size_of p.kind) (size_of p.kind)
+unfolding field value
+field_value_told f k tag t p told less = at (table f k) told where
+  found : (o : Option Field) → (o >>= place_of f) ≡ Some p → option_map_or (λ e. field_value f e t) o (default_of tag) ≡ number f (p.first + t * size_of p.kind) (size_of p.kind)
+  found None told = absurd (none-some p told)
+  found (Some e) told = entry_value f e p t told less
+
+  at : (o : Option (List Field)) → (o >>= with_tag tag >>= place_of f) ≡ Some p → (o >>= λ fields. option_map_or (λ e. field_value f e t) (with_tag tag fields) (default_of tag)) ≡ number f (p.first + t * size_of p.kind) (size_of p.kind)
+  at None told = absurd (none-some p told)
+  at (Some fields) told = found (with_tag tag fields) told
+
+array_value : (f bytes : List ℕ) (o : Order) (k tag t : ℕ) (p : Place) → order_of f ≡ Some o → (field f k tag >>= place_of f) ≡ Some p → p.len ≡ p.count * size_of p.kind → t < p.count → IsArrayOf f p bytes → length bytes ≡ p.len
+    → value f k tag t ≡ Some (number_in o (t * size_of p.kind) (size_of p.kind) bytes)
+array_value f bytes o k tag t p named told len less part whole =
+    let same : p.first + p.len - p.first ≡ p.len = omega arith in
+    let here : bytes ≡ take p.len (drop p.first f) = part ∙ ap (λ (n : ℕ). take n (drop p.first f)) same in
+    let fits : t * size_of p.kind + size_of p.kind ≤ p.len = omega (arith, within t p.count (size_of p.kind) less) in
+    field_value_told f k tag t p told less ∙ number_part f bytes o p.first p.len (t * size_of p.kind) (size_of p.kind) named here whole fits (size_some p.kind)
+
+level_value_at : (f : List ℕ) (n k tag t v : ℕ) → level_directory f n ≡ Some k → value f k tag t ≡ Some v → level_value f n tag t ≡ Some v
+unfolding level_value
+level_value_at f n k tag t v there told = rw there told
+
+pub offset_told : (f bytes : List ℕ) (o : Order) (n t : ℕ) (l : Level) → order_of f ≡ Some o → level_of f n ≡ Some l → l.offsets.len ≡ l.offsets.count * size_of l.offsets.kind → t < l.offsets.count → length bytes ≡ l.offsets.len
+    → IsArrayOf f l.offsets bytes → level_value f n 324 t ≡ Some (number_in o (t * size_of l.offsets.kind) (size_of l.offsets.kind) bytes)
+offset_told f bytes o n t l named level len less whole part =
+    let (k, there, told) = level_found f n l level in
+    level_value_at f n k 324 t _ there (array_value f bytes o k 324 t l.offsets named (level_parts f k l told).7 len less part whole)
+
+pub count_told : (f bytes : List ℕ) (o : Order) (n t : ℕ) (l : Level) → order_of f ≡ Some o → level_of f n ≡ Some l → l.counts.len ≡ l.counts.count * size_of l.counts.kind → t < l.counts.count → length bytes ≡ l.counts.len
+    → IsArrayOf f l.counts bytes → level_value f n 325 t ≡ Some (number_in o (t * size_of l.counts.kind) (size_of l.counts.kind) bytes)
+count_told f bytes o n t l named level len less whole part =
+    let (k, there, told) = level_found f n l level in
+    level_value_at f n k 325 t _ there (array_value f bytes o k 325 t l.counts named (level_parts f k l told).8 len less part whole)

@@ -1,0 +1,284 @@
+-- What a walk knows of a file from one range to the next.
+use Rattle.std.proofs.Common.{◌≡◌, ◌≢◌, ℕ, zero, suc, ◌+◌, ◌-◌, ◌<◌, ◌≤◌, ◌⊎◌, inl, inr, true, false, List, [], ◌∷◌, ◌++◌, map, length, take, drop, Option, Some, None, IsSomeAnd, IfSome, Result, Ok, Err, refl, sym, subst, ap, ◌∙◌, arith}
+use Rattle.std.specs.Prelude.{slice_get, IsErrAnd, IsSome, All}
+use Rattle.tiff_dir.specs.declared.fault.WalkError.{WalkError}
+use Rattle.tiff_dir.specs.declared.fault.WalkError.TheVariants as errors
+use Rattle.tiff_dir.specs.Shape.{IsNext, IsSoFar}
+use Rattle.std.proofs.lemmas.Option.{same_Some, none-some, slice_get-map}
+use Rattle.std.proofs.lemmas.Bool.{and_parts, or_left, lt-ltb, le-ltb, cases_lt, false≢true}
+use Rattle.std.proofs.lemmas.List.{map-append, append-nil, length-append}
+use Rattle.std.proofs.lemmas.List.Elements.{All-push}
+use Rattle.std.proofs.lemmas.List.Elements.{filter-append}
+use Rattle.std.specs.Option.{option_map, option_to_list}
+use Rattle.std.specs.List.{filter, list_any, last_or, range_with_len}
+use Rattle.tiff_dir.specs.declared.order.Order.{Order}
+use Rattle.tiff_dir.specs.declared.level.Level.{Level}
+use Rattle.tiff_dir.specs.declared.stage.Stage.{Stage}
+use Rattle.tiff_dir.specs.declared.stage.Stage.TheVariants as stages
+use Rattle.tiff_dir.specs.declared.stage.Step.{Step}
+use Rattle.tiff_dir.specs.declared.fault.FileFault.{FileFault}
+use Rattle.tiff_dir.specs.declared.fault.FileFault.TheVariants.{Header, PastEnd, TooManyDirs}
+use Rattle.tiff_dir.specs.Query.{array_range}
+use Rattle.tiff_dir.specs.declared.level.Place.{Place}
+use Rattle.tiff_dir.proofs.Ends.{level_parts}
+use Rattle.tiff_dir.specs.File.{◌>>=◌, Field, field, order_of, number, has_directory, directories}
+use Rattle.tiff_dir.specs.Level.{is_level, place_of, level_directories, previous_level, level_at, levels, level_of, level_directory}
+use Rattle.tiff_dir.specs.Needs.{Range, ends_past, needs_of_directories}
+use Rattle.tiff_dir.specs.Fault.{IsFaultOfDirectories}
+use Rattle.tiff_dir.specs.Stage.{range_of, index_of, still, outside_ranges, three_shorts, ranges_from, levels_below, AgreesAt, IsBefore, IsPart, IsOver, StepsOn}
+use Rattle.tiff_dir.specs.Walk.{Known, IsWanted, Agrees, wanted, to_come, bytes_in, IsWantedOf, HasEnded, AreLevels, range_of_place, IfFile, IsProfiled}
+use Rattle.tiff_dir.proofs.Chain.{some_and_at, count_wanted, none_after}
+use Rattle.tiff_dir.proofs.Parts.{part_inside}
+use Rattle.tiff_dir.proofs.Ranges.{drop_next, filter_none, filter_all, range_split, last_or-map}
+
+pub told_new : (f : List ℕ) (ls : List Level) → ls ≡ [] → Agrees (record { stage = stages.Header; levels = ls; given = 0 }) f
+unfolding Agrees levels_below needs_of_directories directories ranges_from
+told_new f ls none = record { here = tt; levels = rw none refl; come = refl; inside = refl }
+
+pub come_new : (f : List ℕ) (w : Known) → w.given ≡ 0 → to_come w f ≡ needs_of_directories f
+unfolding to_come
+come_new f w none = rw none refl
+
+-- the range that is wanted is the first that is still needed
+first_still : (f : List ℕ) (stage : Stage) (r : Range) → AgreesAt f stage → range_of stage ≡ Some r → (rest : List Range) × (still f stage ≡ r ∷ rest)
+first_still f stages.Header r here e = (ranges_from f 0, ap (λ (x : Range). x ∷ ranges_from f 0) (same_Some _ _ e))
+first_still f (stages.Count o k at) r here e = let (rest, is) = count_wanted f o k at here in (rest, is ∙ ap (λ (x : Range). x ∷ rest) (same_Some _ _ e))
+first_still f (stages.Table o k at n) r here e =
+    let rest : List Range = outside_ranges f k ++ ranges_from f (suc k) in (rest, ap (λ (x : Range). x ∷ rest) (same_Some _ _ e))
+first_still f (stages.Bits p first formats) r here e =
+    let rest : List Range = option_to_list (option_map three_shorts formats) ++ ranges_from f (suc p.index) in (rest, ap (λ (x : Range). x ∷ rest) (same_Some _ _ e))
+first_still f (stages.Formats p first eights) r here e =
+    let rest : List Range = ranges_from f (suc p.index) in (rest, ap (λ (x : Range). x ∷ rest) (same_Some _ _ e))
+first_still f (stages.Ended o k) r here e = absurd (none-some r e)
+
+pub past_end : (w : Known) (f : List ℕ) (r : Range) → Agrees w f → wanted w ≡ Some r → length f < r.first + r.len → IsFaultOfDirectories f PastEnd
+unfolding Agrees wanted IsFaultOfDirectories
+past_end w f r told is past =
+    let (rest, first) = first_still f w.stage r told.here is in
+    inl (told.inside ∙ ap (list_any (ends_past f)) first ∙ or_left (ends_past f r) (list_any (ends_past f) rest) (lt-ltb (length f) (r.first + r.len) past))
+
+pub first_come : (w : Known) (f : List ℕ) → Agrees w f → slice_get (to_come w f) 0 ≡ wanted w
+unfolding Agrees wanted to_come
+first_come w f told = rw told.come (at w.stage told.here (range_of w.stage) refl) where
+  at : (stage : Stage) → AgreesAt f stage → (o : Option Range) → range_of stage ≡ o → slice_get (still f stage) 0 ≡ range_of stage
+  at stage here None is = ended stage is where
+    ended : (stage : Stage) → range_of stage ≡ None → slice_get (still f stage) 0 ≡ range_of stage
+    ended stages.Header is = absurd (none-some _ (sym is))
+    ended (stages.Count o k a) is = absurd (none-some _ (sym is))
+    ended (stages.Table o k a n) is = absurd (none-some _ (sym is))
+    ended (stages.Bits p first formats) is = absurd (none-some _ (sym is))
+    ended (stages.Formats p first eights) is = absurd (none-some _ (sym is))
+    ended (stages.Ended o k) is = refl
+  at stage here (Some r) is =
+      let (rest, first) = first_still f stage r here is in
+      ap (λ (xs : List Range). slice_get xs 0) first ∙ sym is
+
+-- how long the wanted range is
+pub wanted_len : (w : Known) (n : ℕ) → IsWanted w n → IsSomeAnd (range_of w.stage) (λ r. n ≡ r.len)
+unfolding wanted
+wanted_len w n is = is
+
+pub wanted_is : (w : Known) (n : ℕ) → IsWanted w n → (r : Range) × (wanted w ≡ Some r) × (n ≡ r.len) × (0 < n)
+unfolding wanted
+wanted_is w n is = at w.stage is where
+  at : (stage : Stage) → IsSomeAnd (range_of stage) (λ r. n ≡ r.len) → (r : Range) × (range_of stage ≡ Some r) × (n ≡ r.len) × (0 < n)
+  at stages.Header is = (_, refl, is, omega arith)
+  at (stages.Count o k a) is = (_, refl, is, omega arith)
+  at (stages.Table o k a e) is = (_, refl, is, omega arith)
+  at (stages.Bits p first formats) is = (_, refl, is, omega arith)
+  at (stages.Formats p first eights) is = (_, refl, is, omega arith)
+  at (stages.Ended o k) is = absurd is
+
+pub wanted_parts : (f bytes : List ℕ) (w : Known) → IsWantedOf f w bytes → IfSome (range_of w.stage) (λ r. IsPart f r bytes)
+unfolding wanted
+wanted_parts f bytes w given = at (range_of w.stage) given where
+  at : (o : Option Range) → IsSomeAnd o (λ r. bytes ≡ bytes_in f r) → IfSome o (λ r. IsPart f r bytes)
+  at None given = absurd given
+  at (Some r) given =
+      let len : r.first + r.len - r.first ≡ r.len = omega arith in
+      given ∙ ap (λ (n : ℕ). take n (drop r.first f)) len
+
+-- the bytes of the file as a part of it
+pub wanted_part : (f bytes : List ℕ) (w : Known) (r : Range) → wanted w ≡ Some r → IsWantedOf f w bytes → IsPart f r bytes
+wanted_part f bytes w r is given =
+    let here : bytes ≡ bytes_in f r = some_and_at (wanted w) (λ x. bytes ≡ bytes_in f x) r is given in
+    let len : r.first + r.len - r.first ≡ r.len = omega arith in
+    here ∙ ap (λ (n : ℕ). take n (drop r.first f)) len
+
+-- The next range
+
+pub told_next : (f bytes : List ℕ) (w : Known) (step : Step) (r : Range) (ls : List Level) → Agrees w f → wanted w ≡ Some r → IsPart f r bytes → length bytes ≡ r.len → 0 < r.len → StepsOn f w.stage step
+    → ls ≡ w.levels ++ option_to_list step.level → Agrees (record { stage = step.stage; levels = ls; given = w.given + 1 }) f
+unfolding Agrees wanted
+told_next f bytes w step r ls told is part len some on same =
+    let come : still f w.stage ≡ r ∷ still f step.stage = on.come r is in
+    let ends : ends_past f r ≡ false = le-ltb (length f) (r.first + r.len) (part_inside f bytes r.first r.len part len some) in
+    record {
+      here = on.here;
+      levels = ap (map Some) same ∙ map-append Some w.levels (option_to_list step.level) ∙ ap (λ (xs : List (Option Level)). xs ++ map Some (option_to_list step.level)) told.levels ∙ sym on.levels;
+      come = drop_next w.given (needs_of_directories f) r (still f step.stage) (told.come ∙ come);
+      inside = told.inside ∙ ap (list_any (ends_past f)) come ∙ rw ends refl;
+    }
+
+pub come_next : (f : List ℕ) (w : Known) (r : Range) (next : Known) → Agrees w f → wanted w ≡ Some r → next.given ≡ w.given + 1 → to_come w f ≡ r ∷ to_come next f
+unfolding Agrees wanted to_come
+come_next f w r next told is given =
+    let (rest, first) = first_still f w.stage r told.here is in
+    let here : drop w.given (needs_of_directories f) ≡ r ∷ rest = told.come ∙ first in
+    let after : drop (w.given + 1) (needs_of_directories f) ≡ rest = drop_next w.given (needs_of_directories f) r rest here in
+    rw given (here ∙ ap (λ (xs : List Range). r ∷ xs) (sym after))
+
+-- the level before the next directory
+pub is_before : (f : List ℕ) (w : Known) → Agrees w f → IsBefore f (index_of w.stage) (last_or None w.levels)
+unfolding Agrees levels_below previous_level
+is_before f w told =
+    sym (last_or-map (level_at f) None (filter (is_level f) (range_with_len 0 (index_of w.stage))))
+    ∙ ap (last_or None) (sym told.levels)
+    ∙ last_or-map Some None w.levels
+
+pub here_is : (f : List ℕ) (w : Known) → Agrees w f → AgreesAt f w.stage
+unfolding Agrees
+here_is f w told = told.here
+
+-- The end
+
+ended_over : (f : List ℕ) (stage : Stage) → AgreesAt f stage → range_of stage ≡ None → (o : Order) × (k : ℕ) × IsOver f o k × (index_of stage ≡ k) × (still f stage ≡ [])
+ended_over f stages.Header here is = absurd (none-some _ (sym is))
+ended_over f (stages.Count o k a) here is = absurd (none-some _ (sym is))
+ended_over f (stages.Table o k a n) here is = absurd (none-some _ (sym is))
+ended_over f (stages.Bits p first formats) here is = absurd (none-some _ (sym is))
+ended_over f (stages.Formats p first eights) here is = absurd (none-some _ (sym is))
+ended_over f (stages.Ended o k) here is = (o, k, here, refl, refl)
+
+over_clean : (f : List ℕ) (o : Order) (k : ℕ) → IsOver f o k → list_any (ends_past f) (needs_of_directories f) ≡ false → (fault : FileFault) → IsFaultOfDirectories f fault → ⊥
+unfolding IsFaultOfDirectories
+over_clean f o zero over inside fault bad = absurd (omega (arith, over.some))
+over_clean f o (suc k) over inside fault (inr (j, there, bad)) =
+    elim (cases_lt j (suc k)) [
+      | inl lt ↦ over.follows.walked.clean j lt fault bad
+      | inr ge ↦ none_after f k j over.follows.place ge there.1
+    ]
+over_clean f o (suc k) over inside Header (inl (inl unnamed)) = let h = over.follows.walked.named in cc (h, unnamed.1)
+over_clean f o (suc k) over inside Header (inl (inr bad)) = some_and_at (number f 2 2) (λ (n : ℕ). n ≢ 42) 42 over.follows.walked.number bad refl
+over_clean f o (suc k) over inside PastEnd (inl past) = false≢true (sym inside ∙ past)
+over_clean f o (suc k) over inside TooManyDirs (inl there) = none_after f k 16 over.follows.place (omega (arith, over.follows.few)) there
+over_clean f o (suc k) over inside _ (inl bad) = bad
+
+pub ended_clean : (w : Known) (f : List ℕ) → HasEnded w → Agrees w f → (fault : FileFault) → IsFaultOfDirectories f fault → ⊥
+unfolding Agrees wanted
+ended_clean w f ended told =
+    let (o, k, over, index, none) = ended_over f w.stage told.here ended in
+    over_clean f o k over (told.inside ∙ ap (list_any (ends_past f)) none)
+
+there_below : (f : List ℕ) (k j : ℕ) → has_directory f k ≡ true → j ≤ k → has_directory f j ≡ true
+unfolding has_directory
+there_below f zero j there le = let e : j ≡ zero = omega arith in rw e refl
+there_below f (suc k) j there le = elim (cases_lt k j) [
+  | inl lt ↦ (let e : j ≡ suc k = omega arith in let P : ℕ → Type 0 = λ x. has_directory f x ≡ true in subst P (sym e) there)
+  | inr ge ↦ there_below f k j (and_parts (has_directory f k) _ there).0 ge
+]
+
+-- the directories are those below the end
+over_directories : (f : List ℕ) (o : Order) (k : ℕ) → IsOver f o k → directories f ≡ range_with_len 0 k
+unfolding directories
+over_directories f o zero over = absurd (omega (arith, over.some))
+over_directories f o (suc k) over =
+    let few = over.follows.few in
+    let e : 16 ≡ suc k + (15 - k) = omega arith in
+    let there : has_directory f k ≡ true = over.follows.before k refl in
+    let first : filter (has_directory f) (range_with_len 0 (suc k)) ≡ range_with_len 0 (suc k) = filter_all (has_directory f) 0 (suc k) (λ j _ lt. there_below f k j there (omega arith)) in
+    let rest : filter (has_directory f) (range_with_len (0 + suc k) (15 - k)) ≡ [] = filter_none (has_directory f) (0 + suc k) (15 - k) (λ j h bad. none_after f k j over.follows.place (omega arith) bad) in
+    ap (λ (n : ℕ). filter (has_directory f) (range_with_len 0 n)) e
+    ∙ ap (filter (has_directory f)) (range_split 0 (suc k) (15 - k))
+    ∙ filter-append (has_directory f) (range_with_len 0 (suc k)) (range_with_len (0 + suc k) (15 - k))
+    ∙ (rw (first, rest) (append-nil (range_with_len 0 (suc k))))
+
+pub ended_levels : (w : Known) (f : List ℕ) → HasEnded w → Agrees w f → AreLevels f w.levels
+unfolding Agrees wanted levels level_directories levels_below
+ended_levels w f ended told =
+    let (o, k, over, index, none) = ended_over f w.stage told.here ended in
+    told.levels ∙ ap (λ (n : ℕ). map (level_at f) (filter (is_level f) (range_with_len 0 n))) index
+    ∙ ap (λ (ks : List ℕ). map (level_at f) (filter (is_level f) ks)) (sym (over_directories f o k over))
+
+-- The answers of a call
+
+pub if_file : (r : Result (Unit {0}) WalkError) (fault : FileFault) (P : FileFault → Type 0) → IsErrAnd r (λ e. e ≡ errors.File fault) → P fault → IfFile r P
+if_file (Ok x) fault P is p = absurd is
+if_file (Err e) fault P is p = let G : WalkError → Type 0 = λ x. IfFile (Err x) P in subst G (sym is) p
+
+pub if_memory : (r : Result (Unit {0}) WalkError) (P : FileFault → Type 0) → IsErrAnd r (λ e. e ≡ errors.Memory) → IfFile r P
+if_memory (Ok x) P is = absurd is
+if_memory (Err e) P is = let G : WalkError → Type 0 = λ x. IfFile (Err x) P in subst G (sym is) tt
+
+-- The bounds
+
+pub so_far : (stage : Stage) (levels ls : List Level) (given : ℕ) (step : Step) → IsSoFar stage levels given → IsNext stage (given + 1) step → ls ≡ levels ++ option_to_list step.level → IsSoFar step.stage ls (given + 1)
+so_far stage levels ls given step is next same = record {
+  kept = next.kept;
+  some = λ h. rw same (some_level (next.some h));
+  profiled = rw same (all_profiled step.level next.profiled);
+} where
+  some_level : (0 < index_of stage) ⊎ (IsSome step.level) → 0 < length (levels ++ option_to_list step.level)
+  some_level (inl h) = let n = is.some h in omega (arith, length-append levels (option_to_list step.level))
+  some_level (inr h) = at step.level h where
+    at : (o : Option Level) → IsSome o → 0 < length (levels ++ option_to_list o)
+    at None h = absurd (false≢true h)
+    at (Some l) h = omega (arith, length-append levels (l ∷ []))
+
+  all_profiled : (o : Option Level) → IfSome o IsProfiled → All IsProfiled (levels ++ option_to_list o)
+  all_profiled None h = rw append-nil is.profiled
+  all_profiled (Some l) h = All-push IsProfiled levels l is.profiled h
+
+-- What the end tells
+
+pub ended_order : (w : Known) (f : List ℕ) (o : Order) (k : ℕ) → w.stage ≡ stages.Ended o k → Agrees w f → order_of f ≡ Some o
+unfolding Agrees
+ended_order w f o k is told = let P : Stage → Type 0 = λ x. AgreesAt f x in
+    let over : IsOver f o k = subst P is told.here in over.follows.walked.named
+
+-- a level of the file by its number
+pub level_number : (f : List ℕ) (ls : List Level) (n : ℕ) → AreLevels f ls → level_of f n ≡ slice_get ls n
+unfolding levels level_of level_directory
+level_number f ls n are =
+    let same : option_map Some (slice_get ls n) ≡ option_map (level_at f) (slice_get (level_directories f) n) =
+    sym (slice_get-map Some ls n) ∙ ap (λ (xs : List (Option Level)). slice_get xs n) are ∙ slice_get-map (level_at f) (level_directories f) n in
+    at (slice_get ls n) (slice_get (level_directories f) n) same where
+      at : (a : Option Level) (b : Option ℕ) → option_map Some a ≡ option_map (level_at f) b → (b >>= level_at f) ≡ a
+      at None None e = refl
+      at None (Some k) e = absurd (none-some _ e)
+      at (Some l) None e = absurd (none-some _ (sym e))
+      at (Some l) (Some k) e = sym (same_Some _ _ e)
+
+-- the directory of a level
+pub level_found : (f : List ℕ) (n : ℕ) (l : Level) → level_of f n ≡ Some l → (k : ℕ) × (level_directory f n ≡ Some k) × (level_at f k ≡ Some l)
+unfolding level_of
+level_found f n l told = at (level_directory f n) told where
+  at : (o : Option ℕ) → (o >>= level_at f) ≡ Some l → (k : ℕ) × (o ≡ Some k) × (level_at f k ≡ Some l)
+  at None e = absurd (none-some l e)
+  at (Some k) e = (k, refl, e)
+
+-- where its arrays stand
+array_at : (f : List ℕ) (n k tag : ℕ) (p : Place) → level_directory f n ≡ Some k → (field f k tag >>= place_of f) ≡ Some p → array_range f n tag ≡ Some (range_of_place p)
+unfolding array_range
+array_at f n k tag p there told = rw there (at (field f k tag) told) where
+  at : (o : Option Field) → (o >>= place_of f) ≡ Some p → (o >>= λ e. place_of f e >>= λ q. Some (record { first = q.first; len = q.len })) ≡ Some (range_of_place p)
+  at None e = absurd (none-some p e)
+  at (Some x) e = rw e refl
+
+pub offsets_at : (f : List ℕ) (n : ℕ) (l : Level) → level_of f n ≡ Some l → array_range f n 324 ≡ Some (range_of_place l.offsets)
+offsets_at f n l told = let (k, there, here) = level_found f n l told in array_at f n k 324 l.offsets there (level_parts f k l here).7
+
+pub counts_at : (f : List ℕ) (n : ℕ) (l : Level) → level_of f n ≡ Some l → array_range f n 325 ≡ Some (range_of_place l.counts)
+counts_at f n l told = let (k, there, here) = level_found f n l told in array_at f n k 325 l.counts there (level_parts f k l here).8
+
+pub wanted_as : (w : Known) → wanted w ≡ range_of w.stage
+unfolding wanted
+wanted_as w = refl
+
+pub ended_stage : (stage : Stage) → range_of stage ≡ None → (o : Order) × (k : ℕ) × (stage ≡ stages.Ended o k)
+ended_stage stages.Header is = absurd (none-some _ (sym is))
+ended_stage (stages.Count o k a) is = absurd (none-some _ (sym is))
+ended_stage (stages.Table o k a n) is = absurd (none-some _ (sym is))
+ended_stage (stages.Bits p first formats) is = absurd (none-some _ (sym is))
+ended_stage (stages.Formats p first eights) is = absurd (none-some _ (sym is))
+ended_stage (stages.Ended o k) is = (o, k, refl)

@@ -1,0 +1,95 @@
+-- A file has one window for a query.
+use Rattle.std.proofs.Common.{◌≡◌, ℕ, zero, suc, ◌+◌, ◌*◌, ◌/◌, ◌%◌, ◌<◌, ◌≤◌, List, length, get_or, Some, refl, sym, ap, subst, ◌∙◌, arith}
+use Rattle.std.specs.Prelude.{slice_get, slice_index}
+use Rattle.std.proofs.Math.Nat.{div-lt_iff_lt-mul}
+use Rattle.std.proofs.lemmas.Option.{same_Some}
+use Rattle.std.proofs.lemmas.Grind.{same_number_lists}
+use Rattle.tiff_dir.specs.declared.level.Level.{Level}
+use Rattle.tiff_dir.specs.declared.level.Compression.{Compression}
+use Rattle.tiff_dir.specs.declared.level.Compression.TheVariants.{Plain, PackBits}
+use Rattle.tiff_dir.specs.declared.query.Query.{Query}
+use Rattle.tiff_dir.specs.Level.{level_of, segment, plain_row}
+use Rattle.tiff_dir.specs.Query.{Rectangle, rectangle}
+use Rattle.tiff_dir.specs.Window.{IsUnpackedBy, IsUnpacked, tile_at, place_in_tile, IsSample, HasSamples}
+use Rattle.tiff_dir.specs.Faulty.{IsWindow}
+use Rattle.tiff_dir.proofs.PacketLemmas.{packs_once}
+
+unpacked_once : (c : Compression) (l : Level) (bytes out out' : List ℕ) → IsUnpackedBy c l bytes out → IsUnpackedBy c l bytes out' → out ≡ out'
+unpacked_once Plain l bytes out out' p q = p ∙ sym q
+unpacked_once PackBits l bytes out out' p q = packs_once (plain_row l) bytes out out' p.1 q.1
+
+-- a sample, where its level is known
+record IsSampleIn (f : List ℕ) (n : ℕ) (l : Level) (x y c v : ℕ) : Type 0 where
+  bytes : List ℕ
+  bytes_are : segment f n (tile_at l x y) ≡ Some bytes
+  plain : List ℕ
+  unpacked : IsUnpacked l bytes plain
+  value : slice_get plain (place_in_tile l x y c) ≡ Some v
+
+in_level : (f : List ℕ) (n x y c v : ℕ) (l : Level) → level_of f n ≡ Some l → IsSample f n x y c v → IsSampleIn f n l x y c v
+in_level f n x y c v l is s =
+    let same : s.level ≡ l = same_Some _ _ (sym s.level_is ∙ is) in
+    let P : Level → Type 0 = λ k. IsSampleIn f n k x y c v in
+    subst P same (record { bytes = s.bytes; bytes_are = s.bytes_are; plain = s.plain; unpacked = s.unpacked; value = s.value })
+
+pub sample_once : (f : List ℕ) (n x y c v w : ℕ) → IsSample f n x y c v → IsSample f n x y c w → v ≡ w
+sample_once f n x y c v w s t =
+    let l = s.level in
+    let a = in_level f n x y c v l s.level_is s in
+    let b = in_level f n x y c w l s.level_is t in
+    let same : b.bytes ≡ a.bytes = same_Some _ _ (sym b.bytes_are ∙ a.bytes_are) in
+    let moved : IsUnpacked l a.bytes b.plain = subst (λ (bytes : List ℕ). IsUnpacked l bytes b.plain) same b.unpacked in
+    let plain : a.plain ≡ b.plain = unpacked_once l.compression l a.bytes a.plain b.plain a.unpacked moved in
+    same_Some _ _ (sym a.value ∙ ap (λ (p : List ℕ). slice_get p (place_in_tile l x y c)) plain ∙ b.value)
+
+-- a place of the window is a sample of a pixel
+record IsPixel (w h s k : ℕ) : Type 0 where
+  i : ℕ
+  j : ℕ
+  c : ℕ
+  left : i < w
+  top : j < h
+  sample : c < s
+  place : (j * w + i) * s + c ≡ k
+
+pixel : (w h s k : ℕ) → k < w * h * s → IsPixel w h s k
+pixel w h zero k inside = absurd (omega arith)
+pixel zero h (suc s) k inside = absurd (omega arith)
+pixel (suc w) h (suc s) k inside =
+    let m = k / suc s in
+    let row : m < suc w * h = (div-lt_iff_lt-mul {k = suc s} {x = k} {y = suc w * h} (omega arith)).1 inside in
+    let there : m < h * suc w = omega arith in
+    let top : m / suc w < h = (div-lt_iff_lt-mul {k = suc w} {x = m} {y = h} (omega arith)).1 there in
+    let rows : m / suc w * suc w + m % suc w ≡ m = omega arith in
+    let samples : m * suc s + k % suc s ≡ k = omega arith in
+    record {
+      i = m % suc w;
+      j = m / suc w;
+      c = k % suc s;
+      left = omega arith;
+      top = top;
+      sample = omega arith;
+      place = ap (λ (n : ℕ). n * suc s + k % suc s) rows ∙ samples;
+    }
+
+-- the samples of a rectangle, where its level is known
+record HasSamplesIn (f : List ℕ) (r : Rectangle) (l : Level) (v : List ℕ) : Type 0 where
+  size : length v ≡ r.width * r.height * l.samples
+  each : (i j c : ℕ) → i < r.width → j < r.height → c < l.samples
+      → IsSample f r.level (r.left + i) (r.top + j) c (slice_index v ((j * r.width + i) * l.samples + c))
+
+samples_once : (f : List ℕ) (r : Rectangle) (v u : List ℕ) → HasSamples f r v → HasSamples f r u → v ≡ u
+samples_once f r v u a b =
+    let same : b.level ≡ a.level = same_Some _ _ (sym b.level_is ∙ a.level_is) in
+    let P : Level → Type 0 = λ l. HasSamplesIn f r l u in
+    let other : HasSamplesIn f r a.level u = subst P same (record { size = b.size; each = b.each }) in
+    same_number_lists v u (a.size ∙ sym other.size) (λ k inside.
+    let p = pixel r.width r.height a.level.samples k (omega (arith, a.size)) in
+    sym (ap (slice_index v) p.place)
+    ∙ sample_once f r.level (r.left + p.i) (r.top + p.j) p.c _ _ (a.each p.i p.j p.c p.left p.top p.sample) (other.each p.i p.j p.c p.left p.top p.sample)
+    ∙ ap (slice_index u) p.place)
+
+pub window_once : (f : List ℕ) (q : Query) (v u : List ℕ) → IsWindow f q v → IsWindow f q u → v ≡ u
+window_once f q v u a b =
+    let same : b.asked ≡ a.asked = same_Some _ _ (sym b.asked_is ∙ a.asked_is) in
+    samples_once f a.asked v u a.samples (subst (λ (r : Rectangle). HasSamples f r u) same b.samples)

@@ -1,0 +1,209 @@
+-- What is known of a file at each stage of a walk over its directories.
+use Rattle.std.specs.Prelude.{◌≡◌, ◌≢◌, ℕ, suc, ◌+◌, ◌-◌, ◌*◌, ◌<◌, ◌≤◌, ◌^◌, ◌⊎◌, ⊤, Bool, true, false, nat_lt, if◌then◌else◌, List, [], ◌∷◌, ◌++◌, map, take, drop, Option, Some, None}
+use Rattle.std.specs.Option.{option_map, option_to_list}
+use Rattle.std.specs.List.{filter, flat_map, range_with_len}
+use Rattle.tiff_dir.specs.declared.order.Order.{Order}
+use Rattle.tiff_dir.specs.declared.table.Entry.{Entry}
+use Rattle.tiff_dir.specs.declared.level.Level.{Level}
+use Rattle.tiff_dir.specs.declared.level.Place.{Place}
+use Rattle.tiff_dir.specs.declared.level.Kind.TheVariants as kind
+use Rattle.tiff_dir.specs.declared.fault.FileFault.{FileFault}
+use Rattle.tiff_dir.specs.declared.fault.FileFault.TheVariants.{Missing, FieldType}
+use Rattle.tiff_dir.specs.declared.stage.Draft.{Draft}
+use Rattle.tiff_dir.specs.declared.stage.Pending.{Pending}
+use Rattle.tiff_dir.specs.declared.stage.Step.{Step}
+use Rattle.tiff_dir.specs.declared.stage.Stage.{Stage}
+use Rattle.tiff_dir.specs.declared.stage.Stage.TheVariants.{Header, Count, Table, Bits, Formats, Ended}
+use Rattle.tiff_dir.specs.File.{◌>>=◌, order_of, number, directory, has_directory, table, field, value, size_of}
+use Rattle.tiff_dir.specs.Level.{is_level, previous_level, place_of, level_at, compression_of}
+use Rattle.tiff_dir.specs.Needs.{Range, is_entry_count, header_range, ranges_of_directory, outside_range}
+use Rattle.tiff_dir.specs.Fault.{is_directory_place, IsUnsupported, IsFaultAt, IsFaultOfDirectory, IsFaultOfLevel}
+use Rattle.tiff_dir.specs.Table.{field_of, found}
+
+-- the range that is wanted at a stage
+abbrev pub range_of : Stage → Option Range
+range_of Header = Some header_range
+range_of (Count order index at) = Some (record { first = at; len = 2 })
+range_of (Table order index at n) = Some (record { first = at + 2; len = 12 * n + 4 })
+range_of (Bits pending first formats) = Some (record { first = first; len = 6 })
+range_of (Formats pending first eights) = Some (record { first = first; len = 6 })
+range_of (Ended order index) = None
+
+-- the number of the directory that the walk is at
+abbrev pub index_of : Stage → ℕ
+index_of Header = 0
+index_of (Count order index at) = index
+index_of (Table order index at n) = index
+index_of (Bits pending first formats) = pending.index
+index_of (Formats pending first eights) = pending.index
+index_of (Ended order index) = index
+
+-- these are the bytes of the file in the range
+abbrev pub IsPart : List ℕ → Range → List ℕ → Type 0
+IsPart f r bytes = bytes ≡ take r.len (drop r.first f)
+
+-- what the levels among the directories below k are
+unfoldable pub levels_below : List ℕ → ℕ → List (Option Level)
+levels_below f k = map (level_at f) (filter (is_level f) (range_with_len 0 k))
+
+-- the level before directory k, if there is one
+abbrev pub IsBefore : List ℕ → ℕ → Option Level → Type 0
+IsBefore f k previous = option_map (level_at f) (previous_level f k) ≡ option_map Some previous
+
+-- what the directories from k on need
+unfoldable pub ranges_from : List ℕ → ℕ → List Range
+ranges_from f k = flat_map (ranges_of_directory f) (filter (has_directory f) (range_with_len k (16 - k)))
+
+-- what a level needs besides its table
+unfoldable pub outside_ranges : List ℕ → ℕ → List Range
+outside_ranges f k = if is_level f k then option_to_list (outside_range f k 258) ++ option_to_list (outside_range f k 339) else []
+
+-- three numbers of two bytes
+abbrev pub three_shorts : ℕ → Range
+three_shorts first = record { first = first; len = 6 }
+
+-- the ranges that the file needs from a stage on
+abbrev pub still : List ℕ → Stage → List Range
+still f Header = header_range ∷ ranges_from f 0
+still f (Count order index at) = ranges_from f index
+still f (Table order index at n) = record { first = at + 2; len = 12 * n + 4 } ∷ (outside_ranges f index ++ ranges_from f (suc index))
+still f (Bits pending first formats) = three_shorts first ∷ (option_to_list (option_map three_shorts formats) ++ ranges_from f (suc pending.index))
+still f (Formats pending first eights) = three_shorts first ∷ ranges_from f (suc pending.index)
+still f (Ended order index) = []
+
+-- the order and the number 42 are told, and no fault is in the directories below k
+pub record IsWalked (f : List ℕ) (order : Order) (k : ℕ) : Type 0 where
+  pub named : order_of f ≡ Some order
+  pub number : number f 2 2 ≡ Some 42
+  pub clean : (j : ℕ) → j < k → (fault : FileFault) → IsFaultAt f j fault → ⊥
+
+-- the directories below k are there, and at is what is told of the place of directory k
+pub record Follows (f : List ℕ) (order : Order) (k at : ℕ) : Type 0 where
+  pub walked : IsWalked f order k
+  pub few : k ≤ 16
+  pub before : (j : ℕ) → k ≡ suc j → has_directory f j ≡ true
+  pub place : directory f k ≡ Some at
+
+-- directory k is there and begins at a lawful place
+pub record Reaches (f : List ℕ) (order : Order) (k at : ℕ) : Type 0 where
+  pub walked : IsWalked f order k
+  pub few : k < 16
+  pub there : has_directory f k ≡ true
+  pub place : directory f k ≡ Some at
+  pub good : is_directory_place at ≡ true
+
+pub record Counts (f : List ℕ) (order : Order) (k at n : ℕ) : Type 0 where
+  pub reaches : Reaches f order k at
+  pub count : number f at 2 ≡ Some n
+  pub good : is_entry_count n ≡ true
+
+-- k directories are all that there are
+pub record IsOver (f : List ℕ) (order : Order) (k : ℕ) : Type 0 where
+  pub follows : Follows f order k 0
+  pub some : 0 < k
+
+-- the draft has the values of directory k
+pub record IsDrafted (f : List ℕ) (k : ℕ) (d : Draft) : Type 0 where
+  pub width : value f k 256 0 ≡ Some d.width
+  pub length : value f k 257 0 ≡ Some d.length
+  pub tile_width : value f k 322 0 ≡ Some d.tile_width
+  pub tile_length : value f k 323 0 ≡ Some d.tile_length
+  pub samples : value f k 277 0 ≡ Some d.samples
+  pub compression : (value f k 259 0 >>= compression_of) ≡ Some d.compression
+  pub offsets : (field f k 324 >>= place_of f) ≡ Some d.offsets
+  pub counts : (field f k 325 >>= place_of f) ≡ Some d.counts
+
+-- directory k is a level that is read but for the values of 258 and 339, and next is told of the place behind it
+pub record IsPending (f : List ℕ) (p : Pending) : Type 0 where
+  pub walked : IsWalked f p.order p.index
+  pub few : p.index < 16
+  pub there : has_directory f p.index ≡ true
+  pub next : directory f (suc p.index) ≡ Some p.next
+  pub level : is_level f p.index ≡ true
+  pub sound : (fault : FileFault) → IsFaultOfDirectory f p.index fault → ⊥
+  pub whole : (tag : ℕ) → IsFaultOfLevel f p.index (Missing tag) → ⊥
+  pub typed : (tag : ℕ) → IsFaultOfLevel f p.index (FieldType tag) → ⊥
+  pub supported : (tag : ℕ) → tag ≢ 258 → tag ≢ 339 → IsUnsupported f p.index tag → ⊥
+  pub drafted : IsDrafted f p.index p.draft
+
+-- the three values of the field stand from first on
+abbrev pub HasShorts : List ℕ → ℕ → ℕ → ℕ → Type 0
+HasShorts f k tag first = (i : ℕ) → value f k tag i ≡ (if nat_lt i 3 then number f (first + i * 2) 2 else None)
+
+-- nothing is wrong with the values of the field
+abbrev pub IsSupported : List ℕ → ℕ → ℕ → Type 0
+IsSupported f k tag = IsUnsupported f k tag → ⊥
+
+-- SampleFormat stands outside its entry, or it is right
+abbrev pub HasFormats : List ℕ → ℕ → Option ℕ → Type 0
+HasFormats f k None = IsSupported f k 339
+HasFormats f k (Some first) = HasShorts f k 339 first
+
+-- the values of BitsPerSample are right, or not
+abbrev pub HasBits : List ℕ → ℕ → Bool → Type 0
+HasBits f k true = (value f k 258 0 ≡ Some 8) × IsSupported f k 258
+HasBits f k false = IsUnsupported f k 258
+
+abbrev pub AgreesAt : List ℕ → Stage → Type 0
+AgreesAt f Header = ⊤
+AgreesAt f (Count order index at) = Reaches f order index at
+AgreesAt f (Table order index at n) = Counts f order index at n
+AgreesAt f (Bits p first formats) = IsPending f p × HasShorts f p.index 258 first × HasFormats f p.index formats
+AgreesAt f (Formats p first eights) = IsPending f p × HasShorts f p.index 339 first × HasBits f p.index eights
+AgreesAt f (Ended order index) = IsOver f order index
+
+-- the bytes are the table of directory k, with the place of the next one
+abbrev pub IsTableOf : List ℕ → Order → ℕ → ℕ → ℕ → List ℕ → Type 0
+IsTableOf f order k at n bytes = Counts f order k at n × IsPart f (record { first = at + 2; len = 12 * n + 4 }) bytes
+
+-- the walk is at the beginning of directory k, or at the end
+abbrev pub IsAt : List ℕ → ℕ → Stage → Type 0
+IsAt f k stage = AgreesAt f stage × (still f stage ≡ ranges_from f k)
+
+-- The walk goes on to this stage, and the step has the level that was read, if one was.
+pub record StepsOn (f : List ℕ) (stage : Stage) (step : Step) : Type 0 where
+  pub here : AgreesAt f step.stage
+  pub levels : levels_below f (index_of step.stage) ≡ levels_below f (index_of stage) ++ map Some (option_to_list step.level)
+  pub come : (r : Range) → range_of stage ≡ Some r → still f stage ≡ r ∷ still f step.stage
+
+-- The directory is done with: the walk goes on to the next one or ends.
+pub record EndsDirectory (f : List ℕ) (k : ℕ) (step : Step) : Type 0 where
+  pub here : AgreesAt f step.stage
+  pub index : index_of step.stage ≡ suc k
+  pub levels : levels_below f (suc k) ≡ levels_below f k ++ map Some (option_to_list step.level)
+  pub come : still f step.stage ≡ ranges_from f (suc k)
+
+-- The numbers of a draft that the profile bounds
+
+abbrev pub IsArrayPlace : Place → Type 0
+IsArrayPlace p = (p.len ≡ p.count * size_of p.kind) × (p.first < 2 ^ 33)
+
+pub record IsBounded (d : Draft) : Type 0 where
+  pub width : d.width < 2 ^ 32
+  pub length : d.length < 2 ^ 32
+  pub tile_width : d.tile_width < 2 ^ 32
+  pub tile_length : d.tile_length < 2 ^ 32
+  pub offsets : IsArrayPlace d.offsets
+  pub counts : IsArrayPlace d.counts
+
+pub record IsDraft (d : Draft) : Type 0 where
+  pub bounded : IsBounded d
+  pub samples : (d.samples ≡ 1) ⊎ (d.samples ≡ 3)
+  pub long : d.offsets.kind ≡ kind.Long
+  pub whole : (d.counts.kind ≡ kind.Short) ⊎ (d.counts.kind ≡ kind.Long)
+
+-- how many ranges a walk has taken at most, and that it is at one of 16 directories
+abbrev pub IsKept : Stage → ℕ → Type 0
+IsKept Header given = given ≤ 0
+IsKept (Count order index at) given = (index < 16) × (given ≤ 1 + 4 * index)
+IsKept (Table order index at n) given = (index < 16) × (given ≤ 2 + 4 * index) × (n ≤ 256)
+IsKept (Bits p first formats) given = (p.index < 16) × (given ≤ 3 + 4 * p.index) × IsDraft p.draft
+IsKept (Formats p first eights) given = (p.index < 16) × (given ≤ 4 + 4 * p.index) × IsDraft p.draft
+IsKept (Ended order index) given = (0 < index) × (index ≤ 16) × (given ≤ 1 + 4 * index)
+
+-- the table of directory k, with what each entry holds in itself
+pub record HasTable (f : List ℕ) (k : ℕ) (es : List Entry) : Type 0 where
+  pub there : has_directory f k ≡ true
+  pub told : table f k ≡ Some (map field_of es)
+  pub short : (tag : ℕ) (e : Entry) → found tag es ≡ Some e → number f (e.place + 8) 2 ≡ Some e.short
+  pub long : (tag : ℕ) (e : Entry) → found tag es ≡ Some e → number f (e.place + 8) 4 ≡ Some e.long

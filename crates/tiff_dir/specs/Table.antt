@@ -1,0 +1,124 @@
+-- What a directory's entries hold in themselves, for fields of SHORT and LONG.
+use Rattle.std.specs.Prelude.{◌≡◌, ◌⊎◌, ℕ, zero, suc, ◌+◌, ◌*◌, ◌<◌, Bool, true, false, not, ◌&&◌, nat_le, ◌==◌, if◌then◌else◌, List, [], ◌∷◌, length, get_or, Option, None, IsSomeAnd}
+use Rattle.std.specs.Option.{option_map, option_map_or}
+use Rattle.std.specs.List.{find, AllPass}
+use Rattle.tiff_dir.specs.declared.order.Order.{Order}
+use Rattle.tiff_dir.specs.declared.table.Entry.{Entry}
+use Rattle.tiff_dir.specs.declared.rule.Rule.{Rule}
+use Rattle.tiff_dir.specs.declared.rule.Count.{Count}
+use Rattle.tiff_dir.specs.declared.rule.Count.TheVariants.{One, Samples, Tiles}
+use Rattle.tiff_dir.specs.declared.level.Place.{Place}
+use Rattle.tiff_dir.specs.declared.level.Kind.TheVariants as kind
+use Rattle.tiff_dir.specs.declared.level.Compression.TheVariants.{Plain, PackBits}
+use Rattle.tiff_dir.specs.declared.stage.Draft.{Draft}
+use Rattle.tiff_dir.specs.declared.fault.FileFault.{FileFault}
+use Rattle.tiff_dir.specs.declared.fault.FileFault.TheVariants.{Missing, FieldType, Unsupported}
+use Rattle.tiff_dir.specs.Number.{number_in}
+use Rattle.tiff_dir.specs.File.{Field}
+use Rattle.tiff_dir.specs.Profile.{profile, has_typing, accepts, samples_fit, planes_fit}
+
+-- the entry in the 12 bytes from at, of bytes that stand in the file from base
+abbrev pub entry : Order → ℕ → ℕ → List ℕ → Entry
+entry o base at bytes = record { tag = number_in o at 2 bytes; kind = number_in o (at + 2) 2 bytes; count = number_in o (at + 4) 4 bytes; place = base + at; short = number_in o (at + 8) 2 bytes; long = number_in o (at + 8) 4 bytes }
+
+-- the n entries from at
+unfoldable pub entries : Order → ℕ → ℕ → ℕ → List ℕ → List Entry
+entries o base at zero bytes = []
+entries o base at (suc n) bytes = entry o base at bytes ∷ entries o base (at + 12) n bytes
+
+abbrev pub field_of : Entry → Field
+field_of e = record { tag = e.tag; kind = e.kind; count = e.count; place = e.place }
+
+-- the first entry with the tag
+abbrev pub found : ℕ → List Entry → Option Entry
+found tag es = find (λ e. e.tag == tag) es
+
+-- what is asked of the count before the samples and the tiles are known
+abbrev pub counts_one : Count → ℕ → Bool
+counts_one One count = count == 1
+counts_one Samples count = true
+counts_one Tiles count = true
+
+-- the type is right, and the count where it is to be one
+abbrev pub allows : Rule → Entry → Bool
+allows r e = has_typing r.typing e.kind && counts_one r.count e.count
+
+-- nothing is wrong with the field of the rule
+abbrev pub meets : List Entry → Rule → Bool
+meets es r = option_map_or (allows r) (found r.tag es) (not r.required)
+
+-- what is wrong with the field of the rule
+abbrev pub IsEntryFault : Rule → List Entry → FileFault → Type 0
+IsEntryFault r es (Missing tag) = (r.tag ≡ tag) × (r.required ≡ true) × (found r.tag es ≡ None)
+IsEntryFault r es (FieldType tag) = (r.tag ≡ tag) × IsSomeAnd (found r.tag es) (λ e. allows r e ≡ false)
+IsEntryFault r es _ = ⊥
+
+-- the field of one of the rules is missing, or has another type
+abbrev pub IsFaultOfEntries : List Rule → List Entry → FileFault → Type 0
+IsFaultOfEntries rules es fault = (k : ℕ) × (d : Rule) × (k < length rules) × IsEntryFault (get_or rules k d) es fault
+
+-- the only value, of a field of SHORT or LONG
+abbrev pub single_of : Entry → ℕ
+single_of e = if e.kind == 3 then e.short else e.long
+
+abbrev pub single_or : List Entry → ℕ → ℕ → ℕ
+single_or es tag default = option_map_or single_of (found tag es) default
+
+-- the first value, of a field of SHORT
+abbrev pub short_or : List Entry → ℕ → ℕ → ℕ
+short_or es tag default = option_map_or (λ e. e.short) (found tag es) default
+
+-- the field has as many values as a pixel has samples, if it is there
+abbrev pub counts_samples : List Entry → ℕ → Bool
+counts_samples es tag = option_map_or (λ e. e.count == short_or es 277 1) (found tag es) true
+
+-- the last four bytes of the entry
+abbrev pub long_in : List Entry → ℕ → Option ℕ
+long_in es tag = option_map (λ e. e.long) (found tag es)
+
+abbrev pub len_of : Entry → ℕ
+len_of e = e.count * (if e.kind == 3 then 2 else 4)
+
+abbrev pub place_in : Entry → Place
+place_in e = record { first = (if nat_le (len_of e) 4 then e.place + 8 else e.long); len = len_of e; count = e.count; kind = (if e.kind == 3 then kind.Short else kind.Long) }
+
+abbrev pub place_or : List Entry → ℕ → Place
+place_or es tag = option_map_or place_in (found tag es) (record { first = 0; len = 0; count = 0; kind = kind.Long })
+
+unfoldable pub draft_in : List Entry → Draft
+draft_in es = record { width = single_or es 256 0; length = single_or es 257 0; tile_width = single_or es 322 0; tile_length = single_or es 323 0; samples = short_or es 277 1; compression = (if short_or es 259 0 == 1 then Plain else PackBits); offsets = place_or es 324; counts = place_or es 325 }
+
+-- the values of 262, 277, 284 and 259 are those of the profile
+pub record HasValues (es : List Entry) : Type 0 where
+  pub photometric : accepts 262 (short_or es 262 0) ≡ true
+  pub samples : samples_fit (short_or es 277 1) (short_or es 262 0) ≡ true
+  pub planar : planes_fit (short_or es 284 1) (short_or es 277 1) ≡ true
+  pub compression : accepts 259 (short_or es 259 0) ≡ true
+
+-- one of them isn't, and its tag
+abbrev pub IsValueFault : List Entry → FileFault → Type 0
+IsValueFault es fault =
+    ((fault ≡ Unsupported 262) × (accepts 262 (short_or es 262 0) ≡ false))
+    ⊎ (((fault ≡ Unsupported 277) × (samples_fit (short_or es 277 1) (short_or es 262 0) ≡ false))
+    ⊎ (((fault ≡ Unsupported 284) × (planes_fit (short_or es 284 1) (short_or es 277 1) ≡ false))
+    ⊎ ((fault ≡ Unsupported 259) × (accepts 259 (short_or es 259 0) ≡ false))))
+
+-- the fields of BitsPerSample and SampleFormat have a value for each sample, or the first that has not
+abbrev pub HasCounts : List Entry → Type 0
+HasCounts es = (counts_samples es 258 ≡ true) × (counts_samples es 339 ≡ true)
+
+abbrev pub IsCountFault : List Entry → FileFault → Type 0
+IsCountFault es fault =
+    ((fault ≡ FieldType 258) × (counts_samples es 258 ≡ false)) ⊎ ((fault ≡ FieldType 339) × (counts_samples es 339 ≡ false))
+
+-- the entries keep the profile, and this is what they say of the level
+pub record IsReadIn (es : List Entry) (d : Draft) : Type 0 where
+  pub met : AllPass (meets es) profile
+  pub values : HasValues es
+  pub counts : HasCounts es
+  pub draft : d ≡ draft_in es
+
+-- they don't
+abbrev pub IsReadFault : List Entry → FileFault → Type 0
+IsReadFault es fault =
+    IsFaultOfEntries profile es fault ⊎ (AllPass (meets es) profile × (IsValueFault es fault ⊎ (HasValues es × IsCountFault es fault)))

@@ -1,0 +1,233 @@
+// The steps of the walk over a level: its table, its values outside the entries, and its end.
+ghost use Rattle.std.specs.Prelude.{◌≡◌, ℕ, suc, ◌+◌, ◌*◌, ◌<◌, ◌≤◌, ◌^◌, ◌%◌, ◌&&◌, ◌||◌, ◌==◌, List, true, false, Some, IsSome, IfOk, IfSome, length, MatchResult};
+ghost use Rattle.tiff_dir.specs.Number.{number_in};
+ghost use Rattle.tiff_dir.specs.File.{value};
+ghost use Rattle.tiff_dir.specs.Fault.{IsFaultOfDirectories, IsFaultOfDirectory};
+ghost use Rattle.tiff_dir.specs.Level.{is_level};
+ghost use Rattle.tiff_dir.specs.Needs.{Range};
+ghost use Rattle.tiff_dir.specs.Shape.{level_from, IsEnd, IsNext};
+ghost use Rattle.tiff_dir.specs.Stage.{three_shorts, EndsDirectory, HasBits, HasFormats, HasShorts, IsBefore, IsDraft, IsKept, IsPart, IsPending, IsSupported, IsTableOf, StepsOn};
+ghost use Rattle.tiff_dir.specs.Table.{entries as entry_list, IsReadFault, IsReadIn};
+ghost use Rattle.tiff_dir.specs.declared.fault.FileFault.{FileFault as Fault};
+
+use crate::next::next;
+use crate::profile::{SUBFILE, check_profile, check_rule};
+use crate::shape::check_shape;
+use crate::stage::{Draft, Pending, Stage, Step};
+use crate::table::ascending;
+use crate::values::{check_counts, check_values, draft, long, short, single};
+use crate::{FileFault, Level, Order};
+
+/// The first directory is a reduced picture.
+fn is_reduced_first(index: u32, subfile: u32) -> bool
+    ensures { result ≡ ((index == 0) && (subfile % 2 == 1)) }
+{
+    index == 0 && subfile % 2 == 1
+}
+
+/// The directory is the first, or its NewSubfileType is 1.
+fn counts_as_level(index: u32, subfile: u32) -> bool
+    ensures { result ≡ ((index == 0) || (subfile == 1)) }
+{
+    index == 0 || subfile == 1
+}
+
+/// Whether the directory is a level, by the fields that are looked at in every directory.
+pub(crate) fn check_directory(
+    order: Order,
+    index: u32,
+    at: u32,
+    entries: u16,
+    bytes: &[u8],
+) -> Result<bool, FileFault>
+    requires few { entries ≤ 256 }
+    requires whole { length bytes.now ≡ 12 * entries + 4 }
+    ensures first { IfOk result (λ level. level ≡ false → 0 < index) }
+    ensures told { (f : List ℕ) → IsTableOf f order index at entries bytes.now
+        → MatchResult result (λ level. (is_level f index ≡ level) × ((fault : Fault) → IsFaultOfDirectory f index fault → ⊥)) (IsFaultOfDirectory f index) }
+{
+    let base = u64::from(at) + 2;
+    if !ascending(order, bytes, entries) {
+        return Err(FileFault::TagOrder);
+    }
+    if let Err(fault) = check_rule(order, base, entries, bytes, SUBFILE) {
+        return Err(fault);
+    }
+    let subfile = single(order, base, entries, bytes, 254, 0);
+    if is_reduced_first(index, subfile) {
+        return Err(FileFault::LevelShape);
+    }
+    Ok(counts_as_level(index, subfile))
+}
+
+/// What the entries of a level say of it, where they keep the profile.
+fn read_level(order: Order, base: u64, entries: u16, bytes: &[u8]) -> Result<Draft, FileFault>
+    requires room { base ≤ 2 ^ 32 + 1 }
+    requires few { entries ≤ 256 }
+    requires whole { 12 * entries ≤ length bytes.now }
+    ensures read { let es = entry_list order base 0 entries bytes.now in MatchResult result (IsReadIn es) (IsReadFault es) }
+    ensures bounded { IfOk result IsDraft }
+{
+    if let Err(fault) = check_profile(order, base, entries, bytes) {
+        return Err(fault);
+    }
+    if let Err(fault) = check_values(order, base, entries, bytes) {
+        return Err(fault);
+    }
+    if let Err(fault) = check_counts(order, base, entries, bytes) {
+        return Err(fault);
+    }
+    Ok(draft(order, base, entries, bytes))
+}
+
+/// Reads the entries of a level: its values are in them, or three of BitsPerSample stand outside.
+pub(crate) fn after_level(
+    order: Order,
+    index: u32,
+    at: u32,
+    entries: u16,
+    bytes: &[u8],
+    previous: Option<Level>,
+) -> Result<Step, FileFault>
+    requires few { index < 16 }
+    requires short { entries ≤ 256 }
+    requires whole { length bytes.now ≡ 12 * entries + 4 }
+    ensures next { IfOk result (IsNext (Stage.Table order index at entries) (3 + 4 * index)) }
+    ensures agrees { (f : List ℕ) → IsTableOf f order index at entries bytes.now → is_level f index ≡ true
+        → ((fault : Fault) → IsFaultOfDirectory f index fault → ⊥) → IsBefore f index previous
+        → MatchResult result (StepsOn f (Stage.Table order index at entries)) (IsFaultOfDirectories f) }
+{
+    let base = u64::from(at) + 2;
+    let draft = match read_level(order, base, entries, bytes) {
+        Ok(draft) => draft,
+        Err(fault) => return Err(fault),
+    };
+    let pending = Pending {
+        order,
+        index,
+        next: order.long_at(bytes, 12 * entries as usize),
+        draft,
+    };
+    if draft.samples == 3 {
+        let Some(first) = long(order, base, entries, bytes, 258) else {
+            return Err(FileFault::Missing(258));
+        };
+        let formats = long(order, base, entries, bytes, 339);
+        let stage = Stage::Bits {
+            pending,
+            first,
+            formats,
+        };
+        return Ok(Step { stage, level: None });
+    }
+    if short(order, base, entries, bytes, 258, 0) != 8 {
+        return Err(FileFault::Unsupported(258));
+    }
+    if short(order, base, entries, bytes, 339, 1) != 1 {
+        return Err(FileFault::Unsupported(339));
+    }
+    finish(pending, previous)
+}
+
+/// The three numbers are all this one.
+fn are_all(order: Order, bytes: &[u8], value: u16) -> bool
+    requires { length bytes.now ≡ 6 }
+    ensures { result ≡ ((number_in order 0 2 bytes.now == value) && ((number_in order 2 2 bytes.now == value) && (number_in order 4 2 bytes.now == value))) }
+{
+    order.short_at(bytes, 0) == value
+        && order.short_at(bytes, 2) == value
+        && order.short_at(bytes, 4) == value
+}
+
+/// Takes the values of BitsPerSample, and goes on to those of SampleFormat if they stand outside.
+pub(crate) fn after_bits(
+    pending: Pending,
+    first: u32,
+    formats: Option<u32>,
+    bytes: &[u8],
+    previous: Option<Level>,
+) -> Result<Step, FileFault>
+    requires few { pending.index < 16 }
+    requires draft { IsDraft pending.draft }
+    requires whole { length bytes.now ≡ 6 }
+    ensures next { IfOk result (IsNext (Stage.Bits pending first formats) (4 + 4 * pending.index)) }
+    ensures agrees { (f : List ℕ) → IsPending f pending → HasShorts f pending.index 258 first → HasFormats f pending.index formats
+        → IsBefore f pending.index previous → IsPart f (three_shorts first) bytes.now
+        → MatchResult result (StepsOn f (Stage.Bits pending first formats)) (IsFaultOfDirectories f) }
+{
+    let eights = are_all(pending.order, bytes, 8);
+    if let Some(first) = formats {
+        let stage = Stage::Formats {
+            pending,
+            first,
+            eights,
+        };
+        return Ok(Step { stage, level: None });
+    }
+    if !eights {
+        return Err(FileFault::Unsupported(258));
+    }
+    finish(pending, previous)
+}
+
+/// Takes the values of SampleFormat.
+pub(crate) fn after_formats(
+    pending: Pending,
+    first: u32,
+    eights: bool,
+    bytes: &[u8],
+    previous: Option<Level>,
+) -> Result<Step, FileFault>
+    requires few { pending.index < 16 }
+    requires draft { IsDraft pending.draft }
+    requires whole { length bytes.now ≡ 6 }
+    ensures next { IfOk result (IsNext (Stage.Formats pending first eights) (5 + 4 * pending.index)) }
+    ensures agrees { (f : List ℕ) → IsPending f pending → HasShorts f pending.index 339 first → HasBits f pending.index eights
+        → IsBefore f pending.index previous → IsPart f (three_shorts first) bytes.now
+        → MatchResult result (StepsOn f (Stage.Formats pending first eights)) (IsFaultOfDirectories f) }
+{
+    if !eights {
+        return Err(FileFault::Unsupported(258));
+    }
+    if !are_all(pending.order, bytes, 1) {
+        return Err(FileFault::Unsupported(339));
+    }
+    finish(pending, previous)
+}
+
+/// The level of a draft whose samples have 8 bits.
+fn level_of(draft: Draft) -> Level
+    ensures { result ≡ level_from draft }
+{
+    Level {
+        width: draft.width,
+        length: draft.length,
+        tile_width: draft.tile_width,
+        tile_length: draft.tile_length,
+        samples: draft.samples,
+        bits: 8,
+        compression: draft.compression,
+        offsets: draft.offsets,
+        counts: draft.counts,
+    }
+}
+
+/// Ends a level whose values are all read, and goes to the next directory.
+fn finish(pending: Pending, previous: Option<Level>) -> Result<Step, FileFault>
+    requires few { pending.index < 16 }
+    requires draft { IsDraft pending.draft }
+    ensures end { IfOk result (IsEnd pending.index) }
+    ensures agrees { (f : List ℕ) → IsPending f pending → value f pending.index 258 0 ≡ Some 8 → IsSupported f pending.index 258 → IsSupported f pending.index 339
+        → IsBefore f pending.index previous → MatchResult result (EndsDirectory f pending.index) (IsFaultOfDirectories f) }
+{
+    if let Err(fault) = check_shape(previous, pending.draft) {
+        return Err(fault);
+    }
+    match next(pending.order, pending.index + 1, pending.next) {
+        Ok(stage) => Ok(Step {
+            stage,
+            level: Some(level_of(pending.draft)),
+        }),
+        Err(fault) => Err(fault),
+    }
+}

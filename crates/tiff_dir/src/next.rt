@@ -1,0 +1,28 @@
+// From one directory to the next.
+ghost use Rattle.std.specs.Prelude.{◌≡◌, ℕ, ◌+◌, ◌*◌, ◌≤◌, List, IfOk, MatchResult};
+ghost use Rattle.tiff_dir.specs.Fault.{IsFaultOfDirectories};
+ghost use Rattle.tiff_dir.specs.Stage.{index_of, Follows, IsAt, IsKept};
+
+use crate::stage::Stage;
+use crate::{FileFault, Order};
+
+const MAX_DIRECTORIES: u32 = 16;
+
+/// Goes to directory `index`, of which `at` is told, or to the end.
+pub(crate) fn next(order: Order, index: u32, at: u32) -> Result<Stage, FileFault>
+    requires { index ≤ 16 }
+    ensures index { IfOk result (λ stage. index_of stage ≡ index) }
+    ensures kept { IfOk result (λ stage. IsKept stage (1 + 4 * index)) }
+    ensures agrees { (f : List ℕ) → Follows f order index at → MatchResult result (IsAt f index) (IsFaultOfDirectories f) }
+{
+    if index > 0 && at == 0 {
+        return Ok(Stage::Ended { order, index });
+    }
+    if index >= MAX_DIRECTORIES {
+        return Err(FileFault::TooManyDirs);
+    }
+    if at < 8 || at % 2 != 0 {
+        return Err(FileFault::DirPlace);
+    }
+    Ok(Stage::Count { order, index, at })
+}

@@ -1,0 +1,192 @@
+// The fields that a level has, as the table of a directory has them.
+ghost use Rattle.std.specs.Prelude.{◌≡◌, ℕ, ◌+◌, ◌*◌, ◌<◌, ◌≤◌, ◌^◌, true, false, length, MatchResult, IfSome};
+ghost use Rattle.std.specs.List.{AllPass};
+ghost use Rattle.tiff_dir.specs.Profile.{accepts, planes_fit, profile, samples_fit, subfile_rule};
+ghost use Rattle.tiff_dir.specs.Table.{allows, entries as entry_list, meets, IsEntryFault, IsFaultOfEntries};
+
+use crate::rule::{Count, Rule, Typing};
+use crate::table::{Entry, find_entry};
+use crate::{FileFault, Order};
+
+/// NewSubfileType, which is looked at in every directory.
+pub(crate) const SUBFILE: Rule = Rule {
+    tag: 254,
+    typing: Typing::Long,
+    count: Count::One,
+    required: false,
+};
+
+/// The fields that are read of a level, in the order of their tags.
+const PROFILE: [Rule; 13] = [
+    // NewSubfileType
+    Rule {
+        tag: 254,
+        typing: Typing::Long,
+        count: Count::One,
+        required: false,
+    },
+    // ImageWidth
+    Rule {
+        tag: 256,
+        typing: Typing::ShortOrLong,
+        count: Count::One,
+        required: true,
+    },
+    // ImageLength
+    Rule {
+        tag: 257,
+        typing: Typing::ShortOrLong,
+        count: Count::One,
+        required: true,
+    },
+    // BitsPerSample
+    Rule {
+        tag: 258,
+        typing: Typing::Short,
+        count: Count::Samples,
+        required: true,
+    },
+    // Compression
+    Rule {
+        tag: 259,
+        typing: Typing::Short,
+        count: Count::One,
+        required: true,
+    },
+    // PhotometricInterpretation
+    Rule {
+        tag: 262,
+        typing: Typing::Short,
+        count: Count::One,
+        required: true,
+    },
+    // SamplesPerPixel
+    Rule {
+        tag: 277,
+        typing: Typing::Short,
+        count: Count::One,
+        required: false,
+    },
+    // PlanarConfiguration
+    Rule {
+        tag: 284,
+        typing: Typing::Short,
+        count: Count::One,
+        required: false,
+    },
+    // TileWidth
+    Rule {
+        tag: 322,
+        typing: Typing::ShortOrLong,
+        count: Count::One,
+        required: true,
+    },
+    // TileLength
+    Rule {
+        tag: 323,
+        typing: Typing::ShortOrLong,
+        count: Count::One,
+        required: true,
+    },
+    // TileOffsets
+    Rule {
+        tag: 324,
+        typing: Typing::Long,
+        count: Count::Tiles,
+        required: true,
+    },
+    // TileByteCounts
+    Rule {
+        tag: 325,
+        typing: Typing::ShortOrLong,
+        count: Count::Tiles,
+        required: true,
+    },
+    // SampleFormat
+    Rule {
+        tag: 339,
+        typing: Typing::Short,
+        count: Count::Samples,
+        required: false,
+    },
+];
+
+/// The type is the rule's, and so is a count that is to be one.
+fn is_allowed(rule: Rule, entry: Entry) -> bool
+    ensures { result ≡ allows rule entry }
+{
+    let typed = match rule.typing {
+        Typing::Short => entry.kind == 3,
+        Typing::Long => entry.kind == 4,
+        Typing::ShortOrLong => entry.kind == 3 || entry.kind == 4,
+    };
+    let counted = match rule.count {
+        Count::One => entry.count == 1,
+        Count::Samples | Count::Tiles => true,
+    };
+    typed && counted
+}
+
+/// Whether the table has the field of the rule as the rule says.
+pub(crate) fn check_rule(
+    order: Order,
+    base: u64,
+    entries: u16,
+    bytes: &[u8],
+    rule: Rule,
+) -> Result<(), FileFault>
+    requires room { base ≤ 2 ^ 32 + 1 }
+    requires few { entries ≤ 256 }
+    requires whole { 12 * entries ≤ length bytes.now }
+    ensures { let es = entry_list order base 0 entries bytes.now in MatchResult result (λ _. meets es rule ≡ true) (IsEntryFault rule es) }
+{
+    let Some(entry) = find_entry(order, base, entries, bytes, rule.tag) else {
+        return if rule.required {
+            Err(FileFault::Missing(rule.tag))
+        } else {
+            Ok(())
+        };
+    };
+    if is_allowed(rule, entry) {
+        Ok(())
+    } else {
+        Err(FileFault::FieldType(rule.tag))
+    }
+}
+
+/// Whether the table has the field of each rule as the rule says.
+fn check_rules(
+    order: Order,
+    base: u64,
+    entries: u16,
+    bytes: &[u8],
+    rules: &[Rule],
+) -> Result<(), FileFault>
+    requires room { base ≤ 2 ^ 32 + 1 }
+    requires few { entries ≤ 256 }
+    requires whole { 12 * entries ≤ length bytes.now }
+    ensures { let es = entry_list order base 0 entries bytes.now in MatchResult result (λ _. AllPass (meets es) rules.now) (IsFaultOfEntries rules.now es) }
+{
+    for rule in rules {
+        if let Err(fault) = check_rule(order, base, entries, bytes, *rule) {
+            return Err(fault);
+        }
+    }
+    Ok(())
+}
+
+/// Whether the table has each field of the profile as the profile says, but for the counts of samples and tiles.
+#[tactic(auto, unfolding(crate::specs::Profile::profile))]
+pub(crate) fn check_profile(
+    order: Order,
+    base: u64,
+    entries: u16,
+    bytes: &[u8],
+) -> Result<(), FileFault>
+    requires room { base ≤ 2 ^ 32 + 1 }
+    requires few { entries ≤ 256 }
+    requires whole { 12 * entries ≤ length bytes.now }
+    ensures { let es = entry_list order base 0 entries bytes.now in MatchResult result (λ _. AllPass (meets es) profile) (IsFaultOfEntries profile es) }
+{
+    check_rules(order, base, entries, bytes, &PROFILE)
+}

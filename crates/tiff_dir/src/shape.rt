@@ -1,0 +1,112 @@
+// Whether the sides of a level, its tiles and their arrays are those of the profile.
+ghost use Rattle.std.specs.Prelude.{◌≡◌, ◌*◌, ◌<◌, true, false, nat_le, MatchOption, MatchResult};
+ghost use Rattle.tiff_dir.specs.Profile.{is_tile_side, max_tile_bytes, max_tiles, tile_bytes, tiles_along};
+ghost use Rattle.tiff_dir.specs.Shape.{fits_under, has_arrays, has_sides, has_tiles, IsShaped, IsShapeFault};
+ghost use Rattle.tiff_dir.specs.Stage.{IsDraft};
+
+use crate::stage::Draft;
+use crate::{FileFault, Level};
+
+const MAX_TILE_BYTES: u64 = 1_048_576;
+
+const MAX_TILES: u64 = 65_536;
+
+/// The sides are not 0, and smaller than those of the level before.
+fn fits_below(previous: Option<Level>, draft: Draft) -> bool
+    ensures { result ≡ fits_under previous draft }
+{
+    let has_sides = draft.width > 0 && draft.length > 0;
+    match previous {
+        None => has_sides,
+        Some(level) => {
+            has_sides
+                && draft.width <= level.width
+                && draft.length <= level.length
+                && (draft.width < level.width || draft.length < level.length)
+        }
+    }
+}
+
+fn is_side_of_tile(side: u32) -> bool
+    ensures { result ≡ is_tile_side side }
+{
+    side > 0 && side % 16 == 0
+}
+
+fn product(a: u32, b: u32) -> u64
+    ensures { result ≡ a * b }
+{
+    u64::from(a) * u64::from(b)
+}
+
+/// Whether a tile of these sides has at most as many bytes as the profile allows.
+fn is_small(width: u32, length: u32, samples: u16) -> bool
+    requires { 0 < samples }
+    ensures { result ≡ nat_le (tile_bytes width length samples) max_tile_bytes }
+{
+    let area = product(width, length);
+    area <= MAX_TILE_BYTES && area * u64::from(samples) <= MAX_TILE_BYTES
+}
+
+/// The tile sides and the plain size of a tile are those of the profile.
+fn has_right_tiles(draft: Draft) -> bool
+    requires { 0 < draft.samples }
+    ensures { result ≡ has_tiles draft }
+{
+    is_side_of_tile(draft.tile_width)
+        && is_side_of_tile(draft.tile_length)
+        && is_small(draft.tile_width, draft.tile_length, draft.samples)
+}
+
+/// How many tiles cover a side.
+fn along(side: u32, tile_side: u32) -> u64
+    requires { 0 < tile_side }
+    ensures { result ≡ tiles_along side tile_side }
+{
+    (u64::from(side) + u64::from(tile_side) - 1) / u64::from(tile_side)
+}
+
+/// How many tiles stand in so many columns and rows, if not too many.
+fn total(across: u64, down: u64) -> Option<u64>
+    requires across { 0 < across }
+    requires down { 0 < down }
+    ensures { MatchOption result (nat_le (across * down) max_tiles ≡ false) (λ n. (n ≡ across * down) × (nat_le n max_tiles ≡ true)) }
+{
+    if across > MAX_TILES || down > MAX_TILES || across * down > MAX_TILES {
+        return None;
+    }
+    Some(across * down)
+}
+
+/// There are not too many tiles, and as many offsets and byte counts.
+fn has_right_arrays(draft: Draft) -> bool
+    requires sides { has_sides draft ≡ true }
+    requires tiles { has_tiles draft ≡ true }
+    ensures { result ≡ has_arrays draft }
+{
+    let across = along(draft.width, draft.tile_width);
+    let down = along(draft.length, draft.tile_length);
+    match total(across, down) {
+        None => false,
+        Some(tiles) => {
+            tiles == u64::from(draft.offsets.count) && tiles == u64::from(draft.counts.count)
+        }
+    }
+}
+
+/// Whether the level of a draft has the shape that the profile asks for.
+pub(crate) fn check_shape(previous: Option<Level>, draft: Draft) -> Result<(), FileFault>
+    requires { 0 < draft.samples }
+    ensures { MatchResult result (λ _. IsShaped previous draft) (IsShapeFault previous draft) }
+{
+    if !fits_below(previous, draft) {
+        return Err(FileFault::LevelShape);
+    }
+    if !has_right_tiles(draft) {
+        return Err(FileFault::TileSize);
+    }
+    if !has_right_arrays(draft) {
+        return Err(FileFault::TileArray);
+    }
+    Ok(())
+}

@@ -1,0 +1,147 @@
+// One step of the walk for each range that it wants.
+ghost use Rattle.std.specs.Prelude.{◌≡◌, ℕ, ◌+◌, ◌*◌, ◌<◌, ◌≤◌, ◌^◌, List, IsSomeAnd, IfSome, IfOk, length, MatchResult};
+ghost use Rattle.std.specs.Option.{option_map};
+ghost use Rattle.tiff_dir.specs.File.{order_of};
+ghost use Rattle.tiff_dir.specs.Fault.{IsFaultOfDirectories};
+ghost use Rattle.tiff_dir.specs.Needs.{header_range};
+ghost use Rattle.tiff_dir.specs.Shape.{IsNext};
+ghost use Rattle.tiff_dir.specs.Stage.{index_of, range_of, AgreesAt, IsBefore, IsKept, IsPart, IsTableOf, StepsOn};
+
+use crate::level_steps::{after_bits, after_formats, after_level, check_directory};
+use crate::next::next;
+use crate::stage::{Stage, Step};
+use crate::{FileFault, Level, Order};
+
+/// The order that the first two bytes name.
+#[tactic(auto, unfolding(crate::specs::File::order_of))]
+fn order_in(bytes: &[u8]) -> Option<Order>
+    requires { length bytes.now ≡ 8 }
+    ensures { result ≡ order_of bytes.now }
+{
+    if bytes.starts_with(b"II") {
+        Some(Order::Little)
+    } else if bytes.starts_with(b"MM") {
+        Some(Order::Big)
+    } else {
+        None
+    }
+}
+
+/// The header tells the order and the place of the first directory.
+fn after_header(bytes: &[u8]) -> Result<Step, FileFault>
+    requires { length bytes.now ≡ 8 }
+    ensures next { IfOk result (IsNext Stage.Header 1) }
+    ensures agrees { (f : List ℕ) → IsPart f header_range bytes.now → MatchResult result (StepsOn f Stage.Header) (IsFaultOfDirectories f) }
+{
+    let Some(order) = order_in(bytes) else {
+        return Err(FileFault::Header);
+    };
+    if order.short_at(bytes, 2) != 42 {
+        return Err(FileFault::Header);
+    }
+    match next(order, 0, order.long_at(bytes, 4)) {
+        Ok(stage) => Ok(Step { stage, level: None }),
+        Err(fault) => Err(fault),
+    }
+}
+
+/// The first two bytes of a directory tell how many entries it has.
+fn after_count(order: Order, index: u32, at: u32, bytes: &[u8]) -> Result<Step, FileFault>
+    requires few { index < 16 }
+    requires whole { length bytes.now ≡ 2 }
+    ensures next { IfOk result (IsNext (Stage.Count order index at) (2 + 4 * index)) }
+    ensures agrees { (f : List ℕ) → AgreesAt f (Stage.Count order index at) → IsPart f (record { first = at; len = 2 }) bytes.now
+        → MatchResult result (StepsOn f (Stage.Count order index at)) (IsFaultOfDirectories f) }
+{
+    let entries = order.short_at(bytes, 0);
+    if entries == 0 || entries > 256 {
+        return Err(FileFault::DirCount);
+    }
+    let stage = Stage::Table {
+        order,
+        index,
+        at,
+        entries,
+    };
+    Ok(Step { stage, level: None })
+}
+
+/// The table tells the entries of a directory, and the place of the next one.
+fn after_table(
+    order: Order,
+    index: u32,
+    at: u32,
+    entries: u16,
+    bytes: &[u8],
+    previous: Option<Level>,
+) -> Result<Step, FileFault>
+    requires few { index < 16 }
+    requires short { entries ≤ 256 }
+    requires whole { length bytes.now ≡ 12 * entries + 4 }
+    ensures next { IfOk result (IsNext (Stage.Table order index at entries) (3 + 4 * index)) }
+    ensures agrees { (f : List ℕ) → IsTableOf f order index at entries bytes.now → IsBefore f index previous
+        → MatchResult result (StepsOn f (Stage.Table order index at entries)) (IsFaultOfDirectories f) }
+{
+    match check_directory(order, index, at, entries, bytes) {
+        Ok(true) => after_level(order, index, at, entries, bytes, previous),
+        Ok(false) => match next(
+            order,
+            index + 1,
+            order.long_at(bytes, 12 * entries as usize),
+        ) {
+            Ok(stage) => Ok(Step { stage, level: None }),
+            Err(fault) => Err(fault),
+        },
+        Err(fault) => Err(fault),
+    }
+}
+
+/// One step of the walk, by the bytes of the range that it wants.
+pub(crate) fn step(
+    stage: Stage,
+    bytes: &[u8],
+    given: u32,
+    previous: Option<Level>,
+) -> Result<Step, FileFault>
+    requires whole { IsSomeAnd (range_of stage) (λ r. length bytes.now ≡ r.len) }
+    requires kept { IsKept stage given }
+    ensures next { IfOk result (IsNext stage (given + 1)) }
+    ensures agrees { (f : List ℕ) → AgreesAt f stage → IsBefore f (index_of stage) previous → IfSome (range_of stage) (λ r. IsPart f r bytes.now)
+        → MatchResult result (StepsOn f stage) (IsFaultOfDirectories f) }
+{
+    match stage {
+        Stage::Header => after_header(bytes),
+        Stage::Count { order, index, at } => after_count(order, index, at, bytes),
+        Stage::Table {
+            order,
+            index,
+            at,
+            entries,
+        } => after_table(order, index, at, entries, bytes, previous),
+        Stage::Bits {
+            pending,
+            first,
+            formats,
+        } => after_bits(pending, first, formats, bytes, previous),
+        Stage::Formats {
+            pending,
+            first,
+            eights,
+        } => after_formats(pending, first, eights, bytes, previous),
+        Stage::Ended { .. } => unreachable!(),
+    }
+}
+
+/// Where the range begins that a walk wants, and how long it is.
+pub(crate) fn range(stage: Stage) -> Option<(u64, u64)>
+    ensures small { IfSome result (λ p. (0 < p.1) × (p.1 ≤ 1048576) × (p.0 < 2 ^ 33)) }
+    ensures wanted { range_of stage ≡ option_map (λ p. record { first = p.0; len = p.1 }) result }
+{
+    match stage {
+        Stage::Header => Some((0, 8)),
+        Stage::Count { at, .. } => Some((u64::from(at), 2)),
+        Stage::Table { at, entries, .. } => Some((u64::from(at) + 2, 12 * u64::from(entries) + 4)),
+        Stage::Bits { first, .. } | Stage::Formats { first, .. } => Some((u64::from(first), 6)),
+        Stage::Ended { .. } => None,
+    }
+}

@@ -1,0 +1,139 @@
+ghost use Rattle.std.specs.Prelude.{◌≡◌, ℕ, ◌+◌, ◌<◌, ◌≤◌, List, [], ◌∷◌, ◌++◌, Some, All, IsSomeAnd, IfOk, IfErr, OnOk, OnErr, length, map, slice_get};
+ghost use Rattle.std.specs.Option.{option_to_list};
+ghost use Rattle.tiff_dir.specs.Fault.{IsFaultOfDirectories};
+ghost use Rattle.tiff_dir.specs.File.{order_of};
+ghost use Rattle.tiff_dir.specs.Level.{level_of};
+ghost use Rattle.tiff_dir.specs.Needs.{needs_of_directories};
+ghost use Rattle.tiff_dir.specs.Query.{array_range};
+ghost use Rattle.tiff_dir.specs.declared.fault.FileFault.{FileFault as Fault};
+ghost use Rattle.tiff_dir.specs.declared.level.Level.{Level as Described};
+ghost use Rattle.tiff_dir.specs.Walk.{range_of_place, to_come, wanted, Agrees, AreLevels, HasEnded, IfFile, IsProfiled, IsWanted, IsWantedOf, Wants};
+
+use crate::stage::Stage;
+use crate::steps::{range, step};
+use crate::{FileFault, Level, Order, Span, WalkError};
+use std::alloc::Global;
+use std::marker::Model;
+
+/// A walk over the directories of a file, which is given one range of it after another: the header, and
+/// of each directory the count of its entries, then the entries and the place of the next directory, and
+/// of a level the values of BitsPerSample and SampleFormat that stand outside its entries.
+#[derive(Drop)]
+pub struct Walk {
+    stage: Stage,
+    levels: Vec<Level>,
+    given: u32,
+}
+
+impl Model for Walk {
+    ghost use Rattle.tiff_dir.specs.Walk.{Known};
+    ghost use Rattle.tiff_dir.specs.Shape.{IsSoFar};
+
+    ghost Value = { Known };
+
+    ghost view = { λ w. record { stage = w.stage; levels = w.levels.items; given = w.given } };
+
+    ghost invariant = { λ w. IsSoFar w.stage w.levels.items w.given };
+}
+
+/// Adds the level, if there is one.
+fn keep(levels: &mut Vec<Level>, level: Option<Level>) -> Result<(), WalkError>
+    ensures ok { OnOk result (levels.new.items ≡ levels.old.items ++ option_to_list level) }
+    ensures err { OnErr result (levels.new.items ≡ levels.old.items) }
+    ensures memory { IfErr result (λ e. e ≡ WalkError.Memory) }
+{
+    if let Some(level) = level {
+        levels.push(level)?;
+    }
+    Ok(())
+}
+
+impl Walk {
+    /// A walk that knows nothing yet. It takes no memory.
+    pub fn new(alloc: Global) -> Walk
+        ensures agrees { (f : List ℕ) → Agrees result f }
+        ensures come { (f : List ℕ) → to_come result f ≡ needs_of_directories f }
+        ensures given { result.given ≡ 0 }
+    {
+        Walk {
+            stage: Stage::Header,
+            levels: Vec::new(alloc),
+            given: 0,
+        }
+    }
+
+    /// The range that is wanted next, of a file of `complete` bytes, or `None` at the end.
+    pub fn need(&self, complete: u64) -> Result<Option<Span>, FileFault>
+        ensures wanted { IfOk result (Wants self.now complete) }
+        // The only fault is that the range ends after the file.
+        ensures past { IfErr result (λ fault. (fault ≡ FileFault.PastEnd) × IsSomeAnd (wanted self.now) (λ r. complete < r.first + r.len)) }
+        ensures fault { IfErr result (λ fault. (f : List ℕ) → length f ≡ complete → Agrees self.now f → IsFaultOfDirectories f fault) }
+        // It is the first of the ranges still to come, and there is none exactly at the end.
+        ensures first { (f : List ℕ) → Agrees self.now f → slice_get (to_come self.now f) 0 ≡ wanted self.now }
+    {
+        let Some((first, len)) = range(self.stage) else {
+            return Ok(None);
+        };
+        if first + len > complete {
+            return Err(FileFault::PastEnd);
+        }
+        Ok(Some(Span {
+            first,
+            last: first + len - 1,
+        }))
+    }
+
+    /// The byte order of the file, when the walk has ended.
+    pub fn order(&self) -> Order
+        requires { HasEnded self.now }
+        ensures order { (f : List ℕ) → Agrees self.now f → order_of f ≡ Some result }
+        // The file's directories are without fault.
+        ensures clean { (f : List ℕ) → Agrees self.now f → (fault : Fault) → IsFaultOfDirectories f fault → ⊥ }
+    {
+        match self.stage {
+            Stage::Ended { order, .. } => order,
+            _ => unreachable!(),
+        }
+    }
+
+    /// The levels of the file, when the walk has ended.
+    pub fn levels(&self) -> &[Level]
+        requires { HasEnded self.now }
+        ensures levels { (f : List ℕ) → Agrees self.now f → AreLevels f result.now }
+        ensures profiled { All IsProfiled result.now }
+        ensures some { 0 < length result.now }
+        // The file's directories are without fault.
+        ensures clean { (f : List ℕ) → Agrees self.now f → (fault : Fault) → IsFaultOfDirectories f fault → ⊥ }
+        // Each level is that of its number, and its arrays stand at its places.
+        ensures level { (f : List ℕ) → Agrees self.now f → (n : ℕ) → level_of f n ≡ slice_get result.now n }
+        ensures offsets { (f : List ℕ) → Agrees self.now f → (n : ℕ) (l : Described) → slice_get result.now n ≡ Some l → array_range f n 324 ≡ Some (range_of_place l.offsets) }
+        ensures counts { (f : List ℕ) → Agrees self.now f → (n : ℕ) (l : Described) → slice_get result.now n ≡ Some l → array_range f n 325 ≡ Some (range_of_place l.counts) }
+    {
+        self.levels.as_slice()
+    }
+
+    /// How many ranges the walk has taken.
+    pub fn given(&self) -> u32
+        ensures count { result ≡ self.now.given }
+        ensures few { (HasEnded self.now → ⊥) → result ≤ 64 }
+    {
+        self.given
+    }
+
+    /// Takes the bytes of the range that is wanted. An `Err` changes nothing.
+    pub fn give(&mut self, bytes: &[u8]) -> Result<(), WalkError>
+        requires { IsWanted self.old (length bytes.now) }
+        ensures agrees { OnOk result ((f : List ℕ) → Agrees self.old f → IsWantedOf f self.old bytes.now → Agrees self.new f) }
+        ensures come { OnOk result ((f : List ℕ) → Agrees self.old f → IsSomeAnd (wanted self.old) (λ r. to_come self.old f ≡ r ∷ to_come self.new f)) }
+        ensures fault { IfFile result (λ fault. (f : List ℕ) → Agrees self.old f → IsWantedOf f self.old bytes.now → IsFaultOfDirectories f fault) }
+        ensures given { OnOk result (self.new.given ≡ self.old.given + 1) }
+        ensures err { OnErr result (self.new ≡ self.old) }
+    {
+        let previous = self.levels.last().copied();
+        let step = step(self.stage, bytes, self.given, previous)?;
+        keep(&mut self.levels, step.level)?;
+        self.stage = step.stage;
+        self.given += 1;
+        Ok(())
+    }
+}

@@ -1,0 +1,184 @@
+-- What is said of a file's level, by its description.
+use Rattle.std.proofs.Common.{◌≡◌, ℕ, zero, suc, ◌+◌, ◌-◌, ◌*◌, ◌/◌, ◌%◌, ◌<◌, ◌≤◌, Bool, true, false, cond, List, [], ◌∷◌, ◌++◌, length, map, take, drop, Option, Some, None, refl, sym, ap, subst, ◌∙◌, arith, ◌⊎◌, inl, inr}
+use Rattle.std.specs.Prelude.{IsSome, IsSomeAnd, is_some, is_none, nat_lt, nat_le, ◌||◌, ◌&&◌, ◌==◌, if◌then◌else◌, slice_get, slice_range}
+use Rattle.std.specs.Option.{option_map_or, option_to_list}
+use Rattle.std.specs.List.{filter, filter_map, list_any, range_with_len, IsAmong}
+use Rattle.std.proofs.Math.Bool.{or-false}
+use Rattle.std.proofs.Math.Nat.{div-lt_iff_lt-mul, div-eq_of_lt, mod-eq_of_lt}
+use Rattle.std.proofs.lemmas.Bool.{cases_Bool, or_parts, or_from, or_left, or_right, and_from, and_parts, le-leb, lt-ltb}
+use Rattle.std.proofs.lemmas.Bool.Decides.{nat_tests}
+use Rattle.std.proofs.lemmas.Option.{same_Some, none-some}
+use Rattle.tiff_dir.specs.declared.order.Order.{Order}
+use Rattle.tiff_dir.specs.declared.level.Level.{Level}
+use Rattle.tiff_dir.specs.declared.level.Compression.{Compression}
+use Rattle.tiff_dir.specs.declared.level.Compression.TheVariants.{Plain, PackBits}
+use Rattle.tiff_dir.specs.declared.query.Query.{Query}
+use Rattle.tiff_dir.specs.declared.fault.FileFault.{FileFault}
+use Rattle.tiff_dir.specs.declared.fault.FileFault.TheVariants.{PastEnd, TileSize, Outside, TooLarge}
+use Rattle.tiff_dir.specs.declared.fault.FileFault.TheVariants as faults
+use Rattle.tiff_dir.specs.File.{◌>>=◌, value}
+use Rattle.tiff_dir.specs.Profile.{tiles_along}
+use Rattle.tiff_dir.specs.Level.{level_at, level_directory, level_of, level_value, across, tile_total, plain_size}
+use Rattle.tiff_dir.specs.Needs.{Range, ends_past}
+use Rattle.tiff_dir.specs.Query.{Rectangle, rectangle, is_outside, is_too_large, is_refused, meets, tiles_in, window_tiles, array_range, array_ranges, tile_range, groups, needs_of_query}
+use Rattle.tiff_dir.specs.Faulty.{IsFaultOfQuery}
+use Rattle.tiff_dir.specs.Walk.{range_of_place}
+use Rattle.world.specs.declared.window.Window.{Window}
+use Rattle.world.specs.Readable.{IsOneTile, IsLevelOf, refusal_in}
+use Rattle.world.specs.Asked.{asked_in}
+
+bind_some : {A B : Type 0} (o : Option A) (g : A → Option B) (y : B) → (o >>= g) ≡ Some y → (x : A) × (o ≡ Some x) × (g x ≡ Some y)
+bind_some None g y e = absurd (none-some y e)
+bind_some (Some x) g y e = (x, refl, e)
+
+-- the directory of a level, and what it says
+pub record IsInDirectory (f : List ℕ) (n : ℕ) (l : Level) : Type 0 where
+  pub directory : ℕ
+  pub directory_is : level_directory f n ≡ Some directory
+  pub width : value f directory 256 0 ≡ Some l.width
+  pub length_is : value f directory 257 0 ≡ Some l.length
+  pub samples : value f directory 277 0 ≡ Some l.samples
+
+in_directory_at : (f : List ℕ) (n k : ℕ) (l : Level) → level_directory f n ≡ Some k → level_at f k ≡ Some l → IsInDirectory f n l
+unfolding level_at
+in_directory_at f n k l at e =
+    let a = bind_some _ _ _ e in
+    let b = bind_some _ _ _ a.2 in
+    let c = bind_some _ _ _ b.2 in
+    let d = bind_some _ _ _ c.2 in
+    let s = bind_some _ _ _ d.2 in
+    let t = bind_some _ _ _ s.2 in
+    let u = bind_some _ _ _ t.2 in
+    let v = bind_some _ _ _ u.2 in
+    let w = bind_some _ _ _ v.2 in
+    let same = same_Some _ _ w.2 in
+    record {
+      directory = k;
+      directory_is = at;
+      width = a.1 ∙ ap Some (ap (λ (x : Level). x.width) same);
+      length_is = b.1 ∙ ap Some (ap (λ (x : Level). x.length) same);
+      samples = s.1 ∙ ap Some (ap (λ (x : Level). x.samples) same);
+    }
+
+pub in_directory : (f : List ℕ) (n : ℕ) (l : Level) → level_of f n ≡ Some l → IsInDirectory f n l
+unfolding level_of
+in_directory f n l e = let p = bind_some (level_directory f n) (level_at f) l e in in_directory_at f n p.0 l p.1 p.2
+
+pub value_in : (f : List ℕ) (n k tag i : ℕ) → level_directory f n ≡ Some k → level_value f n tag i ≡ value f k tag i
+unfolding level_value
+value_in f n k tag i at = rw at refl
+
+-- ---- refusals
+
+abbrev out_by : Level → ℕ → ℕ → ℕ → ℕ → Bool
+out_by l x y w h = (w == 0) || (h == 0) || nat_lt l.width (x + w) || nat_lt l.length (y + h)
+
+pub outside_is : (f : List ℕ) (n : ℕ) (l : Level) (v : Window) → level_of f n ≡ Some l → is_outside f (asked_in n v) ≡ out_by l v.x v.y v.w v.h
+unfolding is_outside
+outside_is f n l v e =
+    let d = in_directory f n l e in
+    let width : level_value f n 256 0 ≡ Some l.width = value_in f n d.directory 256 0 d.directory_is ∙ d.width in
+    let long : level_value f n 257 0 ≡ Some l.length = value_in f n d.directory 257 0 d.directory_is ∙ d.length_is in
+    rw (d.directory_is, width, long) (ap (λ (t : Bool). t || nat_lt l.width (v.x + v.w) || nat_lt l.length (v.y + v.h)) (or-false ((v.w == 0) || (v.h == 0))))
+
+pub large_is : (f : List ℕ) (n : ℕ) (l : Level) (v : Window) → level_of f n ≡ Some l → is_too_large f (asked_in n v) ≡ nat_lt 4194304 (v.w * v.h * l.samples)
+unfolding is_too_large rectangle
+large_is f n l v e =
+    let d = in_directory f n l e in
+    let samples : level_value f n 277 0 ≡ Some l.samples = value_in f n d.directory 277 0 d.directory_is ∙ d.samples in
+    rw samples refl
+
+pub refusal_fault : (f : List ℕ) (n : ℕ) (l : Level) (v : Window) (fault : FileFault) → level_of f n ≡ Some l → refusal_in l v.x v.y v.w v.h ≡ Some fault → IsFaultOfQuery f (asked_in n v) fault
+refusal_fault f n l v fault e refused =
+    elim (cases_Bool (out_by l v.x v.y v.w v.h)) [
+      | inl out ↦
+          (let same : Outside ≡ fault = same_Some _ _ (rw out at refused) in
+          subst (λ (k : FileFault). IsFaultOfQuery f (asked_in n v) k) same (outside_is f n l v e ∙ out))
+      | inr inside ↦
+          elim (cases_Bool (nat_lt 4194304 (v.w * v.h * l.samples))) [
+            | inl large ↦
+                (let same : TooLarge ≡ fault = same_Some _ _ (rw (inside, large) at refused) in
+                subst (λ (k : FileFault). IsFaultOfQuery f (asked_in n v) k) same (large_is f n l v e ∙ large))
+            | inr small ↦ absurd (none-some fault (rw (inside, small) at refused))
+          ]
+    ]
+
+-- a window that isn't refused
+pub record IsAccepted (f : List ℕ) (n : ℕ) (l : Level) (v : Window) : Type 0 where
+  pub outside : is_outside f (asked_in n v) ≡ false
+  pub large : is_too_large f (asked_in n v) ≡ false
+  pub wide : 0 < v.w
+  pub high : 0 < v.h
+  pub right : v.x + v.w ≤ l.width
+  pub bottom : v.y + v.h ≤ l.length
+
+pub record IsInside (l : Level) (v : Window) : Type 0 where
+  pub out : out_by l v.x v.y v.w v.h ≡ false
+  pub small : nat_lt 4194304 (v.w * v.h * l.samples) ≡ false
+  pub wide : 0 < v.w
+  pub high : 0 < v.h
+  pub right : v.x + v.w ≤ l.width
+  pub bottom : v.y + v.h ≤ l.length
+
+pub inside : (l : Level) (v : Window) → refusal_in l v.x v.y v.w v.h ≡ None → IsInside l v
+inside l v none =
+    elim (cases_Bool (out_by l v.x v.y v.w v.h)) [
+      | inl out ↦ absurd (none-some Outside (sym (rw out at none)))
+      | inr within ↦
+          elim (cases_Bool (nat_lt 4194304 (v.w * v.h * l.samples))) [
+            | inl large ↦ absurd (none-some TooLarge (sym (rw (within, large) at none)))
+            | inr small ↦
+                (let a = or_parts _ _ within in
+                let b = or_parts _ _ a.0 in
+                let c = or_parts _ _ b.0 in
+                let w : (v.w == 0) ≡ false = c.0 in
+                let h : (v.h == 0) ≡ false = c.1 in
+                let r : nat_lt l.width (v.x + v.w) ≡ false = b.1 in
+                let m : nat_lt l.length (v.y + v.h) ≡ false = a.1 in
+                record { out = within; small = small; wide = grind (arith, nat_tests); high = grind (arith, nat_tests); right = grind (arith, nat_tests); bottom = grind (arith, nat_tests) })
+          ]
+    ]
+
+pub not_refused : (f : List ℕ) (n : ℕ) (l : Level) (v : Window) → level_of f n ≡ Some l → IsInside l v → (is_outside f (asked_in n v) ≡ false) × (is_too_large f (asked_in n v) ≡ false)
+not_refused f n l v e i = (outside_is f n l v e ∙ i.out, large_is f n l v e ∙ i.small)
+
+-- ---- the only tile
+
+one_along : (side tile : ℕ) → 0 < side → side ≤ tile → tiles_along side tile ≡ 1
+one_along side tile some short =
+    let above : (side + tile - 1) / tile < 2 = (div-lt_iff_lt-mul {k = tile} {x = side + tile - 1} {y = 2} (omega arith)).1 (omega arith) in
+    elim (cases_Bool (nat_lt ((side + tile - 1) / tile) 1)) [
+      | inl none ↦
+          (let less : (side + tile - 1) / tile < 1 = grind (arith, nat_tests) in
+          let low : side + tile - 1 < 1 * tile = (div-lt_iff_lt-mul {k = tile} {x = side + tile - 1} {y = 1} (omega arith)).0 less in
+          absurd (omega arith))
+      | inr one ↦ (let more : 1 ≤ (side + tile - 1) / tile = grind (arith, nat_tests) in omega arith)
+    ]
+
+pub one_across : (l : Level) (v : Window) → IsOneTile l → IsInside l v → across l ≡ 1
+one_across l v one i = one_along l.width l.tile_width (omega (arith, i.right, i.wide)) one.wide
+
+pub one_total : (l : Level) (v : Window) → IsOneTile l → IsInside l v → tile_total l ≡ 1
+one_total l v one i = rw (one_across l v one i, one_along l.length l.tile_length (omega (arith, i.bottom, i.high)) one.long) refl
+
+asked_rectangle : ℕ → Window → Rectangle
+asked_rectangle n v = record { level = n; left = v.x; top = v.y; width = v.w; height = v.h }
+
+meets_it : (l : Level) (n : ℕ) (v : Window) → IsOneTile l → IsInside l v → meets l (record { level = n; left = v.x; top = v.y; width = v.w; height = v.h }) 0 ≡ true
+meets_it l n v one i =
+    let wide = one.wide in
+    let long = one.long in
+    let right = i.right in
+    let bottom = i.bottom in
+    let w = i.wide in
+    let h = i.high in
+    rw (one_across l v one i) (and_from _ _
+      (and_from _ _ (lt-ltb 0 (v.x + v.w) (omega arith)) (lt-ltb v.x (0 + l.tile_width) (omega arith)))
+      (and_from _ _ (lt-ltb 0 (v.y + v.h) (omega arith)) (lt-ltb v.y (0 + l.tile_length) (omega arith))))
+
+pub only_tile : (f : List ℕ) (n : ℕ) (l : Level) (v : Window) → level_of f n ≡ Some l → IsOneTile l → IsInside l v → window_tiles f (asked_in n v) ≡ 0 ∷ []
+unfolding window_tiles rectangle tiles_in
+only_tile f n l v e one i =
+    let ok = not_refused f n l v e i in
+    let there = meets_it l n v one i in
+    rw (ok.0, ok.1, e, one_total l v one i, there) refl
