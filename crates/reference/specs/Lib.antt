@@ -2,3 +2,4 @@ pub mod Entry
 pub mod Modest
 pub mod Asked
 pub mod Ranges
+pub mod Unpacking

@@ -7,6 +7,10 @@ mod fields;
 mod levels;
 mod needs;
 mod numbers;
+mod packets;
 mod query;
+mod samples;
 
+pub use packets::unpack;
+pub use samples::sample;
 pub use numbers::{number, order_of};

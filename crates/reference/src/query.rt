@@ -105,7 +105,7 @@ pub fn is_too_large(alloc: Global, file: &[u8], query: Query) -> Result<bool, Al
     }
 }
 
-fn tiles_along(side: u32, tile_side: u32) -> u64
+pub(crate) fn tiles_along(side: u32, tile_side: u32) -> u64
     requires side { side < 2 ^ 30 }
     requires some { 0 < tile_side }
     requires tile_side { tile_side < 2 ^ 24 }
