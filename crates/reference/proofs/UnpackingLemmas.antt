@@ -59,22 +59,24 @@ fits_at row at place p same fits = subst (λ n. n % row + length (output p) ≤ 
 rows_more : (row at : ℕ) (ps : List Packet) (p : Packet) → KeepRows row at ps → (at + length (flat_map output ps)) % row + length (output p) ≤ row
     → KeepRows row at (ps ++ p ∷ [])
 rows_more row at [] p keep fits = (fits_at row (at + length (flat_map output [])) at p (omega arith) fits, tt)
-rows_more row at (q ∷ ps) p keep fits =
-    (keep.0, rows_more row (at + length (output q)) ps p keep.1
-    (fits_at row (at + length (output q ++ flat_map output ps)) (at + length (output q) + length (flat_map output ps)) p
-    (omega (arith, length-append (output q) (flat_map output ps))) fits))
+rows_more row at (q ∷ ps) p keep fits = (
+  keep.0,
+  rows_more row (at + length (output q)) ps p keep.1
+      (fits_at row (at + length (output q ++ flat_map output ps)) (at + length (output q) + length (flat_map output ps)) p
+      (omega (arith, length-append (output q) (flat_map output ps))) fits),
+)
 
 -- one packet more
 pub packs_more : (row : ℕ) (before out : List ℕ) (p : Packet) → Packs row before out → IsPacket p → length out % row + length (output p) ≤ row
     → Packs row (before ++ written p) (out ++ output p)
-packs_more row before out p packs lawful fits = record
-  { packets = packs.packets ++ p ∷ []
-  ; lawful = all_more packs.packets p packs.lawful lawful
-  ; bytes_are = flat_map-append written packs.packets (p ∷ []) ∙ (λ i. packs.bytes_are i ++ append-nil (written p) i)
-  ; out_is = flat_map-append output packs.packets (p ∷ []) ∙ (λ i. packs.out_is i ++ append-nil (output p) i)
-  ; rows = rows_more row 0 packs.packets p packs.rows
-      (fits_at row (length out) (0 + length (flat_map output packs.packets)) p (omega (arith, ap length packs.out_is)) fits)
-  }
+packs_more row before out p packs lawful fits = record {
+  packets = packs.packets ++ p ∷ [];
+  lawful = all_more packs.packets p packs.lawful lawful;
+  bytes_are = flat_map-append written packs.packets (p ∷ []) ∙ (λ i. packs.bytes_are i ++ append-nil (written p) i);
+  out_is = flat_map-append output packs.packets (p ∷ []) ∙ (λ i. packs.out_is i ++ append-nil (output p) i);
+  rows = rows_more row 0 packs.packets p packs.rows
+      (fits_at row (length out) (0 + length (flat_map output packs.packets)) p (omega (arith, ap length packs.out_is)) fits);
+}
 
 pub packs_none : (row : ℕ) → Packs row [] []
 packs_none row = record { packets = []; lawful = tt; bytes_are = refl; out_is = refl; rows = tt }
@@ -82,15 +84,15 @@ packs_none row = record { packets = []; lawful = tt; bytes_are = refl; out_is = 
 -- a packet more of the bytes is unpacked
 pub unpacked_more : (row : ℕ) (bytes : List ℕ) (at len : ℕ) (out new : List ℕ) → IsUnpackedTo row bytes at out → IsNextPacket row (drop at bytes) len out new
     → IsUnpackedTo row bytes (at + len) new
-unpacked_more row bytes at len out new so_far next = record
-  { before = so_far.before ++ written next.packet
-  ; after = next.after
-  ; parts = so_far.parts ∙ ap (λ ys. so_far.before ++ ys) (sym (drop_parts bytes so_far.before so_far.after at so_far.parts so_far.place) ∙ next.begins)
-      ∙ sym (append_assoc so_far.before (written next.packet) next.after)
-  ; place = omega (arith, so_far.place, next.size, length-append so_far.before (written next.packet))
-  ; packs = subst (λ o. Packs row (so_far.before ++ written next.packet) o) (sym next.added)
-      (packs_more row so_far.before out next.packet so_far.packs next.lawful next.fits)
-  }
+unpacked_more row bytes at len out new so_far next = record {
+  before = so_far.before ++ written next.packet;
+  after = next.after;
+  parts = so_far.parts ∙ ap (λ ys. so_far.before ++ ys) (sym (drop_parts bytes so_far.before so_far.after at so_far.parts so_far.place) ∙ next.begins)
+      ∙ sym (append_assoc so_far.before (written next.packet) next.after);
+  place = omega (arith, so_far.place, next.size, length-append so_far.before (written next.packet));
+  packs = subst (λ o. Packs row (so_far.before ++ written next.packet) o) (sym next.added)
+      (packs_more row so_far.before out next.packet so_far.packs next.lawful next.fits);
+}
   where
     drop_parts : (all xs ys : List ℕ) (n : ℕ) → all ≡ xs ++ ys → n ≡ length xs → drop n all ≡ ys
     drop_parts all xs ys n parts size = rw (parts, size) (drop-append_seam xs ys)

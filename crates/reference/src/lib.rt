@@ -11,6 +11,9 @@ mod packets;
 mod query;
 mod samples;
 
+pub use numbers::{number, order_of};
 pub use packets::unpack;
 pub use samples::sample;
-pub use numbers::{number, order_of};
+
+#[cfg(test)]
+mod tests;

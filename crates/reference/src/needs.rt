@@ -118,12 +118,7 @@ fn push_directories(
 }
 
 #[tactic(auto, unfolding(tiff_dir::specs::Query::array_range, tiff_dir::specs::File::field))]
-fn array_range(
-    alloc: Global,
-    file: &[u8],
-    n: usize,
-    tag: u16,
-) -> Result<Option<Range>, AllocError>
+fn array_range(alloc: Global, file: &[u8], n: usize, tag: u16) -> Result<Option<Range>, AllocError>
     ensures { IfOk result (λ o. option_map range_of o ≡ array_range file.now n tag) }
 {
     let Some(k) = level_directory(alloc, file, n)? else {
@@ -215,8 +210,7 @@ fn blocks_inside(range: Range, complete: u64) -> u64
 /// The blocks of the ranges that end in a file of `complete` bytes, where the sum has 64 bits.
 fn sum_blocks(ranges: &[Range], complete: u64) -> Option<u64>
     requires { complete < 2 ^ 63 }
-    ensures {
-        let total = sum_by (λ r. blocks_inside complete (range_of r)) ranges.now in
+    ensures { let total = sum_by (λ r. blocks_inside complete (range_of r)) ranges.now in
         MatchOption result (2 ^ 64 ≤ total) (λ n. n ≡ total) }
 {
     let mut total: u64 = 0;

@@ -55,11 +55,7 @@ fn row_and_size(level: &Level) -> (usize, usize)
 }
 
 /// The samples of a tile whose segment this is, where it has as many as the tile.
-fn plain_tile(
-    alloc: Global,
-    level: &Level,
-    bytes: &[u8],
-) -> Result<Option<Vec<u8>>, AllocError>
+fn plain_tile(alloc: Global, level: &Level, bytes: &[u8]) -> Result<Option<Vec<u8>>, AllocError>
     requires { IsTrue (is_modest level.now) }
     ensures { IfOk result (λ o. IfSome o (λ plain. IsUnpacked level.now bytes.now plain.items)) }
 {
