@@ -1,0 +1,4 @@
+pub mod NumberLemmas
+pub mod EntryLemmas
+pub mod RangeLemmas
+pub mod UnpackingLemmas

@@ -1,0 +1,5 @@
+pub mod Entry
+pub mod Modest
+pub mod Asked
+pub mod Ranges
+pub mod Unpacking

@@ -1,0 +1,21 @@
+-- One packet after another.
+use Rattle.std.specs.Prelude.{◌≡◌, ℕ, ◌+◌, ◌%◌, ◌≤◌, List, ◌++◌, length, slice_get, Some}
+use Rattle.tiff_dir.specs.Packets.{Packet, IsPacket, written, output, Packs}
+
+-- The bytes begin with a packet of this length, whose output is added to old and crosses no row.
+pub record IsNextPacket (row : ℕ) (bytes : List ℕ) (len : ℕ) (old new : List ℕ) : Type 0 where
+  pub packet : Packet
+  pub after : List ℕ
+  pub lawful : IsPacket packet
+  pub begins : bytes ≡ written packet ++ after
+  pub size : len ≡ length (written packet)
+  pub fits : length old % row + length (output packet) ≤ row
+  pub added : new ≡ old ++ output packet
+
+-- The first at bytes are packets for out.
+pub record IsUnpackedTo (row : ℕ) (bytes : List ℕ) (at : ℕ) (out : List ℕ) : Type 0 where
+  pub before : List ℕ
+  pub after : List ℕ
+  pub parts : bytes ≡ before ++ after
+  pub place : at ≡ length before
+  pub packs : Packs row before out

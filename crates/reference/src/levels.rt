@@ -1,0 +1,174 @@
+//! The levels of a file and the bytes of their tiles.
+ghost use Rattle.std.specs.Prelude.{◌≡◌, ◌<◌, ◌≤◌, ◌^◌, ◌+◌, ◌*◌, ◌/◌, ℕ, IfOk, IfSome, IsTrue, option_copied, length, Some, None, List};
+ghost use Rattle.tiff_dir.specs.Level.{compression_of, is_level, level_directories, level_directory, level_value, level_at, segment};
+ghost use Rattle.reference.specs.Modest.{are_modest, is_modest, modest_at, modest_level, part};
+
+use crate::directories::has_directory;
+use crate::fields::{place, value};
+use std::alloc::{AllocError, Global};
+use tiff_dir::{Compression, Level};
+
+/// Whether directory `k` is a level.
+#[tactic(auto, unfolding(tiff_dir::specs::Level::is_level))]
+pub fn is_level(file: &[u8], k: u32) -> bool
+    ensures { result ≡ is_level file.now k }
+{
+    if k == 0 {
+        return true;
+    }
+    match value(file, k, 254, 0) {
+        Some(v) => v == 1,
+        None => false,
+    }
+}
+
+/// The directories that are levels, in order.
+#[tactic(auto, unfolding(tiff_dir::specs::Level::level_directories, tiff_dir::specs::File::directories))]
+pub fn level_directories(alloc: Global, file: &[u8]) -> Result<Vec<u32>, AllocError>
+    ensures { IfOk result (λ ks. ks.items ≡ level_directories file.now) }
+{
+    (0..16u32)
+        .filter(|k| has_directory(file, *k))
+        .filter(|k| is_level(file, *k))
+        .collect(alloc)
+}
+
+/// The directory of level `n`.
+#[tactic(auto, unfolding(tiff_dir::specs::Level::level_directory))]
+pub fn level_directory(alloc: Global, file: &[u8], n: usize) -> Result<Option<u32>, AllocError>
+    ensures { IfOk result (λ k. k ≡ level_directory file.now n) }
+{
+    let directories = level_directories(alloc, file)?;
+    Ok(directories.get(n).copied())
+}
+
+fn compression_of(number: u64) -> Option<Compression>
+    ensures { result ≡ compression_of number }
+{
+    if number == 1 {
+        Some(Compression::Plain)
+    } else if number == 32773 {
+        Some(Compression::PackBits)
+    } else {
+        None
+    }
+}
+
+/// The sides of a level and of its tiles, the samples of a pixel and the bits of a sample, as they stand in a file.
+#[derive(Clone, Copy)]
+struct Numbers {
+    width: u64,
+    length: u64,
+    tile_width: u64,
+    tile_length: u64,
+    samples: u64,
+    bits: u64,
+}
+
+/// Whether the plain program reads a level of these numbers.
+fn are_modest(n: &Numbers) -> bool
+    ensures { result ≡ are_modest n.now.width n.now.length n.now.tile_width n.now.tile_length n.now.samples n.now.bits }
+{
+    if n.width >= 1 << 30 || n.length >= 1 << 30 {
+        return false;
+    }
+    if n.tile_width == 0 || n.tile_width >= 1 << 24 {
+        return false;
+    }
+    if n.tile_length == 0 || n.tile_length >= 1 << 24 {
+        return false;
+    }
+    n.samples < 1 << 12 && n.bits < 1 << 16
+}
+
+/// The level that directory `k` describes, where its numbers are modest.
+#[tactic(auto, unfolding(tiff_dir::specs::Level::level_at))]
+pub fn level_at(file: &[u8], k: u32) -> Option<Level>
+    ensures level { result ≡ modest_at file.now k }
+    ensures modest { IfSome result (λ l. IsTrue (is_modest l)) }
+{
+    let width = value(file, k, 256, 0)?;
+    let length = value(file, k, 257, 0)?;
+    let tile_width = value(file, k, 322, 0)?;
+    let tile_length = value(file, k, 323, 0)?;
+    let samples = value(file, k, 277, 0)?;
+    let bits = value(file, k, 258, 0)?;
+    let compression = compression_of(value(file, k, 259, 0)?)?;
+    let offsets = place(file, k, 324)?;
+    let counts = place(file, k, 325)?;
+    let numbers = Numbers {
+        width,
+        length,
+        tile_width,
+        tile_length,
+        samples,
+        bits,
+    };
+    if !are_modest(&numbers) {
+        return None;
+    }
+    Some(Level {
+        width: width as u32,
+        length: length as u32,
+        tile_width: tile_width as u32,
+        tile_length: tile_length as u32,
+        samples: samples as u16,
+        bits: bits as u16,
+        compression,
+        offsets,
+        counts,
+    })
+}
+
+/// Level `n`, where its numbers are modest.
+#[tactic(auto, unfolding(tiff_dir::specs::Level::level_of))]
+pub fn level_of(alloc: Global, file: &[u8], n: usize) -> Result<Option<Level>, AllocError>
+    ensures level { IfOk result (λ l. l ≡ modest_level file.now n) }
+    ensures modest { IfOk result (λ o. IfSome o (λ l. IsTrue (is_modest l))) }
+{
+    match level_directory(alloc, file, n)? {
+        Some(k) => Ok(level_at(file, k)),
+        None => Ok(None),
+    }
+}
+
+/// Value `i` of the field with this tag in level `n`.
+#[tactic(auto, unfolding(tiff_dir::specs::Level::level_value))]
+pub fn level_value(
+    alloc: Global,
+    file: &[u8],
+    n: usize,
+    tag: u16,
+    i: u64,
+) -> Result<Option<u64>, AllocError>
+    ensures { IfOk result (λ v. v ≡ level_value file.now n tag i) }
+{
+    match level_directory(alloc, file, n)? {
+        Some(k) => Ok(value(file, k, tag, i)),
+        None => Ok(None),
+    }
+}
+
+/// `count` bytes from `first`, where they are in the file.
+fn part(file: &[u8], first: u64, count: u64) -> Option<&[u8]>
+    ensures { option_copied result ≡ part file.now first count }
+{
+    let end = first.checked_add(count)?;
+    if end > file.len() as u64 {
+        return None;
+    }
+    Some(&file[first as usize..end as usize])
+}
+
+/// The bytes of tile `t` of level `n`.
+#[tactic(auto, unfolding(tiff_dir::specs::Level::segment))]
+pub fn segment(alloc: Global, file: &[u8], n: usize, t: u64) -> Result<Option<&[u8]>, AllocError>
+    ensures { IfOk result (λ bytes. option_copied bytes ≡ segment file.now n t) }
+{
+    let first = level_value(alloc, file, n, 324, t)?;
+    let count = level_value(alloc, file, n, 325, t)?;
+    match (first, count) {
+        (Some(first), Some(count)) => Ok(part(file, first, count)),
+        _ => Ok(None),
+    }
+}

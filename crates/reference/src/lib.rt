@@ -1,0 +1,19 @@
+//! The fixtures, built as bytes, and a plain program that reads a whole file in memory by the
+//! definitions alone. Tests compare the product with it; nothing else stands on it.
+#![tactic(auto)]
+
+mod directories;
+mod fields;
+mod levels;
+mod needs;
+mod numbers;
+mod packets;
+mod query;
+mod samples;
+
+pub use numbers::{number, order_of};
+pub use packets::unpack;
+pub use samples::sample;
+
+#[cfg(test)]
+mod tests;
