@@ -12,7 +12,7 @@ use Rattle.tiff_dir.specs.declared.level.Kind.TheVariants as kind
 use Rattle.tiff_dir.specs.Number.{number_in}
 use Rattle.tiff_dir.specs.File.{◌>>=◌, Field, order_of, number, kind_of, size_of, values_at, table, with_tag, field, field_value, value, default_of}
 use Rattle.tiff_dir.specs.Level.{place_of, level_directory, level_of, level_value}
-use Rattle.tiff_dir.specs.Walk.{IsArrayOf}
+use Rattle.tiff_dir.specs.Walk.{IsArrayOf, IsDescribed}
 use Rattle.tiff_dir.proofs.Parts.{number_part}
 use Rattle.tiff_dir.proofs.Ends.{level_parts}
 use Rattle.tiff_dir.proofs.Told.{level_found}
@@ -91,3 +91,18 @@ pub count_told : (f bytes : List ℕ) (o : Order) (n t : ℕ) (l : Level) → or
 count_told f bytes o n t l named level len less whole part =
     let (k, there, told) = level_found f n l level in
     level_value_at f n k 325 t _ there (array_value f bytes o k 325 t l.counts named (level_parts f k l told).8 len less part whole)
+
+-- The values of a level
+
+pub described : (f : List ℕ) (n : ℕ) (l : Level) → level_of f n ≡ Some l → IsDescribed f n l
+described f n l level =
+    let (k, there, told) = level_found f n l level in
+    let is = level_parts f k l told in
+    record {
+      width = level_value_at f n k 256 0 l.width there is.0;
+      length = level_value_at f n k 257 0 l.length there is.1;
+      tile_width = level_value_at f n k 322 0 l.tile_width there is.2;
+      tile_length = level_value_at f n k 323 0 l.tile_length there is.3;
+      samples = level_value_at f n k 277 0 l.samples there is.4;
+      bits = level_value_at f n k 258 0 l.bits there is.5;
+    }

@@ -1,5 +1,5 @@
 -- What a directory's entries hold in themselves, for fields of SHORT and LONG.
-use Rattle.std.specs.Prelude.{◌≡◌, ◌⊎◌, ℕ, zero, suc, ◌+◌, ◌*◌, ◌<◌, Bool, true, false, not, ◌&&◌, nat_le, ◌==◌, if◌then◌else◌, List, [], ◌∷◌, length, get_or, Option, None, IsSomeAnd}
+use Rattle.std.specs.Prelude.{◌≡◌, ◌⊎◌, ℕ, zero, suc, ◌+◌, ◌*◌, ◌^◌, ◌<◌, ◌≤◌, Bool, true, false, not, ◌&&◌, nat_le, ◌==◌, if◌then◌else◌, List, [], ◌∷◌, length, get_or, Option, None, IsSomeAnd}
 use Rattle.std.specs.Option.{option_map, option_map_or}
 use Rattle.std.specs.List.{find, AllPass}
 use Rattle.tiff_dir.specs.declared.order.Order.{Order}
@@ -25,6 +25,10 @@ entry o base at bytes = record { tag = number_in o at 2 bytes; kind = number_in 
 unfoldable pub entries : Order → ℕ → ℕ → ℕ → List ℕ → List Entry
 entries o base at zero bytes = []
 entries o base at (suc n) bytes = entry o base at bytes ∷ entries o base (at + 12) n bytes
+
+-- the bytes have a directory's entries, and stand where those of a file can
+abbrev pub IsReadable : ℕ → ℕ → List ℕ → Type 0
+IsReadable base n bytes = (base ≤ 2 ^ 32 + 1) × (n ≤ 256) × (12 * n ≤ length bytes)
 
 abbrev pub field_of : Entry → Field
 field_of e = record { tag = e.tag; kind = e.kind; count = e.count; place = e.place }

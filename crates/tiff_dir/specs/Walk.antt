@@ -1,5 +1,6 @@
 -- What callers see of a walk over a file's directories, which is given one range of the file after another.
 use Rattle.std.specs.Prelude.{◌≡◌, ℕ, ◌+◌, ◌-◌, ◌*◌, ◌%◌, ◌<◌, ◌≤◌, ◌^◌, ◌⊎◌, List, map, drop, slice_range, Option, Some, None, Result, Ok, Err, IsSomeAnd}
+use Rattle.std.specs.List.{list_any}
 use Rattle.tiff_dir.specs.declared.level.Level.{Level}
 use Rattle.tiff_dir.specs.declared.level.Place.{Place}
 use Rattle.tiff_dir.specs.declared.level.Kind.TheVariants as kind
@@ -10,11 +11,9 @@ use Rattle.tiff_dir.specs.declared.fault.WalkError.TheVariants as errors
 use Rattle.tiff_dir.specs.declared.stage.Stage.{Stage}
 use Rattle.tiff_dir.specs.File.{size_of}
 use Rattle.tiff_dir.specs.Profile.{max_tile_bytes, max_tiles}
-use Rattle.tiff_dir.specs.Level.{levels, plain_size, tile_total}
-use Rattle.tiff_dir.specs.Needs.{Range, needs_of_directories}
+use Rattle.tiff_dir.specs.Level.{levels, level_value, plain_size, tile_total}
+use Rattle.tiff_dir.specs.Needs.{Range, ends_past, needs_of_directories}
 use Rattle.tiff_dir.specs.Stage.{range_of, AgreesAt, index_of, levels_below, still}
-use Rattle.std.specs.List.{list_any}
-use Rattle.tiff_dir.specs.Needs.{ends_past}
 
 -- what a walk knows: where it stands, the levels so far, and how many ranges it has taken
 pub record Known : Type 0 where
@@ -68,6 +67,15 @@ abbrev pub Wants : Known → ℕ → Option Span → Type 0
 Wants w complete None = HasEnded w
 Wants w complete (Some span) =
     (wanted w ≡ Some (range_of_span span)) × (span.last < complete) × (span.last + 1 ≤ span.first + 1048576)
+
+-- what level n of the file says of itself is what this level has
+pub record IsDescribed (f : List ℕ) (n : ℕ) (l : Level) : Type 0 where
+  pub width : level_value f n 256 0 ≡ Some l.width
+  pub length : level_value f n 257 0 ≡ Some l.length
+  pub tile_width : level_value f n 322 0 ≡ Some l.tile_width
+  pub tile_length : level_value f n 323 0 ≡ Some l.tile_length
+  pub samples : level_value f n 277 0 ≡ Some l.samples
+  pub bits : level_value f n 258 0 ≡ Some l.bits
 
 -- what holds of the fault of a refusal
 abbrev pub IfFile : Result (Unit {0}) WalkError → (FileFault → Type 0) → Type 0

@@ -1,13 +1,12 @@
 // The steps of the walk over a level: its table, its values outside the entries, and its end.
-ghost use Rattle.std.specs.Prelude.{◌≡◌, ℕ, suc, ◌+◌, ◌*◌, ◌<◌, ◌≤◌, ◌^◌, ◌%◌, ◌&&◌, ◌||◌, ◌==◌, List, true, false, Some, IsSome, IfOk, IfSome, length, MatchResult};
+ghost use Rattle.std.specs.Prelude.{◌≡◌, ℕ, ◌+◌, ◌*◌, ◌<◌, ◌≤◌, ◌%◌, ◌&&◌, ◌||◌, ◌==◌, List, true, false, Some, IfOk, length, MatchResult};
 ghost use Rattle.tiff_dir.specs.Number.{number_in};
 ghost use Rattle.tiff_dir.specs.File.{value};
 ghost use Rattle.tiff_dir.specs.Fault.{IsFaultOfDirectories, IsFaultOfDirectory};
 ghost use Rattle.tiff_dir.specs.Level.{is_level};
-ghost use Rattle.tiff_dir.specs.Needs.{Range};
 ghost use Rattle.tiff_dir.specs.Shape.{level_from, IsEnd, IsNext};
-ghost use Rattle.tiff_dir.specs.Stage.{three_shorts, EndsDirectory, HasBits, HasFormats, HasShorts, IsBefore, IsDraft, IsKept, IsPart, IsPending, IsSupported, IsTableOf, StepsOn};
-ghost use Rattle.tiff_dir.specs.Table.{entries as entry_list, IsReadFault, IsReadIn};
+ghost use Rattle.tiff_dir.specs.Stage.{three_shorts, EndsDirectory, HasBits, HasFormats, HasShorts, IsBefore, IsDraft, IsPart, IsPending, IsSupported, IsTableOf, StepsOn};
+ghost use Rattle.tiff_dir.specs.Table.{entries as entry_list, IsReadFault, IsReadIn, IsReadable};
 ghost use Rattle.tiff_dir.specs.declared.fault.FileFault.{FileFault as Fault};
 
 use crate::next::next;
@@ -17,6 +16,9 @@ use crate::stage::{Draft, Pending, Stage, Step};
 use crate::table::ascending;
 use crate::values::{check_counts, check_values, draft, long, short, single};
 use crate::{FileFault, Level, Order};
+
+/// How many samples a pixel has whose BitsPerSample doesn't fit in the entry.
+const RGB: u16 = 3;
 
 /// The first directory is a reduced picture.
 fn is_reduced_first(index: u32, subfile: u32) -> bool
@@ -62,9 +64,7 @@ pub(crate) fn check_directory(
 
 /// What the entries of a level say of it, where they keep the profile.
 fn read_level(order: Order, base: u64, entries: u16, bytes: &[u8]) -> Result<Draft, FileFault>
-    requires room { base ≤ 2 ^ 32 + 1 }
-    requires few { entries ≤ 256 }
-    requires whole { 12 * entries ≤ length bytes.now }
+    requires { IsReadable base entries bytes.now }
     ensures read { let es = entry_list order base 0 entries bytes.now in MatchResult result (IsReadIn es) (IsReadFault es) }
     ensures bounded { IfOk result IsDraft }
 {
@@ -108,7 +108,7 @@ pub(crate) fn after_level(
         next: order.long_at(bytes, 12 * entries as usize),
         draft,
     };
-    if draft.samples == 3 {
+    if draft.samples == RGB {
         let Some(first) = long(order, base, entries, bytes, 258) else {
             return Err(FileFault::Missing(258));
         };

@@ -26,7 +26,6 @@ pub use level::{Compression, Kind, Level, Place};
 pub use memory::Memory;
 pub use order::Order;
 pub use query::{Pick, Query};
-pub use rule::{Count, Rule, Typing};
 pub use span::Span;
 pub use tiles::tile_of;
 pub use walk::Walk;

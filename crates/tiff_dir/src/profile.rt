@@ -1,8 +1,8 @@
 // The fields that a level has, as the table of a directory has them.
-ghost use Rattle.std.specs.Prelude.{◌≡◌, ℕ, ◌+◌, ◌*◌, ◌<◌, ◌≤◌, ◌^◌, true, false, length, MatchResult, IfSome};
+ghost use Rattle.std.specs.Prelude.{◌≡◌, true, false, MatchResult};
 ghost use Rattle.std.specs.List.{AllPass};
-ghost use Rattle.tiff_dir.specs.Profile.{accepts, planes_fit, profile, samples_fit, subfile_rule};
-ghost use Rattle.tiff_dir.specs.Table.{allows, entries as entry_list, meets, IsEntryFault, IsFaultOfEntries};
+ghost use Rattle.tiff_dir.specs.Profile.{profile};
+ghost use Rattle.tiff_dir.specs.Table.{allows, entries as entry_list, meets, IsEntryFault, IsFaultOfEntries, IsReadable};
 
 use crate::rule::{Count, Rule, Typing};
 use crate::table::{Entry, find_entry};
@@ -135,9 +135,7 @@ pub(crate) fn check_rule(
     bytes: &[u8],
     rule: Rule,
 ) -> Result<(), FileFault>
-    requires room { base ≤ 2 ^ 32 + 1 }
-    requires few { entries ≤ 256 }
-    requires whole { 12 * entries ≤ length bytes.now }
+    requires { IsReadable base entries bytes.now }
     ensures { let es = entry_list order base 0 entries bytes.now in MatchResult result (λ _. meets es rule ≡ true) (IsEntryFault rule es) }
 {
     let Some(entry) = find_entry(order, base, entries, bytes, rule.tag) else {
@@ -162,9 +160,7 @@ fn check_rules(
     bytes: &[u8],
     rules: &[Rule],
 ) -> Result<(), FileFault>
-    requires room { base ≤ 2 ^ 32 + 1 }
-    requires few { entries ≤ 256 }
-    requires whole { 12 * entries ≤ length bytes.now }
+    requires { IsReadable base entries bytes.now }
     ensures { let es = entry_list order base 0 entries bytes.now in MatchResult result (λ _. AllPass (meets es) rules.now) (IsFaultOfEntries rules.now es) }
 {
     for rule in rules {
@@ -183,9 +179,7 @@ pub(crate) fn check_profile(
     entries: u16,
     bytes: &[u8],
 ) -> Result<(), FileFault>
-    requires room { base ≤ 2 ^ 32 + 1 }
-    requires few { entries ≤ 256 }
-    requires whole { 12 * entries ≤ length bytes.now }
+    requires { IsReadable base entries bytes.now }
     ensures { let es = entry_list order base 0 entries bytes.now in MatchResult result (λ _. AllPass (meets es) profile) (IsFaultOfEntries profile es) }
 {
     check_rules(order, base, entries, bytes, &PROFILE)

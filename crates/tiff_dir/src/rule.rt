@@ -1,5 +1,5 @@
 /// The types that a field of the profile may have.
-#[derive(Clone, Copy, Debug, PartialEq, Eq)]
+#[derive(Clone, Copy)]
 pub enum Typing {
     Short,
     Long,
@@ -7,7 +7,7 @@ pub enum Typing {
 }
 
 /// How many values a field of the profile has.
-#[derive(Clone, Copy, Debug, PartialEq, Eq)]
+#[derive(Clone, Copy)]
 pub enum Count {
     One,
     /// As many as a pixel has samples.
@@ -17,7 +17,7 @@ pub enum Count {
 }
 
 /// What the profile asks of a level's field.
-#[derive(Clone, Copy, Debug, PartialEq, Eq)]
+#[derive(Clone, Copy)]
 pub struct Rule {
     pub tag: u16,
     pub typing: Typing,

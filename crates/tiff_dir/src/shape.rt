@@ -2,7 +2,6 @@
 ghost use Rattle.std.specs.Prelude.{◌≡◌, ◌*◌, ◌<◌, true, false, nat_le, MatchOption, MatchResult};
 ghost use Rattle.tiff_dir.specs.Profile.{is_tile_side, max_tile_bytes, max_tiles, tile_bytes, tiles_along};
 ghost use Rattle.tiff_dir.specs.Shape.{fits_under, has_arrays, has_sides, has_tiles, IsShaped, IsShapeFault};
-ghost use Rattle.tiff_dir.specs.Stage.{IsDraft};
 
 use crate::stage::Draft;
 use crate::{FileFault, Level};

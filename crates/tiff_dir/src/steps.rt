@@ -12,6 +12,8 @@ use crate::next::next;
 use crate::stage::{Stage, Step};
 use crate::{FileFault, Level, Order};
 
+const MAX_ENTRIES: u16 = 256;
+
 /// The order that the first two bytes name.
 #[tactic(auto, unfolding(crate::specs::File::order_of))]
 fn order_in(bytes: &[u8]) -> Option<Order>
@@ -54,7 +56,7 @@ fn after_count(order: Order, index: u32, at: u32, bytes: &[u8]) -> Result<Step, 
         → MatchResult result (StepsOn f (Stage.Count order index at)) (IsFaultOfDirectories f) }
 {
     let entries = order.short_at(bytes, 0);
-    if entries == 0 || entries > 256 {
+    if entries == 0 || entries > MAX_ENTRIES {
         return Err(FileFault::DirCount);
     }
     let stage = Stage::Table {

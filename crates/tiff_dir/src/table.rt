@@ -1,7 +1,7 @@
 // The entries in the bytes of a directory's table.
 ghost use Rattle.std.specs.Prelude.{◌≡◌, ℕ, ◌+◌, ◌*◌, ◌<◌, ◌≤◌, ◌^◌, IfSome, length, map};
 ghost use Rattle.tiff_dir.specs.Fault.{ascends};
-ghost use Rattle.tiff_dir.specs.Table.{entry, entries as entry_list, field_of, found};
+ghost use Rattle.tiff_dir.specs.Table.{entry, entries as entry_list, field_of, found, IsReadable};
 
 use crate::Order;
 
@@ -42,9 +42,7 @@ pub(crate) fn find_entry(
     bytes: &[u8],
     tag: u16,
 ) -> Option<Entry>
-    requires room { base ≤ 2 ^ 32 + 1 }
-    requires few { entries ≤ 256 }
-    requires whole { 12 * entries ≤ length bytes.now }
+    requires { IsReadable base entries bytes.now }
     ensures near { IfSome result (λ e. e.place + 8 < 2 ^ 33) }
     ensures first { result ≡ found tag (entry_list order base 0 entries bytes.now) }
 {

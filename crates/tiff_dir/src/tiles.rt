@@ -1,4 +1,4 @@
-ghost use Rattle.std.specs.Prelude.{◌≡◌, ℕ, ◌+◌, ◌*◌, ◌<◌, List, Some, length};
+ghost use Rattle.std.specs.Prelude.{◌≡◌, ℕ, ◌*◌, ◌<◌, List, Some, length};
 ghost use Rattle.tiff_dir.specs.File.{order_of, size_of};
 ghost use Rattle.tiff_dir.specs.Level.{level_of, level_value, tile_total};
 ghost use Rattle.tiff_dir.specs.Number.{number_in};

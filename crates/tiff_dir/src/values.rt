@@ -1,8 +1,8 @@
 // The values and places of a level's fields, as the table of a directory has them.
-ghost use Rattle.std.specs.Prelude.{◌≡◌, ℕ, ◌+◌, ◌*◌, ◌<◌, ◌≤◌, ◌^◌, true, false, length, MatchResult, IfSome, if◌then◌else◌, ◌==◌};
-ghost use Rattle.tiff_dir.specs.Profile.{accepts, planes_fit, samples_fit};
+ghost use Rattle.std.specs.Prelude.{◌≡◌, ◌+◌, ◌*◌, ◌<◌, ◌^◌, true, length, MatchResult, if◌then◌else◌, ◌==◌};
+ghost use Rattle.tiff_dir.specs.Profile.{planes_fit, samples_fit};
 ghost use Rattle.tiff_dir.specs.Stage.{IsArrayPlace, IsBounded};
-ghost use Rattle.tiff_dir.specs.Table.{counts_samples, draft_in, entries as entry_list, long_in, place_in, place_or, short_or, single_or, HasCounts, HasValues, IsCountFault, IsValueFault};
+ghost use Rattle.tiff_dir.specs.Table.{counts_samples, draft_in, entries as entry_list, long_in, place_in, place_or, short_or, single_or, HasCounts, HasValues, IsCountFault, IsValueFault, IsReadable};
 
 use crate::stage::Draft;
 use crate::table::{Entry, find_entry};
@@ -17,9 +17,7 @@ pub(crate) fn single(
     tag: u16,
     default: u32,
 ) -> u32
-    requires room { base ≤ 2 ^ 32 + 1 }
-    requires few { entries ≤ 256 }
-    requires whole { 12 * entries ≤ length bytes.now }
+    requires { IsReadable base entries bytes.now }
     ensures { result ≡ single_or (entry_list order base 0 entries bytes.now) tag default }
 {
     match find_entry(order, base, entries, bytes, tag) {
@@ -38,9 +36,7 @@ pub(crate) fn short(
     tag: u16,
     default: u16,
 ) -> u16
-    requires room { base ≤ 2 ^ 32 + 1 }
-    requires few { entries ≤ 256 }
-    requires whole { 12 * entries ≤ length bytes.now }
+    requires { IsReadable base entries bytes.now }
     ensures { result ≡ short_or (entry_list order base 0 entries bytes.now) tag default }
 {
     match find_entry(order, base, entries, bytes, tag) {
@@ -51,9 +47,7 @@ pub(crate) fn short(
 
 /// The last four bytes of a field's entry.
 pub(crate) fn long(order: Order, base: u64, entries: u16, bytes: &[u8], tag: u16) -> Option<u32>
-    requires room { base ≤ 2 ^ 32 + 1 }
-    requires few { entries ≤ 256 }
-    requires whole { 12 * entries ≤ length bytes.now }
+    requires { IsReadable base entries bytes.now }
     ensures { result ≡ long_in (entry_list order base 0 entries bytes.now) tag }
 {
     match find_entry(order, base, entries, bytes, tag) {
@@ -89,9 +83,7 @@ fn place_of_entry(entry: Entry) -> Place
 
 /// Where the values of the field stand.
 fn place(order: Order, base: u64, entries: u16, bytes: &[u8], tag: u16) -> Place
-    requires room { base ≤ 2 ^ 32 + 1 }
-    requires few { entries ≤ 256 }
-    requires whole { 12 * entries ≤ length bytes.now }
+    requires { IsReadable base entries bytes.now }
     ensures place { result ≡ place_or (entry_list order base 0 entries bytes.now) tag }
     ensures array { IsArrayPlace result }
 {
@@ -109,9 +101,7 @@ fn place(order: Order, base: u64, entries: u16, bytes: &[u8], tag: u16) -> Place
 /// What a table that keeps the profile says of its level.
 #[tactic(auto, unfolding(crate::specs::Table::draft_in))]
 pub(crate) fn draft(order: Order, base: u64, entries: u16, bytes: &[u8]) -> Draft
-    requires room { base ≤ 2 ^ 32 + 1 }
-    requires few { entries ≤ 256 }
-    requires whole { 12 * entries ≤ length bytes.now }
+    requires { IsReadable base entries bytes.now }
     ensures draft { result ≡ draft_in (entry_list order base 0 entries bytes.now) }
     ensures bounded { IsBounded result }
 {
@@ -159,9 +149,7 @@ pub(crate) fn check_values(
     entries: u16,
     bytes: &[u8],
 ) -> Result<(), FileFault>
-    requires room { base ≤ 2 ^ 32 + 1 }
-    requires few { entries ≤ 256 }
-    requires whole { 12 * entries ≤ length bytes.now }
+    requires { IsReadable base entries bytes.now }
     ensures { let es = entry_list order base 0 entries bytes.now in MatchResult result (λ _. HasValues es) (IsValueFault es) }
 {
     let photometric = short(order, base, entries, bytes, 262, 0);
@@ -185,9 +173,7 @@ pub(crate) fn check_values(
 
 /// Whether the field is absent or has a value for each sample.
 fn has_samples(order: Order, base: u64, entries: u16, bytes: &[u8], tag: u16) -> bool
-    requires room { base ≤ 2 ^ 32 + 1 }
-    requires few { entries ≤ 256 }
-    requires whole { 12 * entries ≤ length bytes.now }
+    requires { IsReadable base entries bytes.now }
     ensures { result ≡ counts_samples (entry_list order base 0 entries bytes.now) tag }
 {
     let samples = short(order, base, entries, bytes, 277, 1);
@@ -204,9 +190,7 @@ pub(crate) fn check_counts(
     entries: u16,
     bytes: &[u8],
 ) -> Result<(), FileFault>
-    requires room { base ≤ 2 ^ 32 + 1 }
-    requires few { entries ≤ 256 }
-    requires whole { 12 * entries ≤ length bytes.now }
+    requires { IsReadable base entries bytes.now }
     ensures { let es = entry_list order base 0 entries bytes.now in MatchResult result (λ _. HasCounts es) (IsCountFault es) }
 {
     if !has_samples(order, base, entries, bytes, 258) {

@@ -1,4 +1,4 @@
-ghost use Rattle.std.specs.Prelude.{◌≡◌, ℕ, ◌+◌, ◌<◌, ◌≤◌, List, [], ◌∷◌, ◌++◌, Some, All, IsSomeAnd, IfOk, IfErr, OnOk, OnErr, length, map, slice_get};
+ghost use Rattle.std.specs.Prelude.{◌≡◌, ℕ, ◌+◌, ◌<◌, ◌≤◌, List, [], ◌∷◌, ◌++◌, Some, All, IsSomeAnd, IfOk, IfErr, OnOk, OnErr, length, slice_get};
 ghost use Rattle.std.specs.Option.{option_to_list};
 ghost use Rattle.tiff_dir.specs.Fault.{IsFaultOfDirectories};
 ghost use Rattle.tiff_dir.specs.File.{order_of};
@@ -7,7 +7,7 @@ ghost use Rattle.tiff_dir.specs.Needs.{needs_of_directories};
 ghost use Rattle.tiff_dir.specs.Query.{array_range};
 ghost use Rattle.tiff_dir.specs.declared.fault.FileFault.{FileFault as Fault};
 ghost use Rattle.tiff_dir.specs.declared.level.Level.{Level as Described};
-ghost use Rattle.tiff_dir.specs.Walk.{range_of_place, to_come, wanted, Agrees, AreLevels, HasEnded, IfFile, IsProfiled, IsWanted, IsWantedOf, Wants};
+ghost use Rattle.tiff_dir.specs.Walk.{range_of_place, to_come, wanted, Agrees, AreLevels, HasEnded, IfFile, IsDescribed, IsProfiled, IsWanted, IsWantedOf, Wants};
 
 use crate::stage::Stage;
 use crate::steps::{range, step};
@@ -104,8 +104,9 @@ impl Walk {
         ensures some { 0 < length result.now }
         // The file's directories are without fault.
         ensures clean { (f : List ℕ) → Agrees self.now f → (fault : Fault) → IsFaultOfDirectories f fault → ⊥ }
-        // Each level is that of its number, and its arrays stand at its places.
+        // Each level is that of its number, has its values, and its arrays stand at its places.
         ensures level { (f : List ℕ) → Agrees self.now f → (n : ℕ) → level_of f n ≡ slice_get result.now n }
+        ensures values { (f : List ℕ) → Agrees self.now f → (n : ℕ) (l : Described) → slice_get result.now n ≡ Some l → IsDescribed f n l }
         ensures offsets { (f : List ℕ) → Agrees self.now f → (n : ℕ) (l : Described) → slice_get result.now n ≡ Some l → array_range f n 324 ≡ Some (range_of_place l.offsets) }
         ensures counts { (f : List ℕ) → Agrees self.now f → (n : ℕ) (l : Described) → slice_get result.now n ≡ Some l → array_range f n 325 ≡ Some (range_of_place l.counts) }
     {

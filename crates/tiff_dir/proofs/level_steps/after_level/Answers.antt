@@ -19,14 +19,14 @@ returns-in-Err-clause-agrees c = λ f is level sound before.
 pub returns-in_default-clause-agrees : goal.returns-in_default-clause-agrees
 returns-in_default-clause-agrees c = λ f is level sound before. absurd (bits_there _ c.in-Ok.ensures.read.met (sym c.long.ensures ∙ c.in_default.is))
 
-pub returns-then-draft-eq3-clause-agrees : goal.returns-then-draft-eq3-clause-agrees
-returns-then-draft-eq3-clause-agrees c = λ f is level sound before.
+pub returns-then-draft-eq-RGB-clause-agrees : goal.returns-then-draft-eq-RGB-clause-agrees
+returns-then-draft-eq-RGB-clause-agrees c = λ f is level sound before.
     let es = entries c.args.order (c.from-base.result + 2) 0 c.args.entries c.args.bytes.now in
     let has : HasTable f c.args.index es = rw c.from-base.ensures (has_table f _ _ _ _ _ is c.requires.whole) in
     let read = c.in-Ok.ensures.read in
     let p : Pending = record { order = c.args.order; index = c.args.index; next = c.long_at.result; draft = c.in-Ok.draft } in
     let pending : IsPending f p = rw c.long_at.ensures (pending_is f _ c.args.order c.args.index c.args.at c.args.entries es c.in-Ok.draft is c.requires.whole has read level sound) in
-    let samples : short_or es 277 1 ≡ 3 = sym (draft_samples es c.in-Ok.draft read) ∙ c.if-draft-eq3.true in
+    let samples : short_or es 277 1 ≡ 3 = sym (draft_samples es c.in-Ok.draft read) ∙ c.if-draft-eq-RGB.true in
     let bits : long_in es 258 ≡ Some c.in-Some.first = sym c.long.ensures ∙ c.in-Some.is in
     table_to_bits f c.args.order c.args.index c.args.at c.args.entries p c.in-Some.first c.long-formats.result refl level pending
     (bits_outside f c.args.index es c.in-Some.first has read.met read.counts samples bits)
@@ -37,7 +37,7 @@ returns-then-short-ne8-clause-agrees c = λ f is level sound before.
     let es = entries c.args.order (c.from-base.result + 2) 0 c.args.entries c.args.bytes.now in
     let has : HasTable f c.args.index es = rw c.from-base.ensures (has_table f _ _ _ _ _ is c.requires.whole) in
     let read = c.in-Ok.ensures.read in
-    let three : short_or es 277 1 ≢ 3 = λ e. c.if-draft-eq3.false (draft_samples es c.in-Ok.draft read ∙ e) in
+    let three : short_or es 277 1 ≢ 3 = λ e. c.if-draft-eq-RGB.false (draft_samples es c.in-Ok.draft read ∙ e) in
     let samples = one_sample es read.values three in
     let bad : short_or es 258 0 ≢ 8 = λ e. c.if-short-ne8.true (c.short.ensures ∙ e) in
     level_fault f c.args.index (Unsupported 258) c.requires.few has.there level (bits_unsupported f c.args.index es has read.met read.counts samples bad)
@@ -47,7 +47,7 @@ returns-then-short-ne1-clause-agrees c = λ f is level sound before.
     let es = entries c.args.order (c.from-base.result + 2) 0 c.args.entries c.args.bytes.now in
     let has : HasTable f c.args.index es = rw c.from-base.ensures (has_table f _ _ _ _ _ is c.requires.whole) in
     let read = c.in-Ok.ensures.read in
-    let three : short_or es 277 1 ≢ 3 = λ e. c.if-draft-eq3.false (draft_samples es c.in-Ok.draft read ∙ e) in
+    let three : short_or es 277 1 ≢ 3 = λ e. c.if-draft-eq-RGB.false (draft_samples es c.in-Ok.draft read ∙ e) in
     let samples = one_sample es read.values three in
     let bad : short_or es 339 1 ≢ 1 = λ e. c.if-short-ne1.true (c.short-2.ensures ∙ e) in
     level_fault f c.args.index (Unsupported 339) c.requires.few has.there level (formats_unsupported f c.args.index es has read.met read.counts samples bad)
@@ -59,7 +59,7 @@ returns-clause-agrees c = λ f is level sound before.
     let read = c.in-Ok.ensures.read in
     let p : Pending = record { order = c.args.order; index = c.args.index; next = c.long_at.result; draft = c.in-Ok.draft } in
     let pending : IsPending f p = rw c.long_at.ensures (pending_is f _ c.args.order c.args.index c.args.at c.args.entries es c.in-Ok.draft is c.requires.whole has read level sound) in
-    let three : short_or es 277 1 ≢ 3 = λ e. c.if-draft-eq3.false (draft_samples es c.in-Ok.draft read ∙ e) in
+    let three : short_or es 277 1 ≢ 3 = λ e. c.if-draft-eq-RGB.false (draft_samples es c.in-Ok.draft read ∙ e) in
     let samples = one_sample es read.values three in
     let eight : short_or es 258 0 ≡ 8 = sym c.short.ensures ∙ c.if-short-ne8.false in
     let one : short_or es 339 1 ≡ 1 = sym c.short-2.ensures ∙ c.if-short-ne1.false in

@@ -4,6 +4,7 @@ use Rattle.tiff_dir.specs.Stage.{range_of}
 use Rattle.tiff_dir.specs.Walk.{Known, AreLevels}
 use Rattle.tiff_dir.proofs.Bounds.{ended_some}
 use Rattle.tiff_dir.proofs.Told.{wanted_as, ended_clean, ended_levels, level_number, offsets_at, counts_at}
+use Rattle.tiff_dir.proofs.TileValues.{described}
 use Rattle.tiff_dir.proofs.walk.Walk.levels.Goals as goal
 
 pub returns-clause-levels : goal.returns-clause-levels
@@ -39,3 +40,9 @@ returns-clause-counts c = λ f told n l is.
     let same : c.as_slice.result.now ≡ c.args.self.now.levels = c.as_slice.ensures.value ∙ ap (λ (w : Known). w.levels) c.self.view_is in
     let P : List Level → Type 0 = λ ls. AreLevels f ls in
     counts_at f n l (level_number f c.as_slice.result.now n (subst P (sym same) (ended_levels c.args.self.now f c.requires told)) ∙ is)
+
+pub returns-clause-values : goal.returns-clause-values
+returns-clause-values c = λ f told n l is.
+    let same : c.as_slice.result.now ≡ c.args.self.now.levels = c.as_slice.ensures.value ∙ ap (λ (w : Known). w.levels) c.self.view_is in
+    let P : List Level → Type 0 = λ ls. AreLevels f ls in
+    described f n l (level_number f c.as_slice.result.now n (subst P (sym same) (ended_levels c.args.self.now f c.requires told)) ∙ is)
