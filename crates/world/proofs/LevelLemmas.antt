@@ -20,9 +20,9 @@ use Rattle.tiff_dir.specs.File.{◌>>=◌, value}
 use Rattle.tiff_dir.specs.Profile.{tiles_along}
 use Rattle.tiff_dir.specs.Level.{level_at, level_directory, level_of, level_value, across, tile_total, plain_size}
 use Rattle.tiff_dir.specs.Needs.{Range, ends_past}
-use Rattle.tiff_dir.specs.Query.{Rectangle, rectangle, is_outside, is_too_large, is_refused, meets, tiles_in, window_tiles, array_range, array_ranges, tile_range, groups, needs_of_query}
+use Rattle.tiff_dir.specs.Query.{Rectangle, rectangle, is_outside, is_too_large, is_refused, meets, overlap, tiles_in, window_tiles, array_range, array_ranges, tile_range, groups, needs_of_query}
 use Rattle.tiff_dir.specs.Faulty.{IsFaultOfQuery}
-use Rattle.tiff_dir.specs.Walk.{range_of_place}
+use Rattle.tiff_dir.specs.Walk.{range_of_place, IsDescribed}
 use Rattle.world.specs.declared.window.Window.{Window}
 use Rattle.world.specs.Readable.{IsOneTile, IsLevelOf, refusal_in}
 use Rattle.world.specs.Asked.{asked_in}
@@ -31,87 +31,41 @@ bind_some : {A B : Type 0} (o : Option A) (g : A → Option B) (y : B) → (o >>
 bind_some None g y e = absurd (none-some y e)
 bind_some (Some x) g y e = (x, refl, e)
 
--- the directory of a level, and what it says
-pub record IsInDirectory (f : List ℕ) (n : ℕ) (l : Level) : Type 0 where
-  pub directory : ℕ
-  pub directory_is : level_directory f n ≡ Some directory
-  pub width : value f directory 256 0 ≡ Some l.width
-  pub length_is : value f directory 257 0 ≡ Some l.length
-  pub samples : value f directory 277 0 ≡ Some l.samples
-
-in_directory_at : (f : List ℕ) (n k : ℕ) (l : Level) → level_directory f n ≡ Some k → level_at f k ≡ Some l → IsInDirectory f n l
-unfolding level_at
-in_directory_at f n k l at e =
-    let a = bind_some _ _ _ e in
-    let b = bind_some _ _ _ a.2 in
-    let c = bind_some _ _ _ b.2 in
-    let d = bind_some _ _ _ c.2 in
-    let s = bind_some _ _ _ d.2 in
-    let t = bind_some _ _ _ s.2 in
-    let u = bind_some _ _ _ t.2 in
-    let v = bind_some _ _ _ u.2 in
-    let w = bind_some _ _ _ v.2 in
-    let same = same_Some _ _ w.2 in
-    record {
-      directory = k;
-      directory_is = at;
-      width = a.1 ∙ ap Some (ap (λ (x : Level). x.width) same);
-      length_is = b.1 ∙ ap Some (ap (λ (x : Level). x.length) same);
-      samples = s.1 ∙ ap Some (ap (λ (x : Level). x.samples) same);
-    }
-
-pub in_directory : (f : List ℕ) (n : ℕ) (l : Level) → level_of f n ≡ Some l → IsInDirectory f n l
+level_there : (f : List ℕ) (n : ℕ) (l : Level) → level_of f n ≡ Some l → (k : ℕ) × (level_directory f n ≡ Some k)
 unfolding level_of
-in_directory f n l e = let p = bind_some (level_directory f n) (level_at f) l e in in_directory_at f n p.0 l p.1 p.2
-
-pub value_in : (f : List ℕ) (n k tag i : ℕ) → level_directory f n ≡ Some k → level_value f n tag i ≡ value f k tag i
-unfolding level_value
-value_in f n k tag i at = rw at refl
+level_there f n l e = let p = bind_some (level_directory f n) (level_at f) l e in (p.0, p.1)
 
 -- ---- refusals
 
 abbrev out_by : Level → ℕ → ℕ → ℕ → ℕ → Bool
 out_by l x y w h = (w == 0) || (h == 0) || nat_lt l.width (x + w) || nat_lt l.length (y + h)
 
-pub outside_is : (f : List ℕ) (n : ℕ) (l : Level) (v : Window) → level_of f n ≡ Some l → is_outside f (asked_in n v) ≡ out_by l v.x v.y v.w v.h
+pub outside_is : (f : List ℕ) (n : ℕ) (l : Level) (v : Window) → level_of f n ≡ Some l → IsDescribed f n l → is_outside f (asked_in n v) ≡ out_by l v.x v.y v.w v.h
 unfolding is_outside
-outside_is f n l v e =
-    let d = in_directory f n l e in
-    let width : level_value f n 256 0 ≡ Some l.width = value_in f n d.directory 256 0 d.directory_is ∙ d.width in
-    let long : level_value f n 257 0 ≡ Some l.length = value_in f n d.directory 257 0 d.directory_is ∙ d.length_is in
-    rw (d.directory_is, width, long) (ap (λ (t : Bool). t || nat_lt l.width (v.x + v.w) || nat_lt l.length (v.y + v.h)) (or-false ((v.w == 0) || (v.h == 0))))
+outside_is f n l v e d =
+    let k = level_there f n l e in
+    rw (k.1, d.width, d.length) (ap (λ (t : Bool). t || nat_lt l.width (v.x + v.w) || nat_lt l.length (v.y + v.h)) (or-false ((v.w == 0) || (v.h == 0))))
 
-pub large_is : (f : List ℕ) (n : ℕ) (l : Level) (v : Window) → level_of f n ≡ Some l → is_too_large f (asked_in n v) ≡ nat_lt 4194304 (v.w * v.h * l.samples)
+pub large_is : (f : List ℕ) (n : ℕ) (l : Level) (v : Window) → IsDescribed f n l → is_too_large f (asked_in n v) ≡ nat_lt 4194304 (v.w * v.h * l.samples)
 unfolding is_too_large rectangle
-large_is f n l v e =
-    let d = in_directory f n l e in
-    let samples : level_value f n 277 0 ≡ Some l.samples = value_in f n d.directory 277 0 d.directory_is ∙ d.samples in
-    rw samples refl
+large_is f n l v d = rw d.samples refl
 
-pub refusal_fault : (f : List ℕ) (n : ℕ) (l : Level) (v : Window) (fault : FileFault) → level_of f n ≡ Some l → refusal_in l v.x v.y v.w v.h ≡ Some fault → IsFaultOfQuery f (asked_in n v) fault
-refusal_fault f n l v fault e refused =
+pub refusal_fault : (f : List ℕ) (n : ℕ) (l : Level) (v : Window) (fault : FileFault) → level_of f n ≡ Some l → IsDescribed f n l → refusal_in l v.x v.y v.w v.h ≡ Some fault → IsFaultOfQuery f (asked_in n v) fault
+refusal_fault f n l v fault e d refused =
     elim (cases_Bool (out_by l v.x v.y v.w v.h)) [
       | inl out ↦
           (let same : Outside ≡ fault = same_Some _ _ (rw out at refused) in
-          subst (λ (k : FileFault). IsFaultOfQuery f (asked_in n v) k) same (outside_is f n l v e ∙ out))
+          subst (λ (k : FileFault). IsFaultOfQuery f (asked_in n v) k) same (outside_is f n l v e d ∙ out))
       | inr inside ↦
           elim (cases_Bool (nat_lt 4194304 (v.w * v.h * l.samples))) [
             | inl large ↦
                 (let same : TooLarge ≡ fault = same_Some _ _ (rw (inside, large) at refused) in
-                subst (λ (k : FileFault). IsFaultOfQuery f (asked_in n v) k) same (large_is f n l v e ∙ large))
+                subst (λ (k : FileFault). IsFaultOfQuery f (asked_in n v) k) same (large_is f n l v d ∙ large))
             | inr small ↦ absurd (none-some fault (rw (inside, small) at refused))
           ]
     ]
 
 -- a window that isn't refused
-pub record IsAccepted (f : List ℕ) (n : ℕ) (l : Level) (v : Window) : Type 0 where
-  pub outside : is_outside f (asked_in n v) ≡ false
-  pub large : is_too_large f (asked_in n v) ≡ false
-  pub wide : 0 < v.w
-  pub high : 0 < v.h
-  pub right : v.x + v.w ≤ l.width
-  pub bottom : v.y + v.h ≤ l.length
-
 pub record IsInside (l : Level) (v : Window) : Type 0 where
   pub out : out_by l v.x v.y v.w v.h ≡ false
   pub small : nat_lt 4194304 (v.w * v.h * l.samples) ≡ false
@@ -139,8 +93,8 @@ inside l v none =
           ]
     ]
 
-pub not_refused : (f : List ℕ) (n : ℕ) (l : Level) (v : Window) → level_of f n ≡ Some l → IsInside l v → (is_outside f (asked_in n v) ≡ false) × (is_too_large f (asked_in n v) ≡ false)
-not_refused f n l v e i = (outside_is f n l v e ∙ i.out, large_is f n l v e ∙ i.small)
+pub not_refused : (f : List ℕ) (n : ℕ) (l : Level) (v : Window) → level_of f n ≡ Some l → IsDescribed f n l → IsInside l v → (is_outside f (asked_in n v) ≡ false) × (is_too_large f (asked_in n v) ≡ false)
+not_refused f n l v e d i = (outside_is f n l v e d ∙ i.out, large_is f n l v d ∙ i.small)
 
 -- ---- the only tile
 
@@ -161,24 +115,24 @@ one_across l v one i = one_along l.width l.tile_width (omega (arith, i.right, i.
 pub one_total : (l : Level) (v : Window) → IsOneTile l → IsInside l v → tile_total l ≡ 1
 one_total l v one i = rw (one_across l v one i, one_along l.length l.tile_length (omega (arith, i.bottom, i.high)) one.long) refl
 
-asked_rectangle : ℕ → Window → Rectangle
+abbrev asked_rectangle : ℕ → Window → Rectangle
 asked_rectangle n v = record { level = n; left = v.x; top = v.y; width = v.w; height = v.h }
 
-meets_it : (l : Level) (n : ℕ) (v : Window) → IsOneTile l → IsInside l v → meets l (record { level = n; left = v.x; top = v.y; width = v.w; height = v.h }) 0 ≡ true
-meets_it l n v one i =
-    let wide = one.wide in
-    let long = one.long in
-    let right = i.right in
-    let bottom = i.bottom in
-    let w = i.wide in
-    let h = i.high in
-    rw (one_across l v one i) (and_from _ _
-      (and_from _ _ (lt-ltb 0 (v.x + v.w) (omega arith)) (lt-ltb v.x (0 + l.tile_width) (omega arith)))
-      (and_from _ _ (lt-ltb 0 (v.y + v.h) (omega arith)) (lt-ltb v.y (0 + l.tile_length) (omega arith))))
+one_overlap : (place tile first count : ℕ) → place ≡ 0 → 0 < count → first + count ≤ tile → overlap place tile first count ≡ true
+one_overlap place tile first count at some inside =
+    and_from _ _ (lt-ltb place (first + count) (omega arith)) (lt-ltb first (place + tile) (omega arith))
 
-pub only_tile : (f : List ℕ) (n : ℕ) (l : Level) (v : Window) → level_of f n ≡ Some l → IsOneTile l → IsInside l v → window_tiles f (asked_in n v) ≡ 0 ∷ []
+meets_it : (l : Level) (n : ℕ) (v : Window) → IsOneTile l → IsInside l v → meets l (asked_rectangle n v) 0 ≡ true
+meets_it l n v one i =
+    let column : (0 % across l) * l.tile_width ≡ 0 = rw (one_across l v one i) refl in
+    let row : (0 / across l) * l.tile_length ≡ 0 = rw (one_across l v one i) refl in
+    and_from _ _
+      (one_overlap ((0 % across l) * l.tile_width) l.tile_width v.x v.w column i.wide (omega (arith, i.right, one.wide)))
+      (one_overlap ((0 / across l) * l.tile_length) l.tile_length v.y v.h row i.high (omega (arith, i.bottom, one.long)))
+
+pub only_tile : (f : List ℕ) (n : ℕ) (l : Level) (v : Window) → level_of f n ≡ Some l → IsDescribed f n l → IsOneTile l → IsInside l v → window_tiles f (asked_in n v) ≡ 0 ∷ []
 unfolding window_tiles rectangle tiles_in
-only_tile f n l v e one i =
-    let ok = not_refused f n l v e i in
+only_tile f n l v e d one i =
+    let ok = not_refused f n l v e d i in
     let there = meets_it l n v one i in
     rw (ok.0, ok.1, e, one_total l v one i, there) refl

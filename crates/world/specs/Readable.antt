@@ -11,7 +11,7 @@ use Rattle.tiff_dir.specs.File.{order_of}
 use Rattle.tiff_dir.specs.Level.{level_of, level_value, plain_size}
 use Rattle.tiff_dir.specs.Fault.{IsFaultOfDirectories}
 use Rattle.tiff_dir.specs.Query.{rectangle, is_refused, array_range, tile_range}
-use Rattle.tiff_dir.specs.Walk.{IsProfiled, range_of_place}
+use Rattle.tiff_dir.specs.Walk.{IsDescribed, IsProfiled, range_of_place}
 use Rattle.tiff_dir.specs.Needs.{ends_past}
 use Rattle.tiff_dir.specs.Faulty.{is_byte_count}
 
@@ -36,6 +36,7 @@ pub record IsLevelOf (f : List ℕ) (n : ℕ) (order : Order) (l : Level) : Type
   pub clean : (fault : FileFault) → IsFaultOfDirectories f fault → ⊥
   pub order_is : order_of f ≡ Some order
   pub level_is : level_of f n ≡ Some l
+  pub described : IsDescribed f n l
   pub profiled : IsProfiled l
   pub offsets : array_range f n 324 ≡ Some (range_of_place l.offsets)
   pub counts : array_range f n 325 ≡ Some (range_of_place l.counts)
