@@ -1,10 +1,10 @@
 -- What is said of a file's level, by its description.
-use Rattle.std.proofs.Common.{◌≡◌, ℕ, zero, suc, ◌+◌, ◌-◌, ◌*◌, ◌/◌, ◌%◌, ◌<◌, ◌≤◌, Bool, true, false, cond, List, [], ◌∷◌, ◌++◌, length, map, take, drop, Option, Some, None, refl, sym, ap, subst, ◌∙◌, arith, ◌⊎◌, inl, inr}
+use Rattle.std.proofs.Common.{◌≡◌, ℕ, zero, suc, ◌+◌, ◌-◌, ◌*◌, ◌/◌, ◌%◌, ◌<◌, ◌≤◌, Bool, true, false, cond, List, [], ◌∷◌, ◌++◌, length, map, take, drop, Option, Some, None, refl, sym, ap, subst, ◌∙◌, arith, ◌⊎◌, inl, inr, zero-mul}
 use Rattle.std.specs.Prelude.{IsSome, IsSomeAnd, is_some, is_none, nat_lt, nat_le, ◌||◌, ◌&&◌, ◌==◌, if◌then◌else◌, slice_get, slice_range}
 use Rattle.std.specs.Option.{option_map_or, option_to_list}
 use Rattle.std.specs.List.{filter, filter_map, list_any, range_with_len, IsAmong}
 use Rattle.std.proofs.Math.Bool.{or-false}
-use Rattle.std.proofs.Math.Nat.{div-lt_iff_lt-mul, div-eq_of_lt, mod-eq_of_lt}
+use Rattle.std.proofs.Math.Nat.{mul-le-mul_right, div-lt_iff_lt-mul, div-eq_of_lt, mod-eq_of_lt}
 use Rattle.std.proofs.lemmas.Bool.{cases_Bool, or_parts, or_from, or_left, or_right, and_from, and_parts, le-leb, lt-ltb}
 use Rattle.std.proofs.lemmas.Bool.Decides.{nat_tests}
 use Rattle.std.proofs.lemmas.Option.{same_Some, none-some}
@@ -124,8 +124,8 @@ one_overlap place tile first count at some inside =
 
 meets_it : (l : Level) (n : ℕ) (v : Window) → IsOneTile l → IsInside l v → meets l (asked_rectangle n v) 0 ≡ true
 meets_it l n v one i =
-    let column : (0 % across l) * l.tile_width ≡ 0 = rw (one_across l v one i) refl in
-    let row : (0 / across l) * l.tile_length ≡ 0 = rw (one_across l v one i) refl in
+    let column : (0 % across l) * l.tile_width ≡ 0 = rw (one_across l v one i) (zero-mul l.tile_width) in
+    let row : (0 / across l) * l.tile_length ≡ 0 = rw (one_across l v one i) (zero-mul l.tile_length) in
     and_from _ _
       (one_overlap ((0 % across l) * l.tile_width) l.tile_width v.x v.w column i.wide (omega (arith, i.right, one.wide)))
       (one_overlap ((0 / across l) * l.tile_length) l.tile_length v.y v.h row i.high (omega (arith, i.bottom, one.long)))
@@ -136,3 +136,8 @@ only_tile f n l v e d one i =
     let ok = not_refused f n l v e d i in
     let there = meets_it l n v one i in
     rw (ok.0, ok.1, e, one_total l v one i, there) refl
+
+-- so many rows of the tile are in it
+pub rows_inside : (l : Level) (rows : ℕ) → rows ≤ l.tile_length → rows * (l.tile_width * l.samples) ≤ plain_size l
+rows_inside l rows few =
+    subst (λ n. rows * (l.tile_width * l.samples) ≤ n) (grind arith) (mul-le-mul_right (l.tile_width * l.samples) few)

@@ -5,3 +5,4 @@ pub mod Truth
 pub mod Whole
 pub mod CutLemmas
 pub mod LevelLemmas
+pub mod TileLemmas
