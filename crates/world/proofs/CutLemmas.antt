@@ -6,7 +6,7 @@ use Rattle.std.proofs.lemmas.List.{length-take, length-drop, get_or_append_left,
 use Rattle.std.proofs.Math.Nat.{mul-le-mul_right}
 use Rattle.world.specs.Readable.{IsCut}
 
-range_len : (bytes : List ℕ) (from width : ℕ) → from + width ≤ length bytes → length (slice_range bytes from (from + width)) ≡ width
+pub range_len : (bytes : List ℕ) (from width : ℕ) → from + width ≤ length bytes → length (slice_range bytes from (from + width)) ≡ width
 range_len bytes from width inside = omega (arith, length-take (from + width - from) (drop from bytes), length-drop from bytes)
 
 range_get : (bytes : List ℕ) (from width k : ℕ) → k < width → get_or (slice_range bytes from (from + width)) k 0 ≡ get_or bytes (from + k) 0

@@ -6,3 +6,5 @@ pub mod Whole
 pub mod CutLemmas
 pub mod LevelLemmas
 pub mod TileLemmas
+pub mod ReadLemmas
+pub mod AnswerLemmas

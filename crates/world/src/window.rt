@@ -96,8 +96,9 @@ pub fn cut(
 pub fn tile_bytes<'f>(file: &'f [u8], order: Order, level: &Level) -> Result<&'f [u8], FileFault>
     requires profiled { IsProfiled level.now }
     requires one { IsOneTile level.now }
-    ensures { (n : ℕ) → IsLevelOf file.now n order level.now
+    ensures read { (n : ℕ) → IsLevelOf file.now n order level.now
         → MatchResult result (λ bytes. IsTileRead file.now n level.now bytes.now) (IsArrayFault file.now n level.now) }
+    ensures size { IfOk result (λ bytes. length bytes.now ≡ plain_size level.now) }
 {
     let Some(offsets) = part(file, level.offsets.first, level.offsets.len) else {
         return Err(FileFault::PastEnd);

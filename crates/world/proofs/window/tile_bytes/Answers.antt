@@ -2,8 +2,8 @@ use Rattle.std.proofs.Common.{◌≡◌, ◌+◌, ◌*◌, ◌≤◌, length, re
 use Rattle.world.proofs.TileLemmas.{part_some, part_none, tile_past}
 use Rattle.world.proofs.window.tile_bytes.Goals as goal
 
-pub returns-in-None : goal.returns-in-None
-returns-in-None c = λ n at.
+pub returns-in-None-clause-read : goal.returns-in-None-clause-read
+returns-in-None-clause-read c = λ n at.
     let offsets = part_some c.args.file.now c.args.level.now.offsets.first c.args.level.now.offsets.len c.in-Some.offsets.now c.in-Some.ensures in
     let counts = part_some c.args.file.now c.args.level.now.counts.first c.args.level.now.counts.len c.in-Some-part.counts.now c.in-Some-part.ensures in
     let past = part_none c.args.file.now c.from-2.result c.from-3.result c.in-None.ensures in
