@@ -16,7 +16,7 @@ returns-clause-exchanged c =
     let text = c.deref.ensures.value ∙ c.requires.own in
     let served : Served = served_to_client (published (name_of client) catalogue) 0 65535 None in
     let shown = c.in_ok-answer.ensures (host_of client) (name_of client) can text in
-    let answers = (c.clients_are_answered.ensures catalogue (host_of client) (name_of client) [] 0 65535 None served can (omega arith)).1 refl in
+    let answers = (c.clients_are_answered.ensures.followed catalogue (host_of client) (name_of client) [] 0 65535 None served can (omega arith)).1 refl in
     let P : List ℕ → Type 0 = λ m. IsAnswer catalogue m served in
     let Q : List ℕ → Type 0 = λ t. Delivers client t c.in_ok-delivered.delivered c.deliver.new.self in
     record {
