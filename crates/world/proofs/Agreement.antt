@@ -1,19 +1,19 @@
 -- When a client agrees with a book.
-use Rattle.std.proofs.Common.{◌≡◌, ℕ, ◌+◌, List, [], ◌∷◌, ◌++◌, length, drop, Option, Some, None, refl, sym, ap, ◌∙◌, subst, arith, append-nil, length-append}
-use Rattle.std.specs.Prelude.{IfSome, IsSome, IsTrue, Bool, true, false, is_some, is_none}
+use Rattle.std.proofs.Common.{◌≡◌, ℕ, List, [], ◌∷◌, ◌++◌, length, drop, Option, Some, None, refl, sym, ap, ◌∙◌, subst, arith, append-nil, length-append}
+use Rattle.std.specs.Prelude.{IfSome, IsSome, true, false, is_some, is_none}
 use Rattle.std.proofs.lemmas.Option.{none-some, same_Some}
 use Rattle.world.specs.declared.outcome.Outcome.{Outcome}
 use Rattle.std.specs.Option.{option_copied, option_map}
 use Rattle.std.proofs.Common.{Bor}
 use Rattle.world.specs.declared.outcome.Report.{Report}
 use Rattle.tiff_dir.specs.declared.query.Query.{Query}
-use Rattle.http_range.specs.Book.{Publication, Book, In, HasDistinctTags}
+use Rattle.http_range.specs.Book.{Publication, Book}
 use Rattle.http_range.specs.Honest.{IsFront, IsPieceOf, IsPieceOfBook}
 use Rattle.http_range.specs.Piece.{SeenPiece}
 use Rattle.world.specs.declared.client.Revision.{Revision}
 use Rattle.world.specs.declared.client.Client.{Client}
 use Rattle.world.specs.Report.{Said, said_of, Told, told, IsTrueOf, IsTrueReport}
-use Rattle.world.specs.Client.{name_of, query_of, revision_of, report_of, StandsFor, Knows, KnowsOne, AgreesAs, Agrees, report_by, IsWhole, IsTrueOfPiece}
+use Rattle.world.specs.Client.{name_of, query_of, revision_of, report_of, StandsFor, KnowsOne, AgreesAs, Agrees, report_by, IsWhole, IsTrueOfPiece}
 
 -- what knows nothing agrees with every book
 pub agrees_empty : (c : Client) → revision_of c ≡ None → report_of c ≡ None → (book : Book) → Agrees c book
@@ -31,9 +31,9 @@ same_agrees_as (Some v) c d book name query report k = record {
   knows = record {
     complete = k.knows.complete;
     report =
-      let P : Option Told → Type 0 = λ o. IfSome o (StandsFor k.source.file (query_of d) v) in
-      let Q : Option Query → Type 0 = λ q. IfSome (report_of c) (StandsFor k.source.file q v) in
-      subst P (sym report) (subst Q (sym query) k.knows.report);
+        let P : Option Told → Type 0 = λ o. IfSome o (StandsFor k.source.file (query_of d) v) in
+        let Q : Option Query → Type 0 = λ q. IfSome (report_of c) (StandsFor k.source.file q v) in
+        subst P (sym report) (subst Q (sym query) k.knows.report);
   };
 }
 
@@ -98,7 +98,10 @@ adopted_agrees c name query book piece o v named asks revision tag complete repo
     let Q : Option Told → Type 0 = λ x. IfSome x (StandsFor p.file (query_of c) v) in
     let R : Option Query → Type 0 = λ q. IfSome (report_by query piece.tag o) (StandsFor p.file q v) in
     subst P (sym revision) (record {
-      source = p; published = published; of_name = of_name ∙ sym named; of_tag = sym of.tag ∙ sym tag;
+      source = p;
+      published = published;
+      of_name = of_name ∙ sym named;
+      of_tag = sym of.tag ∙ sym tag;
       knows = record {
         complete = complete ∙ of.complete;
         report = subst Q (sym report) (subst R (sym asks) (no_outcome o query p.file v p piece refl tag of outcome));

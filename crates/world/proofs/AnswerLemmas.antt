@@ -1,8 +1,7 @@
 -- The answer to a query, by the level of its window.
-use Rattle.std.proofs.Common.{◌≡◌, ℕ, ◌+◌, ◌<◌, ◌≤◌, true, false, Bool, List, map, length, get_or, Option, Some, None, Result, Ok, Err, refl, sym, ap, subst, ◌∙◌, arith, ◌⊎◌, inl, inr}
-use Rattle.std.specs.Prelude.{IfOk, IfSome, IsSome, IsSomeAnd, is_none, nat_lt, nat_le, ◌&&◌, ◌||◌, ◌==◌, slice_get}
-use Rattle.std.specs.Option.{option_map_or}
-use Rattle.std.proofs.lemmas.Bool.{cases_Bool, or_left, or_right, or_parts, and_from, le-leb}
+use Rattle.std.proofs.Common.{◌≡◌, ℕ, ◌+◌, ◌≤◌, true, false, List, length, Option, Some, None, Result, Ok, Err, refl, sym, ap, subst, arith, ◌⊎◌, inl, inr}
+use Rattle.std.specs.Prelude.{IfOk, IfSome, IsSome, IsSomeAnd, is_none, nat_lt, ◌||◌, ◌==◌}
+use Rattle.std.proofs.lemmas.Bool.{or_left, or_right, and_from, le-leb}
 use Rattle.std.proofs.lemmas.Bool.Decides.{nat_tests}
 use Rattle.std.proofs.lemmas.List.{length-map}
 use Rattle.std.proofs.lemmas.Option.{slice_get_past}
@@ -11,8 +10,8 @@ use Rattle.tiff_dir.specs.declared.level.Level.{Level}
 use Rattle.tiff_dir.specs.declared.query.Query.{Query}
 use Rattle.tiff_dir.specs.declared.fault.FileFault.{FileFault}
 use Rattle.tiff_dir.specs.declared.fault.FileFault.TheVariants.{Outside}
-use Rattle.tiff_dir.specs.Level.{level_at, level_directories, level_directory, level_of, level_value, levels}
-use Rattle.tiff_dir.specs.Query.{rectangle, is_outside, is_too_large, is_refused, passes}
+use Rattle.tiff_dir.specs.Level.{level_at, level_directories, level_directory, level_value, levels}
+use Rattle.tiff_dir.specs.Query.{rectangle, is_outside, is_refused, passes}
 use Rattle.tiff_dir.specs.Faulty.{IsFaulty}
 use Rattle.tiff_dir.specs.Walk.{AreLevels}
 use Rattle.tiff_dir.specs.declared.memory.Memory.{Memory}
@@ -20,14 +19,14 @@ use Rattle.world.specs.declared.window.Window.{Window}
 use Rattle.world.specs.declared.outcome.Outcome.{Outcome}
 use Rattle.world.specs.Asked.{asked_in}
 use Rattle.world.specs.Report.{IsTrueOf, said_of}
-use Rattle.world.specs.Readable.{is_one_tile, is_plain, refusal_in, AsksOneTile, IsLevelOf, IsOneTile, IsReadable}
+use Rattle.world.specs.Readable.{is_one_tile, is_plain, refusal_in, IsLevelOf, IsOneTile, IsReadable}
 use Rattle.world.proofs.LevelLemmas.{inside, not_refused}
 
 no_directory : (f : List ℕ) (n : ℕ) (ls : List Level) → AreLevels f ls → length ls ≤ n → level_directory f n ≡ None
 unfolding level_directory levels
 no_directory f n ls are past =
     slice_get_past (level_directories f) n
-      (omega (arith, past, length-map ls Some, length-map (level_directories f) (level_at f), ap length are))
+    (omega (arith, past, length-map ls Some, length-map (level_directories f) (level_at f), ap length are))
 
 -- a window of no level is outside
 pub no_level : (f : List ℕ) (n : ℕ) (ls : List Level) (v : Window) → AreLevels f ls → length ls ≤ n → IsFaulty f (asked_in n v) Outside
@@ -35,8 +34,8 @@ unfolding IsFaulty is_outside
 no_level f n ls v are past =
     let none : is_none (level_directory f n) ≡ true = ap is_none (no_directory f n ls are past) in
     inr (or_left ((v.w == 0) || (v.h == 0) || is_none (level_directory f n) || passes (v.x + v.w) (level_value f n 256 0)) (passes (v.y + v.h) (level_value f n 257 0))
-      (or_left ((v.w == 0) || (v.h == 0) || is_none (level_directory f n)) (passes (v.x + v.w) (level_value f n 256 0))
-        (or_right ((v.w == 0) || (v.h == 0)) (is_none (level_directory f n)) none)))
+    (or_left ((v.w == 0) || (v.h == 0) || is_none (level_directory f n)) (passes (v.x + v.w) (level_value f n 256 0))
+    (or_right ((v.w == 0) || (v.h == 0)) (is_none (level_directory f n)) none)))
 
 pub not_below : (n m : ℕ) → nat_lt n m ≡ false → m ≤ n
 not_below n m out = grind (arith, nat_tests)

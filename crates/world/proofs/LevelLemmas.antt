@@ -1,30 +1,22 @@
 -- What is said of a file's level, by its description.
-use Rattle.std.proofs.Common.{◌≡◌, ℕ, zero, suc, ◌+◌, ◌-◌, ◌*◌, ◌/◌, ◌%◌, ◌<◌, ◌≤◌, Bool, true, false, cond, List, [], ◌∷◌, ◌++◌, length, map, take, drop, Option, Some, None, refl, sym, ap, subst, ◌∙◌, arith, ◌⊎◌, inl, inr, zero-mul}
-use Rattle.std.specs.Prelude.{IsSome, IsSomeAnd, is_some, is_none, nat_lt, nat_le, ◌||◌, ◌&&◌, ◌==◌, if◌then◌else◌, slice_get, slice_range}
-use Rattle.std.specs.Option.{option_map_or, option_to_list}
-use Rattle.std.specs.List.{filter, filter_map, list_any, range_with_len, IsAmong}
+use Rattle.std.proofs.Common.{◌≡◌, ℕ, ◌+◌, ◌-◌, ◌*◌, ◌/◌, ◌%◌, ◌<◌, ◌≤◌, Bool, true, false, List, [], ◌∷◌, Option, Some, None, refl, sym, ap, subst, ◌∙◌, arith, inl, inr, zero-mul}
+use Rattle.std.specs.Prelude.{nat_lt, ◌||◌, ◌==◌}
 use Rattle.std.proofs.Math.Bool.{or-false}
-use Rattle.std.proofs.Math.Nat.{mul-le-mul_right, div-lt_iff_lt-mul, div-eq_of_lt, mod-eq_of_lt}
-use Rattle.std.proofs.lemmas.Bool.{cases_Bool, or_parts, or_from, or_left, or_right, and_from, and_parts, le-leb, lt-ltb}
+use Rattle.std.proofs.Math.Nat.{mul-le-mul_right, div-lt_iff_lt-mul}
+use Rattle.std.proofs.lemmas.Bool.{cases_Bool, or_parts, and_from, lt-ltb}
 use Rattle.std.proofs.lemmas.Bool.Decides.{nat_tests}
 use Rattle.std.proofs.lemmas.Option.{same_Some, none-some}
-use Rattle.tiff_dir.specs.declared.order.Order.{Order}
 use Rattle.tiff_dir.specs.declared.level.Level.{Level}
-use Rattle.tiff_dir.specs.declared.level.Compression.{Compression}
-use Rattle.tiff_dir.specs.declared.level.Compression.TheVariants.{Plain, PackBits}
-use Rattle.tiff_dir.specs.declared.query.Query.{Query}
 use Rattle.tiff_dir.specs.declared.fault.FileFault.{FileFault}
-use Rattle.tiff_dir.specs.declared.fault.FileFault.TheVariants.{PastEnd, TileSize, Outside, TooLarge}
-use Rattle.tiff_dir.specs.declared.fault.FileFault.TheVariants as faults
-use Rattle.tiff_dir.specs.File.{◌>>=◌, value}
+use Rattle.tiff_dir.specs.declared.fault.FileFault.TheVariants.{Outside, TooLarge}
+use Rattle.tiff_dir.specs.File.{◌>>=◌}
 use Rattle.tiff_dir.specs.Profile.{tiles_along}
-use Rattle.tiff_dir.specs.Level.{level_at, level_directory, level_of, level_value, across, tile_total, plain_size}
-use Rattle.tiff_dir.specs.Needs.{Range, ends_past}
-use Rattle.tiff_dir.specs.Query.{Rectangle, rectangle, is_outside, is_too_large, is_refused, meets, overlap, tiles_in, window_tiles, array_range, array_ranges, tile_range, groups, needs_of_query}
+use Rattle.tiff_dir.specs.Level.{level_at, level_directory, level_of, across, tile_total, plain_size}
+use Rattle.tiff_dir.specs.Query.{Rectangle, rectangle, is_outside, is_too_large, meets, overlap, tiles_in, window_tiles}
 use Rattle.tiff_dir.specs.Faulty.{IsFaultOfQuery}
-use Rattle.tiff_dir.specs.Walk.{range_of_place, IsDescribed}
+use Rattle.tiff_dir.specs.Walk.{IsDescribed}
 use Rattle.world.specs.declared.window.Window.{Window}
-use Rattle.world.specs.Readable.{IsOneTile, IsLevelOf, refusal_in}
+use Rattle.world.specs.Readable.{IsOneTile, refusal_in}
 use Rattle.world.specs.Asked.{asked_in}
 
 bind_some : {A B : Type 0} (o : Option A) (g : A → Option B) (y : B) → (o >>= g) ≡ Some y → (x : A) × (o ≡ Some x) × (g x ≡ Some y)
@@ -127,8 +119,8 @@ meets_it l n v one i =
     let column : (0 % across l) * l.tile_width ≡ 0 = rw (one_across l v one i) (zero-mul l.tile_width) in
     let row : (0 / across l) * l.tile_length ≡ 0 = rw (one_across l v one i) (zero-mul l.tile_length) in
     and_from _ _
-      (one_overlap ((0 % across l) * l.tile_width) l.tile_width v.x v.w column i.wide (omega (arith, i.right, one.wide)))
-      (one_overlap ((0 / across l) * l.tile_length) l.tile_length v.y v.h row i.high (omega (arith, i.bottom, one.long)))
+    (one_overlap ((0 % across l) * l.tile_width) l.tile_width v.x v.w column i.wide (omega (arith, i.right, one.wide)))
+    (one_overlap ((0 / across l) * l.tile_length) l.tile_length v.y v.h row i.high (omega (arith, i.bottom, one.long)))
 
 pub only_tile : (f : List ℕ) (n : ℕ) (l : Level) (v : Window) → level_of f n ≡ Some l → IsDescribed f n l → IsOneTile l → IsInside l v → window_tiles f (asked_in n v) ≡ 0 ∷ []
 unfolding window_tiles rectangle tiles_in

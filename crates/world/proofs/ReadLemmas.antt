@@ -1,22 +1,21 @@
 -- What is read of a level that is one plain tile.
-use Rattle.std.proofs.Common.{◌≡◌, ℕ, ◌+◌, ◌*◌, ◌/◌, ◌%◌, ◌<◌, ◌≤◌, true, false, List, [], ◌∷◌, length, Option, Some, None, refl, sym, ap, subst, ◌∙◌, arith, ◌⊎◌, inl, inr, zero-mul}
-use Rattle.std.specs.Prelude.{IsSomeAnd, nat_lt, nat_le, ◌&&◌, ◌||◌, ◌==◌, slice_get, slice_index, slice_range}
-use Rattle.std.specs.List.{filter_map, cons_option, list_any, IsAmong}
+use Rattle.std.proofs.Common.{◌≡◌, ℕ, ◌+◌, ◌*◌, ◌<◌, ◌≤◌, true, false, List, [], ◌∷◌, length, Option, Some, None, refl, sym, ap, subst, ◌∙◌, arith, ◌⊎◌, inl, inr, zero-mul}
+use Rattle.std.specs.Prelude.{IsSomeAnd, nat_lt, nat_le, ◌||◌, slice_get, slice_index}
+use Rattle.std.specs.List.{cons_option, list_any, IsAmong}
 use Rattle.std.proofs.Math.Nat.{div-eq_of_lt, mod-eq_of_lt, mul-le-mul_right, mul-pos}
 use Rattle.std.proofs.lemmas.Bool.{or_right, and_from, lt-ltb, le-leb, eq-eqb}
 use Rattle.std.proofs.lemmas.Bool.Decides.{nat_tests}
 use Rattle.std.proofs.lemmas.Option.{same_Some, slice_get-get_or}
 use Rattle.tiff_dir.specs.declared.order.Order.{Order}
 use Rattle.tiff_dir.specs.declared.level.Level.{Level}
-use Rattle.tiff_dir.specs.declared.level.Compression.{Compression}
-use Rattle.tiff_dir.specs.declared.level.Compression.TheVariants.{Plain, PackBits}
+use Rattle.tiff_dir.specs.declared.level.Compression.TheVariants.{Plain}
 use Rattle.tiff_dir.specs.declared.query.Query.{Query}
 use Rattle.tiff_dir.specs.declared.fault.FileFault.{FileFault}
 use Rattle.tiff_dir.specs.declared.fault.FileFault.TheVariants as faults
 use Rattle.tiff_dir.specs.Level.{level_of, level_value, segment, across, plain_size}
 use Rattle.tiff_dir.specs.Needs.{Range, ends_past}
-use Rattle.tiff_dir.specs.Query.{Rectangle, rectangle, window_tiles, array_ranges, tile_range, groups, needs_of_query}
-use Rattle.tiff_dir.specs.Window.{IsUnpacked, IsSample, HasSamples, tile_at, place_in_tile}
+use Rattle.tiff_dir.specs.Query.{Rectangle, rectangle, array_ranges, tile_range, groups, needs_of_query}
+use Rattle.tiff_dir.specs.Window.{IsSample, tile_at, place_in_tile}
 use Rattle.tiff_dir.specs.Faulty.{fills, is_byte_count, IsTileOfWindow, HasBadTile, HasBadPackets, IsFaultOfQuery, IsFaulty, IsWindow}
 use Rattle.tiff_dir.specs.Walk.{range_of_place, IsProfiled}
 use Rattle.world.specs.declared.window.Window.{Window}
@@ -25,7 +24,7 @@ use Rattle.world.specs.Asked.{asked_in}
 use Rattle.tiff_dir.specs.Fault.{IsFaultOfDirectories}
 use Rattle.world.specs.Report.{HasShape}
 use Rattle.world.proofs.CutLemmas.{range_len}
-use Rattle.world.proofs.LevelLemmas.{IsInside, not_refused, only_tile, one_across}
+use Rattle.world.proofs.LevelLemmas.{IsInside, not_refused, only_tile}
 
 abbrev window_in : ℕ → Window → Rectangle
 window_in n v = record { level = n; left = v.x; top = v.y; width = v.w; height = v.h }
@@ -242,26 +241,26 @@ sample_is f n order l v bytes pixels at one within read cut i j c column row of_
       plain = bytes;
       unpacked = rw one.plain refl;
       value = ap (slice_get bytes) (place_of_pixel l (v.x + i) (v.y + j) c left above)
-        ∙ slice_get-get_or bytes (((v.y + j) * l.tile_width + (v.x + i)) * l.samples + c) 0
-            (subst (λ m. ((v.y + j) * l.tile_width + (v.x + i)) * l.samples + c < m) (sym (tile_len f n l bytes read)) (place_below l (v.x + i) (v.y + j) c left above of_pixel))
-        ∙ ap Some (sym (from_cut l v bytes pixels cut i j c column row of_pixel));
+          ∙ slice_get-get_or bytes (((v.y + j) * l.tile_width + (v.x + i)) * l.samples + c) 0
+          (subst (λ m. ((v.y + j) * l.tile_width + (v.x + i)) * l.samples + c < m) (sym (tile_len f n l bytes read)) (place_below l (v.x + i) (v.y + j) c left above of_pixel))
+          ∙ ap Some (sym (from_cut l v bytes pixels cut i j c column row of_pixel));
     }
 
 pub window_is : (f : List ℕ) (n : ℕ) (order : Order) (l : Level) (v : Window) (bytes pixels : List ℕ) → IsLevelOf f n order l → IsOneTile l → IsInside l v → IsTileRead f n l bytes
     → IsCut bytes (l.tile_width * l.samples) (v.x * l.samples) (v.w * l.samples) v.y v.h pixels
     → IsWindow f (asked_in n v) pixels × HasShape f (asked_in n v) v.w v.h l.samples l.bits
 unfolding rectangle
-window_is f n order l v bytes pixels at one i read cut =
-    ( record {
-        sound = sound f n order l v bytes at one i read;
-        asked = window_in n v;
-        asked_is = refl;
-        samples = record {
-          level = l;
-          level_is = at.level_is;
-          size = cut.size ∙ grind arith;
-          each = sample_is f n order l v bytes pixels at one i read cut;
-        };
-      }
-    , record { asked = window_in n v; asked_is = refl; width = refl; height = refl; level = l; level_is = at.level_is; samples_are = refl; bits_are = refl }
-    )
+window_is f n order l v bytes pixels at one i read cut = (
+  record {
+    sound = sound f n order l v bytes at one i read;
+    asked = window_in n v;
+    asked_is = refl;
+    samples = record {
+      level = l;
+      level_is = at.level_is;
+      size = cut.size ∙ grind arith;
+      each = sample_is f n order l v bytes pixels at one i read cut;
+    };
+  },
+  record { asked = window_in n v; asked_is = refl; width = refl; height = refl; level = l; level_is = at.level_is; samples_are = refl; bits_are = refl },
+)

@@ -1,6 +1,6 @@
 -- Files on a shelf, and the catalogue that they are.
-use Rattle.std.proofs.Common.{◌≡◌, ℕ, zero, suc, ◌+◌, ◌-◌, ◌<◌, ◌≤◌, Bool, true, false, cond, not, List, [], ◌∷◌, ◌++◌, length, map, Option, Some, None, refl, sym, ap, subst, ◌∙◌, arith, inl, inr}
-use Rattle.std.specs.Prelude.{slice_set, nat_lt, nat_le, ◌&&◌, ◌==◌, is_none, is_some, IfSome, if◌then◌else◌}
+use Rattle.std.proofs.Common.{◌≡◌, ℕ, zero, suc, ◌+◌, ◌-◌, ◌<◌, ◌≤◌, Bool, cond, List, [], ◌∷◌, ◌++◌, length, map, Option, Some, None, refl, sym, ap, ◌∙◌, arith, inl, inr}
+use Rattle.std.specs.Prelude.{slice_set, is_none, IfSome}
 use Rattle.std.proofs.Common.{Bor}
 use Rattle.std.specs.Option.{option_map, option_copied}
 use Rattle.std.specs.List.{find, position, position_from}

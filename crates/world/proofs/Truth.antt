@@ -1,6 +1,6 @@
 -- The world's invariant, and that each report of a run is true.
 use Rattle.std.proofs.Common.{◌≡◌, ℕ, suc, zero, List, [], ◌∷◌, ◌++◌, length, map, Option, Some, None, Bool, true, false, cond, refl, sym, ap, ◌∙◌, subst, arith, ◌⊎◌, inl, inr, ◌<◌, ◌≤◌, ◌+◌, ◌-◌, ◌^◌, min, append-nil}
-use Rattle.std.specs.Prelude.{slice_get, slice_set, IfSome, IsTrue, nat_lt, nat_le, not, ◌&&◌, ◌==◌, is_some, is_none, if◌then◌else◌}
+use Rattle.std.specs.Prelude.{slice_get, slice_set, IfSome, nat_lt, not, ◌==◌, is_some, if◌then◌else◌}
 use Rattle.std.specs.Option.{option_map}
 use Rattle.std.specs.Str.{bytes_eq}
 use Rattle.std.proofs.lemmas.List.{map_push}
@@ -24,14 +24,13 @@ use Rattle.world.specs.declared.client.ClientError.{ClientError}
 use Rattle.world.specs.declared.event.Event.{Event}
 use Rattle.world.specs.declared.event.Event.TheVariants.{Publish, Epoch, NewClient, Open, Exchange}
 use Rattle.world.specs.declared.event.Effect.{Effect}
-use Rattle.world.specs.declared.event.Effect.TheVariants as effects
 use Rattle.world.specs.declared.event.Entry.{Entry}
 use Rattle.world.specs.Report.{Told, IsTrueReport}
 use Rattle.world.specs.Client.{client_refusal, host_of, name_of, query_of, report_of, Agrees}
-use Rattle.world.specs.Calls.{Starts, Opens, Requests, Delivers, Stands, SameClient, may_ask, request_of}
+use Rattle.world.specs.Calls.{Requests, may_ask}
 use Rattle.world.specs.Server.{refusal_of}
-use Rattle.world.specs.World.{World, Seen, host, start, next_of, publish_by, publish_effect, refused_at, restart_by, with_clients, with_sent, made_by, opened, sent_after, after, after_all, told_of, client_of, IsTrueAt, AllTrue}
-use Rattle.world.specs.Run.{seen, Quiet, Tells, Acts, Changes, AtClient, Adds, MakesBy, OpensWith, IsExchange, IsExchanged, ExchangesWith, Step, Runs}
+use Rattle.world.specs.World.{World, Seen, host, start, next_of, publish_by, refused_at, restart_by, with_clients, with_sent, made_by, opened, sent_after, after, after_all, told_of, client_of, IsTrueAt, AllTrue}
+use Rattle.world.specs.Run.{seen, Tells, AtClient, MakesBy, OpensWith, IsExchanged, ExchangesWith, Step, Runs}
 use Rattle.world.proofs.Lists.{get-map, get-set, get-set_same, get-push, set_there}
 use Rattle.world.proofs.ShelfLemmas.{map-set}
 
@@ -151,8 +150,14 @@ module _ (laws : LowerLaws) where
         count_small = room;
         older = λ q i. elim i [
           | inl e ↦ record { epoch = w.epoch; number = w.count + 1; epoch_small = epoch; number_small = room; tag = ap (λ (x : Publication). x.tag) e; used = inr (refl, omega arith) }
-          | inr j ↦ (let old = g.older q j in record { epoch = old.epoch; number = old.number; epoch_small = old.epoch_small; number_small = old.number_small; tag = old.tag;
-              used = elim old.used [ inl h ↦ inl h | inr h ↦ inr (h.0, omega (arith, h.1)) ] })
+          | inr j ↦ (let old = g.older q j in record {
+            epoch = old.epoch;
+            number = old.number;
+            epoch_small = old.epoch_small;
+            number_small = old.number_small;
+            tag = old.tag;
+            used = elim old.used [ inl h ↦ inl h | inr h ↦ inr (h.0, omega (arith, h.1)) ];
+          })
         ];
         distinct = λ q r i j e. elim i [
           | inl x ↦ elim j [ inl y ↦ x ∙ sym y | inr y ↦ absurd (unused w cs r g room y (sym e ∙ ap (λ (z : Publication). z.tag) x)) ]
@@ -175,8 +180,14 @@ good_epoch true w cs e t small g =
     record {
       epoch_small = small;
       count_small = omega arith;
-      older = λ p i. (let old = g.older p i in record { epoch = old.epoch; number = old.number; epoch_small = old.epoch_small; number_small = old.number_small; tag = old.tag;
-        used = inl (elim old.used [ inl h ↦ omega (arith, h) | inr h ↦ omega (arith, h.0) ]) });
+      older = λ p i. (let old = g.older p i in record {
+        epoch = old.epoch;
+        number = old.number;
+        epoch_small = old.epoch_small;
+        number_small = old.number_small;
+        tag = old.tag;
+        used = inl (elim old.used [ inl h ↦ omega (arith, h) | inr h ↦ omega (arith, h.0) ]);
+      });
       distinct = g.distinct;
       lawful = tt;
       covers = λ name p found. absurd (none-some p found);
@@ -188,23 +199,41 @@ good_epoch true w cs e t small g =
 
 good_clients : (w : World) (cs new : List Client) (clients : List Seen) → Good w cs → map seen new ≡ clients → AllAgree new w.book → Good (with_clients w clients) new
 good_clients w cs new clients g same agree =
-    record { epoch_small = g.epoch_small; count_small = g.count_small; older = λ p i. (let old = g.older p i in record { epoch = old.epoch; number = old.number; epoch_small = old.epoch_small; number_small = old.number_small; tag = old.tag; used = old.used });
-      distinct = g.distinct; lawful = g.lawful; covers = g.covers; seen_are = same; agree = agree }
+    record {
+      epoch_small = g.epoch_small;
+      count_small = g.count_small;
+      older = λ p i. (let old = g.older p i in record { epoch = old.epoch; number = old.number; epoch_small = old.epoch_small; number_small = old.number_small; tag = old.tag; used = old.used });
+      distinct = g.distinct;
+      lawful = g.lawful;
+      covers = g.covers;
+      seen_are = same;
+      agree = agree;
+    }
 
 good_sent : (w : World) (cs : List Client) (sent : ℕ) → Good w cs → Good (with_sent w sent) cs
 good_sent w cs sent g =
-    record { epoch_small = g.epoch_small; count_small = g.count_small; older = λ p i. (let old = g.older p i in record { epoch = old.epoch; number = old.number; epoch_small = old.epoch_small; number_small = old.number_small; tag = old.tag; used = old.used });
-      distinct = g.distinct; lawful = g.lawful; covers = g.covers; seen_are = g.seen_are; agree = g.agree }
+    record {
+      epoch_small = g.epoch_small;
+      count_small = g.count_small;
+      older = λ p i. (let old = g.older p i in record { epoch = old.epoch; number = old.number; epoch_small = old.epoch_small; number_small = old.number_small; tag = old.tag; used = old.used });
+      distinct = g.distinct;
+      lawful = g.lawful;
+      covers = g.covers;
+      seen_are = g.seen_are;
+      agree = g.agree;
+    }
 
 agree_set : (cs : List Client) (i : ℕ) (c next : Client) (book : Book) → slice_get cs i ≡ Some c → AllAgree cs book → AgreesLater next book → AllAgree (slice_set cs i next) book
 agree_set cs i c next book there all new = λ j d e. elim (get-set cs i j next d c there e) [
   | inl is ↦ (let P : Client → Type 0 = λ x. AgreesLater x book in subst P (sym is) new)
-  | inr old ↦ all j d old ]
+  | inr old ↦ all j d old
+]
 
 agree_push : (cs : List Client) (next : Client) (book : Book) → AllAgree cs book → AgreesLater next book → AllAgree (cs ++ next ∷ []) book
 agree_push cs next book all new = λ j d e. elim (get-push cs j next d e) [
   | inl is ↦ (let P : Client → Type 0 = λ x. AgreesLater x book in subst P (sym is) new)
-  | inr old ↦ all j d old ]
+  | inr old ↦ all j d old
+]
 
 abbrev see : List ℕ → Option Query → Seen
 see name query = record { name = name; query = query }
@@ -247,8 +276,8 @@ newly_told false o P h = h
 sound_call : (w : World) (cs new : List Client) (i : ℕ) (c next : Client) (n : Entry) → Good w new → slice_get cs i ≡ Some c → new ≡ slice_set cs i next → AgreesLater next w.book → Tells c next (told_of n) → IsSound w new (Some i) (told_of n)
 sound_call w cs new i c next n g there changed agrees tells =
     let at : slice_get w.clients i ≡ Some (seen next) =
-        ap (λ (ss : List Seen). slice_get ss i) (sym g.seen_are) ∙ (ap (λ (xs : List Client). slice_get (map seen xs) i) changed
-        ∙ (get-map seen (slice_set cs i next) i ∙ ap (λ (o : Option Client). option_map seen o) (get-set_same cs i next c there))) in
+    ap (λ (ss : List Seen). slice_get ss i) (sym g.seen_are) ∙ (ap (λ (xs : List Client). slice_get (map seen xs) i) changed
+    ∙ (get-map seen (slice_set cs i next) i ∙ ap (λ (o : Option Client). option_map seen o) (get-set_same cs i next c there))) in
     let holds = told_by tells.standing w i next at (tells.stands.holds w.book (agrees w.book (λ p j. j) g.distinct)) in
     let P : Option Told → Type 0 = λ o. IfSome o (IsTrueAt w (Some i)) in
     record { good = g; told = subst P (sym tells.newly) (newly_told (is_some (report_of c)) tells.standing (IsTrueAt w (Some i)) holds) }
@@ -325,7 +354,7 @@ module _ (laws : LowerLaws) where
   exchanged_kept w cs i (Some request) effect c mid next g r h agrees =
       let own : request ≡ request_text (host_of c) (name_of c) 0 65535 None = asked_text (may_ask c) _ request r.asks in
       let mine : request ≡ request_text (host_of mid) (name_of mid) 0 65535 None =
-        own ∙ ap (λ (x : List ℕ). request_text x (name_of c) 0 65535 None) (sym r.same.host) ∙ ap (λ (x : List ℕ). request_text (host_of mid) x 0 65535 None) (sym r.same.name) in
+      own ∙ ap (λ (x : List ℕ). request_text x (name_of c) 0 65535 None) (sym r.same.host) ∙ ap (λ (x : List ℕ). request_text (host_of mid) x 0 65535 None) (sym r.same.name) in
       record {
         same = seen_same c next (h.delivers.same.name ∙ r.same.name) (h.delivers.query ∙ r.query);
         agrees = λ later inc d. h.delivers.agrees later d (r.agrees later (agrees later inc d)) (honest_own w cs mid request h.served later g mine h.answered inc);

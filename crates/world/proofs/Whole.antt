@@ -1,10 +1,9 @@
 -- A run goes on by one event, and a whole run is a log.
-use Rattle.std.proofs.Common.{◌≡◌, ℕ, List, [], ◌∷◌, ◌++◌, length, take, Option, Some, None, Bool, true, false, cond, refl, sym, ap, ◌∙◌, subst, arith, ◌⊎◌, inl, inr, ◌<◌, ◌≤◌, ◌+◌, get_or, Result, Ok, Err}
-use Rattle.std.specs.Prelude.{IfOk, IfSome, OnErr, OnOk, nat_lt}
+use Rattle.std.proofs.Common.{◌≡◌, ℕ, List, [], ◌∷◌, ◌++◌, length, take, Option, Some, None, Bool, true, false, refl, sym, ap, ◌∙◌, subst, inl, inr, ◌<◌, ◌≤◌, ◌+◌, get_or, Result, Ok, Err}
+use Rattle.std.specs.Prelude.{IfOk, IfSome, OnErr, nat_lt}
 use Rattle.std.proofs.Common.{Vec, Global}
 use Rattle.std.proofs.lemmas.List.{take_more, take_all}
 use Rattle.std.proofs.lemmas.Option.{same_Some}
-use Rattle.std.proofs.lemmas.Result.{IfOk-weaker}
 use Rattle.tiff_dir.specs.declared.level.Level.{Level}
 use Rattle.tiff_dir.specs.declared.query.Query.{Query}
 use Rattle.tiff_dir.specs.Level.{level_of}
@@ -17,14 +16,13 @@ use Rattle.world.specs.declared.client.Client.{Client}
 use Rattle.world.specs.declared.client.ClientError.{ClientError}
 use Rattle.world.specs.declared.event.Event.{Event}
 use Rattle.world.specs.declared.event.Event.TheVariants.{Publish, Epoch, NewClient, Open, Exchange}
-use Rattle.world.specs.declared.event.Effect.{Effect}
 use Rattle.world.specs.declared.event.Entry.{Entry}
 use Rattle.world.specs.Report.{Said, Samples, Bad, Told, HasShape, IsTrueOf}
 use Rattle.world.specs.Client.{client_refusal}
-use Rattle.world.specs.Server.{refusal_of, IsAt, catalogue_of, count_of, epoch_of}
+use Rattle.world.specs.Server.{refusal_of, IsAt, catalogue_of, count_of}
 use Rattle.world.specs.World.{World, host, start, next_of, publish_by, publish_effect, refused_at, restart_by, made_by, after, after_all, told_of, client_of, IsTrueAt, AllTrue, IsToldIn, SaysTheSame, AreAlike}
-use Rattle.world.specs.Run.{IsAtAfter, Publishes, Quiet, Step, Runs, IsRun, IsBeginning, IsState, Does}
-use Rattle.world.proofs.Truth.{LowerLaws, Good, good_start, true_run}
+use Rattle.world.specs.Run.{IsAtAfter, Publishes, Step, Runs, IsRun, IsBeginning, IsState, Does}
+use Rattle.world.proofs.Truth.{LowerLaws, good_start, true_run}
 
 pub runs_more : (w : World) (cs : List Client) (es : List Event) (ns : List Entry) (mid : List Client) (e : Event) (n : Entry) (new : List Client) → Runs w cs es ns mid → Step (after_all w es ns) mid e n new → Runs w cs (es ++ e ∷ []) (ns ++ n ∷ []) new
 runs_more w cs [] [] mid e n new h s = (new, (let P : List Client → Type 0 = λ xs. Step w xs e n new in subst P h s), refl)
@@ -169,8 +167,8 @@ more events i ns cs new e n entries server sent inside is added runs does =
     let P' : List Entry → Type 0 = λ ms. Runs start [] (take (i + 1) events) ms new in
     let Q : World → Type 0 = λ w. IsState w server sent in
     let same : after_all start (take (i + 1) events) entries ≡ after (after_all start (take i events) ns) e n.effect =
-        ap (λ (ms : List Entry). after_all start (take (i + 1) events) ms) added
-        ∙ (ap (λ (xs : List Event). after_all start xs (ns ++ n ∷ [])) es ∙ after_more start [] (take i events) ns cs e n runs) in
+    ap (λ (ms : List Entry). after_all start (take (i + 1) events) ms) added
+    ∙ (ap (λ (xs : List Event). after_all start xs (ns ++ n ∷ [])) es ∙ after_more start [] (take i events) ns cs e n runs) in
     (subst P' (sym added) (subst P (sym es) (runs_more start [] (take i events) ns cs e n new runs does.step)), subst Q (sym same) does.state)
 
 -- ---- a publication
@@ -192,7 +190,7 @@ does_publish w old new sent cs name file n h s =
         same = refl;
       };
       state = published_at w (next_of w name.items file.items) (refused_at w name.items file.items) new sent s.sent_is
-        (subst R at.files (subst Q at.count_is (subst P at.epoch_is h.server_at)));
+          (subst R at.files (subst Q at.count_is (subst P at.epoch_is h.server_at)));
     }
 
 pub ok_publish : (r : Result Entry Memory) (old new : Server) (sent : ℕ) (cs : List Client) (event : Event) (name file : Vec ℕ Global) (name' file' : List ℕ) → event ≡ Publish name file → name' ≡ name.items → file' ≡ file.items

@@ -1,5 +1,5 @@
 -- What each call of a client does, from one state to the next.
-use Rattle.std.specs.Prelude.{◌≡◌, ℕ, ◌+◌, ◌*◌, ◌<◌, Bool, true, ◌&&◌, ◌||◌, nat_lt, nat_le, min, if◌then◌else◌, List, length, Option, Some, None, IfSome, IsSome, IsSomeAnd, is_some, is_none, Result, Ok, Err, ⊤}
+use Rattle.std.specs.Prelude.{◌≡◌, ℕ, ◌+◌, ◌*◌, Bool, ◌&&◌, nat_lt, nat_le, min, if◌then◌else◌, List, length, Option, Some, None, IfSome, IsSome, IsSomeAnd, is_some, is_none, Result, Ok, Err, ⊤}
 use Rattle.std.specs.List.{count_by, range_with_len}
 use Rattle.tiff_dir.specs.declared.query.Query.{Query}
 use Rattle.http_range.specs.declared.reading.Why.{Why}

@@ -1,5 +1,5 @@
 -- What a client is, and when what it holds is of a published file.
-use Rattle.std.specs.Prelude.{◌≡◌, ℕ, Bool, true, false, not, ◌&&◌, ◌||◌, nat_lt, if◌then◌else◌, List, length, Option, Some, None, IfSome, is_some, is_none, ⊤}
+use Rattle.std.specs.Prelude.{◌≡◌, ℕ, not, ◌||◌, nat_lt, if◌then◌else◌, List, length, Option, Some, None, IfSome, ⊤}
 use Rattle.std.specs.Option.{option_map}
 use Rattle.tiff_dir.specs.declared.query.Query.{Query}
 use Rattle.tiff_dir.specs.declared.span.Span.{Span}

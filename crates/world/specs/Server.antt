@@ -1,5 +1,5 @@
 -- The server of one epoch.
-use Rattle.std.specs.Prelude.{◌≡◌, ℕ, ◌+◌, Bool, not, ◌&&◌, ◌==◌, nat_lt, nat_le, if◌then◌else◌, List, [], ◌∷◌, ◌++◌, length, map, slice_set, Option, Some, None, is_none, ⊤}
+use Rattle.std.specs.Prelude.{◌≡◌, ℕ, not, ◌&&◌, ◌==◌, nat_lt, nat_le, if◌then◌else◌, List, [], ◌∷◌, ◌++◌, length, map, slice_set, Option, Some, None, is_none, ⊤}
 use Rattle.std.specs.Option.{option_map}
 use Rattle.http_range.specs.Names.{is_name}
 use Rattle.http_range.specs.Reply.{status_of}

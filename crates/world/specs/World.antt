@@ -1,9 +1,8 @@
 -- What a schedule makes of the world. It knows of no client but its name and its last query, and of what the
 -- clients do only that an exchange had a request.
-use Rattle.std.specs.Prelude.{◌≡◌, ℕ, zero, suc, ◌+◌, Bool, not, ◌||◌, nat_lt, if◌then◌else◌, List, [], ◌∷◌, ◌++◌, length, codes, Option, Some, None, IfSome, slice_get, ◌⊎◌}
+use Rattle.std.specs.Prelude.{◌≡◌, ℕ, zero, suc, ◌+◌, Bool, nat_lt, if◌then◌else◌, List, [], ◌∷◌, ◌++◌, codes, Option, Some, None, IfSome, slice_get, ◌⊎◌}
 use Rattle.std.specs.Option.{option_map}
 use Rattle.tiff_dir.specs.declared.query.Query.{Query}
-use Rattle.http_range.specs.Names.{is_name}
 use Rattle.http_range.specs.Book.{Publication, Book, Catalogue, publish, version_tag}
 use Rattle.world.specs.declared.server.Refusal.{Refusal}
 use Rattle.world.specs.declared.event.Event.{Event}
@@ -23,10 +22,10 @@ pub record Seen : Type 0 where
 
 pub record World : Type 0 where
   pub epoch : ℕ
-  pub count : ℕ              -- the accepted publications of the epoch
+  pub count : ℕ  -- the accepted publications of the epoch
   pub catalogue : Catalogue  -- the last publication of each name in the epoch
-  pub book : Book            -- all publications of all epochs
-  pub sent : ℕ               -- the answers that were ever sent
+  pub book : Book  -- all publications of all epochs
+  pub sent : ℕ  -- the answers that were ever sent
   pub clients : List Seen
 
 -- it begins with epoch 0 and no file

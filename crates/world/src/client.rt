@@ -67,12 +67,7 @@ impl Client {
     ghost use Rattle.world.specs.Calls.{Delivers, Opens, Requests, SameClient, may_ask, Stands, Starts};
 
     /// A client of a file's name at a host. Its cache would have `blocks` blocks of 16,384 bytes.
-    pub fn new(
-        alloc: Global,
-        host: &[u8],
-        name: &[u8],
-        blocks: u32,
-    ) -> Result<Client, ClientError>
+    pub fn new(alloc: Global, host: &[u8], name: &[u8], blocks: u32) -> Result<Client, ClientError>
         ensures starts { IfOk result (Starts host.now name.now) }
         ensures ok { OnOk result (client_refusal host.now name.now blocks ≡ None) }
         ensures refused { IfErr result (IsRefusedBy (client_refusal host.now name.now blocks)) }

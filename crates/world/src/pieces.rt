@@ -36,9 +36,7 @@ fn has_block(piece: &Piece<'_>, k: u32) -> bool
 {
     let first = 16384 * u64::from(k);
     let end = piece.complete.min(first + 16384);
-    first < piece.complete
-        && piece.first <= first
-        && end - piece.first <= piece.body.len() as u64
+    first < piece.complete && piece.first <= first && end - piece.first <= piece.body.len() as u64
 }
 
 /// How many blocks of the first 65,536 bytes are whole in the piece.

@@ -27,7 +27,11 @@ pub fn find_file<'f>(files: &'f [Published], name: &[u8]) -> Option<&'f Publishe
 }
 
 /// Stores a file at its place, or at the end.
-pub fn put(files: &mut Vec<Published>, place: Option<usize>, file: Published) -> Result<(), PublishError>
+pub fn put(
+    files: &mut Vec<Published>,
+    place: Option<usize>,
+    file: Published,
+) -> Result<(), PublishError>
     requires { IfSome place (λ i. i < length files.old.items) }
     ensures ok { OnOk result (map publication files.new.items ≡ put_at place (publication file) (map publication files.old.items)) }
     ensures err { OnErr result (files.new.items ≡ files.old.items) }
@@ -66,7 +70,11 @@ pub fn name_asked(message: &[u8]) -> &[u8]
 fn after_slash(target: &[u8]) -> &[u8]
     ensures { result.now ≡ drop 1 target.now }
 {
-    if target.is_empty() { target } else { &target[1..] }
+    if target.is_empty() {
+        target
+    } else {
+        &target[1..]
+    }
 }
 
 /// 404, without a body.

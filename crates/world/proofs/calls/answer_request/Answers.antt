@@ -1,7 +1,7 @@
-use Rattle.std.proofs.Common.{◌≡◌, ◌++◌, ℕ, List, [], None, refl, sym, ap, subst, ◌∙◌, arith, append-nil}
-use Rattle.http_range.specs.Ask.{CanAsk, request_text}
+use Rattle.std.proofs.Common.{ℕ, List, [], None, refl, sym, subst, ◌∙◌, arith, append-nil}
+use Rattle.http_range.specs.Ask.{CanAsk}
 use Rattle.http_range.specs.Book.{published}
-use Rattle.http_range.specs.Served.{Served, IsAnswer, served_to_client, text_of}
+use Rattle.http_range.specs.Served.{Served, IsAnswer, served_to_client}
 use Rattle.world.specs.Client.{host_of, name_of}
 use Rattle.world.specs.Calls.{Delivers}
 use Rattle.world.specs.Server.{catalogue_of}
@@ -12,7 +12,7 @@ returns-clause-exchanged c =
     let client = c.args.client.now in
     let catalogue = catalogue_of c.args.server.now in
     let can : CanAsk (host_of client) (name_of client) 0 65535 None =
-      record { to_host = client.hosted; of_name = client.named; from_first = omega arith; to_last = omega arith; kept = tt } in
+    record { to_host = client.hosted; of_name = client.named; from_first = omega arith; to_last = omega arith; kept = tt } in
     let text = c.deref.ensures.value ∙ c.requires.own in
     let served : Served = served_to_client (published (name_of client) catalogue) 0 65535 None in
     let shown = c.in_ok-answer.ensures (host_of client) (name_of client) can text in

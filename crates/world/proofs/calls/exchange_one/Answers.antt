@@ -1,4 +1,3 @@
-use Rattle.std.proofs.Common.{ap}
 use Rattle.std.specs.Option.{option_map}
 use Rattle.world.proofs.Lists.{tells_of}
 use Rattle.world.proofs.calls.exchange_one.Goals as goal

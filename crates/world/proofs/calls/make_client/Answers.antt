@@ -1,4 +1,4 @@
-use Rattle.std.proofs.Common.{◌≡◌, ℕ, List, Option, None, arith, ap, sym, subst, ◌∙◌}
+use Rattle.std.proofs.Common.{ℕ, Option, arith, ap, sym, subst, ◌∙◌}
 use Rattle.world.specs.declared.client.ClientError.{ClientError}
 use Rattle.world.specs.declared.event.Effect.TheVariants as effects
 use Rattle.world.specs.Run.{MakesBy}

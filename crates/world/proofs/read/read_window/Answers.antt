@@ -1,4 +1,4 @@
-use Rattle.std.proofs.Common.{◌≡◌, inr, sym}
+use Rattle.std.proofs.Common.{inr, sym}
 use Rattle.tiff_dir.specs.Faulty.{IsFaulty}
 use Rattle.world.proofs.LevelLemmas.{refusal_fault}
 use Rattle.world.proofs.read.read_window.Goals as goal

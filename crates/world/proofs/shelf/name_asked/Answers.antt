@@ -1,4 +1,4 @@
-use Rattle.std.proofs.Common.{◌≡◌, ℕ, List, [], drop, None, Some, sym, ap, ◌∙◌, append-nil}
+use Rattle.std.proofs.Common.{◌≡◌, [], drop, None, sym, ap, ◌∙◌, append-nil}
 use Rattle.std.proofs.lemmas.Option.{none-some, same_Some}
 use Rattle.http_range.specs.Seen.{SeenRequest}
 use Rattle.http_range.specs.Ask.{asked_request}

@@ -1,5 +1,4 @@
-use Rattle.std.proofs.Common.{◌≡◌, map, sym, ap, ◌∙◌}
-use Rattle.http_range.specs.Book.{Catalogue}
+use Rattle.std.proofs.Common.{map, sym, ap, ◌∙◌}
 use Rattle.world.specs.Server.{publication, put_at}
 use Rattle.world.proofs.ShelfLemmas.{map-set}
 use Rattle.world.proofs.shelf.put.Goals as goal

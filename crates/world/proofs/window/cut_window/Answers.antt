@@ -1,4 +1,4 @@
-use Rattle.std.proofs.Common.{◌≡◌, ◌+◌, ◌*◌, ◌≤◌, length, refl, sym, subst, arith}
+use Rattle.std.proofs.Common.{◌+◌, ◌*◌, ◌≤◌, sym, subst, arith}
 use Rattle.world.proofs.LevelLemmas.{inside, rows_inside}
 use Rattle.world.proofs.window.cut_window.Goals as goal
 
@@ -6,4 +6,4 @@ pub cut-requires-clause-long : goal.cut-requires-clause-long
 cut-requires-clause-long c =
     let i = inside c.args.level.now c.args.window c.requires.good in
     rw c.from-samples.ensures (subst (λ n. (c.args.window.y + c.args.window.h) * (c.args.level.now.tile_width * c.args.level.now.samples) ≤ n) (sym c.requires.tile)
-      (rows_inside c.args.level.now (c.args.window.y + c.args.window.h) (omega (arith, i.bottom, c.requires.one.long))))
+    (rows_inside c.args.level.now (c.args.window.y + c.args.window.h) (omega (arith, i.bottom, c.requires.one.long))))

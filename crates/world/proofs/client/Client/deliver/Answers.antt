@@ -1,12 +1,11 @@
-use Rattle.std.proofs.Common.{◌≡◌, Bool, true, false, List, ℕ, Option, Some, None, Ok, Err, refl, sym, ap, subst, ◌∙◌}
+use Rattle.std.proofs.Common.{◌≡◌, Bool, true, false, Option, Some, Ok, Err, refl, sym, ap, subst, ◌∙◌}
 use Rattle.std.specs.Prelude.{IsSome, is_some, is_none, if◌then◌else◌}
 use Rattle.std.specs.Option.{option_map}
 use Rattle.tiff_dir.specs.declared.query.Query.{Query}
 use Rattle.http_range.specs.Piece.{SeenPiece, piece_seen}
 use Rattle.world.specs.declared.client.Revision.{Revision}
-use Rattle.world.specs.declared.event.Delivered.{Delivered}
 use Rattle.world.specs.declared.event.Delivered.TheVariants.{Took, Ignored}
-use Rattle.world.specs.declared.event.Ignored.TheVariants.{NotUsed, NotAsked}
+use Rattle.world.specs.declared.event.Ignored.TheVariants.{NotAsked}
 use Rattle.world.specs.Report.{Told, said_of}
 use Rattle.world.specs.Client.{name_of, query_of, IsWhole, IsTrueOfPiece}
 use Rattle.world.specs.Readable.{IsReadable}
@@ -60,15 +59,15 @@ returns-clause-ok c =
       revision = c.adopt.ensures.revision ∙ sym (ap (λ (b : Bool). if b then old.revision else Some v) some);
       ignored = λ h. absurd h;
       reports = λ p q e can.
-        (let same : piece ≡ p = cc in
-        let P : SeenPiece → Type 0 = λ x. CanReport old x q in
-        let here = subst P (sym same) can in
-        let R : Query → Type 0 = λ r. IsReadable piece.body r in
-        subst (λ (o : Option Told). IsSome o) (sym c.adopt.ensures.report)
-        (report_there (query_of old) piece.tag c.in_ok-outcome.outcome q (IsWhole piece) R here.query outcome.reads (here.start, here.whole) here.readable));
+          (let same : piece ≡ p = cc in
+          let P : SeenPiece → Type 0 = λ x. CanReport old x q in
+          let here = subst P (sym same) can in
+          let R : Query → Type 0 = λ r. IsReadable piece.body r in
+          subst (λ (o : Option Told). IsSome o) (sym c.adopt.ensures.report)
+          (report_there (query_of old) piece.tag c.in_ok-outcome.outcome q (IsWhole piece) R here.query outcome.reads (here.start, here.whole) here.readable));
       agrees = λ book distinct agrees honest.
-        adopted_agrees c.adopt.new.self (name_of old) (query_of old) book piece (option_map said_of c.in_ok-outcome.outcome) v
-        c.adopt.ensures.same.name c.adopt.ensures.query c.adopt.ensures.revision refl refl c.adopt.ensures.report
-        (if_some_map said_of c.in_ok-outcome.outcome (IsTrueOfPiece piece (query_of old)) outcome.true_of)
-        (c.in-Piece.ensures.book (name_of old) book honest);
+          adopted_agrees c.adopt.new.self (name_of old) (query_of old) book piece (option_map said_of c.in_ok-outcome.outcome) v
+          c.adopt.ensures.same.name c.adopt.ensures.query c.adopt.ensures.revision refl refl c.adopt.ensures.report
+          (if_some_map said_of c.in_ok-outcome.outcome (IsTrueOfPiece piece (query_of old)) outcome.true_of)
+          (c.in-Piece.ensures.book (name_of old) book honest);
     }

@@ -1,4 +1,4 @@
-use Rattle.std.proofs.Common.{◌≡◌, Option, sym, subst}
+use Rattle.std.proofs.Common.{Option, sym, subst}
 use Rattle.std.specs.Prelude.{IfSome}
 use Rattle.world.specs.Report.{Told, IsTrueReport}
 use Rattle.world.specs.Client.{name_of, query_of}
@@ -11,6 +11,6 @@ returns c =
     record {
       standing = same;
       holds = λ book agrees.
-        (let P : Option Told → Type 0 = λ o. IfSome o (λ r. IsTrueReport r (name_of c.args.self.now) (query_of c.args.self.now) book) in
-        subst P (sym same) (standing c.args.self.now book agrees));
+          (let P : Option Told → Type 0 = λ o. IfSome o (λ r. IsTrueReport r (name_of c.args.self.now) (query_of c.args.self.now) book) in
+          subst P (sym same) (standing c.args.self.now book agrees));
     }
