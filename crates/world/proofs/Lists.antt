@@ -1,0 +1,53 @@
+-- A place of a list that is there, changed or added.
+use Rattle.std.proofs.Common.{◌≡◌, ℕ, suc, zero, List, [], ◌∷◌, ◌++◌, length, map, get_or, Option, Some, None, refl, sym, ap, ◌∙◌, subst, arith, ◌<◌, ◌⊎◌, inl, inr}
+use Rattle.std.specs.Prelude.{slice_get, slice_set, is_some, Bool, if◌then◌else◌}
+use Rattle.std.specs.Option.{option_map}
+use Rattle.world.specs.declared.client.Client.{Client}
+use Rattle.world.specs.declared.event.Entry.{Entry}
+use Rattle.world.specs.Report.{Told}
+use Rattle.world.specs.Client.{report_of}
+use Rattle.world.specs.Run.{Acts, AtClient, NewReport, Tells}
+
+pub get_there : {A : Type 0} (xs : List A) (i : ℕ) (x : A) → i < length xs → x ≡ get_or xs i x → slice_get xs i ≡ Some x
+get_there [] i x inside is = absurd (omega arith)
+get_there (y ∷ ys) zero x inside is = ap (λ z. Some z) (sym is)
+get_there (y ∷ ys) (suc i) x inside is = get_there ys i x (omega arith) is
+
+pub get-map : {A B : Type 0} (f : A → B) (xs : List A) (i : ℕ) → slice_get (map f xs) i ≡ option_map f (slice_get xs i)
+get-map f [] i = refl
+get-map f (x ∷ xs) zero = refl
+get-map f (x ∷ xs) (suc i) = get-map f xs i
+
+-- writing what is there changes nothing
+pub set_there : {A : Type 0} (xs : List A) (i : ℕ) (x : A) → slice_get xs i ≡ Some x → slice_set xs i x ≡ xs
+set_there [] i x is = refl
+set_there (y ∷ ys) zero x is = let e : y ≡ x = cc in ap (λ z. z ∷ ys) (sym e)
+set_there (y ∷ ys) (suc i) x is = ap (λ zs. y ∷ zs) (set_there ys i x is)
+
+pub get-set : {A : Type 0} (xs : List A) (i j : ℕ) (x y z : A) → slice_get xs i ≡ Some z → slice_get (slice_set xs i x) j ≡ Some y → (y ≡ x) ⊎ (slice_get xs j ≡ Some y)
+get-set [] i j x y z there is = absurd (cc)
+get-set (a ∷ xs) zero zero x y z there is = inl (cc)
+get-set (a ∷ xs) zero (suc j) x y z there is = inr is
+get-set (a ∷ xs) (suc i) zero x y z there is = inr is
+get-set (a ∷ xs) (suc i) (suc j) x y z there is = get-set xs i j x y z there is
+
+pub get-set_same : {A : Type 0} (xs : List A) (i : ℕ) (x z : A) → slice_get xs i ≡ Some z → slice_get (slice_set xs i x) i ≡ Some x
+get-set_same [] i x z there = absurd (cc)
+get-set_same (a ∷ xs) zero x z there = refl
+get-set_same (a ∷ xs) (suc i) x z there = get-set_same xs i x z there
+
+pub get-push : {A : Type 0} (xs : List A) (j : ℕ) (x y : A) → slice_get (xs ++ x ∷ []) j ≡ Some y → (y ≡ x) ⊎ (slice_get xs j ≡ Some y)
+get-push [] zero x y is = inl (cc)
+get-push [] (suc j) x y is = absurd (cc)
+get-push (a ∷ xs) zero x y is = inr is
+get-push (a ∷ xs) (suc j) x y is = get-push xs j x y is
+
+-- a call of the client that is there
+pub at_client : (R : Client → Client → Type 0) (old : List Client) (i : ℕ) (c next : Client) (n : Entry) → i < length old → c ≡ get_or old i c → Acts R n c next → AtClient (slice_get old i) R i n old (slice_set old i next)
+at_client R old i c next n inside is acts =
+    let P : Option Client → Type 0 = λ o. AtClient o R i n old (slice_set old i next) in
+    subst P (sym (get_there old i c inside is)) (record { next = next; changed = refl; acts = acts })
+
+pub tells_of : (had : Bool) (old new : Client) (report : Option Told) → had ≡ is_some (report_of old) → NewReport had new report → Tells old new report
+tells_of had old new report is h =
+    record { standing = h.standing; stands = h.stands; newly = h.newly ∙ ap (λ (b : Bool). if b then None else h.standing) is }

@@ -1,0 +1,203 @@
+-- A run goes on by one event, and a whole run is a log.
+use Rattle.std.proofs.Common.{◌≡◌, ℕ, List, [], ◌∷◌, ◌++◌, length, take, Option, Some, None, Bool, true, false, refl, sym, ap, ◌∙◌, subst, inl, inr, ◌<◌, ◌≤◌, ◌+◌, get_or, Result, Ok, Err}
+use Rattle.std.specs.Prelude.{IfOk, IfSome, OnErr, nat_lt}
+use Rattle.std.proofs.Common.{Vec, Global}
+use Rattle.std.proofs.lemmas.List.{take_more, take_all}
+use Rattle.std.proofs.lemmas.Option.{same_Some}
+use Rattle.tiff_dir.specs.declared.level.Level.{Level}
+use Rattle.tiff_dir.specs.declared.query.Query.{Query}
+use Rattle.tiff_dir.specs.Level.{level_of}
+use Rattle.tiff_dir.specs.Query.{Rectangle}
+use Rattle.http_range.specs.Book.{Publication, Book, Catalogue, In, Includes, HasDistinctTags, version_tag}
+use Rattle.tiff_dir.specs.declared.memory.Memory.{Memory}
+use Rattle.world.specs.declared.server.Refusal.{Refusal}
+use Rattle.world.specs.declared.server.Server.{Server}
+use Rattle.world.specs.declared.client.Client.{Client}
+use Rattle.world.specs.declared.client.ClientError.{ClientError}
+use Rattle.world.specs.declared.event.Event.{Event}
+use Rattle.world.specs.declared.event.Event.TheVariants.{Publish, Epoch, NewClient, Open, Exchange}
+use Rattle.world.specs.declared.event.Entry.{Entry}
+use Rattle.world.specs.Report.{Said, Samples, Bad, Told, HasShape, IsTrueOf}
+use Rattle.world.specs.Client.{client_refusal}
+use Rattle.world.specs.Server.{refusal_of, IsAt, catalogue_of, count_of}
+use Rattle.world.specs.World.{World, host, start, next_of, publish_by, publish_effect, refused_at, restart_by, made_by, after, after_all, told_of, client_of, IsTrueAt, AllTrue, IsToldIn, SaysTheSame, AreAlike}
+use Rattle.world.specs.Run.{IsAtAfter, Publishes, Step, Runs, IsRun, IsBeginning, IsState, Does}
+use Rattle.world.proofs.Truth.{LowerLaws, good_start, true_run}
+
+pub runs_more : (w : World) (cs : List Client) (es : List Event) (ns : List Entry) (mid : List Client) (e : Event) (n : Entry) (new : List Client) → Runs w cs es ns mid → Step (after_all w es ns) mid e n new → Runs w cs (es ++ e ∷ []) (ns ++ n ∷ []) new
+runs_more w cs [] [] mid e n new h s = (new, (let P : List Client → Type 0 = λ xs. Step w xs e n new in subst P h s), refl)
+runs_more w cs [] (m ∷ ns) mid e n new h s = absurd h
+runs_more w cs (d ∷ es) [] mid e n new h s = absurd h
+runs_more w cs (d ∷ es) (m ∷ ns) mid e n new h s = (h.0, h.1, runs_more (after w d m.effect) h.0 es ns mid e n new h.2 s)
+
+after_more : (w : World) (cs : List Client) (es : List Event) (ns : List Entry) (mid : List Client) (e : Event) (n : Entry) → Runs w cs es ns mid → after_all w (es ++ e ∷ []) (ns ++ n ∷ []) ≡ after (after_all w es ns) e n.effect
+after_more w cs [] [] mid e n h = refl
+after_more w cs [] (m ∷ ns) mid e n h = absurd h
+after_more w cs (d ∷ es) [] mid e n h = absurd h
+after_more w cs (d ∷ es) (m ∷ ns) mid e n h = after_more (after w d m.effect) h.0 es ns mid e n h.2
+
+-- ---- nothing that was published is lost
+
+grows_publish : (w : World) (p : Publication) (o : Option Refusal) → Includes (publish_by w p o).book w.book
+grows_publish w p None = λ q i. inr i
+grows_publish w p (Some refusal) = λ q i. i
+
+grows_epoch : (b : Bool) (w : World) (e : ℕ) → Includes (restart_by w e b).book w.book
+grows_epoch true w e = λ q i. i
+grows_epoch false w e = λ q i. i
+
+grows_made : (w : World) (name : List ℕ) (o : Option ClientError) → Includes (made_by w name o).book w.book
+grows_made w name None = λ q i. i
+grows_made w name (Some refusal) = λ q i. i
+
+grows : (w : World) (e : Event) (n : Entry) → Includes (after w e n.effect).book w.book
+grows w (Publish name file) n = grows_publish w (next_of w name.items file.items) (refused_at w name.items file.items)
+grows w (Epoch e) n = grows_epoch (nat_lt w.epoch e) w e
+grows w (NewClient name blocks) n = grows_made w name.items (client_refusal host name.items blocks)
+grows w (Open i q) n = λ q i. i
+grows w (Exchange i) n = λ q i. i
+
+grows_all : (w : World) (es : List Event) (ns : List Entry) → Includes (after_all w es ns).book w.book
+grows_all w [] ns = λ q i. i
+grows_all w (e ∷ es) [] = λ q i. i
+grows_all w (e ∷ es) (n ∷ ns) = λ q i. grows_all (after w e n.effect) es ns q (grows w e n q i)
+
+-- ---- reports of one tag and one query
+
+-- where a report comes from
+record IsSource (r : Told) (book : Book) : Type 0 where
+  source : Publication
+  published : In source book
+  of_tag : source.tag ≡ r.tag
+  outcome : IsTrueOf source.file r.query r.said
+
+source_at : (o : Option Told) (w : World) (client : Option ℕ) (later : Book) (r : Told) → Includes later w.book → IfSome o (IsTrueAt w client) → o ≡ Some r → IsSource r later
+source_at None w client later r inc h e = absurd (cc)
+source_at (Some s) w client later r inc h e =
+    let same : s ≡ r = cc in
+    let P : Told → Type 0 = λ t. IsSource t later in
+    subst P same (record { source = h.holds.source; published = inc h.holds.source h.holds.published; of_tag = h.holds.of_tag; outcome = h.holds.outcome })
+
+source_of : (w : World) (cs : List Client) (es : List Event) (ns : List Entry) (new : List Client) (r : Told) → Runs w cs es ns new → AllTrue w es ns → IsToldIn r ns → IsSource r (after_all w es ns).book
+source_of w cs [] [] new r h t i = absurd i
+source_of w cs [] (n ∷ ns) new r h t i = absurd h
+source_of w cs (e ∷ es) [] new r h t i = absurd h
+source_of w cs (e ∷ es) (n ∷ ns) new r h t i =
+    let v = after w e n.effect in
+    elim i [
+      | inl is ↦ source_at (told_of n) v (client_of e) (after_all v es ns).book r (grows_all v es ns) t.0 is
+      | inr old ↦ source_of v h.0 es ns new r h.2 t.1 old
+    ]
+
+-- a window has one shape
+record IsSameShape (w h s b w' h' s' b' : ℕ) : Type 0 where
+  width : w ≡ w'
+  height : h ≡ h'
+  samples : s ≡ s'
+  bits : b ≡ b'
+
+shape_in : (f : List ℕ) (q : Query) (w h s b : ℕ) (r : Rectangle) (l : Level) (a : HasShape f q w h s b) → a.asked ≡ r → a.level ≡ l → IsSameShape r.width r.height l.samples l.bits w h s b
+shape_in f q w h s b r l a e k = record {
+  width = sym (ap (λ (x : Rectangle). x.width) e) ∙ a.width;
+  height = sym (ap (λ (x : Rectangle). x.height) e) ∙ a.height;
+  samples = sym (ap (λ (x : Level). x.samples) k) ∙ a.samples_are;
+  bits = sym (ap (λ (x : Level). x.bits) k) ∙ a.bits_are;
+}
+
+same_shape : (f : List ℕ) (q : Query) (w h s b w' h' s' b' : ℕ) → HasShape f q w h s b → HasShape f q w' h' s' b' → IsSameShape w h s b w' h' s' b'
+same_shape f q w h s b w' h' s' b' x y =
+    let asked : y.asked ≡ x.asked = same_Some _ _ (sym y.asked_is ∙ x.asked_is) in
+    let level : y.level ≡ x.level = same_Some _ _ (sym y.level_is ∙ (ap (λ (r : Rectangle). level_of f r.level) asked ∙ x.level_is)) in
+    let a = shape_in f q w h s b x.asked x.level x refl refl in
+    let c = shape_in f q w' h' s' b' x.asked x.level y asked level in
+    record { width = sym a.width ∙ c.width; height = sym a.height ∙ c.height; samples = sym a.samples ∙ c.samples; bits = sym a.bits ∙ c.bits }
+
+same_said : (laws : LowerLaws) (f : List ℕ) (q : Query) (x y : Said) → IsTrueOf f q x → IsTrueOf f q y → SaysTheSame x y
+same_said laws f q (Samples w h s b v) (Samples w' h' s' b' u) x y =
+    let shape = same_shape f q w h s b w' h' s' b' x.1 y.1 in
+    let window = laws.window f q v u x.0 y.0 in
+    λ i. Samples (shape.width i) (shape.height i) (shape.samples i) (shape.bits i) (window i)
+same_said laws f q (Bad k) (Bad l) x y = tt
+same_said laws f q (Samples w h s b v) (Bad l) x y = x.0.sound l y
+same_said laws f q (Bad k) (Samples w h s b v) x y = y.0.sound k x
+
+alike : (laws : LowerLaws) (book : Book) (ns : List Entry) → HasDistinctTags book → ((r : Told) → IsToldIn r ns → IsSource r book) → AreAlike ns
+alike laws book ns distinct sources r s i j tag query =
+    let a = sources r i in
+    let b = sources s j in
+    let same : a.source ≡ b.source = distinct a.source b.source a.published b.published (a.of_tag ∙ (tag ∙ sym b.of_tag)) in
+    let P : Publication → Type 0 = λ p. IsTrueOf p.file r.query r.said in
+    let Q : Query → Type 0 = λ q. IsTrueOf b.source.file q r.said in
+    same_said laws b.source.file s.query r.said s.said (subst Q query (subst P same a.outcome)) b.outcome
+
+-- ---- the log
+
+pub run_true : (laws : LowerLaws) (es : List Event) (ns : List Entry) → IsRun es ns → AllTrue start es ns
+run_true laws es ns (cs, runs) = (true_run laws start [] es ns cs good_start runs).1
+
+pub run_alike : (laws : LowerLaws) (es : List Event) (ns : List Entry) → IsRun es ns → AreAlike ns
+run_alike laws es ns (cs, runs) =
+    let t = true_run laws start [] es ns cs good_start runs in
+    alike laws (after_all start es ns).book ns t.0.distinct (λ r i. source_of start [] es ns cs r runs t.1 i)
+
+pub beginning : (laws : LowerLaws) (events : List Event) (k : ℕ) (ns : List Entry) (cs : List Client) → k ≤ length events → Runs start [] (take k events) ns cs → IsBeginning events ns
+beginning laws events k ns cs le runs =
+    let run : IsRun (take k events) ns = (cs, runs) in
+    record { count = k; some = le; logged = run; true_reports = run_true laws (take k events) ns run; alike = run_alike laws (take k events) ns run }
+
+pub whole : (events : List Event) (i : ℕ) (ns : List Entry) (cs : List Client) → length events ≤ i → Runs start [] (take i events) ns cs → IsRun events ns
+whole events i ns cs le runs = let P : List Event → Type 0 = λ xs. Runs start [] xs ns cs in (cs, subst P (take_all i events le) runs)
+
+pub on_err_of : {T E : Type 0} (r : Result T E) (P : Type 0) → P → OnErr r P
+on_err_of (Ok x) P p = tt
+on_err_of (Err e) P p = p
+
+pub begun : (entries : List Entry) (clients : List Client) (server : Server) (sent : ℕ) → entries ≡ [] → clients ≡ [] → IsAt server 0 0 [] → sent ≡ 0 → Runs start [] [] entries clients × IsState (after_all start [] entries) server sent
+begun entries clients server sent none no_clients at zero_sent =
+    let P : List Entry → Type 0 = λ ns. Runs start [] [] ns clients in
+    (subst P (sym none) no_clients, record { server_at = record { epoch_is = at.epoch_is; count_is = at.count_is; files = at.files }; sent_is = zero_sent })
+
+-- a run with one more event
+pub more : (events : List Event) (i : ℕ) (ns : List Entry) (cs new : List Client) (e : Event) (n : Entry) (entries : List Entry) (server : Server) (sent : ℕ) → i < length events → e ≡ get_or events i e → entries ≡ ns ++ n ∷ []
+    → Runs start [] (take i events) ns cs → Does (after_all start (take i events) ns) cs e n new server sent
+    → Runs start [] (take (i + 1) events) entries new × IsState (after_all start (take (i + 1) events) entries) server sent
+more events i ns cs new e n entries server sent inside is added runs does =
+    let es : take (i + 1) events ≡ take i events ++ e ∷ [] = take_more events i e inside ∙ ap (λ (x : Event). take i events ++ x ∷ []) (sym is) in
+    let P : List Event → Type 0 = λ xs. Runs start [] xs (ns ++ n ∷ []) new in
+    let P' : List Entry → Type 0 = λ ms. Runs start [] (take (i + 1) events) ms new in
+    let Q : World → Type 0 = λ w. IsState w server sent in
+    let same : after_all start (take (i + 1) events) entries ≡ after (after_all start (take i events) ns) e n.effect =
+    ap (λ (ms : List Entry). after_all start (take (i + 1) events) ms) added
+    ∙ (ap (λ (xs : List Event). after_all start xs (ns ++ n ∷ [])) es ∙ after_more start [] (take i events) ns cs e n runs) in
+    (subst P' (sym added) (subst P (sym es) (runs_more start [] (take i events) ns cs e n new runs does.step)), subst Q (sym same) does.state)
+
+-- ---- a publication
+
+published_at : (w : World) (p : Publication) (o : Option Refusal) (s : Server) (sent : ℕ) → sent ≡ w.sent → IsAtAfter o w.epoch w.count w.catalogue p s → IsState (publish_by w p o) s sent
+published_at w p None s sent same at = record { server_at = at; sent_is = same }
+published_at w p (Some refusal) s sent same at = record { server_at = at; sent_is = same }
+
+pub does_publish : (w : World) (old new : Server) (sent : ℕ) (cs : List Client) (name file : Vec ℕ Global) (n : Entry) → Publishes name.items file.items n old new → IsState w old sent → Does w cs (Publish name file) n cs new sent
+does_publish w old new sent cs name file n h s =
+    let at = s.server_at in
+    let P : ℕ → Type 0 = λ e. IsAtAfter (refusal_of (catalogue_of old) (count_of old) name.items file.items) e (count_of old) (catalogue_of old) (record { name = name.items; tag = version_tag e (count_of old + 1); file = file.items }) new in
+    let Q : ℕ → Type 0 = λ c. IsAtAfter (refusal_of (catalogue_of old) c name.items file.items) w.epoch c (catalogue_of old) (record { name = name.items; tag = version_tag w.epoch (c + 1); file = file.items }) new in
+    let R : Catalogue → Type 0 = λ k. IsAtAfter (refusal_of k w.count name.items file.items) w.epoch w.count k (record { name = name.items; tag = version_tag w.epoch (w.count + 1); file = file.items }) new in
+    record {
+      step = record {
+        done = h.done ∙ (λ i. publish_effect (version_tag (at.epoch_is i) (at.count_is i + 1)) (refusal_of (at.files i) (at.count_is i) name.items file.items));
+        report = h.report;
+        same = refl;
+      };
+      state = published_at w (next_of w name.items file.items) (refused_at w name.items file.items) new sent s.sent_is
+          (subst R at.files (subst Q at.count_is (subst P at.epoch_is h.server_at)));
+    }
+
+pub ok_publish : (r : Result Entry Memory) (old new : Server) (sent : ℕ) (cs : List Client) (event : Event) (name file : Vec ℕ Global) (name' file' : List ℕ) → event ≡ Publish name file → name' ≡ name.items → file' ≡ file.items
+    → IfOk r (λ n. Publishes name' file' n old new) → IfOk r (λ n. (w : World) → IsState w old sent → Does w cs event n cs new sent)
+ok_publish (Err e) old new sent cs event name file name' file' is named filed h = tt
+ok_publish (Ok n) old new sent cs event name file name' file' is named filed h = λ w s.
+    let P : Event → Type 0 = λ x. Does w cs x n cs new sent in
+    let Q : List ℕ → Type 0 = λ x. Publishes x file' n old new in
+    let R : List ℕ → Type 0 = λ x. Publishes name.items x n old new in
+    subst P (sym is) (does_publish w old new sent cs name file n (subst R filed (subst Q named h)) s)

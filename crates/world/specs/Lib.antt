@@ -1,0 +1,9 @@
+pub mod Report
+pub mod Readable
+pub mod Walked
+pub mod Asked
+pub mod Client
+pub mod Calls
+pub mod Server
+pub mod World
+pub mod Run

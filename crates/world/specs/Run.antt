@@ -1,0 +1,158 @@
+-- A run: what each event does to the clients, and what is logged of it, by the contracts of the calls.
+use Rattle.std.specs.Prelude.{◌≡◌, ℕ, ◌+◌, ◌^◌, ◌<◌, ◌≤◌, Bool, nat_lt, if◌then◌else◌, List, [], ◌∷◌, ◌++◌, length, take, Option, Some, None, is_some, slice_get, slice_set}
+use Rattle.std.specs.Option.{option_map}
+use Rattle.std.specs.Bool.{MatchBool}
+use Rattle.tiff_dir.specs.declared.query.Query.{Query}
+use Rattle.http_range.specs.Book.{Publication, Catalogue, publish, version_tag}
+use Rattle.http_range.specs.Served.{Served, text_of, IsAnswer}
+use Rattle.world.specs.declared.server.Refusal.{Refusal}
+use Rattle.world.specs.declared.server.Server.{Server}
+use Rattle.world.specs.declared.client.Client.{Client}
+use Rattle.world.specs.declared.client.ClientError.{ClientError}
+use Rattle.world.specs.declared.event.Event.{Event}
+use Rattle.world.specs.declared.event.Event.TheVariants.{Publish, Epoch, NewClient, Open, Exchange}
+use Rattle.world.specs.declared.event.Exchange as exchange
+use Rattle.world.specs.declared.event.Effect.{Effect}
+use Rattle.world.specs.declared.event.Effect.TheVariants as effects
+use Rattle.world.specs.declared.event.Entry.{Entry}
+use Rattle.world.specs.Report.{Told}
+use Rattle.world.specs.Client.{client_refusal, name_of, query_of, asked_of, revision_of, report_of}
+use Rattle.world.specs.Calls.{Starts, Opens, Requests, Delivers, Stands}
+use Rattle.world.specs.Server.{refusal_of, IsAt, catalogue_of, count_of, epoch_of, ShowsAnswer}
+use Rattle.world.specs.World.{World, Seen, host, start, next_of, publish_effect, refused_at, after, told_of, AllTrue, AreAlike}
+
+abbrev pub seen : Client → Seen
+seen c = record { name = name_of c; query = query_of c }
+
+-- the event does this, tells no report and leaves the clients
+pub record Quiet (n : Entry) (effect : Effect) (old new : List Client) : Type 0 where
+  pub done : n.effect ≡ effect
+  pub report : told_of n ≡ None
+  pub same : new ≡ old
+
+-- what stands at the client after the event and did not stand before it
+pub record Tells (old new : Client) (report : Option Told) : Type 0 where
+  pub standing : Option Told
+  pub stands : Stands new standing
+  pub newly : report ≡ (if is_some (report_of old) then None else standing)
+
+-- what a call does to a client, and what is told of it
+pub record Acts (R : Client → Client → Type 0) (n : Entry) (old new : Client) : Type 0 where
+  pub does : R old new
+  pub tells : Tells old new (told_of n)
+
+-- the same, where it is known whether a report stood
+pub record NewReport (had : Bool) (c : Client) (report : Option Told) : Type 0 where
+  pub standing : Option Told
+  pub stands : Stands c standing
+  pub newly : report ≡ (if had then None else standing)
+
+-- client i becomes another as R says, and the others stay
+pub record Changes (R : Client → Client → Type 0) (i : ℕ) (c : Client) (n : Entry) (old new : List Client) : Type 0 where
+  pub next : Client
+  pub changed : new ≡ slice_set old i next
+  pub acts : Acts R n c next
+
+-- the client's call with its effect, or nothing where there is no such client
+abbrev pub AtClient : Option Client → (Client → Client → Type 0) → ℕ → Entry → List Client → List Client → Type 0
+AtClient None R i n old new = Quiet n effects.Skipped old new
+AtClient (Some c) R i n old new = Changes R i c n old new
+
+-- ---- the events
+
+-- the server has published the file, or has not changed
+abbrev pub IsAtAfter : Option Refusal → ℕ → ℕ → Catalogue → Publication → Server → Type 0
+IsAtAfter None epoch count catalogue p s = IsAt s epoch (count + 1) (publish p catalogue)
+IsAtAfter (Some refusal) epoch count catalogue p s = IsAt s epoch count catalogue
+
+pub record Publishes (name file : List ℕ) (n : Entry) (old new : Server) : Type 0 where
+  pub done : n.effect ≡ publish_effect (version_tag (epoch_of old) (count_of old + 1)) (refusal_of (catalogue_of old) (count_of old) name file)
+  pub report : told_of n ≡ None
+  pub server_at : IsAtAfter (refusal_of (catalogue_of old) (count_of old) name file) (epoch_of old) (count_of old) (catalogue_of old)
+      (record { name = name; tag = version_tag (epoch_of old) (count_of old + 1); file = file }) new
+
+pub record Restarts (epoch : ℕ) (n : Entry) (old new : Server) : Type 0 where
+  pub done : n.effect ≡ (if nat_lt (epoch_of old) epoch then effects.Epoch epoch else effects.Skipped)
+  pub report : told_of n ≡ None
+  pub small : epoch < 2 ^ 32
+  pub server_at : MatchBool (nat_lt (epoch_of old) epoch) (IsAt new epoch 0 []) (new ≡ old)
+
+-- a client is made
+pub record Adds (name : List ℕ) (n : Entry) (old new : List Client) : Type 0 where
+  pub made : Client
+  pub starts : Starts host name made
+  pub done : n.effect ≡ effects.Made (length old)
+  pub report : told_of n ≡ None
+  pub added : new ≡ old ++ made ∷ []
+
+-- or it is refused
+abbrev pub MakesBy : Option ClientError → List ℕ → Entry → List Client → List Client → Type 0
+MakesBy None name n old new = Adds name n old new
+MakesBy (Some refusal) name n old new = Quiet n effects.Skipped old new
+
+-- the client opens a query
+pub record OpensWith (query : Query) (i : ℕ) (effect : Effect) (c next : Client) : Type 0 where
+  pub done : effect ≡ effects.Opened i
+  pub opens : Opens query c next
+
+-- the client's request is answered from the catalogue, and the answer is delivered whole
+pub record IsExchange (catalogue : Catalogue) (sent i : ℕ) (request : List ℕ) (effect : Effect) (mid next : Client) : Type 0 where
+  pub logged : exchange.Exchange
+  pub done : effect ≡ effects.Exchanged logged
+  pub client : logged.client ≡ i
+  pub number : logged.number ≡ sent
+  pub span : asked_of mid ≡ Some logged.span
+  pub tag : logged.tag ≡ option_map (λ v. v.tag) (revision_of mid)
+  pub request_is : logged.request.items ≡ request
+  pub served : Served
+  pub answered : IsAnswer catalogue request served
+  pub shown : ShowsAnswer logged.answer served
+  pub delivers : Delivers mid (text_of served) logged.delivered next
+
+abbrev pub IsExchanged : Catalogue → ℕ → ℕ → Option (List ℕ) → Effect → Client → Client → Type 0
+IsExchanged catalogue sent i None effect mid next = (effect ≡ effects.Nothing i) × (next ≡ mid)
+IsExchanged catalogue sent i (Some request) effect mid next = IsExchange catalogue sent i request effect mid next
+
+pub record ExchangesWith (catalogue : Catalogue) (sent i : ℕ) (effect : Effect) (c next : Client) : Type 0 where
+  pub request : Option (List ℕ)
+  pub mid : Client
+  pub requests : Requests c request mid
+  pub exchanged : IsExchanged catalogue sent i request effect mid next
+
+-- One event, with what is logged of it.
+abbrev pub Step : World → List Client → Event → Entry → List Client → Type 0
+Step w old (Publish name file) n new = Quiet n (publish_effect (next_of w name.items file.items).tag (refused_at w name.items file.items)) old new
+Step w old (Epoch e) n new = (e < 2 ^ 32) × Quiet n (if nat_lt w.epoch e then effects.Epoch e else effects.Skipped) old new
+Step w old (NewClient name blocks) n new = MakesBy (client_refusal host name.items blocks) name.items n old new
+Step w old (Open i q) n new = AtClient (slice_get old i) (OpensWith q i n.effect) i n old new
+Step w old (Exchange i) n new = AtClient (slice_get old i) (ExchangesWith w.catalogue w.sent i n.effect) i n old new
+
+-- The log of a run has an entry for each event, in order.
+abbrev pub Runs : World → List Client → List Event → List Entry → List Client → Type 0
+Runs w old [] [] new = new ≡ old
+Runs w old [] (n ∷ ns) new = ⊥
+Runs w old (e ∷ es) [] new = ⊥
+Runs w old (e ∷ es) (n ∷ ns) new = (mid : List Client) × Step w old e n mid × Runs (after w e n.effect) mid es ns new
+
+-- The log is what the schedule makes of the world and of clients that keep their contracts.
+abbrev pub IsRun : List Event → List Entry → Type 0
+IsRun events entries = (clients : List Client) × Runs start [] events entries clients
+
+-- It is the log of the first events, with all that is said of a whole one.
+pub record IsBeginning (events : List Event) (entries : List Entry) : Type 0 where
+  pub count : ℕ
+  pub some : count ≤ length events
+  pub logged : IsRun (take count events) entries
+  pub true_reports : AllTrue start (take count events) entries
+  pub alike : AreAlike entries
+
+-- ---- the code's state
+
+-- the server's state is the world's
+pub record IsState (w : World) (server : Server) (sent : ℕ) : Type 0 where
+  pub server_at : IsAt server w.epoch w.count w.catalogue
+  pub sent_is : sent ≡ w.sent
+
+pub record Does (w : World) (old : List Client) (e : Event) (n : Entry) (new : List Client) (server : Server) (sent : ℕ) : Type 0 where
+  pub step : Step w old e n new
+  pub state : IsState (after w e n.effect) server sent

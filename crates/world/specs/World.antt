@@ -1,0 +1,136 @@
+-- What a schedule makes of the world. It knows of no client but its name and its last query, and of what the
+-- clients do only that an exchange had a request.
+use Rattle.std.specs.Prelude.{◌≡◌, ℕ, zero, suc, ◌+◌, Bool, nat_lt, if◌then◌else◌, List, [], ◌∷◌, ◌++◌, codes, Option, Some, None, IfSome, slice_get, ◌⊎◌}
+use Rattle.std.specs.Option.{option_map}
+use Rattle.tiff_dir.specs.declared.query.Query.{Query}
+use Rattle.http_range.specs.Book.{Publication, Book, Catalogue, publish, version_tag}
+use Rattle.world.specs.declared.server.Refusal.{Refusal}
+use Rattle.world.specs.declared.event.Event.{Event}
+use Rattle.world.specs.declared.event.Event.TheVariants.{Publish, Epoch, NewClient, Open, Exchange}
+use Rattle.world.specs.declared.event.Effect.{Effect}
+use Rattle.world.specs.declared.event.Effect.TheVariants as effects
+use Rattle.world.specs.declared.event.Entry.{Entry}
+use Rattle.world.specs.declared.client.ClientError.{ClientError}
+use Rattle.world.specs.Report.{Said, Samples, Bad, Told, told, IsTrueReport}
+use Rattle.world.specs.Client.{client_refusal}
+use Rattle.world.specs.Server.{refusal_of}
+
+-- a client, by the name that it was made with and the query of its last opening
+pub record Seen : Type 0 where
+  pub name : List ℕ
+  pub query : Option Query
+
+pub record World : Type 0 where
+  pub epoch : ℕ
+  pub count : ℕ  -- the accepted publications of the epoch
+  pub catalogue : Catalogue  -- the last publication of each name in the epoch
+  pub book : Book  -- all publications of all epochs
+  pub sent : ℕ  -- the answers that were ever sent
+  pub clients : List Seen
+
+-- it begins with epoch 0 and no file
+abbrev pub start : World
+start = record { epoch = 0; count = 0; catalogue = []; book = []; sent = 0; clients = [] }
+
+-- the host of every client
+abbrev pub host : List ℕ
+host = codes "cog.test"
+
+-- what an accepted publication is: its tag has the epoch, and its number among the epoch's publications
+abbrev pub next_of : World → List ℕ → List ℕ → Publication
+next_of w name file = record { name = name; tag = version_tag w.epoch (w.count + 1); file = file }
+
+abbrev pub publish_by : World → Publication → Option Refusal → World
+publish_by w p None = record { epoch = w.epoch; count = w.count + 1; catalogue = publish p w.catalogue; book = p ∷ w.book; sent = w.sent; clients = w.clients }
+publish_by w p (Some refusal) = w
+
+abbrev pub publish_effect : List ℕ → Option Refusal → Effect
+publish_effect tag None = effects.Published tag
+publish_effect tag (Some refusal) = effects.Refused refusal
+
+abbrev pub refused_at : World → List ℕ → List ℕ → Option Refusal
+refused_at w name file = refusal_of w.catalogue w.count name file
+
+-- only a greater epoch changes the epoch; its server has no files
+abbrev pub restart_by : World → ℕ → Bool → World
+restart_by w e greater =
+    if greater then record { epoch = e; count = 0; catalogue = []; book = w.book; sent = w.sent; clients = w.clients } else w
+
+abbrev pub with_clients : World → List Seen → World
+with_clients w clients =
+    record { epoch = w.epoch; count = w.count; catalogue = w.catalogue; book = w.book; sent = w.sent; clients = clients }
+
+abbrev pub with_sent : World → ℕ → World
+with_sent w sent =
+    record { epoch = w.epoch; count = w.count; catalogue = w.catalogue; book = w.book; sent = sent; clients = w.clients }
+
+abbrev pub made_by : World → List ℕ → Option ClientError → World
+made_by w name None = with_clients w (w.clients ++ record { name = name; query = None } ∷ [])
+made_by w name (Some refusal) = w
+
+-- client i is asked a query, if it is there
+abbrev pub opened : List Seen → ℕ → Query → List Seen
+opened [] i q = []
+opened (s ∷ ss) zero q = record { name = s.name; query = Some q } ∷ ss
+opened (s ∷ ss) (suc i) q = s ∷ opened ss i q
+
+-- an exchange that had a request has sent an answer
+abbrev pub sent_after : Effect → ℕ → ℕ
+sent_after (effects.Exchanged e) sent = sent + 1
+sent_after effect sent = sent
+
+-- The world after an event.
+abbrev pub after : World → Event → Effect → World
+after w (Publish name file) effect = publish_by w (next_of w name.items file.items) (refused_at w name.items file.items)
+after w (Epoch e) effect = restart_by w e (nat_lt w.epoch e)
+after w (NewClient name blocks) effect = made_by w name.items (client_refusal host name.items blocks)
+after w (Open i q) effect = with_clients w (opened w.clients i q)
+after w (Exchange i) effect = with_sent w (sent_after effect w.sent)
+
+abbrev pub after_all : World → List Event → List Entry → World
+after_all w [] ns = w
+after_all w (e ∷ es) [] = w
+after_all w (e ∷ es) (n ∷ ns) = after_all (after w e n.effect) es ns
+
+-- ---- what is told
+
+-- the report of an entry
+abbrev pub told_of : Entry → Option Told
+told_of n = option_map told n.report
+
+-- the client of an event
+abbrev pub client_of : Event → Option ℕ
+client_of (Publish name file) = None
+client_of (Epoch e) = None
+client_of (NewClient name blocks) = None
+client_of (Open i q) = Some i
+client_of (Exchange i) = Some i
+
+-- The report is true of what is published, for the client's name and its last query.
+pub record IsTrueAt (w : World) (client : Option ℕ) (r : Told) : Type 0 where
+  pub at : ℕ
+  pub by : client ≡ Some at
+  pub seen : Seen
+  pub there : slice_get w.clients at ≡ Some seen
+  pub holds : IsTrueReport r seen.name seen.query w.book
+
+-- Each report is true of what is published when it is told.
+abbrev pub AllTrue : World → List Event → List Entry → Type 0
+AllTrue w [] ns = Unit {0}
+AllTrue w (e ∷ es) [] = Unit {0}
+AllTrue w (e ∷ es) (n ∷ ns) = IfSome (told_of n) (IsTrueAt (after w e n.effect) (client_of e)) × AllTrue (after w e n.effect) es ns
+
+abbrev pub IsToldIn : Told → List Entry → Type 0
+IsToldIn r [] = ⊥
+IsToldIn r (n ∷ ns) = (told_of n ≡ Some r) ⊎ IsToldIn r ns
+
+-- both are the same window, or both are faults
+abbrev pub SaysTheSame : Said → Said → Type 0
+SaysTheSame (Samples w h s b v) (Samples w' h' s' b' v') = Samples w h s b v ≡ Samples w' h' s' b' v'
+SaysTheSame (Bad fault) (Bad fault') = Unit {0}
+SaysTheSame (Samples w h s b v) (Bad fault) = ⊥
+SaysTheSame (Bad fault) (Samples w h s b v) = ⊥
+
+-- Reports of one tag for one query are equal windows, or both faults.
+abbrev pub AreAlike : List Entry → Type 0
+AreAlike ns = (r s : Told) → IsToldIn r ns → IsToldIn s ns → r.tag ≡ s.tag → r.query ≡ s.query → SaysTheSame r.said s.said

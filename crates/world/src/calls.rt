@@ -1,0 +1,230 @@
+//! What each event does.
+ghost use Rattle.std.specs.Prelude.{◌≡◌, ◌+◌, ◌<◌, ◌≤◌, ◌^◌, ℕ, List, Option, Some, None, IfOk, IfSome, IsSome, OnOk, OnErr, is_some, slice_get, length};
+ghost use Rattle.std.specs.Option.{option_map};
+ghost use Rattle.world.specs.Report.{told};
+ghost use Rattle.http_range.specs.Ask.{request_text};
+ghost use Rattle.world.specs.Client.{asked_of, client_refusal, host_of, name_of, report_of, revision_of};
+ghost use Rattle.world.specs.Server.{catalogue_of};
+ghost use Rattle.world.specs.World.{host, sent_after, told_of};
+ghost use Rattle.world.specs.Run.{Acts, AtClient, ExchangesWith, IsExchange, IsExchanged, MakesBy, NewReport, OpensWith, Publishes, Restarts};
+
+use crate::client::{Client, ClientError};
+use crate::event::{Effect, Entry, Exchange};
+use crate::outcome::Report;
+use crate::server::{PublishError, Server};
+use http_range::{Memory, Span, Tag, clients_are_answered};
+use std::alloc::Global;
+use tiff_dir::Query;
+
+/// An entry without a report.
+pub fn quiet(effect: Effect) -> Entry
+    ensures effect { result.effect ≡ effect }
+    ensures report { told_of result ≡ None }
+{
+    Entry {
+        effect,
+        report: None,
+    }
+}
+
+pub fn publish(
+    alloc: Global,
+    server: &mut Server,
+    name: &[u8],
+    file: &[u8],
+) -> Result<Entry, Memory>
+    ensures { IfOk result (λ n. Publishes name.now file.now n server.old server.new) }
+{
+    let copy = Vec::from_slice(alloc, file)?;
+    match server.publish(name, copy) {
+        Ok(tag) => Ok(quiet(Effect::Published(tag))),
+        Err(PublishError::Refused(refusal)) => Ok(quiet(Effect::Refused(refusal))),
+        Err(PublishError::Memory) => Err(Memory),
+    }
+}
+
+pub fn restart(alloc: Global, server: &mut Server, epoch: u32) -> Entry
+    ensures { Restarts epoch result server.old server.new }
+{
+    if server.epoch() < epoch {
+        *server = Server::new(alloc, epoch);
+        quiet(Effect::Epoch(epoch))
+    } else {
+        quiet(Effect::Skipped)
+    }
+}
+
+fn has_report(client: &Client) -> bool
+    ensures { result ≡ is_some (report_of client.now) }
+{
+    client.report().is_some()
+}
+
+/// The report that stands, where none stood before.
+fn new_report(alloc: Global, client: &Client, had: bool) -> Result<Option<Report>, Memory>
+    ensures { IfOk result (λ o. NewReport had client.now (option_map told o)) }
+{
+    let standing = client.report();
+    if had {
+        return Ok(None);
+    }
+    match standing {
+        None => Ok(None),
+        Some(report) => Ok(Some(report.copy(alloc)?)),
+    }
+}
+
+pub fn make_client(
+    alloc: Global,
+    clients: &mut Vec<Client>,
+    name: &[u8],
+    blocks: u32,
+) -> Result<Entry, Memory>
+    ensures { IfOk result (λ n. MakesBy (client_refusal host name.now blocks) name.now n clients.old.items clients.new.items) }
+{
+    let number = clients.len();
+    match Client::new(alloc, b"cog.test", name, blocks) {
+        Ok(client) => {
+            clients.push(client)?;
+            Ok(quiet(Effect::Made(number)))
+        }
+        Err(ClientError::Memory) => Err(Memory),
+        Err(_) => Ok(quiet(Effect::Skipped)),
+    }
+}
+
+fn open_one(alloc: Global, client: &mut Client, number: u32, query: Query) -> Result<Entry, Memory>
+    ensures { IfOk result (λ n. Acts (OpensWith query number n.effect) n client.old client.new) }
+{
+    let had = has_report(client);
+    client.open(query);
+    let report = new_report(alloc, client, had)?;
+    Ok(Entry {
+        effect: Effect::Opened(number),
+        report,
+    })
+}
+
+pub fn open_at(
+    alloc: Global,
+    clients: &mut Vec<Client>,
+    number: u32,
+    query: Query,
+) -> Result<Entry, Memory>
+    ensures { IfOk result (λ n. AtClient (slice_get clients.old.items number) (OpensWith query number n.effect) number n clients.old.items clients.new.items) }
+{
+    let i = number as usize;
+    if i >= clients.len() {
+        return Ok(quiet(Effect::Skipped));
+    }
+    let client = &mut clients[i];
+    let entry = open_one(alloc, client, number, query)?;
+    Ok(entry)
+}
+
+/// The tag of the client's revision.
+fn tag_of(client: &Client) -> Option<Tag>
+    ensures { result ≡ option_map (λ v. v.tag) (revision_of client.now) }
+{
+    match client.tag() {
+        Some(tag) => Some(tag.copy()),
+        None => None,
+    }
+}
+
+/// Answers a client's request from the server's files, and delivers the answer whole.
+fn answer_request(
+    server: &Server,
+    sent: &mut usize,
+    client: &mut Client,
+    number: u32,
+    request: Vec<u8>,
+    span: Span,
+) -> Result<Effect, Memory>
+    requires room { sent.old + 1 < 2 ^ 64 }
+    requires own { request.items ≡ request_text (host_of client.old) (name_of client.old) 0 65535 None }
+    requires asked { asked_of client.old ≡ Some span }
+    ensures exchanged { IfOk result (λ effect. IsExchange (catalogue_of server.now) sent.old number request.items effect client.old client.new) }
+    ensures sent { IfOk result (λ effect. sent.new ≡ sent_after effect sent.old) }
+    ensures few { sent.new ≤ sent.old + 1 }
+{
+    clients_are_answered();
+    let answer = server.answer(&request)?;
+    let tag = tag_of(client);
+    let delivered = client.deliver(&answer.text)?;
+    let exchange = Exchange {
+        client: number,
+        span,
+        tag,
+        request,
+        number: *sent,
+        answer,
+        delivered,
+    };
+    *sent += 1;
+    Ok(Effect::Exchanged(exchange))
+}
+
+/// Answers a client's request, if it has one.
+fn exchange_request(
+    server: &Server,
+    sent: &mut usize,
+    client: &mut Client,
+    number: u32,
+    request: Option<Vec<u8>>,
+) -> Result<Effect, Memory>
+    requires room { sent.old + 1 < 2 ^ 64 }
+    requires own { IfSome request (λ r. r.items ≡ request_text (host_of client.old) (name_of client.old) 0 65535 None) }
+    requires asked { IfSome request (λ _. IsSome (asked_of client.old)) }
+    ensures exchanged { IfOk result (λ effect. IsExchanged (catalogue_of server.now) sent.old number (option_map (λ r. r.items) request) effect client.old client.new) }
+    ensures sent { IfOk result (λ effect. sent.new ≡ sent_after effect sent.old) }
+    ensures few { sent.new ≤ sent.old + 1 }
+{
+    match request {
+        None => Ok(Effect::Nothing(number)),
+        Some(request) => {
+            let span = client.asked().unwrap();
+            answer_request(server, sent, client, number, request, span)
+        }
+    }
+}
+
+fn exchange_one(
+    alloc: Global,
+    server: &Server,
+    sent: &mut usize,
+    client: &mut Client,
+    number: u32,
+) -> Result<Entry, Memory>
+    requires { sent.old + 1 < 2 ^ 64 }
+    ensures acts { IfOk result (λ n. Acts (ExchangesWith (catalogue_of server.now) sent.old number n.effect) n client.old client.new) }
+    ensures sent { IfOk result (λ n. sent.new ≡ sent_after n.effect sent.old) }
+    ensures few { sent.new ≤ sent.old + 1 }
+{
+    let had = has_report(client);
+    let request = client.request()?;
+    let effect = exchange_request(server, sent, client, number, request)?;
+    let report = new_report(alloc, client, had)?;
+    Ok(Entry { effect, report })
+}
+
+pub fn exchange_at(
+    alloc: Global,
+    server: &Server,
+    sent: &mut usize,
+    clients: &mut Vec<Client>,
+    number: u32,
+) -> Result<Entry, Memory>
+    requires { sent.old + 1 < 2 ^ 64 }
+    ensures acts { IfOk result (λ n. AtClient (slice_get clients.old.items number) (ExchangesWith (catalogue_of server.now) sent.old number n.effect) number n clients.old.items clients.new.items) }
+    ensures sent { IfOk result (λ n. sent.new ≡ sent_after n.effect sent.old) }
+    ensures few { sent.new ≤ sent.old + 1 }
+{
+    let i = number as usize;
+    if i >= clients.len() {
+        return Ok(quiet(Effect::Skipped));
+    }
+    let client = &mut clients[i];
+    let entry = exchange_one(alloc, server, sent, client, number)?;
+    Ok(entry)
+}

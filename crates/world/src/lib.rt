@@ -1,0 +1,20 @@
+//! The world: a schedule of publications, server restarts, clients, openings and exchanges is run, and what
+//! each event did is logged.
+#![tactic(auto)]
+
+mod calls;
+mod client;
+mod event;
+mod names;
+mod outcome;
+mod pieces;
+mod read;
+mod server;
+mod shelf;
+mod window;
+mod world;
+
+pub use event::{Effect, Entry, Event, Exchange, Log};
+pub use outcome::{Outcome, Report};
+pub use server::{Answer, Refusal};
+pub use world::run;
