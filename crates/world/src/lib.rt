@@ -18,3 +18,6 @@ pub use event::{Effect, Entry, Event, Exchange, Log};
 pub use outcome::{Outcome, Report};
 pub use server::{Answer, Refusal};
 pub use world::run;
+
+#[cfg(test)]
+mod tests;
