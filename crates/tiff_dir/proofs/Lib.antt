@@ -1,4 +1,5 @@
 pub mod Fixtures
+pub mod Damaged
 pub mod Numbers
 pub mod Parts
 pub mod Finding
