@@ -14,7 +14,7 @@ mod shelf;
 mod window;
 mod world;
 
-pub use event::{Effect, Entry, Event, Exchange, Log};
+pub use event::{Delivered, Effect, Entry, Event, Exchange, Ignored, Log};
 pub use outcome::{Outcome, Report};
 pub use server::{Answer, Refusal};
 pub use world::run;
