@@ -4,6 +4,7 @@ pub mod Profile
 pub mod Level
 pub mod Needs
 pub mod Fault
+pub mod FaultNumber
 pub mod Packets
 pub mod Query
 pub mod Window

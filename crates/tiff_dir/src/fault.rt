@@ -44,6 +44,48 @@ pub enum FileFault {
     KeyPlace,
 }
 
+impl FileFault {
+    ghost use Rattle.tiff_dir.specs.FaultNumber.{number_of_fault, tag_of_fault};
+
+    /// The number under which the fault is told, 1 to 18.
+    pub fn number(self) -> u8
+        ensures { result ≡ number_of_fault self }
+    {
+        match self {
+            FileFault::Header => 1,
+            FileFault::PastEnd => 2,
+            FileFault::DirPlace => 3,
+            FileFault::DirCount => 4,
+            FileFault::TagOrder => 5,
+            FileFault::TooManyDirs => 6,
+            FileFault::Missing(_) => 7,
+            FileFault::FieldType(_) => 8,
+            FileFault::Unsupported(_) => 9,
+            FileFault::LevelShape => 10,
+            FileFault::TileArray => 11,
+            FileFault::TileSize => 12,
+            FileFault::Packet => 13,
+            FileFault::Outside => 14,
+            FileFault::TooLarge => 15,
+            FileFault::KeyHead => 16,
+            FileFault::KeyOrder => 17,
+            FileFault::KeyPlace => 18,
+        }
+    }
+
+    /// The field that the fault is about, for the faults that are about one.
+    pub fn tag(self) -> Option<u16>
+        ensures { result ≡ tag_of_fault self }
+    {
+        match self {
+            FileFault::Missing(tag) | FileFault::FieldType(tag) | FileFault::Unsupported(tag) => {
+                Some(tag)
+            }
+            _ => None,
+        }
+    }
+}
+
 /// Why a walk refused what it was given.
 #[derive(Clone, Copy, Debug, PartialEq, Eq)]
 pub enum WalkError {

@@ -5,5 +5,6 @@ pub mod Asked
 pub mod Client
 pub mod Calls
 pub mod Server
+pub mod Numbers
 pub mod World
 pub mod Run

@@ -36,6 +36,21 @@ pub enum Ignored {
     NotAsked,
 }
 
+impl Ignored {
+    ghost use Rattle.std.specs.Prelude.{◌≡◌};
+    ghost use Rattle.world.specs.Numbers.{number_of_ignored};
+
+    /// The number under which it is told: that of `Why`, or 12.
+    pub fn number(self) -> u8
+        ensures { result ≡ number_of_ignored self }
+    {
+        match self {
+            Ignored::NotUsed(why) => why.number(),
+            Ignored::NotAsked => 12,
+        }
+    }
+}
+
 /// A request and its answer.
 #[derive(Drop)]
 pub struct Exchange {

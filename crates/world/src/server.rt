@@ -22,6 +22,24 @@ pub enum Refusal {
     Exhausted,
 }
 
+impl Refusal {
+    ghost use Rattle.std.specs.Prelude.{◌≡◌};
+    ghost use Rattle.world.specs.Numbers.{number_of_refusal};
+
+    /// The number under which the refusal is told, 1 to 5.
+    pub fn number(self) -> u8
+        ensures { result ≡ number_of_refusal self }
+    {
+        match self {
+            Refusal::Name => 1,
+            Refusal::Empty => 2,
+            Refusal::TooLarge => 3,
+            Refusal::TooManyNames => 4,
+            Refusal::Exhausted => 5,
+        }
+    }
+}
+
 /// Why a call of `publish` published nothing.
 #[derive(Clone, Copy, Debug, PartialEq, Eq)]
 pub enum PublishError {

@@ -1,0 +1,64 @@
+//! `cogworld SCRIPT`: runs a script and prints its log.
+use crate::fault::Fault;
+use clap::{Arg, Command};
+use fixtures::f1;
+use scripts::{Disk, Loaded, Source, log_text, script};
+use std::io::Write;
+use std::rt::Files;
+use std::{fs, io};
+use world::{Log, run};
+
+/// A file of 378 bytes is published, one client reads one window of it by one exchange.
+const ONE_WINDOW: &[u8] = b"\
+epoch 1
+publish a f1.tif
+client a 66
+open 0 level 0 2 1 3 2
+exchange 0
+";
+
+/// Runs a script and prints its log; want of memory ends it after the log up to there.
+fn run_script<R: Print + AllocGlobal, S: Source>(
+    rt: &R,
+    text: &[u8],
+    source: &mut S,
+) -> Result<(), Fault> {
+    let events = script(rt.alloc(), text, source)?;
+    let mut log = Log {
+        entries: Vec::new(rt.alloc()),
+    };
+    let ran = run(rt.alloc(), &events, &mut log);
+    let text = log_text(rt.alloc(), &log)?;
+    io::writer(rt).write_all(&text)?;
+    Ok(ran?)
+}
+
+/// Runs the stored script.
+pub fn run_stored<R: Print + AllocGlobal>(rt: &R) -> Result<(), Fault> {
+    let mut files = Loaded::new(rt.alloc());
+    files.add(b"f1.tif", f1(rt.alloc())?)?;
+    run_script(rt, ONE_WINDOW, &mut files)
+}
+
+/// Runs the script that the program's words name, of which the first is its own name.
+pub fn run_line<R: Files + Print + AllocGlobal>(rt: &R, words: &[String]) -> Result<(), Fault> {
+    let path = Arg::new(rt.alloc(), "SCRIPT")
+        .help("The file of the script")
+        .required(true);
+    let command = Command::new(rt.alloc(), "cogworld")
+        .about("Runs a script of events and prints its log")
+        .arg(path)?;
+    let matches = command.try_get_matches_from(words)?;
+    match matches.get_str("SCRIPT") {
+        Some(path) => run_file(rt, path),
+        None => Ok(()),
+    }
+}
+
+fn run_file<R: Files + Print + AllocGlobal>(rt: &R, path: &str) -> Result<(), Fault> {
+    match fs::read(rt, path) {
+        Ok(text) => run_script(rt, &text, &mut Disk { rt }),
+        Err(error) if error.kind() == io::ErrorKind::OutOfMemory => Err(Fault::Memory),
+        Err(_) => Err(Fault::CantRead(String::from_str(rt.alloc(), path)?)),
+    }
+}

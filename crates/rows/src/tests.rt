@@ -1,0 +1,2 @@
+mod scripts_and_logs;
+mod windows;

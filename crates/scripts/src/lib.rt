@@ -1,0 +1,17 @@
+//! Scripts, which list the events of a world line by line, and the text of its log.
+//!
+//! The forms of the lines are in `docs/SCRIPTS.md`.
+#![tactic(auto)]
+
+mod line;
+mod log;
+mod number;
+mod source;
+mod text;
+
+pub use line::{ScriptError, script};
+pub use log::log_text;
+pub use source::{Disk, LoadError, Loaded, Source};
+
+#[cfg(test)]
+mod tests;

@@ -1,0 +1,130 @@
+//! The lines of a script.
+use crate::number::number;
+use crate::source::{LoadError, Source};
+use std::alloc::{AllocError, AllocFailed, Global};
+use tiff_dir::{Pick, Query};
+use world::Event;
+
+/// Why a script isn't read. Lines are counted from 1.
+#[derive(Clone, Copy, Debug, PartialEq, Eq)]
+pub enum ScriptError {
+    /// This line is no event.
+    NotAnEvent(usize),
+    /// The file that this line names can't be read.
+    CantRead(usize),
+    Memory,
+}
+
+/// Why a line isn't read.
+#[derive(Clone, Copy, Debug, PartialEq, Eq)]
+enum LineError {
+    NotAnEvent,
+    CantRead,
+    Memory,
+}
+
+impl LineError {
+    fn at(self, line: usize) -> ScriptError {
+        match self {
+            LineError::NotAnEvent => ScriptError::NotAnEvent(line),
+            LineError::CantRead => ScriptError::CantRead(line),
+            LineError::Memory => ScriptError::Memory,
+        }
+    }
+}
+
+impl From<LoadError> for LineError {
+    fn from(error: LoadError) -> LineError {
+        match error {
+            LoadError::CantRead => LineError::CantRead,
+            LoadError::Memory => LineError::Memory,
+        }
+    }
+}
+
+impl From<AllocError> for LineError {
+    fn from(_refused: AllocError) -> LineError {
+        LineError::Memory
+    }
+}
+
+impl<T: Drop> From<AllocFailed<T>> for ScriptError {
+    fn from(_refused: AllocFailed<T>) -> ScriptError {
+        ScriptError::Memory
+    }
+}
+
+/// A number that has to be one.
+fn wanted(word: &[u8]) -> Result<u32, LineError> {
+    number(word).ok_or(LineError::NotAnEvent)
+}
+
+fn publication<S: Source>(
+    alloc: Global,
+    name: &[u8],
+    path: &[u8],
+    source: &mut S,
+) -> Result<Event, LineError> {
+    Ok(Event::Publish {
+        name: Vec::from_slice(alloc, name)?,
+        file: source.load(path)?,
+    })
+}
+
+/// The window of a line: its columns, rows and sides, in level `level`.
+fn window(level: &[u8], sides: &[&[u8]; 4]) -> Result<Query, LineError> {
+    let [x, y, w, h] = sides;
+    Ok(Query::Window {
+        pick: Pick::Level(wanted(level)?),
+        x: wanted(x)?,
+        y: wanted(y)?,
+        w: wanted(w)?,
+        h: wanted(h)?,
+    })
+}
+
+/// The event of a line of these words.
+fn event_of<S: Source>(alloc: Global, words: &[&[u8]], source: &mut S) -> Result<Event, LineError> {
+    match words {
+        [b"publish", name, path] => publication(alloc, name, path, source),
+        [b"epoch", epoch] => Ok(Event::Epoch(wanted(epoch)?)),
+        [b"client", name, blocks] => Ok(Event::NewClient {
+            name: Vec::from_slice(alloc, name)?,
+            blocks: wanted(blocks)?,
+        }),
+        [b"open", client, b"level", level, x, y, w, h] => Ok(Event::Open {
+            client: wanted(client)?,
+            query: window(level, &[*x, *y, *w, *h])?,
+        }),
+        [b"exchange", client] => Ok(Event::Exchange(wanted(client)?)),
+        _ => Err(LineError::NotAnEvent),
+    }
+}
+
+/// The event of a line that isn't passed over.
+fn read_line<S: Source>(alloc: Global, line: &[u8], source: &mut S) -> Result<Event, LineError> {
+    let words: Vec<&[u8]> = line.split(|b| *b == b' ').collect(alloc)?;
+    if line.ends_with(b"\r") || words.iter().any(|word| word.is_empty()) {
+        return Err(LineError::NotAnEvent);
+    }
+    event_of(alloc, &words, source)
+}
+
+/// The events of a script, whose files come from `source`. Of the lines that aren't read the first is told.
+pub fn script<S: Source>(
+    alloc: Global,
+    text: &[u8],
+    source: &mut S,
+) -> Result<Vec<Event>, ScriptError> {
+    let mut events = Vec::new(alloc);
+    for (before, line) in text.split(|b| *b == b'\n').enumerate() {
+        if line.is_empty() || line.starts_with(b"#") {
+            continue;
+        }
+        match read_line(alloc, line, source) {
+            Ok(event) => events.push(event)?,
+            Err(error) => return Err(error.at(before + 1)),
+        }
+    }
+    Ok(events)
+}

@@ -1,0 +1,122 @@
+//! The text of a log.
+use crate::text::Text;
+use http_range::{Memory, Span, Why};
+use itoa::{Buffer, Integer};
+use std::alloc::{AllocError, Global};
+use tiff_dir::FileFault;
+use world::{Delivered, Effect, Entry, Exchange, Ignored, Log, Outcome, Report};
+
+/// The text of a log: a line for each entry, and one more for its report.
+pub fn log_text(alloc: Global, log: &Log) -> Result<Vec<u8>, Memory> {
+    let mut text = Text::new(alloc);
+    for entry in &log.entries {
+        push_entry(&mut text, entry)?;
+    }
+    Ok(text.into_bytes())
+}
+
+fn push_entry(text: &mut Text, entry: &Entry) -> Result<(), AllocError> {
+    push_effect(text, &entry.effect)?;
+    text.end_line()?;
+    match (&entry.report, client_of(&entry.effect)) {
+        (Some(report), Some(client)) => push_report(text, client, report),
+        _ => Ok(()),
+    }
+}
+
+/// The client that the event was about.
+fn client_of(effect: &Effect) -> Option<u32> {
+    match effect {
+        Effect::Opened(client) | Effect::Nothing(client) => Some(*client),
+        Effect::Exchanged(exchange) => Some(exchange.client),
+        _ => None,
+    }
+}
+
+fn push_effect(text: &mut Text, effect: &Effect) -> Result<(), AllocError> {
+    match effect {
+        Effect::Skipped => text.word(b"skipped"),
+        Effect::Published(tag) => {
+            text.word(b"published")?;
+            text.word(tag.as_bytes())
+        }
+        Effect::Refused(refusal) => push_counted(text, b"refused", refusal.number()),
+        Effect::Epoch(epoch) => push_counted(text, b"epoch", *epoch),
+        Effect::Made(client) => push_counted(text, b"client", *client),
+        Effect::Opened(client) => push_counted(text, b"opened", *client),
+        Effect::Nothing(client) => {
+            push_counted(text, b"asked", *client)?;
+            text.word(b"nothing")
+        }
+        Effect::Exchanged(exchange) => push_exchange(text, exchange),
+    }
+}
+
+/// A word and its number.
+fn push_counted<I: Integer>(text: &mut Text, word: &[u8], number: I) -> Result<(), AllocError> {
+    text.word(word)?;
+    text.number(number)
+}
+
+fn push_exchange(text: &mut Text, exchange: &Exchange) -> Result<(), AllocError> {
+    push_counted(text, b"asked", exchange.client)?;
+    push_span(text, exchange.span)?;
+    match &exchange.tag {
+        Some(tag) => text.word(tag.as_bytes())?,
+        None => text.word(b"-")?,
+    }
+    push_counted(text, b"answer", exchange.number)?;
+    text.number(exchange.answer.status)?;
+    text.number(exchange.answer.body)?;
+    push_delivered(text, exchange.delivered)
+}
+
+/// The first and the last position, with `-` between them.
+fn push_span(text: &mut Text, span: Span) -> Result<(), AllocError> {
+    text.number(span.first)?;
+    text.push(b"-")?;
+    text.push(Buffer::new().format(span.last).as_bytes())
+}
+
+fn push_delivered(text: &mut Text, delivered: Delivered) -> Result<(), AllocError> {
+    match delivered {
+        Delivered::Took(blocks) => push_counted(text, b"took", blocks),
+        Delivered::Ignored(ignored) => {
+            push_counted(text, b"ignored", ignored.number())?;
+            match ignored {
+                Ignored::NotUsed(Why::Status(status)) => text.number(status),
+                _ => Ok(()),
+            }
+        }
+    }
+}
+
+fn push_report(text: &mut Text, client: u32, report: &Report) -> Result<(), AllocError> {
+    push_counted(text, b"report", client)?;
+    text.word(report.tag.as_bytes())?;
+    match &report.outcome {
+        Outcome::Window {
+            w,
+            h,
+            samples,
+            pixels,
+            ..
+        } => {
+            push_counted(text, b"window", *w)?;
+            text.number(*h)?;
+            text.number(*samples)?;
+            text.hexadecimal(pixels)?;
+        }
+        Outcome::Fault(fault) => push_fault(text, *fault)?,
+    }
+    text.end_line()
+}
+
+/// A fault's number, and the field that it is about.
+fn push_fault(text: &mut Text, fault: FileFault) -> Result<(), AllocError> {
+    push_counted(text, b"fault", fault.number())?;
+    match fault.tag() {
+        Some(tag) => text.number(tag),
+        None => Ok(()),
+    }
+}

@@ -1,0 +1,51 @@
+//! Lines of words.
+use itoa::{Buffer, Integer};
+use std::alloc::{AllocError, Global};
+
+/// A text of lines, whose words are separated by one space.
+#[derive(Drop)]
+pub struct Text {
+    alloc: Global,
+    bytes: Vec<u8>,
+}
+
+impl Text {
+    pub fn new(alloc: Global) -> Text {
+        Text {
+            alloc,
+            bytes: Vec::new(alloc),
+        }
+    }
+
+    pub fn into_bytes(self) -> Vec<u8> {
+        self.bytes
+    }
+
+    /// Appends to the line.
+    pub fn push(&mut self, bytes: &[u8]) -> Result<(), AllocError> {
+        self.bytes.extend_from_slice(bytes)
+    }
+
+    /// A further word.
+    pub fn word(&mut self, word: &[u8]) -> Result<(), AllocError> {
+        if !self.bytes.is_empty() && !self.bytes.ends_with(b"\n") {
+            self.bytes.push(b' ')?;
+        }
+        self.push(word)
+    }
+
+    /// A number as a further word.
+    pub fn number<I: Integer>(&mut self, number: I) -> Result<(), AllocError> {
+        self.word(Buffer::new().format(number).as_bytes())
+    }
+
+    /// Bytes as a further word of lower case hexadecimal digits.
+    pub fn hexadecimal(&mut self, bytes: &[u8]) -> Result<(), AllocError> {
+        let digits = hex::encode(self.alloc, bytes)?;
+        self.word(digits.as_bytes())
+    }
+
+    pub fn end_line(&mut self) -> Result<(), AllocError> {
+        self.push(b"\n")
+    }
+}
