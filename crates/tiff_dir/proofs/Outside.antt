@@ -1,5 +1,5 @@
 -- The values of BitsPerSample and SampleFormat, in their entries and outside.
-use Rattle.std.proofs.Common.{◌≡◌, ◌≢◌, ℕ, suc, ◌+◌, ◌*◌, ◌<◌, inl, inr, true, false, List, [], ◌∷◌, get_or, Option, Some, None, Result, Ok, Err, MatchResult, refl, sym, subst, ap, ◌∙◌, arith, lit<}
+use Rattle.std.proofs.Common.{IsErrAnd, ◌≡◌, ◌≢◌, ℕ, suc, ◌+◌, ◌*◌, ◌<◌, inl, inr, true, false, List, [], ◌∷◌, get_or, Option, Some, None, Result, Ok, Err, MatchResult, refl, sym, subst, ap, ◌∙◌, arith, lit<}
 use Rattle.std.proofs.lemmas.Option.{same_Some, none-some}
 use Rattle.std.proofs.lemmas.Bool.{eqb-true, ne_eqb}
 use Rattle.std.specs.Option.{option_map, option_to_list}
@@ -28,6 +28,11 @@ use Rattle.tiff_dir.proofs.GoingOn.{steps_same, ends_on}
 pub level_fault : (f : List ℕ) (k : ℕ) (fault : FileFault) → k < 16 → has_directory f k ≡ true → is_level f k ≡ true → IsFaultOfLevel f k fault → IsFaultOfDirectories f fault
 unfolding IsFaultOfDirectories
 level_fault f k fault few there level bad = inr (k, (few, there), inr (level, bad))
+
+-- what is wrong, of an error that is passed on
+pub err_told : {A E : Type 0} (r : Result A E) (e : E) (P : A → Type 0) (Q : E → Type 0) → IsErrAnd r (λ x. x ≡ e) → Q e → MatchResult r P Q
+err_told (Ok x) e P Q is told = absurd is
+err_told (Err x) e P Q is told = subst Q (sym is) told
 
 pub then_also : {A E : Type 0} (P R : A → Type 0) (Q : E → Type 0) (r : Result A E) → MatchResult r P Q → ((x : A) → P x → R x) → MatchResult r R Q
 then_also P R Q (Ok x) h more = more x h

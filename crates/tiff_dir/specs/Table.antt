@@ -4,6 +4,7 @@ use Rattle.std.specs.Option.{option_map, option_map_or}
 use Rattle.std.specs.List.{find, AllPass}
 use Rattle.tiff_dir.specs.declared.order.Order.{Order}
 use Rattle.tiff_dir.specs.declared.table.Entry.{Entry}
+use Rattle.tiff_dir.specs.declared.table.Table.{Table}
 use Rattle.tiff_dir.specs.declared.rule.Rule.{Rule}
 use Rattle.tiff_dir.specs.declared.rule.Count.{Count}
 use Rattle.tiff_dir.specs.declared.rule.Count.TheVariants.{One, Samples, Tiles}
@@ -26,9 +27,8 @@ unfoldable pub entries : Order → ℕ → ℕ → ℕ → List ℕ → List Ent
 entries o base at zero bytes = []
 entries o base at (suc n) bytes = entry o base at bytes ∷ entries o base (at + 12) n bytes
 
--- the bytes have a directory's entries, and stand where those of a file can
-abbrev pub IsReadable : ℕ → ℕ → List ℕ → Type 0
-IsReadable base n bytes = (base ≤ 2 ^ 32 + 1) × (n ≤ 256) × (12 * n ≤ length bytes)
+abbrev pub entries_of : Table → List Entry
+entries_of t = entries t.order (t.at + 2) 0 t.entries t.bytes.now
 
 abbrev pub field_of : Entry → Field
 field_of e = record { tag = e.tag; kind = e.kind; count = e.count; place = e.place }

@@ -6,15 +6,14 @@ ghost use Rattle.tiff_dir.specs.Fault.{IsFaultOfDirectories, IsFaultOfDirectory}
 ghost use Rattle.tiff_dir.specs.Level.{is_level};
 ghost use Rattle.tiff_dir.specs.Shape.{level_from, IsEnd, IsNext};
 ghost use Rattle.tiff_dir.specs.Stage.{three_shorts, EndsDirectory, HasBits, HasFormats, HasShorts, IsBefore, IsDraft, IsPart, IsPending, IsSupported, IsTableOf, StepsOn};
-ghost use Rattle.tiff_dir.specs.Table.{entries as entry_list, IsReadFault, IsReadIn, IsReadable};
+ghost use Rattle.tiff_dir.specs.Table.{entries_of, IsReadFault, IsReadIn};
 ghost use Rattle.tiff_dir.specs.declared.fault.FileFault.{FileFault as Fault};
 
 use crate::next::next;
-use crate::profile::{SUBFILE, check_profile, check_rule};
+use crate::profile::SUBFILE;
 use crate::shape::check_shape;
 use crate::stage::{Draft, Pending, Stage, Step};
-use crate::table::ascending;
-use crate::values::{check_counts, check_values, draft, long, short, single};
+use crate::table::Table;
 use crate::{FileFault, Level, Order};
 
 /// How many samples a pixel has whose BitsPerSample doesn't fit in the entry.
@@ -35,27 +34,16 @@ fn counts_as_level(index: u32, subfile: u32) -> bool
 }
 
 /// Whether the directory is a level, by the fields that are looked at in every directory.
-pub(crate) fn check_directory(
-    order: Order,
-    index: u32,
-    at: u32,
-    entries: u16,
-    bytes: &[u8],
-) -> Result<bool, FileFault>
-    requires few { entries ≤ 256 }
-    requires whole { length bytes.now ≡ 12 * entries + 4 }
+pub(crate) fn check_directory(index: u32, table: &Table<'_>) -> Result<bool, FileFault>
     ensures first { IfOk result (λ level. level ≡ false → 0 < index) }
-    ensures told { (f : List ℕ) → IsTableOf f order index at entries bytes.now
+    ensures told { (f : List ℕ) → IsTableOf f table.now.order index table.now.at table.now.entries table.now.bytes.now
         → MatchResult result (λ level. (is_level f index ≡ level) × ((fault : Fault) → IsFaultOfDirectory f index fault → ⊥)) (IsFaultOfDirectory f index) }
 {
-    let base = u64::from(at) + 2;
-    if !ascending(order, bytes, entries) {
+    if !table.ascends() {
         return Err(FileFault::TagOrder);
     }
-    if let Err(fault) = check_rule(order, base, entries, bytes, SUBFILE) {
-        return Err(fault);
-    }
-    let subfile = single(order, base, entries, bytes, 254, 0);
+    table.check_rule(SUBFILE)?;
+    let subfile = table.single(254, 0);
     if is_reduced_first(index, subfile) {
         return Err(FileFault::LevelShape);
     }
@@ -63,56 +51,40 @@ pub(crate) fn check_directory(
 }
 
 /// What the entries of a level say of it, where they keep the profile.
-fn read_level(order: Order, base: u64, entries: u16, bytes: &[u8]) -> Result<Draft, FileFault>
-    requires { IsReadable base entries bytes.now }
-    ensures read { let es = entry_list order base 0 entries bytes.now in MatchResult result (IsReadIn es) (IsReadFault es) }
+fn read_level(table: &Table<'_>) -> Result<Draft, FileFault>
+    ensures read { MatchResult result (IsReadIn (entries_of table.now)) (IsReadFault (entries_of table.now)) }
     ensures bounded { IfOk result IsDraft }
 {
-    if let Err(fault) = check_profile(order, base, entries, bytes) {
-        return Err(fault);
-    }
-    if let Err(fault) = check_values(order, base, entries, bytes) {
-        return Err(fault);
-    }
-    if let Err(fault) = check_counts(order, base, entries, bytes) {
-        return Err(fault);
-    }
-    Ok(draft(order, base, entries, bytes))
+    table.check_profile()?;
+    table.check_values()?;
+    table.check_counts()?;
+    Ok(table.draft())
 }
 
 /// Reads the entries of a level: its values are in them, or three of BitsPerSample stand outside.
 pub(crate) fn after_level(
-    order: Order,
     index: u32,
-    at: u32,
-    entries: u16,
-    bytes: &[u8],
+    table: &Table<'_>,
     previous: Option<Level>,
 ) -> Result<Step, FileFault>
     requires few { index < 16 }
-    requires short { entries ≤ 256 }
-    requires whole { length bytes.now ≡ 12 * entries + 4 }
-    ensures next { IfOk result (IsNext (Stage.Table order index at entries) (3 + 4 * index)) }
-    ensures agrees { (f : List ℕ) → IsTableOf f order index at entries bytes.now → is_level f index ≡ true
+    ensures next { IfOk result (IsNext (Stage.Table table.now.order index table.now.at table.now.entries) (3 + 4 * index)) }
+    ensures agrees { (f : List ℕ) → IsTableOf f table.now.order index table.now.at table.now.entries table.now.bytes.now → is_level f index ≡ true
         → ((fault : Fault) → IsFaultOfDirectory f index fault → ⊥) → IsBefore f index previous
-        → MatchResult result (StepsOn f (Stage.Table order index at entries)) (IsFaultOfDirectories f) }
+        → MatchResult result (StepsOn f (Stage.Table table.now.order index table.now.at table.now.entries)) (IsFaultOfDirectories f) }
 {
-    let base = u64::from(at) + 2;
-    let draft = match read_level(order, base, entries, bytes) {
-        Ok(draft) => draft,
-        Err(fault) => return Err(fault),
-    };
+    let draft = read_level(table)?;
     let pending = Pending {
-        order,
+        order: table.order,
         index,
-        next: order.long_at(bytes, 12 * entries as usize),
+        next: table.next(),
         draft,
     };
     if draft.samples == RGB {
-        let Some(first) = long(order, base, entries, bytes, 258) else {
+        let Some(first) = table.long(258) else {
             return Err(FileFault::Missing(258));
         };
-        let formats = long(order, base, entries, bytes, 339);
+        let formats = table.long(339);
         let stage = Stage::Bits {
             pending,
             first,
@@ -120,10 +92,10 @@ pub(crate) fn after_level(
         };
         return Ok(Step { stage, level: None });
     }
-    if short(order, base, entries, bytes, 258, 0) != 8 {
+    if table.short(258, 0) != 8 {
         return Err(FileFault::Unsupported(258));
     }
-    if short(order, base, entries, bytes, 339, 1) != 1 {
+    if table.short(339, 1) != 1 {
         return Err(FileFault::Unsupported(339));
     }
     finish(pending, previous)
@@ -220,14 +192,10 @@ fn finish(pending: Pending, previous: Option<Level>) -> Result<Step, FileFault>
     ensures agrees { (f : List ℕ) → IsPending f pending → value f pending.index 258 0 ≡ Some 8 → IsSupported f pending.index 258 → IsSupported f pending.index 339
         → IsBefore f pending.index previous → MatchResult result (EndsDirectory f pending.index) (IsFaultOfDirectories f) }
 {
-    if let Err(fault) = check_shape(previous, pending.draft) {
-        return Err(fault);
-    }
-    match next(pending.order, pending.index + 1, pending.next) {
-        Ok(stage) => Ok(Step {
-            stage,
-            level: Some(level_of(pending.draft)),
-        }),
-        Err(fault) => Err(fault),
-    }
+    check_shape(previous, pending.draft)?;
+    let stage = next(pending.order, pending.index + 1, pending.next)?;
+    Ok(Step {
+        stage,
+        level: Some(level_of(pending.draft)),
+    })
 }

@@ -2,14 +2,14 @@
 ghost use Rattle.std.specs.Prelude.{◌≡◌, true, false, MatchResult};
 ghost use Rattle.std.specs.List.{AllPass};
 ghost use Rattle.tiff_dir.specs.Profile.{profile};
-ghost use Rattle.tiff_dir.specs.Table.{allows, entries as entry_list, meets, IsEntryFault, IsFaultOfEntries, IsReadable};
+ghost use Rattle.tiff_dir.specs.Table.{allows, entries_of, meets, IsEntryFault, IsFaultOfEntries};
 
+use crate::FileFault;
 use crate::rule::{Count, Rule, Typing};
-use crate::table::{Entry, find_entry};
-use crate::{FileFault, Order};
+use crate::table::{Entry, Table};
 
 /// NewSubfileType, which is looked at in every directory.
-pub(crate) const SUBFILE: Rule = Rule {
+pub const SUBFILE: Rule = Rule {
     tag: 254,
     typing: Typing::Long,
     count: Count::One,
@@ -127,60 +127,34 @@ fn is_allowed(rule: Rule, entry: Entry) -> bool
     typed && counted
 }
 
-/// Whether the table has the field of the rule as the rule says.
-pub(crate) fn check_rule(
-    order: Order,
-    base: u64,
-    entries: u16,
-    bytes: &[u8],
-    rule: Rule,
-) -> Result<(), FileFault>
-    requires { IsReadable base entries bytes.now }
-    ensures { let es = entry_list order base 0 entries bytes.now in MatchResult result (λ _. meets es rule ≡ true) (IsEntryFault rule es) }
-{
-    let Some(entry) = find_entry(order, base, entries, bytes, rule.tag) else {
-        return if rule.required {
-            Err(FileFault::Missing(rule.tag))
-        } else {
-            Ok(())
-        };
-    };
-    if is_allowed(rule, entry) {
-        Ok(())
-    } else {
-        Err(FileFault::FieldType(rule.tag))
-    }
-}
-
-/// Whether the table has the field of each rule as the rule says.
-fn check_rules(
-    order: Order,
-    base: u64,
-    entries: u16,
-    bytes: &[u8],
-    rules: &[Rule],
-) -> Result<(), FileFault>
-    requires { IsReadable base entries bytes.now }
-    ensures { let es = entry_list order base 0 entries bytes.now in MatchResult result (λ _. AllPass (meets es) rules.now) (IsFaultOfEntries rules.now es) }
-{
-    for rule in rules {
-        if let Err(fault) = check_rule(order, base, entries, bytes, *rule) {
-            return Err(fault);
+impl Table<'_> {
+    /// Whether the table has the field of the rule as the rule says.
+    pub fn check_rule(&self, rule: Rule) -> Result<(), FileFault>
+        ensures { MatchResult result (λ _. meets (entries_of self.now) rule ≡ true) (IsEntryFault rule (entries_of self.now)) }
+    {
+        match self.find(rule.tag) {
+            Some(entry) if is_allowed(rule, entry) => Ok(()),
+            Some(_) => Err(FileFault::FieldType(rule.tag)),
+            None if rule.required => Err(FileFault::Missing(rule.tag)),
+            None => Ok(()),
         }
     }
-    Ok(())
-}
 
-/// Whether the table has each field of the profile as the profile says, but for the counts of samples and tiles.
-#[tactic(auto, unfolding(crate::specs::Profile::profile))]
-pub(crate) fn check_profile(
-    order: Order,
-    base: u64,
-    entries: u16,
-    bytes: &[u8],
-) -> Result<(), FileFault>
-    requires { IsReadable base entries bytes.now }
-    ensures { let es = entry_list order base 0 entries bytes.now in MatchResult result (λ _. AllPass (meets es) profile) (IsFaultOfEntries profile es) }
-{
-    check_rules(order, base, entries, bytes, &PROFILE)
+    /// Whether the table has the field of each rule as the rule says.
+    fn check_rules(&self, rules: &[Rule]) -> Result<(), FileFault>
+        ensures { MatchResult result (λ _. AllPass (meets (entries_of self.now)) rules.now) (IsFaultOfEntries rules.now (entries_of self.now)) }
+    {
+        for rule in rules {
+            self.check_rule(*rule)?;
+        }
+        Ok(())
+    }
+
+    /// Whether the table has each field of the profile as the profile says, but for the counts of samples and tiles.
+    #[tactic(auto, unfolding(crate::specs::Profile::profile))]
+    pub fn check_profile(&self) -> Result<(), FileFault>
+        ensures { MatchResult result (λ _. AllPass (meets (entries_of self.now)) profile) (IsFaultOfEntries profile (entries_of self.now)) }
+    {
+        self.check_rules(&PROFILE)
+    }
 }

@@ -10,6 +10,7 @@ ghost use Rattle.tiff_dir.specs.Stage.{index_of, range_of, AgreesAt, IsBefore, I
 use crate::level_steps::{after_bits, after_formats, after_level, check_directory};
 use crate::next::next;
 use crate::stage::{Stage, Step};
+use crate::table::Table;
 use crate::{FileFault, Level, Order};
 
 const MAX_ENTRIES: u16 = 256;
@@ -41,10 +42,8 @@ fn after_header(bytes: &[u8]) -> Result<Step, FileFault>
     if order.short_at(bytes, 2) != 42 {
         return Err(FileFault::Header);
     }
-    match next(order, 0, order.long_at(bytes, 4)) {
-        Ok(stage) => Ok(Step { stage, level: None }),
-        Err(fault) => Err(fault),
-    }
+    let stage = next(order, 0, order.long_at(bytes, 4))?;
+    Ok(Step { stage, level: None })
 }
 
 /// The first two bytes of a directory tell how many entries it has.
@@ -84,18 +83,17 @@ fn after_table(
     ensures agrees { (f : List ℕ) → IsTableOf f order index at entries bytes.now → IsBefore f index previous
         → MatchResult result (StepsOn f (Stage.Table order index at entries)) (IsFaultOfDirectories f) }
 {
-    match check_directory(order, index, at, entries, bytes) {
-        Ok(true) => after_level(order, index, at, entries, bytes, previous),
-        Ok(false) => match next(
-            order,
-            index + 1,
-            order.long_at(bytes, 12 * entries as usize),
-        ) {
-            Ok(stage) => Ok(Step { stage, level: None }),
-            Err(fault) => Err(fault),
-        },
-        Err(fault) => Err(fault),
+    let table = Table {
+        order,
+        at,
+        entries,
+        bytes,
+    };
+    if check_directory(index, &table)? {
+        return after_level(index, &table, previous);
     }
+    let stage = next(order, index + 1, table.next())?;
+    Ok(Step { stage, level: None })
 }
 
 /// One step of the walk, by the bytes of the range that it wants.

@@ -1,7 +1,5 @@
 // The entries in the bytes of a directory's table.
-ghost use Rattle.std.specs.Prelude.{◌≡◌, ℕ, ◌+◌, ◌*◌, ◌<◌, ◌≤◌, ◌^◌, IfSome, length, map};
-ghost use Rattle.tiff_dir.specs.Fault.{ascends};
-ghost use Rattle.tiff_dir.specs.Table.{entry, entries as entry_list, field_of, found, IsReadable};
+ghost use Rattle.std.specs.Prelude.{◌≡◌, ◌+◌, ◌*◌, ◌≤◌, length};
 
 use crate::Order;
 
@@ -18,51 +16,69 @@ pub struct Entry {
     pub long: u32,
 }
 
-/// The entry in the 12 bytes from `at`, of bytes that stand in the file from `base`.
-fn entry_at(order: Order, base: u64, at: usize, bytes: &[u8]) -> Entry
-    requires room { base + at < 2 ^ 64 }
-    requires whole { at + 12 ≤ length bytes.now }
-    ensures { result ≡ entry order base at bytes.now }
-{
-    Entry {
-        tag: order.short_at(bytes, at),
-        kind: order.short_at(bytes, at + 2),
-        count: order.long_at(bytes, at + 4),
-        place: base + at as u64,
-        short: order.short_at(bytes, at + 8),
-        long: order.long_at(bytes, at + 8),
-    }
+/// The table of the directory at `at`: the bytes of its entries, and of the place of the next directory.
+#[derive(Clone, Copy)]
+pub struct Table<'b> {
+    pub order: Order,
+    pub at: u32,
+    pub entries: u16,
+    pub bytes: &'b [u8],
+    ghost few: { entries ≤ 256 },
+    ghost whole: { length bytes.now ≡ 12 * entries + 4 },
 }
 
-/// The first entry with the tag.
-pub(crate) fn find_entry(
-    order: Order,
-    base: u64,
-    entries: u16,
-    bytes: &[u8],
-    tag: u16,
-) -> Option<Entry>
-    requires { IsReadable base entries bytes.now }
-    ensures near { IfSome result (λ e. e.place + 8 < 2 ^ 33) }
-    ensures first { result ≡ found tag (entry_list order base 0 entries bytes.now) }
-{
-    for i in 0..entries as usize {
-        if order.short_at(bytes, 12 * i) == tag {
-            return Some(entry_at(order, base, 12 * i, bytes));
-        }
-    }
-    None
-}
+impl Table<'_> {
+    ghost use Rattle.std.specs.Prelude.{◌<◌, ◌^◌, IfSome, map};
+    ghost use Rattle.tiff_dir.specs.Fault.{ascends};
+    ghost use Rattle.tiff_dir.specs.Number.{number_in};
+    ghost use Rattle.tiff_dir.specs.Table.{entries_of, entry, field_of, found};
 
-/// The tags of the entries ascend.
-pub(crate) fn ascending(order: Order, bytes: &[u8], entries: u16) -> bool
-    requires { 12 * entries ≤ length bytes.now }
-    ensures { (base : ℕ) → result ≡ ascends (map field_of (entry_list order base 0 entries bytes.now)) }
-{
-    for i in 1..entries as usize {
-        if order.short_at(bytes, 12 * i) <= order.short_at(bytes, 12 * (i - 1)) {
-            return false;
+    /// The entry in the 12 bytes from `start`.
+    fn entry_at(&self, start: usize) -> Entry
+        requires { start + 12 ≤ length self.now.bytes.now }
+        ensures { result ≡ entry self.now.order (self.now.at + 2) start self.now.bytes.now }
+    {
+        Entry {
+            tag: self.order.short_at(self.bytes, start),
+            kind: self.order.short_at(self.bytes, start + 2),
+            count: self.order.long_at(self.bytes, start + 4),
+            place: u64::from(self.at) + 2 + start as u64,
+            short: self.order.short_at(self.bytes, start + 8),
+            long: self.order.long_at(self.bytes, start + 8),
         }
     }
-    true
+
+    /// The first entry with the tag.
+    pub fn find(&self, tag: u16) -> Option<Entry>
+        ensures near { IfSome result (λ e. e.place + 8 < 2 ^ 33) }
+        ensures first { result ≡ found tag (entries_of self.now) }
+    {
+        for i in 0..self.entries as usize {
+            if self.order.short_at(self.bytes, 12 * i) == tag {
+                return Some(self.entry_at(12 * i));
+            }
+        }
+        None
+    }
+
+    /// The tags of the entries ascend.
+    pub fn ascends(&self) -> bool
+        ensures { result ≡ ascends (map field_of (entries_of self.now)) }
+    {
+        for i in 1..self.entries as usize {
+            if self.order.short_at(self.bytes, 12 * i)
+                <= self.order.short_at(self.bytes, 12 * (i - 1))
+            {
+                return false;
+            }
+        }
+        true
+    }
+
+    /// The place of the next directory.
+    pub fn next(&self) -> u32
+        ensures { result ≡ number_in self.now.order (12 * self.now.entries) 4 self.now.bytes.now }
+    {
+        self.order.long_at(self.bytes, 12 * self.entries as usize)
+    }
 }

@@ -2,69 +2,70 @@ use Rattle.std.proofs.Common.{◌≡◌, ◌≢◌, ◌+◌, ◌∙◌, Some, sy
 use Rattle.tiff_dir.specs.declared.stage.Pending.{Pending}
 use Rattle.tiff_dir.specs.declared.stage.Stage.TheVariants.{Table}
 use Rattle.tiff_dir.specs.declared.fault.FileFault.TheVariants.{Unsupported}
-use Rattle.tiff_dir.specs.Table.{entries, long_in, short_or}
+use Rattle.tiff_dir.specs.Table.{entries_of, long_in, short_or}
 use Rattle.tiff_dir.specs.Fault.{IsFaultOfDirectories}
 use Rattle.tiff_dir.specs.Stage.{HasTable, IsPending, StepsOn, EndsDirectory}
 use Rattle.tiff_dir.proofs.Fields.{has_table}
 use Rattle.tiff_dir.proofs.Levels.{read_fault, pending_is}
-use Rattle.tiff_dir.proofs.Outside.{draft_samples, one_sample, level_fault, bits_there, bits_outside, formats_outside, bits_inside, formats_inside, bits_unsupported, formats_unsupported, table_to_bits, table_to_end, then_also}
+use Rattle.tiff_dir.proofs.Outside.{err_told, draft_samples, one_sample, level_fault, bits_there, bits_outside, formats_outside, bits_inside, formats_inside, bits_unsupported, formats_unsupported, table_to_bits, table_to_end, then_also}
 use Rattle.tiff_dir.proofs.level_steps.after_level.Goals as goal
 
-pub returns-in-Err-clause-agrees : goal.returns-in-Err-clause-agrees
-returns-in-Err-clause-agrees c = λ f is level sound before.
-    let has : HasTable f c.args.index (entries c.args.order (c.from-base.result + 2) 0 c.args.entries c.args.bytes.now) =
-    rw c.from-base.ensures (has_table f _ _ _ _ _ is c.requires.whole) in
-    level_fault f c.args.index c.in-Err.fault c.requires.few has.there level (read_fault f c.args.index _ c.in-Err.fault has c.in-Err.ensures.read)
+pub returns-in_err-draft-clause-agrees : goal.returns-in_err-draft-clause-agrees
+returns-in_err-draft-clause-agrees c = λ f is level sound before.
+    let has : HasTable f c.args.index (entries_of c.args.table.now) = has_table f _ _ _ _ _ is c.args.table.now.whole in
+    let fault = c.in_err-draft.field-0.0 in
+    err_told c.from_residual.result fault _ (IsFaultOfDirectories f) c.from_residual.ensures.1
+    (level_fault f c.args.index fault c.requires.few has.there level (read_fault f c.args.index _ fault has c.in_err-draft.ensures.read))
 
 pub returns-in_default-clause-agrees : goal.returns-in_default-clause-agrees
-returns-in_default-clause-agrees c = λ f is level sound before. absurd (bits_there _ c.in-Ok.ensures.read.met (sym c.long.ensures ∙ c.in_default.is))
+returns-in_default-clause-agrees c = λ f is level sound before. absurd (bits_there _ c.in_ok-draft.ensures.read.met (sym c.long.ensures ∙ c.in_default.is))
 
 pub returns-then-draft-eq-RGB-clause-agrees : goal.returns-then-draft-eq-RGB-clause-agrees
 returns-then-draft-eq-RGB-clause-agrees c = λ f is level sound before.
-    let es = entries c.args.order (c.from-base.result + 2) 0 c.args.entries c.args.bytes.now in
-    let has : HasTable f c.args.index es = rw c.from-base.ensures (has_table f _ _ _ _ _ is c.requires.whole) in
-    let read = c.in-Ok.ensures.read in
-    let p : Pending = record { order = c.args.order; index = c.args.index; next = c.long_at.result; draft = c.in-Ok.draft } in
-    let pending : IsPending f p = rw c.long_at.ensures (pending_is f _ c.args.order c.args.index c.args.at c.args.entries es c.in-Ok.draft is c.requires.whole has read level sound) in
-    let samples : short_or es 277 1 ≡ 3 = sym (draft_samples es c.in-Ok.draft read) ∙ c.if-draft-eq-RGB.true in
+    let es = entries_of c.args.table.now in
+    let has : HasTable f c.args.index es = has_table f _ _ _ _ _ is c.args.table.now.whole in
+    let read = c.in_ok-draft.ensures.read in
+    let p : Pending = record { order = c.args.table.now.order; index = c.args.index; next = c.next.result; draft = c.in_ok-draft.draft } in
+    let pending : IsPending f p = rw c.next.ensures (pending_is f _ c.args.table.now.order c.args.index c.args.table.now.at c.args.table.now.entries es c.in_ok-draft.draft is c.args.table.now.whole has read level sound) in
+    let samples : short_or es 277 1 ≡ 3 = sym (draft_samples es c.in_ok-draft.draft read) ∙ c.if-draft-eq-RGB.true in
     let bits : long_in es 258 ≡ Some c.in-Some.first = sym c.long.ensures ∙ c.in-Some.is in
-    table_to_bits f c.args.order c.args.index c.args.at c.args.entries p c.in-Some.first c.long-formats.result refl level pending
+    table_to_bits f c.args.table.now.order c.args.index c.args.table.now.at c.args.table.now.entries p c.in-Some.first c.long-formats.result refl level pending
     (bits_outside f c.args.index es c.in-Some.first has read.met read.counts samples bits)
     (formats_outside f c.args.index es c.long-formats.result has read.met read.counts samples (sym c.long-formats.ensures))
 
 pub returns-then-short-ne8-clause-agrees : goal.returns-then-short-ne8-clause-agrees
 returns-then-short-ne8-clause-agrees c = λ f is level sound before.
-    let es = entries c.args.order (c.from-base.result + 2) 0 c.args.entries c.args.bytes.now in
-    let has : HasTable f c.args.index es = rw c.from-base.ensures (has_table f _ _ _ _ _ is c.requires.whole) in
-    let read = c.in-Ok.ensures.read in
-    let three : short_or es 277 1 ≢ 3 = λ e. c.if-draft-eq-RGB.false (draft_samples es c.in-Ok.draft read ∙ e) in
+    let es = entries_of c.args.table.now in
+    let has : HasTable f c.args.index es = has_table f _ _ _ _ _ is c.args.table.now.whole in
+    let read = c.in_ok-draft.ensures.read in
+    let three : short_or es 277 1 ≢ 3 = λ e. c.if-draft-eq-RGB.false (draft_samples es c.in_ok-draft.draft read ∙ e) in
     let samples = one_sample es read.values three in
     let bad : short_or es 258 0 ≢ 8 = λ e. c.if-short-ne8.true (c.short.ensures ∙ e) in
     level_fault f c.args.index (Unsupported 258) c.requires.few has.there level (bits_unsupported f c.args.index es has read.met read.counts samples bad)
 
 pub returns-then-short-ne1-clause-agrees : goal.returns-then-short-ne1-clause-agrees
 returns-then-short-ne1-clause-agrees c = λ f is level sound before.
-    let es = entries c.args.order (c.from-base.result + 2) 0 c.args.entries c.args.bytes.now in
-    let has : HasTable f c.args.index es = rw c.from-base.ensures (has_table f _ _ _ _ _ is c.requires.whole) in
-    let read = c.in-Ok.ensures.read in
-    let three : short_or es 277 1 ≢ 3 = λ e. c.if-draft-eq-RGB.false (draft_samples es c.in-Ok.draft read ∙ e) in
+    let es = entries_of c.args.table.now in
+    let has : HasTable f c.args.index es = has_table f _ _ _ _ _ is c.args.table.now.whole in
+    let read = c.in_ok-draft.ensures.read in
+    let three : short_or es 277 1 ≢ 3 = λ e. c.if-draft-eq-RGB.false (draft_samples es c.in_ok-draft.draft read ∙ e) in
     let samples = one_sample es read.values three in
     let bad : short_or es 339 1 ≢ 1 = λ e. c.if-short-ne1.true (c.short-2.ensures ∙ e) in
     level_fault f c.args.index (Unsupported 339) c.requires.few has.there level (formats_unsupported f c.args.index es has read.met read.counts samples bad)
 
 pub returns-clause-agrees : goal.returns-clause-agrees
 returns-clause-agrees c = λ f is level sound before.
-    let es = entries c.args.order (c.from-base.result + 2) 0 c.args.entries c.args.bytes.now in
-    let has : HasTable f c.args.index es = rw c.from-base.ensures (has_table f _ _ _ _ _ is c.requires.whole) in
-    let read = c.in-Ok.ensures.read in
-    let p : Pending = record { order = c.args.order; index = c.args.index; next = c.long_at.result; draft = c.in-Ok.draft } in
-    let pending : IsPending f p = rw c.long_at.ensures (pending_is f _ c.args.order c.args.index c.args.at c.args.entries es c.in-Ok.draft is c.requires.whole has read level sound) in
-    let three : short_or es 277 1 ≢ 3 = λ e. c.if-draft-eq-RGB.false (draft_samples es c.in-Ok.draft read ∙ e) in
+    let es = entries_of c.args.table.now in
+    let has : HasTable f c.args.index es = has_table f _ _ _ _ _ is c.args.table.now.whole in
+    let read = c.in_ok-draft.ensures.read in
+    let p : Pending = record { order = c.args.table.now.order; index = c.args.index; next = c.next.result; draft = c.in_ok-draft.draft } in
+    let pending : IsPending f p = rw c.next.ensures (pending_is f _ c.args.table.now.order c.args.index c.args.table.now.at c.args.table.now.entries es c.in_ok-draft.draft is c.args.table.now.whole has read level sound) in
+    let three : short_or es 277 1 ≢ 3 = λ e. c.if-draft-eq-RGB.false (draft_samples es c.in_ok-draft.draft read ∙ e) in
     let samples = one_sample es read.values three in
     let eight : short_or es 258 0 ≡ 8 = sym c.short.ensures ∙ c.if-short-ne8.false in
     let one : short_or es 339 1 ≡ 1 = sym c.short-2.ensures ∙ c.if-short-ne1.false in
     let bits = bits_inside f c.args.index es has read.met read.counts samples eight in
     let formats = formats_inside f c.args.index es has read.met read.counts samples one in
-    then_also (EndsDirectory f c.args.index) (StepsOn f (Table c.args.order c.args.index c.args.at c.args.entries)) (IsFaultOfDirectories f) c.finish.result
+    then_also (EndsDirectory f c.args.index) (StepsOn f (Table c.args.table.now.order c.args.index c.args.table.now.at c.args.table.now.entries)) (IsFaultOfDirectories f) c.finish.result
     (c.finish.ensures.agrees f pending bits.0 bits.1 formats.0 before)
-    (λ step ends. table_to_end f c.args.order c.args.index c.args.at c.args.entries step level bits.2 formats.1 ends)
+    (λ step ends. table_to_end f c.args.table.now.order c.args.index c.args.table.now.at c.args.table.now.entries step level bits.2 formats.1 ends)
