@@ -2,3 +2,5 @@ pub mod NumberLemmas
 pub mod EntryLemmas
 pub mod RangeLemmas
 pub mod UnpackingLemmas
+pub mod PacketLemmas
+pub mod SampleLemmas

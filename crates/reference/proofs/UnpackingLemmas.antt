@@ -5,7 +5,6 @@ use Rattle.std.proofs.lemmas.Grind.{flat_map-append}
 use Rattle.std.proofs.lemmas.List.{length-append}
 use Rattle.std.proofs.lemmas.List.Folds.{drop_split}
 use Rattle.std.proofs.Math.Seq.{drop-append_seam}
-use Rattle.std.proofs.Math.Nat.{mod-lt}
 use Rattle.std.proofs.lemmas.List.{length-take-le, length-drop, take_all}
 use Rattle.tiff_dir.specs.Packets.{Packet, IsPacket, KeepRows, written, output, Packs}
 use Rattle.reference.specs.Unpacking.{IsNextPacket, IsUnpackedTo}
@@ -38,9 +37,6 @@ first_one (b ∷ bs) n some first = λ i. sym (first 0) i ∷ bs
 
 pub has_room : (at n count size row : ℕ) → at ≡ n → size ≡ count → at % row + count ≤ row → n % row + size ≤ row
 has_room at n count size row same sizes fits = subst (λ m. m % row + size ≤ row) same (subst (λ m. at % row + m ≤ row) (sym sizes) fits)
-
-pub below : (n row : ℕ) → 0 < row → n % row + 0 ≤ row
-below n row some = omega (arith, mod-lt n some)
 
 -- a longer text with the same byte after it
 pub resized : (xs ys : List ℕ) (n m k b : ℕ) → n ≡ length xs + m → k ≡ length xs → ys ≡ take n xs ++ replicate (n - k) b → ys ≡ xs ++ replicate m b

@@ -3,3 +3,4 @@ pub mod Modest
 pub mod Asked
 pub mod Ranges
 pub mod Unpacking
+pub mod Missing

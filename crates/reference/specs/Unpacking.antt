@@ -1,5 +1,5 @@
 -- One packet after another.
-use Rattle.std.specs.Prelude.{◌≡◌, ℕ, ◌+◌, ◌%◌, ◌≤◌, List, ◌++◌, length, slice_get, Some}
+use Rattle.std.specs.Prelude.{◌≡◌, ℕ, ◌+◌, ◌%◌, ◌≤◌, List, ◌++◌, length}
 use Rattle.tiff_dir.specs.Packets.{Packet, IsPacket, written, output, Packs}
 
 -- The bytes begin with a packet of this length, whose output is added to old and crosses no row.
@@ -12,6 +12,10 @@ pub record IsNextPacket (row : ℕ) (bytes : List ℕ) (len : ℕ) (old new : Li
   pub fits : length old % row + length (output packet) ≤ row
   pub added : new ≡ old ++ output packet
 
+-- no packet comes next
+abbrev pub HasNoNextPacket : ℕ → List ℕ → List ℕ → Type 0
+HasNoNextPacket row bytes old = (len : ℕ) (new : List ℕ) → IsNextPacket row bytes len old new → ⊥
+
 -- The first at bytes are packets for out.
 pub record IsUnpackedTo (row : ℕ) (bytes : List ℕ) (at : ℕ) (out : List ℕ) : Type 0 where
   pub before : List ℕ
@@ -19,3 +23,7 @@ pub record IsUnpackedTo (row : ℕ) (bytes : List ℕ) (at : ℕ) (out : List �
   pub parts : bytes ≡ before ++ after
   pub place : at ≡ length before
   pub packs : Packs row before out
+
+-- the bytes stand for no text
+abbrev pub IsNotPacked : ℕ → List ℕ → Type 0
+IsNotPacked row bytes = (out : List ℕ) → Packs row bytes out → ⊥

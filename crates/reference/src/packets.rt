@@ -1,9 +1,17 @@
 //! Packed bytes (TIFF 6.0, section 9).
-ghost use Rattle.std.specs.Prelude.{◌≡◌, ◌<◌, ◌≤◌, ◌+◌, ◌%◌, ◌-◌, IfOk, IfSome, IsSomeAnd, Some, length, slice_get, drop, slice_range};
+ghost use Rattle.std.specs.Prelude.{◌≡◌, ◌<◌, ◌≤◌, ◌+◌, ◌%◌, ◌-◌, ◌↔◌, IfOk, IfSome, IfNone, IsSomeAnd, IsTrue, Some, length, slice_get, drop, slice_range};
 ghost use Rattle.tiff_dir.specs.Packets.{Packs};
-ghost use Rattle.reference.specs.Unpacking.{IsNextPacket, IsUnpackedTo};
+ghost use Rattle.reference.specs.Unpacking.{HasNoNextPacket, IsNextPacket, IsNotPacked, IsUnpackedTo};
 
 use std::alloc::{AllocError, Global};
+
+/// Whether `count` bytes after the first `len` are in one row of `row` bytes. A row of 0 bytes has room for none.
+fn has_room(len: usize, count: usize, row: usize) -> bool
+    ensures { IsTrue result ↔ (len % row + count ≤ row) }
+{
+    let used = if row == 0 { len } else { len % row };
+    used <= row && count <= row - used
+}
 
 /// Appends the `count` bytes after the first one, which says so many, where `out` has room for them in its row.
 fn push_copied(
@@ -14,11 +22,11 @@ fn push_copied(
 ) -> Result<Option<usize>, AllocError>
     requires some { 1 ≤ count }
     requires few { count ≤ 128 }
-    requires row { 0 < row }
     requires head { slice_get bytes.now 0 ≡ Some (count - 1) }
-    ensures { IfOk result (λ o. IfSome o (λ len. IsNextPacket row bytes.now len out.old.items out.new.items)) }
+    ensures next { IfOk result (λ o. IfSome o (λ len. IsNextPacket row bytes.now len out.old.items out.new.items)) }
+    ensures none { IfOk result (λ o. IfNone o (HasNoNextPacket row bytes.now out.old.items)) }
 {
-    if bytes.len() < count + 1 || out.len() % row + count > row {
+    if bytes.len() < count + 1 || !has_room(out.len(), count, row) {
         return Ok(None);
     }
     out.extend_from_slice(&bytes[1..count + 1])?;
@@ -34,11 +42,11 @@ fn push_repeated(
 ) -> Result<Option<usize>, AllocError>
     requires some { 2 ≤ times }
     requires few { times ≤ 128 }
-    requires row { 0 < row }
     requires head { slice_get bytes.now 0 ≡ Some (257 - times) }
-    ensures { IfOk result (λ o. IfSome o (λ len. IsNextPacket row bytes.now len out.old.items out.new.items)) }
+    ensures next { IfOk result (λ o. IfSome o (λ len. IsNextPacket row bytes.now len out.old.items out.new.items)) }
+    ensures none { IfOk result (λ o. IfNone o (HasNoNextPacket row bytes.now out.old.items)) }
 {
-    if out.len() % row + times > row {
+    if !has_room(out.len(), times, row) {
         return Ok(None);
     }
     let Some(byte) = bytes.get(1) else {
@@ -51,8 +59,8 @@ fn push_repeated(
 
 /// Appends what the first packet of the bytes stands for, and gives its length.
 fn push_packet(out: &mut Vec<u8>, bytes: &[u8], row: usize) -> Result<Option<usize>, AllocError>
-    requires row { 0 < row }
-    ensures { IfOk result (λ o. IfSome o (λ len. IsNextPacket row bytes.now len out.old.items out.new.items)) }
+    ensures next { IfOk result (λ o. IfSome o (λ len. IsNextPacket row bytes.now len out.old.items out.new.items)) }
+    ensures none { IfOk result (λ o. IfNone o (HasNoNextPacket row bytes.now out.old.items)) }
 {
     let Some(head) = bytes.first() else {
         return Ok(None);
@@ -62,20 +70,20 @@ fn push_packet(out: &mut Vec<u8>, bytes: &[u8], row: usize) -> Result<Option<usi
         push_copied(out, bytes, head + 1, row)
     } else if head > 128 {
         push_repeated(out, bytes, 257 - head, row)
-    } else {
+    } else if has_room(out.len(), 0, row) {
         Ok(Some(1))
+    } else {
+        Ok(None)
     }
 }
 
 /// What the packets stand for, in rows of `row` bytes, where they are packets and no row is crossed.
 pub fn unpack(alloc: Global, bytes: &[u8], row: usize) -> Result<Option<Vec<u8>>, AllocError>
-    ensures { IfOk result (λ o. IfSome o (λ out. Packs row bytes.now out.items)) }
+    ensures packed { IfOk result (λ o. IfSome o (λ out. Packs row bytes.now out.items)) }
+    ensures refused { IfOk result (λ o. IfNone o (IsNotPacked row bytes.now)) }
 {
     let mut out = Vec::new(alloc);
     let mut at = 0;
-    if row == 0 {
-        return Ok(None);
-    }
     while at < bytes.len() {
         match push_packet(&mut out, &bytes[at..], row)? {
             Some(len) => at += len,

@@ -1,14 +1,15 @@
 //! The samples of a file.
-ghost use Rattle.std.specs.Prelude.{◌≡◌, ◌<◌, ◌≤◌, ◌^◌, ◌+◌, ◌*◌, ◌%◌, ℕ, IfOk, IfSome, IsTrue, Some, option_copied, length, slice_get};
+ghost use Rattle.std.specs.Prelude.{◌≡◌, ◌<◌, ◌≤◌, ◌^◌, ◌+◌, ◌*◌, ◌%◌, ℕ, IfOk, IfSome, IfNone, IsSome, IsTrue, Some, option_copied, length, slice_get};
 ghost use Rattle.tiff_dir.specs.Level.{plain_row, plain_size, segment};
 ghost use Rattle.tiff_dir.specs.Window.{place_in_tile, tile_at, IsSample, IsUnpacked};
-ghost use Rattle.reference.specs.Modest.{is_modest};
+ghost use Rattle.reference.specs.Missing.{HasNoSample, IsNotUnpacked};
+ghost use Rattle.reference.specs.Modest.{is_modest, modest_level};
 
 use crate::levels::{level_of, segment};
 use crate::packets::unpack;
 use crate::query::tiles_along;
 use std::alloc::{AllocError, Global};
-use tiff_dir::{Compression, Level};
+use tiff_dir::{Compression, Level, one_window};
 
 /// The number of the tile that has the pixel.
 fn tile_at(level: &Level, x: u32, y: u32) -> u64
@@ -57,8 +58,10 @@ fn row_and_size(level: &Level) -> (usize, usize)
 /// The samples of a tile whose segment this is, where it has as many as the tile.
 fn plain_tile(alloc: Global, level: &Level, bytes: &[u8]) -> Result<Option<Vec<u8>>, AllocError>
     requires { IsTrue (is_modest level.now) }
-    ensures { IfOk result (λ o. IfSome o (λ plain. IsUnpacked level.now bytes.now plain.items)) }
+    ensures tile { IfOk result (λ o. IfSome o (λ plain. IsUnpacked level.now bytes.now plain.items)) }
+    ensures none { IfOk result (λ o. IfNone o (IsNotUnpacked level.now bytes.now)) }
 {
+    one_window();
     let (row, size) = row_and_size(level);
     match level.compression {
         Compression::Plain => {
@@ -74,6 +77,7 @@ fn plain_tile(alloc: Global, level: &Level, bytes: &[u8]) -> Result<Option<Vec<u
 }
 
 /// Sample `c` of the pixel in column `x` and row `y` of level `n`, where its level is modest and its tile is good.
+/// None at another level says nothing.
 pub fn sample(
     alloc: Global,
     file: &[u8],
@@ -82,8 +86,10 @@ pub fn sample(
     y: u32,
     c: u16,
 ) -> Result<Option<u8>, AllocError>
-    ensures { IfOk result (λ o. IfSome o (λ v. IsSample file.now n x y c v)) }
+    ensures some { IfOk result (λ o. IfSome o (λ v. IsSample file.now n x y c v)) }
+    ensures none { IsSome (modest_level file.now n) → IfOk result (λ o. IfNone o (HasNoSample file.now n x y c)) }
 {
+    one_window();
     let Some(level) = level_of(alloc, file, n as usize)? else {
         return Ok(None);
     };

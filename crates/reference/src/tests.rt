@@ -334,5 +334,7 @@ fn packets(rt: HostRuntime) -> Result<(), Fail> {
         None => return Err(Fail::new("no packets")),
     }
     assert!(rt; unpack(rt.alloc(), packed, 12)?.is_none());
+    assert!(rt; unpack(rt.alloc(), b"\x80\x80", 0)?.is_some());
+    assert!(rt; unpack(rt.alloc(), b"\x00\x2a", 0)?.is_none());
     Ok(())
 }

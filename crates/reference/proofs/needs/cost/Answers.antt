@@ -1,4 +1,3 @@
-use Rattle.std.proofs.Common.{rules}
 use Rattle.reference.proofs.RangeLemmas.{cost_is, some_cost, no_cost}
 use Rattle.reference.proofs.needs.cost.Goals as goal
 

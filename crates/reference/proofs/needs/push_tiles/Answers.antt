@@ -1,4 +1,4 @@
-use Rattle.std.proofs.Common.{ap, ◌∙◌, get_or, ◌≡◌, ◌++◌}
+use Rattle.std.proofs.Common.{ap, ◌∙◌, get_or, ◌++◌}
 use Rattle.std.specs.Option.{option_to_list}
 use Rattle.tiff_dir.specs.Query.{tile_range}
 use Rattle.reference.specs.Ranges.{ranges_of}

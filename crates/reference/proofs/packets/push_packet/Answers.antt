@@ -1,10 +1,10 @@
-use Rattle.std.proofs.Common.{◌≡◌, ◌+◌, ◌∙◌, ◌∷◌, [], sym, drop, length, refl, ap, Some, append-nil, arith}
+use Rattle.std.proofs.Common.{sym, drop, length, refl, append-nil, arith}
 use Rattle.tiff_dir.specs.Packets.{Passed}
-use Rattle.reference.proofs.UnpackingLemmas.{first_one, has_room, below}
+use Rattle.reference.proofs.UnpackingLemmas.{first_one, has_room}
 use Rattle.reference.proofs.packets.push_packet.Goals as goal
 
-pub returns-else-head-gt128 : goal.returns-else-head-gt128
-returns-else-head-gt128 c =
+pub returns-then-has_room-clause-next : goal.returns-then-has_room-clause-next
+returns-then-has_room-clause-next c =
     let first = c.in-Some.ensures.item.3 in
     record {
       packet = Passed;
@@ -12,6 +12,6 @@ returns-else-head-gt128 c =
       lawful = tt;
       begins = first_one c.args.bytes.now 128 first.0 (λ d. omega (arith, first.1 d));
       size = refl;
-      fits = below (length c.args.out.now.items) c.args.row c.requires.row;
+      fits = has_room c.len.result (length c.args.out.now.items) 0 0 c.args.row (omega (arith, c.len.ensures)) refl (c.has_room.ensures.0 c.if-has_room.true);
       added = sym (append-nil c.args.out.now.items);
     }

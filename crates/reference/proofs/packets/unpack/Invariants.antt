@@ -1,4 +1,4 @@
-use Rattle.std.proofs.Common.{◌-◌, ◌≤◌, length}
+use Rattle.std.proofs.Common.{◌-◌, length}
 use Rattle.reference.specs.Unpacking.{IsUnpackedTo}
 use Rattle.reference.proofs.packets.unpack.Given as goal
 
