@@ -9,7 +9,7 @@ use crate::levels::{level_of, segment};
 use crate::packets::unpack;
 use crate::query::tiles_along;
 use std::alloc::{AllocError, Global};
-use tiff_dir::{Compression, Level, one_window};
+use tiff_dir::{Compression, Level, one_text};
 
 /// The number of the tile that has the pixel.
 fn tile_at(level: &Level, x: u32, y: u32) -> u64
@@ -61,7 +61,7 @@ fn plain_tile(alloc: Global, level: &Level, bytes: &[u8]) -> Result<Option<Vec<u
     ensures tile { IfOk result (λ o. IfSome o (λ plain. IsUnpacked level.now bytes.now plain.items)) }
     ensures none { IfOk result (λ o. IfNone o (IsNotUnpacked level.now bytes.now)) }
 {
-    one_window();
+    one_text();
     let (row, size) = row_and_size(level);
     match level.compression {
         Compression::Plain => {
@@ -89,7 +89,7 @@ pub fn sample(
     ensures some { IfOk result (λ o. IfSome o (λ v. IsSample file.now n x y c v)) }
     ensures none { IsSome (modest_level file.now n) → IfOk result (λ o. IfNone o (HasNoSample file.now n x y c)) }
 {
-    one_window();
+    one_text();
     let Some(level) = level_of(alloc, file, n as usize)? else {
         return Ok(None);
     };

@@ -1,5 +1,5 @@
 -- PackBits (TIFF 6.0, section 9).
-use Rattle.std.specs.Prelude.{◌≡◌, ℕ, ◌+◌, ◌-◌, ◌%◌, ◌≤◌, List, [], ◌∷◌, length, replicate, ⊤}
+use Rattle.std.specs.Prelude.{◌≡◌, ℕ, ◌+◌, ◌-◌, ◌%◌, ◌≤◌, List, [], ◌∷◌, ◌++◌, length, replicate, ⊤}
 use Rattle.std.specs.List.{flat_map, AllByRecursion}
 
 pub data Packet : Type 0 where
@@ -40,3 +40,11 @@ pub record Packs (row : ℕ) (bytes out : List ℕ) : Type 0 where
   pub bytes_are : flat_map written packets ≡ bytes
   pub out_is : flat_map output packets ≡ out
   pub rows : KeepRows row 0 packets
+
+-- no packet begins another
+abbrev pub PacketsAreApart : Type 0
+PacketsAreApart = (p q : Packet) (us vs : List ℕ) → IsPacket p → IsPacket q → written p ++ us ≡ written q ++ vs → (p ≡ q) × (us ≡ vs)
+
+-- packed bytes stand for one text
+abbrev pub TextsAreUnique : Type 0
+TextsAreUnique = (row : ℕ) (bytes out other : List ℕ) → Packs row bytes out → Packs row bytes other → out ≡ other

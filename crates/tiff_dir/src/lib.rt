@@ -21,7 +21,7 @@ mod values;
 mod walk;
 
 pub use fault::{FileFault, WalkError};
-pub use laws::one_window;
+pub use laws::{one_text, one_window};
 pub use level::{Compression, Kind, Level, Place};
 pub use memory::Memory;
 pub use order::Order;

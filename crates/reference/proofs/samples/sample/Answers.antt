@@ -17,5 +17,5 @@ returns-clause-none c =
     c.get.ensures.lookup.2 (subst (λ xs. c.place_in_tile.result < length xs) (sym c.deref.ensures.value)
     (subst (λ k. k < length c.in-Some-3.plain.items) (sym c.place_in_tile.ensures) within)) in
     λ some. subst (λ o. IfNone o (HasNoSample c.args.file.now c.args.n c.args.x c.args.y c.args.c)) (sym c.copied.ensures)
-    (no_sample c.one_window.ensures.unpacked c.args.file.now c.args.n c.args.x c.args.y c.args.c c.in-Some.level c.in-Some-2.bytes.now c.in-Some-3.plain.items c.get.result
+    (no_sample c.one_text.ensures.text c.args.file.now c.args.n c.args.x c.args.y c.args.c c.in-Some.level c.in-Some-2.bytes.now c.in-Some-3.plain.items c.get.result
     modest found unpacked inside)

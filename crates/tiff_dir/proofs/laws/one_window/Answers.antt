@@ -1,6 +1,5 @@
-use Rattle.tiff_dir.proofs.PacketLemmas.{packs_once}
 use Rattle.tiff_dir.proofs.WindowLemmas.{window_once}
 use Rattle.tiff_dir.proofs.laws.one_window.Goals as goal
 
 pub returns : goal.returns
-returns c = record { window = window_once; unpacked = packs_once }
+returns c = record { window = window_once }
