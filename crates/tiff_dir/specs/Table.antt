@@ -1,5 +1,5 @@
 -- What a directory's entries hold in themselves, for fields of SHORT and LONG.
-use Rattle.std.specs.Prelude.{◌≡◌, ◌⊎◌, ℕ, zero, suc, ◌+◌, ◌*◌, ◌^◌, ◌<◌, ◌≤◌, Bool, true, false, not, ◌&&◌, nat_le, ◌==◌, if◌then◌else◌, List, [], ◌∷◌, length, get_or, Option, None, IsSomeAnd}
+use Rattle.std.specs.Prelude.{◌≡◌, ◌⊎◌, ℕ, zero, suc, ◌+◌, ◌*◌, ◌<◌, Bool, true, false, not, ◌&&◌, nat_le, ◌==◌, if◌then◌else◌, List, [], ◌∷◌, length, get_or, Option, None, IsSomeAnd}
 use Rattle.std.specs.Option.{option_map, option_map_or}
 use Rattle.std.specs.List.{find, AllPass}
 use Rattle.tiff_dir.specs.declared.order.Order.{Order}

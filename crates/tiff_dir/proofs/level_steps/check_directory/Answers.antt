@@ -1,4 +1,4 @@
-use Rattle.std.proofs.Common.{◌+◌, ◌∙◌, sym}
+use Rattle.std.proofs.Common.{◌∙◌, sym}
 use Rattle.tiff_dir.specs.Table.{entries_of}
 use Rattle.tiff_dir.specs.Fault.{IsFaultOfDirectory}
 use Rattle.tiff_dir.specs.Stage.{HasTable}
