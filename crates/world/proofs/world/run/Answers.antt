@@ -28,7 +28,7 @@ returns-clause-true_reports c =
       replaces = c.publications_replace.ensures.replaces;
       named = c.publications_replace.ensures.named;
       honest = c.honesty_is_kept.ensures;
-      window = c.one_window.ensures;
+      window = c.one_window.ensures.window;
     } in
     run_true laws c.args.events.now c.loop-event.log.entries.items
     (whole c.args.events.now c.loop-event.event-index c.loop-event.log.entries.items c.loop-event.clients.items c.loop-event-test.false c.loop-event.invariant.runs)
@@ -42,7 +42,7 @@ returns-clause-alike c =
       replaces = c.publications_replace.ensures.replaces;
       named = c.publications_replace.ensures.named;
       honest = c.honesty_is_kept.ensures;
-      window = c.one_window.ensures;
+      window = c.one_window.ensures.window;
     } in
     run_alike laws c.args.events.now c.loop-event.log.entries.items
     (whole c.args.events.now c.loop-event.event-index c.loop-event.log.entries.items c.loop-event.clients.items c.loop-event-test.false c.loop-event.invariant.runs)
@@ -56,7 +56,7 @@ returns-in_err-entry-clause-memory c =
       replaces = c.publications_replace.ensures.replaces;
       named = c.publications_replace.ensures.named;
       honest = c.honesty_is_kept.ensures;
-      window = c.one_window.ensures;
+      window = c.one_window.ensures.window;
     } in
     on_err_of c.from_residual.result _ (beginning laws c.args.events.now c.loop-event.event-index c.loop-event.log.entries.items c.loop-event.clients.items (omega arith) c.loop-event.invariant.runs)
 
@@ -69,6 +69,6 @@ returns-in_err-push-clause-memory c =
       replaces = c.publications_replace.ensures.replaces;
       named = c.publications_replace.ensures.named;
       honest = c.honesty_is_kept.ensures;
-      window = c.one_window.ensures;
+      window = c.one_window.ensures.window;
     } in
     on_err_of c.from_residual-in_err-push.result _ (rw c.in_err-push.ensures.items (beginning laws c.args.events.now c.loop-event.event-index c.loop-event.log.entries.items c.loop-event.clients.items (omega arith) c.loop-event.invariant.runs))
