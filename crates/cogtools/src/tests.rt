@@ -1,0 +1,70 @@
+use super::run_words;
+use crate::fault::Fault;
+use scripts::ScriptError;
+use std::fs;
+use std::process::Abort;
+use std::rt::Runtime;
+use std::test::Fail;
+
+/// What the command line of these words, after the command's own name, ends with: 0, or the status of its fault.
+fn status_of<R: Runtime + AllocGlobal>(rt: &R, words: &[&str]) -> Result<u8, Fail> {
+    let mut line = Vec::new(rt.alloc());
+    line.push(String::from_str(rt.alloc(), "cogtools")?)?;
+    for word in words {
+        line.push(String::from_str(rt.alloc(), word)?)?;
+    }
+    match run_words(rt, &line) {
+        Ok(()) => Ok(0),
+        Err(fault) => Ok(fault.status()),
+    }
+}
+
+#[test]
+fn command_lines(rt: HostRuntime) -> Result<(), Fail> {
+    let table: [(&[&str], u8); 9] = [
+        (&[], 0),
+        (&["--help"], 0),
+        (&["-h"], 0),
+        (&["cogworld", "--help"], 0),
+        (&["cogworld"], 2),
+        (&["cogworld", "a", "b"], 2),
+        (&["cogworld", "--fast", "a"], 2),
+        (&["world"], 2),
+        (&["cogworld", "cogtools_test_nowhere"], 1),
+    ];
+    for (words, want) in table {
+        assert_eq!(rt; status_of(&rt, words)?, want, "{words:?}");
+    }
+    Ok(())
+}
+
+/// What a script ends with.
+fn status_of_script<R: Runtime + AllocGlobal>(rt: &R, text: &str) -> Result<u8, Fail> {
+    fs::write(rt, "cogtools_test_script", text)?;
+    let status = status_of(rt, &["cogworld", "cogtools_test_script"])?;
+    fs::remove_file(rt, "cogtools_test_script")?;
+    Ok(status)
+}
+
+#[test]
+fn scripts_of_the_disk(rt: HostRuntime) -> Result<(), Fail> {
+    assert_eq!(rt;
+        status_of_script(&rt, "epoch 1\nclient a 66\nexchange 0\n")?,
+        0
+    );
+    assert_eq!(rt; status_of_script(&rt, "epoch 1\nno event\n")?, 2);
+    assert_eq!(rt;
+        status_of_script(&rt, "publish a cogtools_test_nowhere\n")?,
+        1
+    );
+    Ok(())
+}
+
+#[test]
+fn statuses(rt: HostRuntime) {
+    assert_eq!(rt; Fault::Script(ScriptError::NotAnEvent(1)).status(), 2);
+    assert_eq!(rt; Fault::Script(ScriptError::CantRead(1)).status(), 1);
+    assert_eq!(rt; Fault::Script(ScriptError::Memory).status(), 1);
+    assert_eq!(rt; Fault::Io.status(), 1);
+    assert_eq!(rt; Fault::Memory.status(), 1);
+}
