@@ -101,11 +101,8 @@ exchange 0
     )
 }
 
-#[test]
-fn last_sample_and_outside(rt: HostRuntime) -> Result<(), Fail> {
-    expect(
-        &rt,
-        "\
+const LAST_SAMPLE_AND_OUTSIDE: (&str, &str) = (
+    "\
 epoch 1
 publish a f1.tif
 client a 66
@@ -120,7 +117,7 @@ exchange 0
 open 0 level 1 0 0 1 1
 exchange 0
 ",
-        "\
+    "\
 epoch 1
 published \"1-1\"
 client 0
@@ -140,14 +137,15 @@ opened 0
 asked 0 0-65535 - answer 4 206 378 took 1
 report 0 \"1-1\" fault 14
 ",
-    )
-}
+);
 
 #[test]
-fn damaged_directories(rt: HostRuntime) -> Result<(), Fail> {
-    expect(
-        &rt,
-        "\
+fn last_sample_and_outside(rt: HostRuntime) -> Result<(), Fail> {
+    expect(&rt, LAST_SAMPLE_AND_OUTSIDE.0, LAST_SAMPLE_AND_OUTSIDE.1)
+}
+
+const DAMAGED_DIRECTORIES: (&str, &str) = (
+    "\
 epoch 1
 publish a loop.tif
 publish b coded.tif
@@ -166,7 +164,7 @@ exchange 1
 exchange 2
 exchange 3
 ",
-        "\
+    "\
 epoch 1
 published \"1-1\"
 published \"1-2\"
@@ -189,14 +187,15 @@ report 2 \"1-3\" fault 12
 asked 3 0-65535 - answer 3 206 377 took 1
 report 3 \"1-4\" fault 2
 ",
-    )
-}
+);
 
 #[test]
-fn epochs_and_replacements(rt: HostRuntime) -> Result<(), Fail> {
-    expect(
-        &rt,
-        "\
+fn damaged_directories(rt: HostRuntime) -> Result<(), Fail> {
+    expect(&rt, DAMAGED_DIRECTORIES.0, DAMAGED_DIRECTORIES.1)
+}
+
+const EPOCHS_AND_REPLACEMENTS: (&str, &str) = (
+    "\
 exchange 0
 open 0 level 0 0 0 1 1
 epoch 0
@@ -221,7 +220,7 @@ publish a f1.tif
 open 0 level 0 1 0 1 1
 exchange 0
 ",
-        "\
+    "\
 skipped
 skipped
 skipped
@@ -249,14 +248,15 @@ opened 0
 asked 0 0-65535 - answer 3 206 378 took 1
 report 0 \"2-1\" window 1 1 1 01
 ",
-    )
-}
+);
 
 #[test]
-fn two_names_and_two_clients(rt: HostRuntime) -> Result<(), Fail> {
-    expect(
-        &rt,
-        "\
+fn epochs_and_replacements(rt: HostRuntime) -> Result<(), Fail> {
+    expect(&rt, EPOCHS_AND_REPLACEMENTS.0, EPOCHS_AND_REPLACEMENTS.1)
+}
+
+const TWO_NAMES_AND_TWO_CLIENTS: (&str, &str) = (
+    "\
 epoch 7
 publish a f1.tif
 publish b/c loop.tif
@@ -270,7 +270,7 @@ exchange 0
 exchange 1
 exchange 2
 ",
-        "\
+    "\
 epoch 7
 published \"7-1\"
 published \"7-2\"
@@ -287,6 +287,14 @@ asked 1 0-65535 - answer 2 206 378 took 1
 report 1 \"7-1\" window 1 2 1 4454
 skipped
 ",
+);
+
+#[test]
+fn two_names_and_two_clients(rt: HostRuntime) -> Result<(), Fail> {
+    expect(
+        &rt,
+        TWO_NAMES_AND_TWO_CLIENTS.0,
+        TWO_NAMES_AND_TWO_CLIENTS.1,
     )
 }
 
