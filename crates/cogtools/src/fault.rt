@@ -7,6 +7,8 @@ use std::io;
 /// Why a program ends early.
 #[derive(Drop)]
 pub enum Fault {
+    /// A word of the command line isn't UTF-8.
+    NotText,
     /// The first word names no program.
     NotAProgram(String),
     /// The words of the command line aren't the program's, or ask for help.
@@ -14,8 +16,8 @@ pub enum Fault {
     Script(ScriptError),
     /// The script at this path can't be read.
     CantRead(String),
-    /// The standard output can't be written, or the command line isn't text.
-    Io,
+    /// The standard output can't be written.
+    CantWrite,
     Memory,
 }
 
@@ -24,16 +26,18 @@ impl Fault {
     pub fn status(&self) -> u8 {
         match self {
             Fault::CommandLine(error) if !error.use_stderr() => 0,
-            Fault::NotAProgram(_)
+            Fault::NotText
+            | Fault::NotAProgram(_)
             | Fault::CommandLine(_)
             | Fault::Script(ScriptError::NotAnEvent(_)) => 2,
-            Fault::Script(_) | Fault::CantRead(_) | Fault::Io | Fault::Memory => 1,
+            Fault::Script(_) | Fault::CantRead(_) | Fault::CantWrite | Fault::Memory => 1,
         }
     }
 
     /// Prints the fault's line.
     pub fn print<R: Print + Eprint>(&self, rt: &R) {
         let _ = match self {
+            Fault::NotText => eprintln!(rt; "cogtools: a word isn't text"),
             Fault::NotAProgram(word) => eprintln!(rt; "cogtools: not a program: {word}"),
             Fault::CommandLine(error) => error.print(rt),
             Fault::Script(ScriptError::NotAnEvent(line)) => {
@@ -41,7 +45,7 @@ impl Fault {
             }
             Fault::Script(ScriptError::CantRead(line)) => eprintln!(rt; "line {line}: can't read"),
             Fault::CantRead(path) => eprintln!(rt; "cogworld: can't read {path}"),
-            Fault::Io => eprintln!(rt; "cogworld: can't write"),
+            Fault::CantWrite => eprintln!(rt; "cogworld: can't write"),
             Fault::Script(ScriptError::Memory) | Fault::Memory => {
                 eprintln!(rt; "cogworld: out of memory")
             }
@@ -71,7 +75,7 @@ impl From<io::Error> for Fault {
     fn from(error: io::Error) -> Fault {
         match error.kind() {
             io::ErrorKind::OutOfMemory => Fault::Memory,
-            _ => Fault::Io,
+            _ => Fault::CantWrite,
         }
     }
 }

@@ -8,6 +8,7 @@ mod fault;
 use crate::cogworld::{run_line, run_stored};
 use crate::fault::Fault;
 use std::env;
+use std::io::ErrorKind;
 use std::process::ExitCode;
 use std::rt::Runtime;
 
@@ -32,7 +33,11 @@ fn run_words<R: Runtime + AllocGlobal>(rt: &R, words: &[String]) -> Result<(), F
 }
 
 fn run_all<R: Runtime + AllocGlobal>(rt: &R) -> Result<(), Fault> {
-    let words: Vec<String> = env::args(rt)?.collect(rt.alloc())?;
+    let words: Vec<String> = match env::args(rt) {
+        Ok(words) => words.collect(rt.alloc())?,
+        Err(error) if error.kind() == ErrorKind::OutOfMemory => return Err(Fault::Memory),
+        Err(_) => return Err(Fault::NotText),
+    };
     run_words(rt, &words)
 }
 

@@ -65,6 +65,7 @@ fn statuses(rt: HostRuntime) {
     assert_eq!(rt; Fault::Script(ScriptError::NotAnEvent(1)).status(), 2);
     assert_eq!(rt; Fault::Script(ScriptError::CantRead(1)).status(), 1);
     assert_eq!(rt; Fault::Script(ScriptError::Memory).status(), 1);
-    assert_eq!(rt; Fault::Io.status(), 1);
+    assert_eq!(rt; Fault::CantWrite.status(), 1);
     assert_eq!(rt; Fault::Memory.status(), 1);
+    assert_eq!(rt; Fault::NotText.status(), 2);
 }
