@@ -22,8 +22,12 @@ pub enum Fault {
 }
 
 impl Fault {
+    ghost use Rattle.cogtools.specs.Status.{HasStatus};
+
     /// The exit status: 1 for files and memory, 2 for the command line and scripts.
-    pub fn status(&self) -> u8 {
+    pub fn status(&self) -> u8
+        ensures { HasStatus self.now result }
+    {
         match self {
             Fault::CommandLine(error) if !error.use_stderr() => 0,
             Fault::NotText

@@ -24,7 +24,12 @@ enum LineError {
 }
 
 impl LineError {
-    fn at(self, line: usize) -> ScriptError {
+    ghost use Rattle.std.specs.Prelude.{◌≡◌};
+    ghost use Rattle.scripts.specs.Line.{told_at};
+
+    fn at(self, line: usize) -> ScriptError
+        ensures { result ≡ told_at self line }
+    {
         match self {
             LineError::NotAnEvent => ScriptError::NotAnEvent(line),
             LineError::CantRead => ScriptError::CantRead(line),

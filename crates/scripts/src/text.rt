@@ -1,4 +1,6 @@
 //! Lines of words.
+ghost use Rattle.std.specs.Prelude.{◌≡◌, ◌++◌, [], ◌∷◌, OnOk};
+
 use itoa::{Buffer, Integer};
 use std::alloc::{AllocError, Global};
 
@@ -10,19 +12,25 @@ pub struct Text {
 }
 
 impl Text {
-    pub fn new(alloc: Global) -> Text {
+    pub fn new(alloc: Global) -> Text
+        ensures { result.bytes.items ≡ [] }
+    {
         Text {
             alloc,
             bytes: Vec::new(alloc),
         }
     }
 
-    pub fn into_bytes(self) -> Vec<u8> {
+    pub fn into_bytes(self) -> Vec<u8>
+        ensures { result ≡ self.bytes }
+    {
         self.bytes
     }
 
     /// Appends to the line.
-    pub fn push(&mut self, bytes: &[u8]) -> Result<(), AllocError> {
+    pub fn push(&mut self, bytes: &[u8]) -> Result<(), AllocError>
+        ensures { OnOk result (self.new.bytes.items ≡ self.old.bytes.items ++ bytes.now) }
+    {
         self.bytes.extend_from_slice(bytes)
     }
 
@@ -45,7 +53,9 @@ impl Text {
         self.word(digits.as_bytes())
     }
 
-    pub fn end_line(&mut self) -> Result<(), AllocError> {
+    pub fn end_line(&mut self) -> Result<(), AllocError>
+        ensures { OnOk result (self.new.bytes.items ≡ self.old.bytes.items ++ 10 ∷ []) }
+    {
         self.push(b"\n")
     }
 }

@@ -1,0 +1,19 @@
+-- The exit statuses of faults.
+use Rattle.std.specs.Prelude.{◌≡◌, ◌≢◌, ℕ}
+use Rattle.clap.specs.Words.{kind_of}
+use Rattle.clap.specs.declared.error.kind.ErrorKind.TheVariants as kind
+use Rattle.scripts.specs.declared.line.ScriptError.TheVariants as script
+use Rattle.cogtools.specs.declared.fault.Fault.{Fault}
+use Rattle.cogtools.specs.declared.fault.Fault.TheVariants.{NotText, NotAProgram, CommandLine, Script, CantRead, CantWrite, Memory}
+
+-- 1 for files and memory, 2 for the command line and scripts; to ask for help is no fault
+abbrev pub HasStatus : Fault → ℕ → Type 0
+HasStatus NotText n = n ≡ 2
+HasStatus (NotAProgram word) n = n ≡ 2
+HasStatus (CommandLine error) n = kind_of error ≢ kind.DisplayHelp → kind_of error ≢ kind.DisplayVersion → n ≡ 2
+HasStatus (Script (script.NotAnEvent line)) n = n ≡ 2
+HasStatus (Script (script.CantRead line)) n = n ≡ 1
+HasStatus (Script script.Memory) n = n ≡ 1
+HasStatus (CantRead path) n = n ≡ 1
+HasStatus CantWrite n = n ≡ 1
+HasStatus Memory n = n ≡ 1
