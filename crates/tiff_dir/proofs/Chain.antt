@@ -1,17 +1,17 @@
 -- The chain of directories, step by step.
 use Rattle.std.proofs.Common.{[], ◌∷◌, ◌++◌, ◌-◌, ◌≡◌, ◌≢◌, ℕ, zero, suc, ◌+◌, ◌*◌, ◌<◌, ◌≤◌, ◌⊎◌, inl, inr, true, false, List, map, length, take, drop, Option, Some, None, IsSomeAnd, refl, sym, ap, subst, ◌∙◌, arith, add-one}
-use Rattle.std.proofs.lemmas.Bool.{le-leb, lt-ltb, and_from, and_parts, cases_order, cases_lt, false≢true}
+use Rattle.std.proofs.lemmas.Bool.{le-leb, lt-ltb, eq-eqb, and_from, and_parts, cases_order, cases_lt, false≢true}
 use Rattle.std.specs.Option.{option_to_list}
 use Rattle.tiff_dir.specs.declared.order.Order.{Order}
 use Rattle.tiff_dir.specs.declared.fault.FileFault.{FileFault}
 use Rattle.tiff_dir.specs.declared.fault.FileFault.TheVariants.{Header, DirPlace, DirCount, TooManyDirs}
 use Rattle.tiff_dir.specs.Number.{number_in}
-use Rattle.tiff_dir.specs.File.{order_of, number, directory, has_directory, is_above_zero, entry_count, fields_from, table}
+use Rattle.tiff_dir.specs.File.{order_of, number, directory, has_directory, is_above_zero, entry_count, field_at, fields_from, fields, has_all_tags}
 use Rattle.tiff_dir.specs.Needs.{Range, is_entry_count, count_range, table_range, ranges_of_directory}
 use Rattle.tiff_dir.specs.Fault.{is_directory_place, IsFaultAt, IsFaultOfDirectories}
-use Rattle.tiff_dir.specs.Table.{entries, field_of}
+use Rattle.tiff_dir.specs.Table.{entry, entries, field_of}
 use Rattle.tiff_dir.specs.Stage.{ranges_from, outside_ranges, IsWalked, Follows, Reaches, Counts, IsOver}
-use Rattle.tiff_dir.proofs.Parts.{part_inside, number_part, entries-part}
+use Rattle.tiff_dir.proofs.Parts.{part_inside, number_inside, number_part, entries-part}
 use Rattle.tiff_dir.proofs.Ranges.{filter_none}
 
 pub some_and_at : {A : Type 0} (o : Option A) (P : A → Type 0) (x : A) → o ≡ Some x → IsSomeAnd o P → P x
@@ -121,27 +121,42 @@ good_count f bytes o k at reaches part len good =
 
 -- The table
 
-same_fields : (f : List ℕ) (o : Order) (at n : ℕ) → map field_of (entries o 0 at n f) ≡ fields_from o at n f
-unfolding entries fields_from
-same_fields f o at zero = refl
-same_fields f o at (suc n) =
+field_there : (f : List ℕ) (o : Order) (at : ℕ) → order_of f ≡ Some o → at + 12 ≤ length f → field_at f at ≡ Some (field_of (entry o 0 at f))
+unfolding field_at
+field_there f o at named inside =
     let e : 0 + at ≡ at = omega arith in
-    let rest : map field_of (entries o 0 (at + 12) n f) ≡ fields_from o (at + 12) n f = same_fields f o (at + 12) n in
-    rw (e, rest) refl
+    rw (number_inside f o at 2 named (omega arith), number_inside f o (at + 2) 2 named (omega arith), number_inside f o (at + 4) 4 named (omega arith), e) refl
+
+same_fields : (f : List ℕ) (o : Order) (at n : ℕ) → order_of f ≡ Some o → at + 12 * n ≤ length f → map field_of (entries o 0 at n f) ≡ fields_from f at n
+unfolding entries fields_from
+same_fields f o at zero named inside = refl
+same_fields f o at (suc n) named inside =
+    let rest : map field_of (entries o 0 (at + 12) n f) ≡ fields_from f (at + 12) n = same_fields f o (at + 12) n named (omega arith) in
+    rw (field_there f o at named (omega arith), rest) refl
+
+length-entries : (o : Order) (base at n : ℕ) (bytes : List ℕ) → length (map field_of (entries o base at n bytes)) ≡ n
+unfolding entries
+length-entries o base at zero bytes = refl
+length-entries o base at (suc n) bytes = ap suc (length-entries o base (at + 12) n bytes)
 
 pub same_entries : (f bytes : List ℕ) (o : Order) (at n : ℕ) → bytes ≡ take (12 * n + 4) (drop (at + 2) f) → entries o 0 (at + 2) n f ≡ entries o (at + 2) 0 n bytes
 same_entries f bytes o at n part =
     let place : at + 2 ≡ at + 2 + 0 = omega arith in
     ap (λ (x : ℕ). entries o 0 x n f) place ∙ sym (rw part (entries-part f o (at + 2) (12 * n + 4) 0 n (omega arith)))
 
-pub table_is : (f bytes : List ℕ) (o : Order) (k at n : ℕ) → Counts f o k at n → bytes ≡ take (12 * n + 4) (drop (at + 2) f) → length bytes ≡ 12 * n + 4 → table f k ≡ Some (map field_of (entries o (at + 2) 0 n bytes))
-unfolding table entry_count
-table_is f bytes o k at n counts part len =
+pub fields_are : (f bytes : List ℕ) (o : Order) (k at n : ℕ) → Counts f o k at n → bytes ≡ take (12 * n + 4) (drop (at + 2) f) → length bytes ≡ 12 * n + 4 → fields f k ≡ map field_of (entries o (at + 2) 0 n bytes)
+unfolding fields entry_count
+fields_are f bytes o k at n counts part len =
     let inside = part_inside f bytes (at + 2) (12 * n + 4) part len (omega arith) in
-    let test = le-leb (at + 2 + 12 * n + 4) (length f) (omega arith) in
-    let same : fields_from o (at + 2) n f ≡ map field_of (entries o (at + 2) 0 n bytes) =
-    sym (same_fields f o (at + 2) n) ∙ ap (map field_of) (same_entries f bytes o at n part) in
-    rw (counts.reaches.walked.named, counts.reaches.place, counts.count, test, same) refl
+    let same : fields_from f (at + 2) n ≡ map field_of (entries o (at + 2) 0 n bytes) =
+    sym (same_fields f o (at + 2) n counts.reaches.walked.named (omega arith)) ∙ ap (map field_of) (same_entries f bytes o at n part) in
+    rw (counts.reaches.place, counts.count) same
+
+pub all_tags : (f bytes : List ℕ) (o : Order) (k at n : ℕ) → Counts f o k at n → bytes ≡ take (12 * n + 4) (drop (at + 2) f) → length bytes ≡ 12 * n + 4 → has_all_tags f k ≡ true
+unfolding has_all_tags entry_count
+all_tags f bytes o k at n counts part len =
+    let many : length (map field_of (entries o (at + 2) 0 n bytes)) ≡ n = length-entries o (at + 2) 0 n bytes in
+    rw (fields_are f bytes o k at n counts part len, many, counts.reaches.place, counts.count) (eq-eqb n n refl)
 
 pub next_is : (f bytes : List ℕ) (o : Order) (k at n : ℕ) → Counts f o k at n → bytes ≡ take (12 * n + 4) (drop (at + 2) f) → length bytes ≡ 12 * n + 4 → directory f (suc k) ≡ Some (number_in o (12 * n) 4 bytes)
 unfolding directory

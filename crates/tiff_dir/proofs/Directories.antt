@@ -5,7 +5,7 @@ use Rattle.tiff_dir.specs.declared.order.Order.{Order}
 use Rattle.tiff_dir.specs.declared.table.Entry.{Entry}
 use Rattle.tiff_dir.specs.declared.fault.FileFault.{FileFault}
 use Rattle.tiff_dir.specs.declared.fault.FileFault.TheVariants.{Missing, DirPlace, DirCount, TagOrder, FieldType, LevelShape}
-use Rattle.tiff_dir.specs.File.{directory, entry_count, table, value}
+use Rattle.tiff_dir.specs.File.{directory, entry_count, fields, value}
 use Rattle.tiff_dir.specs.Profile.{subfile_rule}
 use Rattle.tiff_dir.specs.Level.{is_level}
 use Rattle.tiff_dir.specs.Needs.{is_entry_count}
@@ -21,14 +21,14 @@ use Rattle.tiff_dir.proofs.Chain.{some_and_at, some_and_from, goes_on, next_is}
 use Rattle.tiff_dir.proofs.Fields.{single_told, no_rule_fault, rule_fault}
 
 subfile_told : (f : List ℕ) (k : ℕ) (es : List Entry) → HasTable f k es → meets es subfile_rule ≡ true → value f k 254 0 ≡ Some (single_or es 254 0)
-subfile_told f k es has met = single_told f k es subfile_rule 0 has met refl (inl refl)
+subfile_told f k es has met = single_told f k es subfile_rule 0 has met tt refl (inl refl)
 
 pub is_level_told : (f : List ℕ) (k : ℕ) (es : List Entry) → HasTable f k es → meets es subfile_rule ≡ true → is_level f k ≡ ((k == 0) || (single_or es 254 0 == 1))
 unfolding is_level
 is_level_told f k es has met = rw (subfile_told f k es has met) refl
 
 pub tags_fault : (f : List ℕ) (k : ℕ) (es : List Entry) → HasTable f k es → ascends (map field_of es) ≡ false → IsFaultOfDirectory f k TagOrder
-tags_fault f k es has bad = some_and_from (table f k) (λ fields. ascends fields ≡ false) (map field_of es) has.told bad
+tags_fault f k es has bad = rw has.told bad
 
 pub subfile_fault : (f : List ℕ) (k : ℕ) (es : List Entry) (fault : FileFault) → HasTable f k es → IsEntryFault subfile_rule es fault → IsFaultOfDirectory f k fault
 subfile_fault f k es (FieldType tag) has bad = rule_fault f k es subfile_rule (FieldType tag) has bad
@@ -51,7 +51,7 @@ directory_clean f o k at n es counts has tags met shape DirPlace bad =
 directory_clean f o k at n es counts has tags met shape DirCount bad =
     let h : is_entry_count n ≡ false = some_and_at (entry_count f k) (λ x. is_entry_count x ≡ false) n (rw counts.reaches.place counts.count) bad in cc (h, counts.good)
 directory_clean f o k at n es counts has tags met shape TagOrder bad =
-    let h : ascends (map field_of es) ≡ false = some_and_at (table f k) (λ x. ascends x ≡ false) (map field_of es) has.told bad in cc (h, tags)
+    let h : ascends (map field_of es) ≡ false = rw has.told at bad in cc (h, tags)
 directory_clean f o k at n es counts has tags met shape (FieldType tag) bad =
     no_rule_fault f k es subfile_rule has met (λ e. absurd (cc)) (FieldType tag) bad
 directory_clean f o k at n es counts has tags met shape LevelShape bad =

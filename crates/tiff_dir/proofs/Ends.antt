@@ -6,9 +6,9 @@ use Rattle.std.specs.Option.{option_map, option_map_or}
 use Rattle.std.specs.List.{AllPass}
 use Rattle.tiff_dir.specs.declared.table.Entry.{Entry}
 use Rattle.tiff_dir.specs.declared.rule.Rule.{Rule}
-use Rattle.tiff_dir.specs.declared.level.Kind.TheVariants as kind
+use Rattle.tiff_dir.specs.declared.level.Kind.{Kind}
 use Rattle.tiff_dir.specs.Table.{found, meets, short_or, place_in, place_or, draft_in, HasValues}
-use Rattle.tiff_dir.proofs.Fields.{kind_long, typed, met_entry, met_there}
+use Rattle.tiff_dir.proofs.Fields.{kind_told, kind_long, typed, met_entry, met_there}
 use Rattle.tiff_dir.proofs.Levels.{fits_cases}
 use Rattle.tiff_dir.specs.declared.level.Level.{Level}
 use Rattle.tiff_dir.specs.declared.level.Place.{Place}
@@ -19,46 +19,63 @@ use Rattle.tiff_dir.specs.declared.stage.Stage.{Stage}
 use Rattle.tiff_dir.specs.declared.fault.FileFault.{FileFault}
 use Rattle.tiff_dir.specs.declared.fault.FileFault.TheVariants.{Missing, FieldType, Unsupported, LevelShape, TileSize, TileArray}
 use Rattle.tiff_dir.specs.File.{◌>>=◌, Field, kind_of, size_of, values_at, field, value}
-use Rattle.tiff_dir.specs.Profile.{subfile_rule, profile, is_tile_side, tile_bytes, max_tile_bytes, max_tiles}
-use Rattle.tiff_dir.specs.Level.{previous_level, place_of, compression_of, level_at}
+use Rattle.tiff_dir.specs.Profile.{subfile_rule, profile, samples_fit, is_sample_count, is_long, is_short_or_long, is_tile_side, tile_bytes, max_tile_bytes, max_tiles}
+use Rattle.tiff_dir.specs.Described.{described, layout_of}
+use Rattle.tiff_dir.specs.Level.{Grid, Layout, grid_at, previous_level, place_of, compression_of, layout_at}
 use Rattle.tiff_dir.specs.Fault.{is_smaller, sides, plain_bytes, tile_count, IsUnsupported, IsNotSmaller, IsNoTileArray, IsFaultOfLevel, IsFaultAt}
-use Rattle.tiff_dir.specs.Shape.{has_sides, fits_under, has_tiles, tiles_of, has_arrays, level_from, IsShaped, IsShapeFault}
+use Rattle.tiff_dir.specs.Shape.{has_sides, fits_under, has_tiles, tiles_of, has_arrays, layout_from, IsShaped, IsShapeFault}
 use Rattle.tiff_dir.specs.Stage.{index_of, Follows, IsAt, IsBefore, IsBounded, IsDraft, IsDrafted, IsPending, IsSupported, EndsDirectory}
-use Rattle.tiff_dir.specs.Walk.{IsProfiled}
 use Rattle.tiff_dir.proofs.Chain.{some_and_at, some_and_from, goes_on}
 use Rattle.tiff_dir.proofs.GoingOn.{levels_taken}
 
 -- The parts of a level
 
-parts : (o1 o2 o3 o4 o5 o6 : Option ℕ) (o7 : Option Compression) (o8 o9 : Option Place) (l : Level)
-    → (o1 >>= λ width. o2 >>= λ length. o3 >>= λ tile_width. o4 >>= λ tile_length. o5 >>= λ samples. o6 >>= λ bits. o7 >>= λ compression. o8 >>= λ offsets. o9 >>= λ counts.
-    Some (record { width = width; length = length; tile_width = tile_width; tile_length = tile_length; samples = samples; bits = bits; compression = compression; offsets = offsets; counts = counts })) ≡ Some l
-    → (o1 ≡ Some l.width) × (o2 ≡ Some l.length) × (o3 ≡ Some l.tile_width) × (o4 ≡ Some l.tile_length) × (o5 ≡ Some l.samples) × (o6 ≡ Some l.bits) × (o7 ≡ Some l.compression) × (o8 ≡ Some l.offsets) × (o9 ≡ Some l.counts)
-parts None o2 o3 o4 o5 o6 o7 o8 o9 l e = absurd (none-some l e)
-parts (Some a) None o3 o4 o5 o6 o7 o8 o9 l e = absurd (none-some l e)
-parts (Some a) (Some b) None o4 o5 o6 o7 o8 o9 l e = absurd (none-some l e)
-parts (Some a) (Some b) (Some c) None o5 o6 o7 o8 o9 l e = absurd (none-some l e)
-parts (Some a) (Some b) (Some c) (Some d) None o6 o7 o8 o9 l e = absurd (none-some l e)
-parts (Some a) (Some b) (Some c) (Some d) (Some s) None o7 o8 o9 l e = absurd (none-some l e)
-parts (Some a) (Some b) (Some c) (Some d) (Some s) (Some t) None o8 o9 l e = absurd (none-some l e)
-parts (Some a) (Some b) (Some c) (Some d) (Some s) (Some t) (Some u) None o9 l e = absurd (none-some l e)
-parts (Some a) (Some b) (Some c) (Some d) (Some s) (Some t) (Some u) (Some v) None l e = absurd (none-some l e)
-parts (Some a) (Some b) (Some c) (Some d) (Some s) (Some t) (Some u) (Some v) (Some w) l e =
-    let x : Level = record { width = a; length = b; tile_width = c; tile_length = d; samples = s; bits = t; compression = u; offsets = v; counts = w } in
-    let is : x ≡ l = same_Some _ _ e in
-    let P : Level → Type 0 = λ y. (Some a ≡ Some y.width) × (Some b ≡ Some y.length) × (Some c ≡ Some y.tile_width) × (Some d ≡ Some y.tile_length) × (Some s ≡ Some y.samples) × (Some t ≡ Some y.bits) × (Some u ≡ Some y.compression) × (Some v ≡ Some y.offsets) × (Some w ≡ Some y.counts) in
-    subst P is (refl, refl, refl, refl, refl, refl, refl, refl, refl)
+grid_parts : (o1 o2 o3 o4 : Option ℕ) (g : Grid)
+    → (o1 >>= λ width. o2 >>= λ length. o3 >>= λ tile_width. o4 >>= λ tile_length. Some (record { width = width; length = length; tile_width = tile_width; tile_length = tile_length })) ≡ Some g
+    → (o1 ≡ Some g.width) × (o2 ≡ Some g.length) × (o3 ≡ Some g.tile_width) × (o4 ≡ Some g.tile_length)
+grid_parts None o2 o3 o4 g e = absurd (none-some g e)
+grid_parts (Some a) None o3 o4 g e = absurd (none-some g e)
+grid_parts (Some a) (Some b) None o4 g e = absurd (none-some g e)
+grid_parts (Some a) (Some b) (Some c) None g e = absurd (none-some g e)
+grid_parts (Some a) (Some b) (Some c) (Some d) g e =
+    let x : Grid = record { width = a; length = b; tile_width = c; tile_length = d } in
+    let P : Grid → Type 0 = λ y. (Some a ≡ Some y.width) × (Some b ≡ Some y.length) × (Some c ≡ Some y.tile_width) × (Some d ≡ Some y.tile_length) in
+    subst P (same_Some x g e) (refl, refl, refl, refl)
 
--- what a level that is described tells of the file's values
-pub level_parts : (f : List ℕ) (k : ℕ) (l : Level) → level_at f k ≡ Some l
-    → (value f k 256 0 ≡ Some l.width) × (value f k 257 0 ≡ Some l.length) × (value f k 322 0 ≡ Some l.tile_width) × (value f k 323 0 ≡ Some l.tile_length) × (value f k 277 0 ≡ Some l.samples) × (value f k 258 0 ≡ Some l.bits)
+parts : (o1 : Option Grid) (o5 o6 : Option ℕ) (o7 : Option Compression) (o8 o9 : Option Place) (l : Layout)
+    → (o1 >>= λ grid. o5 >>= λ samples. o6 >>= λ bits. o7 >>= λ compression. o8 >>= λ offsets. o9 >>= λ counts.
+    Some (record { grid = grid; samples = samples; bits = bits; compression = compression; offsets = offsets; counts = counts })) ≡ Some l
+    → (o1 ≡ Some l.grid) × (o5 ≡ Some l.samples) × (o6 ≡ Some l.bits) × (o7 ≡ Some l.compression) × (o8 ≡ Some l.offsets) × (o9 ≡ Some l.counts)
+parts None o5 o6 o7 o8 o9 l e = absurd (none-some l e)
+parts (Some g) None o6 o7 o8 o9 l e = absurd (none-some l e)
+parts (Some g) (Some s) None o7 o8 o9 l e = absurd (none-some l e)
+parts (Some g) (Some s) (Some t) None o8 o9 l e = absurd (none-some l e)
+parts (Some g) (Some s) (Some t) (Some u) None o9 l e = absurd (none-some l e)
+parts (Some g) (Some s) (Some t) (Some u) (Some v) None l e = absurd (none-some l e)
+parts (Some g) (Some s) (Some t) (Some u) (Some v) (Some w) l e =
+    let x : Layout = record { grid = g; samples = s; bits = t; compression = u; offsets = v; counts = w } in
+    let P : Layout → Type 0 = λ y. (Some g ≡ Some y.grid) × (Some s ≡ Some y.samples) × (Some t ≡ Some y.bits) × (Some u ≡ Some y.compression) × (Some v ≡ Some y.offsets) × (Some w ≡ Some y.counts) in
+    subst P (same_Some x l e) (refl, refl, refl, refl, refl, refl)
+
+-- what a grid and a layout that are there tell of the file's values
+pub grid_told : (f : List ℕ) (k : ℕ) (g : Grid) → grid_at f k ≡ Some g
+    → (value f k 256 0 ≡ Some g.width) × (value f k 257 0 ≡ Some g.length) × (value f k 322 0 ≡ Some g.tile_width) × (value f k 323 0 ≡ Some g.tile_length)
+unfolding grid_at
+grid_told f k g told = grid_parts (value f k 256 0) (value f k 257 0) (value f k 322 0) (value f k 323 0) g told
+
+pub layout_parts : (f : List ℕ) (k : ℕ) (l : Layout) → layout_at f k ≡ Some l
+    → (grid_at f k ≡ Some l.grid) × (value f k 277 0 ≡ Some l.samples) × (value f k 258 0 ≡ Some l.bits)
     × ((value f k 259 0 >>= compression_of) ≡ Some l.compression) × ((field f k 324 >>= place_of f) ≡ Some l.offsets) × ((field f k 325 >>= place_of f) ≡ Some l.counts)
-unfolding level_at
-level_parts f k l told = parts (value f k 256 0) (value f k 257 0) (value f k 322 0) (value f k 323 0) (value f k 277 0) (value f k 258 0) (value f k 259 0 >>= compression_of) (field f k 324 >>= place_of f) (field f k 325 >>= place_of f) l told
+unfolding layout_at
+layout_parts f k l told = parts (grid_at f k) (value f k 277 0) (value f k 258 0) (value f k 259 0 >>= compression_of) (field f k 324 >>= place_of f) (field f k 325 >>= place_of f) l told
 
-level_told : (f : List ℕ) (k : ℕ) (d : Draft) → IsDrafted f k d → value f k 258 0 ≡ Some 8 → level_at f k ≡ Some (level_from d)
-unfolding level_at
-level_told f k d is bits = rw (is.width, is.length, is.tile_width, is.tile_length, is.samples, bits, is.compression, is.offsets, is.counts) refl
+grid_drafted : (f : List ℕ) (k : ℕ) (d : Draft) → IsDrafted f k d → grid_at f k ≡ Some (record { width = d.width; length = d.length; tile_width = d.tile_width; tile_length = d.tile_length })
+unfolding grid_at
+grid_drafted f k d is = rw (is.width, is.length, is.tile_width, is.tile_length) refl
+
+layout_told : (f : List ℕ) (k : ℕ) (d : Draft) (bits : ℕ) → IsDrafted f k d → value f k 258 0 ≡ Some bits → layout_at f k ≡ Some (layout_from d bits)
+unfolding layout_at
+layout_told f k d bits is told = rw (grid_drafted f k d is, is.samples, told, is.compression, is.offsets, is.counts) refl
 
 -- The sides
 
@@ -66,15 +83,15 @@ sides_drafted : (f : List ℕ) (k : ℕ) (d : Draft) → IsDrafted f k d → sid
 unfolding sides
 sides_drafted f k d is = rw (is.width, is.length) refl
 
-sides_level : (f : List ℕ) (k : ℕ) (l : Level) → level_at f k ≡ Some l → sides f k ≡ Some (l.width, l.length)
+sides_level : (f : List ℕ) (k : ℕ) (l : Layout) → layout_at f k ≡ Some l → sides f k ≡ Some (l.grid.width, l.grid.length)
 unfolding sides
-sides_level f k l told = let p = level_parts f k l told in rw (p.0, p.1) refl
+sides_level f k l told = let p = grid_told f k l.grid (layout_parts f k l told).0 in rw (p.0, p.1) refl
 
-before_some : (f : List ℕ) (o : Option ℕ) (l : Level) → option_map (level_at f) o ≡ option_map Some (Some l) → (b : ℕ) × (o ≡ Some b) × (level_at f b ≡ Some l)
+before_some : (f : List ℕ) (o : Option ℕ) (l : Level) → option_map (layout_at f) o ≡ Some (described l) → (b : ℕ) × (o ≡ Some b) × (layout_at f b ≡ described l)
 before_some f None l e = absurd (none-some _ e)
 before_some f (Some b) l e = (b, refl, same_Some _ _ e)
 
-before_none : (f : List ℕ) (o : Option ℕ) → option_map (level_at f) o ≡ None → o ≡ None
+before_none : (f : List ℕ) (o : Option ℕ) → option_map (layout_at f) o ≡ None → o ≡ None
 before_none f None e = refl
 before_none f (Some b) e = absurd (none-some _ (sym e))
 
@@ -92,7 +109,7 @@ sides_fault f k d (Some l) is before bad = elim (and_cases (has_sides d) (is_sma
       (let (b, there, told) = before_some f (previous_level f k) l before in
       inr (inr (some_and_from (previous_level f k) (λ p. IsSomeAnd (sides f k) (λ x. IsSomeAnd (sides f p) (λ y. is_smaller x y ≡ false))) b there
       (some_and_from (sides f k) (λ x. IsSomeAnd (sides f b) (λ y. is_smaller x y ≡ false)) (d.width, d.length) (sides_drafted f k d is)
-      (some_and_from (sides f b) (λ y. is_smaller (d.width, d.length) y ≡ false) (l.width, l.length) (sides_level f b l told) h)))))
+      (some_and_from (sides f b) (λ y. is_smaller (d.width, d.length) y ≡ false) (l.width, l.length) (sides_level f b (layout_of l) told) h)))))
 ]
 
 fits_sides : (previous : Option Level) (d : Draft) → fits_under previous d ≡ true → has_sides d ≡ true
@@ -105,7 +122,7 @@ not_smaller f k d (Some l) is before good bad =
     let (b, there, told) = before_some f (previous_level f k) l before in
     let one = some_and_at (previous_level f k) (λ p. IsSomeAnd (sides f k) (λ x. IsSomeAnd (sides f p) (λ y. is_smaller x y ≡ false))) b there bad in
     let two = some_and_at (sides f k) (λ x. IsSomeAnd (sides f b) (λ y. is_smaller x y ≡ false)) (d.width, d.length) (sides_drafted f k d is) one in
-    let three = some_and_at (sides f b) (λ y. is_smaller (d.width, d.length) y ≡ false) (l.width, l.length) (sides_level f b l told) two in
+    let three = some_and_at (sides f b) (λ y. is_smaller (d.width, d.length) y ≡ false) (l.width, l.length) (sides_level f b (layout_of l) told) two in
     false≢true (sym three ∙ (and_parts (has_sides d) (is_smaller (d.width, d.length) (l.width, l.length)) good).1)
 
 no_sides_fault : (f : List ℕ) (k : ℕ) (d : Draft) (previous : Option Level) → IsDrafted f k d → IsBefore f k previous → fits_under previous d ≡ true → IsFaultOfLevel f k LevelShape → ⊥
@@ -119,92 +136,93 @@ no_sides_fault f k d previous is before good (inr (inr bad)) = not_smaller f k d
 
 -- The tiles
 
-plain_drafted : (f : List ℕ) (k : ℕ) (d : Draft) → IsDrafted f k d → plain_bytes f k ≡ Some (tile_bytes d.tile_width d.tile_length d.samples)
+plain_drafted : (f : List ℕ) (k : ℕ) (d : Draft) (bits : ℕ) → IsDrafted f k d → value f k 258 0 ≡ Some bits → plain_bytes f k ≡ Some (tile_bytes d.tile_width d.tile_length d.samples bits)
 unfolding plain_bytes
-plain_drafted f k d is = rw (is.tile_width, is.tile_length, is.samples) refl
+plain_drafted f k d bits is told = rw (is.tile_width, is.tile_length, is.samples, told) refl
 
-tiles_parts : (d : Draft) → has_tiles d ≡ true → (is_tile_side d.tile_width ≡ true) × (is_tile_side d.tile_length ≡ true) × (nat_le (tile_bytes d.tile_width d.tile_length d.samples) max_tile_bytes ≡ true)
-tiles_parts d good =
-    let one = and_parts (is_tile_side d.tile_width) (is_tile_side d.tile_length && nat_le (tile_bytes d.tile_width d.tile_length d.samples) max_tile_bytes) good in
-    let two = and_parts (is_tile_side d.tile_length) (nat_le (tile_bytes d.tile_width d.tile_length d.samples) max_tile_bytes) one.1 in
+pub tiles_parts : (d : Draft) (bits : ℕ) → has_tiles d bits ≡ true → (is_tile_side d.tile_width ≡ true) × (is_tile_side d.tile_length ≡ true) × (nat_le (tile_bytes d.tile_width d.tile_length d.samples bits) max_tile_bytes ≡ true)
+tiles_parts d bits good =
+    let one = and_parts (is_tile_side d.tile_width) (is_tile_side d.tile_length && nat_le (tile_bytes d.tile_width d.tile_length d.samples bits) max_tile_bytes) good in
+    let two = and_parts (is_tile_side d.tile_length) (nat_le (tile_bytes d.tile_width d.tile_length d.samples bits) max_tile_bytes) one.1 in
     (one.0, two.0, two.1)
 
-tiles_fault : (f : List ℕ) (k : ℕ) (d : Draft) → IsDrafted f k d → has_tiles d ≡ false → IsFaultOfLevel f k TileSize
-tiles_fault f k d is bad = elim (and_cases (is_tile_side d.tile_width) (is_tile_side d.tile_length && nat_le (tile_bytes d.tile_width d.tile_length d.samples) max_tile_bytes) bad) [
+tiles_fault : (f : List ℕ) (k : ℕ) (d : Draft) (bits : ℕ) → IsDrafted f k d → value f k 258 0 ≡ Some bits → has_tiles d bits ≡ false → IsFaultOfLevel f k TileSize
+tiles_fault f k d bits is told bad = elim (and_cases (is_tile_side d.tile_width) (is_tile_side d.tile_length && nat_le (tile_bytes d.tile_width d.tile_length d.samples bits) max_tile_bytes) bad) [
   | inl h ↦ inl (some_and_from (value f k 322 0) (λ s. is_tile_side s ≡ false) d.tile_width is.tile_width h)
-  | inr h ↦ elim (and_cases (is_tile_side d.tile_length) (nat_le (tile_bytes d.tile_width d.tile_length d.samples) max_tile_bytes) h) [
+  | inr h ↦ elim (and_cases (is_tile_side d.tile_length) (nat_le (tile_bytes d.tile_width d.tile_length d.samples bits) max_tile_bytes) h) [
     | inl g ↦ inr (inl (some_and_from (value f k 323 0) (λ s. is_tile_side s ≡ false) d.tile_length is.tile_length g))
-    | inr g ↦ inr (inr (some_and_from (plain_bytes f k) (λ n. nat_le n max_tile_bytes ≡ false) _ (plain_drafted f k d is) g))
+    | inr g ↦ inr (inr (some_and_from (plain_bytes f k) (λ n. nat_le n max_tile_bytes ≡ false) _ (plain_drafted f k d bits is told) g))
   ]
 ]
 
-no_tiles_fault : (f : List ℕ) (k : ℕ) (d : Draft) → IsDrafted f k d → has_tiles d ≡ true → IsFaultOfLevel f k TileSize → ⊥
-no_tiles_fault f k d is good (inl bad) = false≢true (sym (some_and_at (value f k 322 0) (λ s. is_tile_side s ≡ false) d.tile_width is.tile_width bad) ∙ (tiles_parts d good).0)
-no_tiles_fault f k d is good (inr (inl bad)) = false≢true (sym (some_and_at (value f k 323 0) (λ s. is_tile_side s ≡ false) d.tile_length is.tile_length bad) ∙ (tiles_parts d good).1)
-no_tiles_fault f k d is good (inr (inr bad)) = false≢true (sym (some_and_at (plain_bytes f k) (λ n. nat_le n max_tile_bytes ≡ false) _ (plain_drafted f k d is) bad) ∙ (tiles_parts d good).2)
+no_tiles_fault : (f : List ℕ) (k : ℕ) (d : Draft) (bits : ℕ) → IsDrafted f k d → value f k 258 0 ≡ Some bits → has_tiles d bits ≡ true → IsFaultOfLevel f k TileSize → ⊥
+no_tiles_fault f k d bits is told good (inl bad) = false≢true (sym (some_and_at (value f k 322 0) (λ s. is_tile_side s ≡ false) d.tile_width is.tile_width bad) ∙ (tiles_parts d bits good).0)
+no_tiles_fault f k d bits is told good (inr (inl bad)) = false≢true (sym (some_and_at (value f k 323 0) (λ s. is_tile_side s ≡ false) d.tile_length is.tile_length bad) ∙ (tiles_parts d bits good).1)
+no_tiles_fault f k d bits is told good (inr (inr bad)) = false≢true (sym (some_and_at (plain_bytes f k) (λ n. nat_le n max_tile_bytes ≡ false) _ (plain_drafted f k d bits is told) bad) ∙ (tiles_parts d bits good).2)
 
 side_some : (side : ℕ) → is_tile_side side ≡ true → nat_lt 0 side ≡ true
 side_some side good = (and_parts (nat_lt 0 side) (side % 16 == 0) good).0
 
-count_drafted : (f : List ℕ) (k : ℕ) (d : Draft) → IsDrafted f k d → has_tiles d ≡ true → tile_count f k ≡ Some (tiles_of d)
+count_drafted : (f : List ℕ) (k : ℕ) (d : Draft) (bits : ℕ) → IsDrafted f k d → has_tiles d bits ≡ true → tile_count f k ≡ Some (tiles_of d)
 unfolding tile_count
-count_drafted f k d is good =
-    let across = side_some d.tile_width (tiles_parts d good).0 in
-    let down = side_some d.tile_length (tiles_parts d good).1 in
-    rw (is.width, is.length, is.tile_width, is.tile_length, across, down) refl
+count_drafted f k d bits is good =
+    let across = side_some d.tile_width (tiles_parts d bits good).0 in
+    let down = side_some d.tile_length (tiles_parts d bits good).1 in
+    rw (grid_drafted f k d is, across, down) refl
 
-place_parts : (f : List ℕ) (e : Field) (p : Place) → place_of f e ≡ Some p → e.count ≡ p.count
+place_parts : (f : List ℕ) (e : Field) (p : Place) → place_of f e ≡ Some p → e.count ≡ Some p.count
 unfolding place_of
-place_parts f e p told = at (kind_of e.kind) told where
-  at : (o : Option _) → (o >>= λ kind. values_at f e (size_of kind) >>= λ first. Some (record { first = first; len = e.count * size_of kind; count = e.count; kind = kind })) ≡ Some p → e.count ≡ p.count
-  at None told = absurd (none-some p told)
-  at (Some kind) told = more (values_at f e (size_of kind)) told where
-    more : (o : Option ℕ) → (o >>= λ first. Some (record { first = first; len = e.count * size_of kind; count = e.count; kind = kind })) ≡ Some p → e.count ≡ p.count
+place_parts f e p told = at (e.kind >>= kind_of) e.count told where
+  at : (o : Option Kind) (c : Option ℕ) → (o >>= λ kind. c >>= λ count. values_at f e (count * size_of kind) >>= λ first. Some (record { first = first; len = count * size_of kind; count = count; kind = kind })) ≡ Some p → c ≡ Some p.count
+  at None c told = absurd (none-some p told)
+  at (Some kind) None told = absurd (none-some p told)
+  at (Some kind) (Some count) told = more (values_at f e (count * size_of kind)) told where
+    more : (o : Option ℕ) → (o >>= λ first. Some (record { first = first; len = count * size_of kind; count = count; kind = kind })) ≡ Some p → Some count ≡ Some p.count
     more None told = absurd (none-some p told)
-    more (Some first) told = ap (λ (x : Place). x.count) (same_Some _ _ told)
+    more (Some first) told = ap (λ (x : Place). Some x.count) (same_Some _ _ told)
 
-place_count : (f : List ℕ) (o : Option Field) (p : Place) → (o >>= place_of f) ≡ Some p → (o >>= λ e. Some e.count) ≡ Some p.count
+place_count : (f : List ℕ) (o : Option Field) (p : Place) → (o >>= place_of f) ≡ Some p → (o >>= λ e. e.count) ≡ Some p.count
 place_count f None p told = absurd (none-some p told)
-place_count f (Some e) p told = ap Some (place_parts f e p told)
+place_count f (Some e) p told = place_parts f e p told
 
-arrays_parts : (d : Draft) → has_arrays d ≡ true → (nat_le (tiles_of d) max_tiles ≡ true) × ((tiles_of d == d.offsets.count) ≡ true) × ((tiles_of d == d.counts.count) ≡ true)
+pub arrays_parts : (d : Draft) → has_arrays d ≡ true → (nat_le (tiles_of d) max_tiles ≡ true) × ((tiles_of d == d.offsets.count) ≡ true) × ((tiles_of d == d.counts.count) ≡ true)
 arrays_parts d good =
     let one = and_parts (nat_le (tiles_of d) max_tiles) ((tiles_of d == d.offsets.count) && (tiles_of d == d.counts.count)) good in
     let two = and_parts (tiles_of d == d.offsets.count) (tiles_of d == d.counts.count) one.1 in
     (one.0, two.0, two.1)
 
-array_fault : (f : List ℕ) (k tag : ℕ) (d : Draft) (p : Place) → IsDrafted f k d → has_tiles d ≡ true → (field f k tag >>= place_of f) ≡ Some p → (tiles_of d == p.count) ≡ false → IsNoTileArray f k tag
-array_fault f k tag d p is tiles there bad =
-    some_and_from (tile_count f k) (λ n. IsSomeAnd (field f k tag >>= λ e. Some e.count) (λ c. (n == c) ≡ false)) _ (count_drafted f k d is tiles)
-    (some_and_from (field f k tag >>= λ e. Some e.count) (λ c. (tiles_of d == c) ≡ false) _ (place_count f (field f k tag) p there) bad)
+array_fault : (f : List ℕ) (k tag : ℕ) (d : Draft) (bits : ℕ) (p : Place) → IsDrafted f k d → has_tiles d bits ≡ true → (field f k tag >>= place_of f) ≡ Some p → (tiles_of d == p.count) ≡ false → IsNoTileArray f k tag
+array_fault f k tag d bits p is tiles there bad =
+    some_and_from (tile_count f k) (λ n. IsSomeAnd (field f k tag >>= λ e. e.count) (λ c. (n == c) ≡ false)) _ (count_drafted f k d bits is tiles)
+    (some_and_from (field f k tag >>= λ e. e.count) (λ c. (tiles_of d == c) ≡ false) _ (place_count f (field f k tag) p there) bad)
 
-no_array_fault : (f : List ℕ) (k tag : ℕ) (d : Draft) (p : Place) → IsDrafted f k d → has_tiles d ≡ true → (field f k tag >>= place_of f) ≡ Some p → (tiles_of d == p.count) ≡ true → IsNoTileArray f k tag → ⊥
-no_array_fault f k tag d p is tiles there good bad =
-    let one = some_and_at (tile_count f k) (λ n. IsSomeAnd (field f k tag >>= λ e. Some e.count) (λ c. (n == c) ≡ false)) _ (count_drafted f k d is tiles) bad in
-    let two = some_and_at (field f k tag >>= λ e. Some e.count) (λ c. (tiles_of d == c) ≡ false) _ (place_count f (field f k tag) p there) one in
+no_array_fault : (f : List ℕ) (k tag : ℕ) (d : Draft) (bits : ℕ) (p : Place) → IsDrafted f k d → has_tiles d bits ≡ true → (field f k tag >>= place_of f) ≡ Some p → (tiles_of d == p.count) ≡ true → IsNoTileArray f k tag → ⊥
+no_array_fault f k tag d bits p is tiles there good bad =
+    let one = some_and_at (tile_count f k) (λ n. IsSomeAnd (field f k tag >>= λ e. e.count) (λ c. (n == c) ≡ false)) _ (count_drafted f k d bits is tiles) bad in
+    let two = some_and_at (field f k tag >>= λ e. e.count) (λ c. (tiles_of d == c) ≡ false) _ (place_count f (field f k tag) p there) one in
     false≢true (sym two ∙ good)
 
-arrays_fault : (f : List ℕ) (k : ℕ) (d : Draft) → IsDrafted f k d → has_tiles d ≡ true → has_arrays d ≡ false → IsFaultOfLevel f k TileArray
-arrays_fault f k d is tiles bad = elim (and_cases (nat_le (tiles_of d) max_tiles) ((tiles_of d == d.offsets.count) && (tiles_of d == d.counts.count)) bad) [
-  | inl h ↦ inl (some_and_from (tile_count f k) (λ n. nat_le n max_tiles ≡ false) _ (count_drafted f k d is tiles) h)
+arrays_fault : (f : List ℕ) (k : ℕ) (d : Draft) (bits : ℕ) → IsDrafted f k d → has_tiles d bits ≡ true → has_arrays d ≡ false → IsFaultOfLevel f k TileArray
+arrays_fault f k d bits is tiles bad = elim (and_cases (nat_le (tiles_of d) max_tiles) ((tiles_of d == d.offsets.count) && (tiles_of d == d.counts.count)) bad) [
+  | inl h ↦ inl (some_and_from (tile_count f k) (λ n. nat_le n max_tiles ≡ false) _ (count_drafted f k d bits is tiles) h)
   | inr h ↦ elim (and_cases (tiles_of d == d.offsets.count) (tiles_of d == d.counts.count) h) [
-    | inl g ↦ inr (inl (array_fault f k 324 d d.offsets is tiles is.offsets g))
-    | inr g ↦ inr (inr (array_fault f k 325 d d.counts is tiles is.counts g))
+    | inl g ↦ inr (inl (array_fault f k 324 d bits d.offsets is tiles is.offsets g))
+    | inr g ↦ inr (inr (array_fault f k 325 d bits d.counts is tiles is.counts g))
   ]
 ]
 
-no_arrays_fault : (f : List ℕ) (k : ℕ) (d : Draft) → IsDrafted f k d → has_tiles d ≡ true → has_arrays d ≡ true → IsFaultOfLevel f k TileArray → ⊥
-no_arrays_fault f k d is tiles good (inl bad) = false≢true (sym (some_and_at (tile_count f k) (λ n. nat_le n max_tiles ≡ false) _ (count_drafted f k d is tiles) bad) ∙ (arrays_parts d good).0)
-no_arrays_fault f k d is tiles good (inr (inl bad)) = no_array_fault f k 324 d d.offsets is tiles is.offsets (arrays_parts d good).1 bad
-no_arrays_fault f k d is tiles good (inr (inr bad)) = no_array_fault f k 325 d d.counts is tiles is.counts (arrays_parts d good).2 bad
+no_arrays_fault : (f : List ℕ) (k : ℕ) (d : Draft) (bits : ℕ) → IsDrafted f k d → has_tiles d bits ≡ true → has_arrays d ≡ true → IsFaultOfLevel f k TileArray → ⊥
+no_arrays_fault f k d bits is tiles good (inl bad) = false≢true (sym (some_and_at (tile_count f k) (λ n. nat_le n max_tiles ≡ false) _ (count_drafted f k d bits is tiles) bad) ∙ (arrays_parts d good).0)
+no_arrays_fault f k d bits is tiles good (inr (inl bad)) = no_array_fault f k 324 d bits d.offsets is tiles is.offsets (arrays_parts d good).1 bad
+no_arrays_fault f k d bits is tiles good (inr (inr bad)) = no_array_fault f k 325 d bits d.counts is tiles is.counts (arrays_parts d good).2 bad
 
 -- The level as a whole
 
-pub shape_fault : (f : List ℕ) (k : ℕ) (d : Draft) (previous : Option Level) (fault : FileFault) → IsDrafted f k d → IsBefore f k previous → IsShapeFault previous d fault → IsFaultOfLevel f k fault
-shape_fault f k d previous LevelShape is before bad = sides_fault f k d previous is before bad
-shape_fault f k d previous TileSize is before bad = tiles_fault f k d is bad
-shape_fault f k d previous TileArray is before bad = arrays_fault f k d is bad.0 bad.1
-shape_fault f k d previous _ is before bad = absurd bad
+pub shape_fault : (f : List ℕ) (k : ℕ) (d : Draft) (bits : ℕ) (previous : Option Level) (fault : FileFault) → IsDrafted f k d → value f k 258 0 ≡ Some bits → IsBefore f k previous → IsShapeFault previous d bits fault → IsFaultOfLevel f k fault
+shape_fault f k d bits previous LevelShape is told before bad = sides_fault f k d previous is before bad
+shape_fault f k d bits previous TileSize is told before bad = tiles_fault f k d bits is told bad
+shape_fault f k d bits previous TileArray is told before bad = arrays_fault f k d bits is bad.0 bad.1
+shape_fault f k d bits previous _ is told before bad = absurd bad
 
 unsupported_clean : (f : List ℕ) (p : Pending) (tag : ℕ) → IsPending f p → IsSupported f p.index 258 → IsSupported f p.index 339 → IsUnsupported f p.index tag → ⊥
 unsupported_clean f p tag is bits formats bad = elim (cases_eq tag 258) [
@@ -215,28 +233,36 @@ unsupported_clean f p tag is bits formats bad = elim (cases_eq tag 258) [
   ]
 ]
 
-level_clean : (f : List ℕ) (p : Pending) (previous : Option Level) → IsPending f p → IsSupported f p.index 258 → IsSupported f p.index 339 → IsBefore f p.index previous → IsShaped previous p.draft
-    → (fault : FileFault) → IsFaultOfLevel f p.index fault → ⊥
-level_clean f p previous is bits formats before shaped (Missing tag) bad = is.whole tag bad
-level_clean f p previous is bits formats before shaped (FieldType tag) bad = is.typed tag bad
-level_clean f p previous is bits formats before shaped (Unsupported tag) bad = unsupported_clean f p tag is bits formats bad
-level_clean f p previous is bits formats before shaped LevelShape bad = no_sides_fault f p.index p.draft previous is.drafted before shaped.sides bad
-level_clean f p previous is bits formats before shaped TileSize bad = no_tiles_fault f p.index p.draft is.drafted shaped.tiles bad
-level_clean f p previous is bits formats before shaped TileArray bad = no_arrays_fault f p.index p.draft is.drafted shaped.tiles shaped.arrays bad
-level_clean f p previous is bits formats before shaped _ bad = bad
+-- a level whose values are all read
+pub record IsRead (f : List ℕ) (p : Pending) (bits : ℕ) (previous : Option Level) : Type 0 where
+  pub pending : IsPending f p
+  pub told : value f p.index 258 0 ≡ Some bits
+  pub depths : IsSupported f p.index 258
+  pub formats : IsSupported f p.index 339
+  pub before : IsBefore f p.index previous
+  pub shaped : IsShaped previous p.draft bits
 
-pub level_follows : (f : List ℕ) (p : Pending) (previous : Option Level) → IsPending f p → IsSupported f p.index 258 → IsSupported f p.index 339 → IsBefore f p.index previous → IsShaped previous p.draft
-    → Follows f p.order (p.index + 1) p.next
-level_follows f p previous is bits formats before shaped =
-    let clean : (fault : FileFault) → IsFaultAt f p.index fault → ⊥ = λ fault bad. elim bad [ inl h ↦ is.sound fault h | inr h ↦ level_clean f p previous is bits formats before shaped fault h.1 ] in
-    goes_on f p.order p.index p.next is.walked is.few is.there is.next clean
+level_clean : (f : List ℕ) (p : Pending) (bits : ℕ) (previous : Option Level) → IsRead f p bits previous → (fault : FileFault) → IsFaultOfLevel f p.index fault → ⊥
+level_clean f p bits previous is (Missing tag) bad = is.pending.whole tag bad
+level_clean f p bits previous is (FieldType tag) bad = is.pending.typed tag bad
+level_clean f p bits previous is (Unsupported tag) bad = unsupported_clean f p tag is.pending is.depths is.formats bad
+level_clean f p bits previous is LevelShape bad = no_sides_fault f p.index p.draft previous is.pending.drafted is.before is.shaped.sides bad
+level_clean f p bits previous is TileSize bad = no_tiles_fault f p.index p.draft bits is.pending.drafted is.told is.shaped.tiles bad
+level_clean f p bits previous is TileArray bad = no_arrays_fault f p.index p.draft bits is.pending.drafted is.shaped.tiles is.shaped.arrays bad
+level_clean f p bits previous is _ bad = bad
 
-pub level_ends : (f : List ℕ) (p : Pending) (stage : Stage) → IsPending f p → value f p.index 258 0 ≡ Some 8 → index_of stage ≡ p.index + 1 → IsAt f (p.index + 1) stage
-    → EndsDirectory f p.index (record { stage = stage; level = Some (level_from p.draft) })
-level_ends f p stage is bits index at = record {
+pub level_follows : (f : List ℕ) (p : Pending) (bits : ℕ) (previous : Option Level) → IsRead f p bits previous → Follows f p.order (p.index + 1) p.next
+level_follows f p bits previous is =
+    let w = is.pending in
+    let clean : (fault : FileFault) → IsFaultAt f p.index fault → ⊥ = λ fault bad. elim bad [ inl h ↦ w.sound fault h | inr h ↦ level_clean f p bits previous is fault h.1 ] in
+    goes_on f p.order p.index p.next w.walked w.few w.there w.next clean
+
+pub level_ends : (f : List ℕ) (p : Pending) (bits : ℕ) (stage : Stage) (l : Level) → IsPending f p → value f p.index 258 0 ≡ Some bits → layout_of l ≡ layout_from p.draft bits → index_of stage ≡ p.index + 1 → IsAt f (p.index + 1) stage
+    → EndsDirectory f p.index (record { stage = stage; level = Some l })
+level_ends f p bits stage l is told same index at = record {
   here = at.0;
   index = index ∙ add-one p.index;
-  levels = levels_taken f p.index (level_from p.draft) is.level (level_told f p.index p.draft is.drafted bits);
+  levels = levels_taken f p.index (layout_of l) is.level (layout_told f p.index p.draft bits is.drafted told ∙ ap Some (sym same));
   come = rw add-one at at.1;
 }
 
@@ -249,29 +275,7 @@ is_multiple side good =
     let whole : side % 16 ≡ 0 = eqb-true (side % 16) 0 p.1 in
     (omega arith, whole)
 
-pub profiled : (previous : Option Level) (d : Draft) → IsDraft d → IsShaped previous d → IsProfiled (level_from d)
-profiled previous d draft shaped =
-    let some = and_parts (nat_lt 0 d.width) (nat_lt 0 d.length) (fits_sides previous d shaped.sides) in
-    let tiles = tiles_parts d shaped.tiles in
-    let arrays = arrays_parts d shaped.arrays in
-    let w = is_multiple d.tile_width tiles.0 in
-    let l = is_multiple d.tile_length tiles.1 in
-    record {
-      width = (ltb-true 0 d.width some.0, draft.bounded.width);
-      length = (ltb-true 0 d.length some.1, draft.bounded.length);
-      tile_width = (w.0, w.1, draft.bounded.tile_width);
-      tile_length = (l.0, l.1, draft.bounded.tile_length);
-      samples = draft.samples;
-      bits = refl;
-      plain = leb-true _ _ tiles.2;
-      tiles = leb-true _ _ arrays.0;
-      offsets = record { count = sym (eqb-true _ _ arrays.1); len = draft.bounded.offsets.0; near = draft.bounded.offsets.1 };
-      counts = record { count = sym (eqb-true _ _ arrays.2); len = draft.bounded.counts.0; near = draft.bounded.counts.1 };
-      long = draft.long;
-      whole = draft.whole;
-    }
-
-long_place : (es : List Entry) → AllPass (meets es) profile → (place_or es 324).kind ≡ kind.Long
+long_place : (es : List Entry) → AllPass (meets es) profile → is_long (place_or es 324).kind ≡ true
 unfolding profile
 long_place es met =
     let r : Rule = get_or profile 10 subfile_rule in
@@ -280,15 +284,21 @@ long_place es met =
     let four : e.kind ≡ 4 = kind_long r.typing e.kind refl (typed r e (met_entry es r e ok there)) in
     rw there (rw four refl)
 
-whole_place : (o : Option Entry) → ((option_map_or place_in o (record { first = 0; len = 0; count = 0; kind = kind.Long })).kind ≡ kind.Short) ⊎ ((option_map_or place_in o (record { first = 0; len = 0; count = 0; kind = kind.Long })).kind ≡ kind.Long)
-whole_place None = inr refl
-whole_place (Some e) = elim (cases_Bool (e.kind == 3)) [ inl h ↦ inl (rw h refl) | inr h ↦ inr (rw h refl) ]
+whole_place : (es : List Entry) → AllPass (meets es) profile → is_short_or_long (place_or es 325).kind ≡ true
+unfolding profile
+whole_place es met =
+    let r : Rule = get_or profile 11 subfile_rule in
+    let ok = met 11 subfile_rule (lit< tt) in
+    let (e, there) = met_there es r ok refl in
+    elim (kind_told r.typing e.kind tt (typed r e (met_entry es r e ok there))) [ inl three ↦ rw there (rw three refl) | inr four ↦ rw there (rw four refl) ]
 
 pub draft_bounds : (es : List Entry) (d : Draft) → AllPass (meets es) profile → HasValues es → d ≡ draft_in es → IsBounded d → IsDraft d
 unfolding draft_in
 draft_bounds es d met right is bounded = record {
   bounded = bounded;
-  samples = (let P : Draft → Type 0 = λ x. (x.samples ≡ 1) ⊎ (x.samples ≡ 3) in subst P (sym is) (fits_cases (short_or es 277 1) (short_or es 262 0) right.samples));
-  long = ap (λ (x : Draft). x.offsets.kind) is ∙ long_place es met;
-  whole = (let P : Draft → Type 0 = λ x. (x.counts.kind ≡ kind.Short) ⊎ (x.counts.kind ≡ kind.Long) in subst P (sym is) (whole_place (found 325 es)));
-}
+  samples = (let P : Draft → Type 0 = λ x. is_sample_count x.samples ≡ true in subst P (sym is) (count_fits (short_or es 277 1) (short_or es 262 0) right.samples));
+  long = ap (λ (x : Draft). is_long x.offsets.kind) is ∙ long_place es met;
+  whole = ap (λ (x : Draft). is_short_or_long x.counts.kind) is ∙ whole_place es met;
+} where
+  count_fits : (s p : ℕ) → samples_fit s p ≡ true → is_sample_count s ≡ true
+  count_fits s p ok = elim (fits_cases s p ok) [ inl one ↦ rw one refl | inr three ↦ rw three refl ]

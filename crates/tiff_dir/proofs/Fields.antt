@@ -2,6 +2,7 @@
 use Rattle.std.proofs.Common.{◌≡◌, ℕ, zero, suc, ◌+◌, ◌*◌, ◌<◌, ◌≤◌, ◌⊎◌, inl, inr, true, false, not, ◌==◌, nat_lt, if◌then◌else◌, List, [], ◌∷◌, map, length, Option, Some, None, IsSomeAnd, refl, sym, subst, ◌∙◌, arith, add-zero, zero-add}
 use Rattle.std.proofs.lemmas.Option.{same_Some, none-some}
 use Rattle.std.proofs.lemmas.Bool.{and_parts, and_cases, or_cases, eqb-true, cases_Bool, false≢true, not_from_true, le-ltb}
+use Rattle.std.specs.Bool.{⊤}
 use Rattle.std.specs.Option.{option_map, option_map_or}
 use Rattle.tiff_dir.specs.declared.order.Order.{Order}
 use Rattle.tiff_dir.specs.declared.table.Entry.{Entry}
@@ -9,17 +10,17 @@ use Rattle.tiff_dir.specs.declared.rule.Rule.{Rule}
 use Rattle.tiff_dir.specs.declared.rule.Typing.{Typing}
 use Rattle.tiff_dir.specs.declared.rule.Typing.TheVariants as typing
 use Rattle.tiff_dir.specs.declared.rule.Count.{Count}
-use Rattle.tiff_dir.specs.declared.rule.Count.TheVariants.{One, Samples, Tiles}
+use Rattle.tiff_dir.specs.declared.rule.Count.TheVariants.{One, Samples, Tiles, Exactly, Multiple}
 use Rattle.tiff_dir.specs.declared.fault.FileFault.{FileFault}
 use Rattle.tiff_dir.specs.declared.fault.FileFault.TheVariants.{Missing, FieldType}
 use Rattle.tiff_dir.specs.Number.{number_in}
 use Rattle.tiff_dir.specs.File.{Field, order_of, number, with_tag, field, values_at, field_value, value, default_of}
 use Rattle.tiff_dir.specs.Profile.{has_typing}
-use Rattle.tiff_dir.specs.Fault.{IsMiscounted, IsRuleFault}
+use Rattle.tiff_dir.specs.Fault.{IsMistyped, IsMiscounted, IsRuleFault}
 use Rattle.tiff_dir.specs.Stage.{HasTable, IsTableOf}
 use Rattle.tiff_dir.specs.Table.{entry, entries, field_of, found, allows, counts_one, meets, IsEntryFault, single_of, single_or, short_or}
 use Rattle.tiff_dir.proofs.Parts.{part_inside, number_inside}
-use Rattle.tiff_dir.proofs.Chain.{some_and_at, some_and_from, same_entries, table_is}
+use Rattle.tiff_dir.proofs.Chain.{some_and_at, some_and_from, same_entries, fields_are, all_tags}
 
 -- The table of a file
 
@@ -54,7 +55,8 @@ has_table f bytes o k at n (counts, part) len =
     let same = same_entries f bytes o at n part in
     record {
       there = counts.reaches.there;
-      told = table_is f bytes o k at n counts part len;
+      whole = all_tags f bytes o k at n counts part len;
+      told = fields_are f bytes o k at n counts part len;
       short = λ tag e found. entry_short f o (at + 2) n tag e named (omega arith) (rw same found);
       long = λ tag e found. entry_long f o (at + 2) n tag e named (omega arith) (rw same found);
     }
@@ -79,17 +81,40 @@ through (Some e) g d = refl
 
 pub value_told : (f : List ℕ) (k : ℕ) (es : List Entry) (tag i : ℕ) → HasTable f k es → value f k tag i ≡ option_map_or (λ e. field_value f (field_of e) i) (found tag es) (default_of tag)
 unfolding value
-value_told f k es tag i has = rw has.told (rw (with_tag-map tag es) (through (found tag es) (λ x. field_value f x i) (default_of tag)))
+value_told f k es tag i has = rw (field_told f k es tag has, has.whole) (through (found tag es) (λ x. field_value f x i) (default_of tag))
 
 -- Types and counts
 
-pub kind_told : (t : Typing) (kind : ℕ) → has_typing t kind ≡ true → (kind ≡ 3) ⊎ (kind ≡ 4)
-kind_told typing.Short kind ok = inl (eqb-true kind 3 ok)
-kind_told typing.Long kind ok = inr (eqb-true kind 4 ok)
-kind_told typing.ShortOrLong kind ok = elim (or_cases (kind == 3) (kind == 4) ok) [
+-- the profile's types, SHORT and LONG among them
+abbrev pub IsKind : ℕ → Type 0
+IsKind kind = (kind ≡ 3) ⊎ ((kind ≡ 4) ⊎ ((kind ≡ 2) ⊎ (kind ≡ 12)))
+
+abbrev pub IsInteger : Typing → Type 0
+IsInteger typing.Short = ⊤
+IsInteger typing.Long = ⊤
+IsInteger typing.ShortOrLong = ⊤
+IsInteger typing.Ascii = ⊥
+IsInteger typing.Double = ⊥
+
+pub kind_told : (t : Typing) (kind : ℕ) → IsInteger t → has_typing t kind ≡ true → (kind ≡ 3) ⊎ (kind ≡ 4)
+kind_told typing.Short kind integer ok = inl (eqb-true kind 3 ok)
+kind_told typing.Long kind integer ok = inr (eqb-true kind 4 ok)
+kind_told typing.ShortOrLong kind integer ok = elim (or_cases (kind == 3) (kind == 4) ok) [
   | inl short ↦ inl (eqb-true kind 3 short)
   | inr long ↦ inr (eqb-true kind 4 long)
 ]
+kind_told typing.Ascii kind integer ok = absurd integer
+kind_told typing.Double kind integer ok = absurd integer
+
+pub kind_is : (t : Typing) (kind : ℕ) → has_typing t kind ≡ true → IsKind kind
+kind_is typing.Short kind ok = inl (eqb-true kind 3 ok)
+kind_is typing.Long kind ok = inr (inl (eqb-true kind 4 ok))
+kind_is typing.ShortOrLong kind ok = elim (or_cases (kind == 3) (kind == 4) ok) [
+  | inl short ↦ inl (eqb-true kind 3 short)
+  | inr long ↦ inr (inl (eqb-true kind 4 long))
+]
+kind_is typing.Ascii kind ok = inr (inr (inl (eqb-true kind 2 ok)))
+kind_is typing.Double kind ok = inr (inr (inr (eqb-true kind 12 ok)))
 
 pub kind_short : (t : Typing) (kind : ℕ) → t ≡ typing.Short → has_typing t kind ≡ true → kind ≡ 3
 kind_short t kind is ok = eqb-true kind 3 (let P : Typing → Type 0 = λ x. has_typing x kind ≡ true in subst P is ok)
@@ -133,14 +158,14 @@ no_value : (f : List ℕ) (e : Entry) (i : ℕ) → e.kind ≡ 3 → e.count ≡
 unfolding field_value values_at
 no_value f e i kind count some = let past = le-ltb i 1 (omega arith) in rw (count, kind, past) refl
 
-pub single_told : (f : List ℕ) (k : ℕ) (es : List Entry) (r : Rule) (d : ℕ) → HasTable f k es → meets es r ≡ true → r.count ≡ One → (default_of r.tag ≡ Some d) ⊎ (r.required ≡ true) → value f k r.tag 0 ≡ Some (single_or es r.tag d)
-single_told f k es r d has met one default = value_told f k es r.tag 0 has ∙ at (found r.tag es) refl default where
+pub single_told : (f : List ℕ) (k : ℕ) (es : List Entry) (r : Rule) (d : ℕ) → HasTable f k es → meets es r ≡ true → IsInteger r.typing → r.count ≡ One → (default_of r.tag ≡ Some d) ⊎ (r.required ≡ true) → value f k r.tag 0 ≡ Some (single_or es r.tag d)
+single_told f k es r d has met integer one default = value_told f k es r.tag 0 has ∙ at (found r.tag es) refl default where
   at : (o : Option Entry) → found r.tag es ≡ o → (default_of r.tag ≡ Some d) ⊎ (r.required ≡ true) → option_map_or (λ e. field_value f (field_of e) 0) o (default_of r.tag) ≡ Some (option_map_or single_of o d)
   at None is (inl default) = default
   at None is (inr required) = let (e, there) = met_there es r met required in absurd (none-some e (sym is ∙ there))
   at (Some e) is default =
       let ok = met_entry es r e met is in
-      single_value f e (has.short r.tag e is) (has.long r.tag e is) (kind_told r.typing e.kind (typed r e ok)) (count_one r.count e.count one (counted r e ok))
+      single_value f e (has.short r.tag e is) (has.long r.tag e is) (kind_told r.typing e.kind integer (typed r e ok)) (count_one r.count e.count one (counted r e ok))
 
 pub short_told : (f : List ℕ) (k : ℕ) (es : List Entry) (r : Rule) (d : ℕ) → HasTable f k es → meets es r ≡ true → r.typing ≡ typing.Short
     → ((e : Entry) → found r.tag es ≡ Some e → e.count ≡ 1) → (default_of r.tag ≡ Some d) ⊎ (r.required ≡ true) → value f k r.tag 0 ≡ Some (short_or es r.tag d)
@@ -181,17 +206,23 @@ three_values f e i long kind count = rw (count, kind, long) refl
 
 -- the field of a rule is wrong in the file as it is in the table
 pub rule_fault : (f : List ℕ) (k : ℕ) (es : List Entry) (r : Rule) (fault : FileFault) → HasTable f k es → IsEntryFault r es fault → IsRuleFault f k r fault
-rule_fault f k es r (Missing tag) has bad = (bad.0, bad.1, some_and_from _ _ _ has.told (with_tag-map r.tag es ∙ rw bad.2 refl))
-rule_fault f k es r (FieldType tag) has bad = (bad.0, at (found r.tag es) refl bad.1) where
+rule_fault f k es r (Missing tag) has bad =
+    let none : field f k r.tag ≡ None = field_told f k es r.tag has ∙ rw bad.2 refl in
+    (bad.0, bad.1, has.whole, rw (← bad.0) none)
+rule_fault f k es r (FieldType tag) has bad =
+    let P : ℕ → Type 0 = λ t. IsSomeAnd (field f k t) (λ e. IsMistyped r.typing e ⊎ IsMiscounted f k r.count e) in
+    (bad.0, subst P bad.0 (at (found r.tag es) refl bad.1)) where
   wrong : (c : Count) (e : Entry) → counts_one c e.count ≡ false → IsMiscounted f k c (field_of e)
   wrong One e bad = bad
   wrong Samples e bad = absurd (false≢true (sym bad))
   wrong Tiles e bad = absurd (false≢true (sym bad))
+  wrong (Exactly n) e bad = bad
+  wrong (Multiple n) e bad = bad
 
-  at : (o : Option Entry) → found r.tag es ≡ o → IsSomeAnd o (λ e. allows r e ≡ false) → IsSomeAnd (field f k r.tag) (λ e. (has_typing r.typing e.kind ≡ false) ⊎ IsMiscounted f k r.count e)
+  at : (o : Option Entry) → found r.tag es ≡ o → IsSomeAnd o (λ e. allows r e ≡ false) → IsSomeAnd (field f k r.tag) (λ e. IsMistyped r.typing e ⊎ IsMiscounted f k r.count e)
   at None is bad = absurd bad
   at (Some e) is bad =
-      some_and_from (field f k r.tag) (λ x. (has_typing r.typing x.kind ≡ false) ⊎ IsMiscounted f k r.count x) (field_of e) (field_told f k es r.tag has ∙ rw is refl)
+      some_and_from (field f k r.tag) (λ x. IsMistyped r.typing x ⊎ IsMiscounted f k r.count x) (field_of e) (field_told f k es r.tag has ∙ rw is refl)
       (elim (and_cases (has_typing r.typing e.kind) (counts_one r.count e.count) bad) [ inl h ↦ inl h | inr h ↦ inr (wrong r.count e h) ])
 rule_fault f k es r _ has bad = absurd bad
 
@@ -200,15 +231,19 @@ pub no_rule_fault : (f : List ℕ) (k : ℕ) (es : List Entry) (r : Rule) → Ha
     → (r.count ≡ Samples → (e : Entry) → found r.tag es ≡ Some e → (s : ℕ) × (value f k 277 0 ≡ Some s) × ((e.count == s) ≡ true)) → (fault : FileFault) → IsRuleFault f k r fault → ⊥
 no_rule_fault f k es r has met right (Missing tag) bad =
     let (e, there) = met_there es r met bad.1 in
-    let none = some_and_at _ (λ fields. with_tag r.tag fields ≡ None) _ has.told bad.2 in
-    none-some (field_of e) (sym none ∙ with_tag-map r.tag es ∙ rw there refl)
-no_rule_fault f k es r has met right (FieldType tag) bad = at (found r.tag es) refl (rw (field_told f k es r.tag has) at bad.1) where
+    let none : field f k r.tag ≡ None = rw bad.0 bad.3 in
+    none-some (field_of e) (sym none ∙ field_told f k es r.tag has ∙ rw there refl)
+no_rule_fault f k es r has met right (FieldType tag) bad =
+    let P : ℕ → Type 0 = λ t. IsSomeAnd (field f k t) (λ e. IsMistyped r.typing e ⊎ IsMiscounted f k r.count e) in
+    at (found r.tag es) refl (rw (field_told f k es r.tag has) at (subst P (sym bad.0) bad.1)) where
   wrong : (c : Count) (e : Entry) → r.count ≡ c → found r.tag es ≡ Some e → counts_one c e.count ≡ true → IsMiscounted f k c (field_of e) → ⊥
   wrong One e is at ok bad = false≢true (sym bad ∙ ok)
   wrong Samples e is at ok bad = let (s, told, same) = right is e at in false≢true (sym (some_and_at _ (λ n. (e.count == n) ≡ false) _ told bad) ∙ same)
   wrong Tiles e is at ok bad = bad
+  wrong (Exactly n) e is at ok bad = false≢true (sym bad ∙ ok)
+  wrong (Multiple n) e is at ok bad = false≢true (sym bad ∙ ok)
 
-  at : (o : Option Entry) → found r.tag es ≡ o → IsSomeAnd (option_map field_of o) (λ e. (has_typing r.typing e.kind ≡ false) ⊎ IsMiscounted f k r.count e) → ⊥
+  at : (o : Option Entry) → found r.tag es ≡ o → IsSomeAnd (option_map field_of o) (λ e. IsMistyped r.typing e ⊎ IsMiscounted f k r.count e) → ⊥
   at None is bad = bad
   at (Some e) is (inl h) = false≢true (sym h ∙ typed r e (met_entry es r e met is))
   at (Some e) is (inr h) = wrong r.count e refl is (counted r e (met_entry es r e met is)) h

@@ -5,13 +5,12 @@ use Rattle.std.proofs.lemmas.List.{append-nil, map-append}
 use Rattle.std.proofs.lemmas.List.Elements.{filter-append}
 use Rattle.std.specs.List.{filter, range_with_len}
 use Rattle.tiff_dir.specs.declared.order.Order.{Order}
-use Rattle.tiff_dir.specs.declared.level.Level.{Level}
 use Rattle.tiff_dir.specs.declared.stage.Stage.{Stage}
 use Rattle.tiff_dir.specs.declared.stage.Stage.TheVariants as stages
 use Rattle.tiff_dir.specs.declared.stage.Step.{Step}
 use Rattle.tiff_dir.specs.Needs.{Range, header_range}
-use Rattle.tiff_dir.specs.Level.{is_level, level_at}
-use Rattle.tiff_dir.specs.Stage.{range_of, index_of, still, ranges_from, outside_ranges, levels_below, AgreesAt, Counts, IsAt, StepsOn, EndsDirectory}
+use Rattle.tiff_dir.specs.Level.{Layout, is_level, layout_at}
+use Rattle.tiff_dir.specs.Stage.{range_of, index_of, still, ranges_from, outside_ranges, layouts_below, AgreesAt, Counts, IsAt, StepsOn, EndsDirectory}
 use Rattle.tiff_dir.proofs.Chain.{ranges_here, ranges_counted}
 use Rattle.tiff_dir.proofs.Ranges.{range_more}
 
@@ -35,17 +34,17 @@ counts_on f o k at n counts =
     steps_same f (stages.Count o k at) (stages.Table o k at n) (record { first = at; len = 2 }) counts refl refl here
 
 -- the levels below the next directory
-pub levels_more : (f : List ℕ) (k : ℕ) → levels_below f (suc k) ≡ levels_below f k ++ map (level_at f) (filter (is_level f) (k ∷ []))
-unfolding levels_below
+pub levels_more : (f : List ℕ) (k : ℕ) → layouts_below f (suc k) ≡ layouts_below f k ++ map (layout_at f) (filter (is_level f) (k ∷ []))
+unfolding layouts_below
 levels_more f k =
-    ap (λ (ks : List ℕ). map (level_at f) (filter (is_level f) ks)) (range_more k)
-    ∙ ap (map (level_at f)) (filter-append (is_level f) (range_with_len 0 k) (k ∷ []))
-    ∙ map-append (level_at f) (filter (is_level f) (range_with_len 0 k)) (filter (is_level f) (k ∷ []))
+    ap (λ (ks : List ℕ). map (layout_at f) (filter (is_level f) ks)) (range_more k)
+    ∙ ap (map (layout_at f)) (filter-append (is_level f) (range_with_len 0 k) (k ∷ []))
+    ∙ map-append (layout_at f) (filter (is_level f) (range_with_len 0 k)) (filter (is_level f) (k ∷ []))
 
-pub levels_passed : (f : List ℕ) (k : ℕ) → is_level f k ≡ false → levels_below f (suc k) ≡ levels_below f k
+pub levels_passed : (f : List ℕ) (k : ℕ) → is_level f k ≡ false → layouts_below f (suc k) ≡ layouts_below f k
 levels_passed f k none = levels_more f k ∙ rw none (append-nil _)
 
-pub levels_taken : (f : List ℕ) (k : ℕ) (l : Level) → is_level f k ≡ true → level_at f k ≡ Some l → levels_below f (suc k) ≡ levels_below f k ++ Some l ∷ []
+pub levels_taken : (f : List ℕ) (k : ℕ) (l : Layout) → is_level f k ≡ true → layout_at f k ≡ Some l → layouts_below f (suc k) ≡ layouts_below f k ++ Some l ∷ []
 levels_taken f k l level told = levels_more f k ∙ rw (level, told) refl
 
 -- a directory that ends with the range of this stage

@@ -1,26 +1,28 @@
 -- What the entries of a level tell of it.
 use Rattle.std.proofs.Common.{◌≡◌, ◌≢◌, ℕ, zero, suc, ◌+◌, ◌*◌, ◌<◌, ◌⊎◌, inl, inr, true, false, ◌&&◌, ◌==◌, nat_le, if◌then◌else◌, List, length, get_or, Option, Some, None, IsSomeAnd, refl, sym, subst, ◌∙◌, arith, lit<}
 use Rattle.std.proofs.lemmas.List.{get_or_default}
-use Rattle.std.proofs.lemmas.Bool.{and_parts, or_cases, eqb-true, ne_eqb, cases_Bool, cases_eq, false≢true}
+use Rattle.std.proofs.lemmas.Bool.{and_parts, or_cases, eq-eqb, eqb-true, ne_eqb, cases_Bool, cases_eq, false≢true}
 use Rattle.std.specs.Option.{option_map_or}
 use Rattle.std.specs.List.{AllPass, Any}
 use Rattle.tiff_dir.specs.declared.order.Order.{Order}
 use Rattle.tiff_dir.specs.declared.table.Entry.{Entry}
 use Rattle.tiff_dir.specs.declared.rule.Rule.{Rule}
 use Rattle.tiff_dir.specs.declared.rule.Count.TheVariants.{Samples}
+use Rattle.tiff_dir.specs.declared.level.Kind.{Kind}
+use Rattle.tiff_dir.specs.declared.level.Kind.TheVariants as kinds
 use Rattle.tiff_dir.specs.declared.level.Compression.TheVariants.{Plain, PackBits}
 use Rattle.tiff_dir.specs.declared.stage.Draft.{Draft}
 use Rattle.tiff_dir.specs.declared.fault.FileFault.{FileFault}
 use Rattle.tiff_dir.specs.declared.fault.FileFault.TheVariants.{Missing, FieldType, Unsupported}
 use Rattle.tiff_dir.specs.Number.{number_in}
-use Rattle.tiff_dir.specs.File.{◌>>=◌, number, field, values_at, value}
-use Rattle.tiff_dir.specs.Profile.{subfile_rule, profile, has_typing, accepts, samples_fit, planes_fit}
+use Rattle.tiff_dir.specs.File.{◌>>=◌, kind_of, size_of, number, field, values_at, value}
+use Rattle.tiff_dir.specs.Profile.{subfile_rule, profile, has_typing, is_depth, accepts, samples_fit, planes_fit}
 use Rattle.tiff_dir.specs.Level.{is_level, place_of, compression_of}
-use Rattle.tiff_dir.specs.Fault.{IsMiscounted, IsRuleFault, IsUnsupported, IsMisfit, IsFaultOfDirectory, IsFaultOfLevel}
-use Rattle.tiff_dir.specs.Table.{field_of, found, meets, IsFaultOfEntries, short_or, counts_samples, place_in, place_or, draft_in, HasValues, IsValueFault, HasCounts, IsCountFault, IsReadIn, IsReadFault}
+use Rattle.tiff_dir.specs.Fault.{IsMistyped, IsMiscounted, IsRuleFault, IsUnsupported, IsMisfit, IsFaultOfDirectory, IsFaultOfLevel}
+use Rattle.tiff_dir.specs.Table.{field_of, found, meets, IsFaultOfEntries, short_or, counts_samples, kind_in, place_in, place_or, draft_in, HasValues, IsValueFault, HasCounts, IsCountFault, IsReadIn, IsReadFault}
 use Rattle.tiff_dir.specs.Stage.{HasTable, IsTableOf, IsDrafted, IsPending}
 use Rattle.tiff_dir.proofs.Chain.{some_and_at, some_and_from, next_is}
-use Rattle.tiff_dir.proofs.Fields.{field_told, kind_told, typed, met_entry, met_there, single_told, short_told, short_only, one_counted, rule_fault, no_rule_fault}
+use Rattle.tiff_dir.proofs.Fields.{IsKind, field_told, kind_is, typed, met_entry, met_there, single_told, short_told, short_only, one_counted, rule_fault, no_rule_fault}
 
 -- rule j of the profile
 rule : ℕ → Rule
@@ -29,7 +31,7 @@ rule j = get_or profile j subfile_rule
 Met : List Entry → Type 0
 Met es = AllPass (meets es) profile
 
-some_and_cases : {A : Type 0} (o : Option A) (P : A → Type 0) → IsSomeAnd o P → (x : A) × (o ≡ Some x) × P x
+pub some_and_cases : {A : Type 0} (o : Option A) (P : A → Type 0) → IsSomeAnd o P → (x : A) × (o ≡ Some x) × P x
 some_and_cases None P bad = absurd bad
 some_and_cases (Some x) P p = (x, refl, p)
 
@@ -76,7 +78,7 @@ value_fault f k es fault has met (inr (inr (inl (is, bad)))) =
     let misfit : IsMisfit planes_fit (value f k 284 0) (value f k 277 0) =
     some_and_from (value f k 284 0) (λ x. IsSomeAnd (value f k 277 0) (λ y. planes_fit x y ≡ false)) _ (planar_told f k es has met)
     (some_and_from (value f k 277 0) (λ y. planes_fit (short_or es 284 1) y ≡ false) _ (samples_told f k es has met) bad) in
-    let here : IsFaultOfLevel f k (Unsupported 284) = inr (inr (refl, misfit)) in
+    let here : IsFaultOfLevel f k (Unsupported 284) = inr (inr (inl (refl, misfit))) in
     subst (IsFaultOfLevel f k) (sym is) here
 value_fault f k es fault has met (inr (inr (inr (is, bad)))) =
     let here : IsFaultOfLevel f k (Unsupported 259) = inl (0, some_and_from (value f k 259 0) (λ v. accepts 259 v ≡ false) _ (compression_told f k es has met) bad) in
@@ -85,11 +87,11 @@ value_fault f k es fault has met (inr (inr (inr (is, bad)))) =
 -- a field that has another number of values than a pixel has samples
 miscounted : (f : List ℕ) (k : ℕ) (es : List Entry) (r : Rule) → HasTable f k es → AllPass (meets es) profile → r.count ≡ Samples → counts_samples es r.tag ≡ false → IsRuleFault f k r (FieldType r.tag)
 miscounted f k es r has met counts bad = (refl, at (found r.tag es) refl bad) where
-  at : (o : Option Entry) → found r.tag es ≡ o → option_map_or (λ e. e.count == short_or es 277 1) o true ≡ false → IsSomeAnd (field f k r.tag) (λ e. (has_typing r.typing e.kind ≡ false) ⊎ IsMiscounted f k r.count e)
+  at : (o : Option Entry) → found r.tag es ≡ o → option_map_or (λ e. e.count == short_or es 277 1) o true ≡ false → IsSomeAnd (field f k r.tag) (λ e. IsMistyped r.typing e ⊎ IsMiscounted f k r.count e)
   at None is bad = absurd (false≢true (sym bad))
   at (Some e) is bad =
       let wrong : IsMiscounted f k Samples (field_of e) = some_and_from (value f k 277 0) (λ s. (e.count == s) ≡ false) _ (samples_told f k es has met) bad in
-      some_and_from (field f k r.tag) (λ x. (has_typing r.typing x.kind ≡ false) ⊎ IsMiscounted f k r.count x) (field_of e) (field_told f k es r.tag has ∙ rw is refl) (inr (rw counts wrong))
+      some_and_from (field f k r.tag) (λ x. IsMistyped r.typing x ⊎ IsMiscounted f k r.count x) (field_of e) (field_told f k es r.tag has ∙ rw is refl) (inr (rw counts wrong))
 
 pub count_fault : (f : List ℕ) (k : ℕ) (es : List Entry) (fault : FileFault) → HasTable f k es → AllPass (meets es) profile → IsCountFault es fault → IsFaultOfLevel f k fault
 unfolding profile
@@ -215,17 +217,30 @@ supported f k es has met right tag n1 n6 (inr (inl bad)) =
     let one = some_and_at (value f k 277 0) (λ x. IsSomeAnd (value f k 262 0) (λ y. samples_fit x y ≡ false)) _ (samples_told f k es has met) bad.1 in
     let two = some_and_at (value f k 262 0) (λ y. samples_fit (short_or es 277 1) y ≡ false) _ (photometric_told f k es has met) one in
     false≢true (sym two ∙ right.samples)
-supported f k es has met right tag n1 n6 (inr (inr bad)) =
+supported f k es has met right tag n1 n6 (inr (inr (inr bad))) = n1 bad.0
+supported f k es has met right tag n1 n6 (inr (inr (inl bad))) =
     let one = some_and_at (value f k 284 0) (λ x. IsSomeAnd (value f k 277 0) (λ y. planes_fit x y ≡ false)) _ (planar_told f k es has met) bad.1 in
     let two = some_and_at (value f k 277 0) (λ y. planes_fit (short_or es 284 1) y ≡ false) _ (samples_told f k es has met) one in
     false≢true (sym two ∙ right.planar)
 
--- 258 and 339 have no conditions besides
-pub supported_by : (f : List ℕ) (k tag : ℕ) → tag ≢ 277 → tag ≢ 284 → ((i v : ℕ) → value f k tag i ≡ Some v → accepts tag v ≡ true) → IsUnsupported f k tag → ⊥
+-- 339 has no conditions besides
+pub supported_by : (f : List ℕ) (k tag : ℕ) → tag ≢ 258 → tag ≢ 277 → tag ≢ 284 → ((i v : ℕ) → value f k tag i ≡ Some v → accepts tag v ≡ true) → IsUnsupported f k tag → ⊥
 unfolding AllAccepted
-supported_by f k tag n4 n5 all (inl bad) = accepted_here f k tag all bad
-supported_by f k tag n4 n5 all (inr (inl bad)) = n4 bad.0
-supported_by f k tag n4 n5 all (inr (inr bad)) = n5 bad.0
+supported_by f k tag n1 n4 n5 all (inl bad) = accepted_here f k tag all bad
+supported_by f k tag n1 n4 n5 all (inr (inl bad)) = n4 bad.0
+supported_by f k tag n1 n4 n5 all (inr (inr (inl bad))) = n5 bad.0
+supported_by f k tag n1 n4 n5 all (inr (inr (inr bad))) = n1 bad.0
+
+-- BitsPerSample is one depth
+pub depth_supported : (f : List ℕ) (k bits : ℕ) → is_depth bits ≡ true → ((i v : ℕ) → value f k 258 i ≡ Some v → v ≡ bits) → IsUnsupported f k 258 → ⊥
+unfolding AllAccepted
+depth_supported f k bits good only (inl bad) = accepted_here f k 258 (λ i v told. rw (only i v told) good) bad
+depth_supported f k bits good only (inr (inl bad)) = absurd (omega (arith, bad.0))
+depth_supported f k bits good only (inr (inr (inl bad))) = absurd (omega (arith, bad.0))
+depth_supported f k bits good only (inr (inr (inr (other, (i, j, bad))))) =
+    let (a, a_told, more) = some_and_cases (value f k 258 i) _ bad in
+    let (b, b_told, differ) = some_and_cases (value f k 258 j) _ more in
+    false≢true (sym differ ∙ eq-eqb a b (only i a a_told ∙ sym (only j b b_told)))
 
 -- The draft
 
@@ -235,21 +250,23 @@ compression_is c ok = elim (or_cases (c == 1) (c == 32773) ok) [
   | inr packed ↦ rw (eqb-true c 32773 packed) refl
 ]
 
-place_entry : (f : List ℕ) (e : Entry) → number f (e.place + 8) 4 ≡ Some e.long → (e.kind ≡ 3) ⊎ (e.kind ≡ 4) → place_of f (field_of e) ≡ Some (place_in e)
+place_with : (f : List ℕ) (e : Entry) (k : Kind) → kind_of e.kind ≡ Some k → kind_in e.kind ≡ k → number f (e.place + 8) 4 ≡ Some e.long → place_of f (field_of e) ≡ Some (place_in e)
 unfolding place_of values_at
-place_entry f e long (inl kind) = elim (cases_Bool (nat_le (e.count * 2) 4)) [
-  | inl small ↦ rw (kind, small) refl
-  | inr large ↦ rw (kind, large, long) refl
+place_with f e k is same long = elim (cases_Bool (nat_le (e.count * size_of k) 4)) [
+  | inl small ↦ rw (is, same, small) refl
+  | inr large ↦ rw (is, same, large, long) refl
 ]
-place_entry f e long (inr kind) = elim (cases_Bool (nat_le (e.count * 4) 4)) [
-  | inl small ↦ rw (kind, small) refl
-  | inr large ↦ rw (kind, large, long) refl
-]
+
+pub place_entry : (f : List ℕ) (e : Entry) → number f (e.place + 8) 4 ≡ Some e.long → IsKind e.kind → place_of f (field_of e) ≡ Some (place_in e)
+place_entry f e long (inl kind) = place_with f e kinds.Short (rw kind refl) (rw kind refl) long
+place_entry f e long (inr (inl kind)) = place_with f e kinds.Long (rw kind refl) (rw kind refl) long
+place_entry f e long (inr (inr (inl kind))) = place_with f e kinds.Ascii (rw kind refl) (rw kind refl) long
+place_entry f e long (inr (inr (inr kind))) = place_with f e kinds.Double (rw kind refl) (rw kind refl) long
 
 place_told : (f : List ℕ) (k : ℕ) (es : List Entry) (r : Rule) → HasTable f k es → meets es r ≡ true → r.required ≡ true → (field f k r.tag >>= place_of f) ≡ Some (place_or es r.tag)
 place_told f k es r has met required =
     let (e, there) = met_there es r met required in
-    let kind = kind_told r.typing e.kind (typed r e (met_entry es r e met there)) in
+    let kind = kind_is r.typing e.kind (typed r e (met_entry es r e met there)) in
     rw (field_told f k es r.tag has) (rw there (place_entry f e (has.long r.tag e there) kind))
 
 drafted : (f : List ℕ) (k : ℕ) (es : List Entry) → HasTable f k es → AllPass (meets es) profile → HasValues es → IsDrafted f k (draft_in es)
@@ -258,10 +275,10 @@ drafted f k es has met right =
     let d : Rule = subfile_rule in
     let rule : ℕ → Rule = λ n. get_or profile n d in
     record {
-      width = single_told f k es (rule 1) 0 has (met 1 d (lit< tt)) refl (inr refl);
-      length = single_told f k es (rule 2) 0 has (met 2 d (lit< tt)) refl (inr refl);
-      tile_width = single_told f k es (rule 8) 0 has (met 8 d (lit< tt)) refl (inr refl);
-      tile_length = single_told f k es (rule 9) 0 has (met 9 d (lit< tt)) refl (inr refl);
+      width = single_told f k es (rule 1) 0 has (met 1 d (lit< tt)) tt refl (inr refl);
+      length = single_told f k es (rule 2) 0 has (met 2 d (lit< tt)) tt refl (inr refl);
+      tile_width = single_told f k es (rule 8) 0 has (met 8 d (lit< tt)) tt refl (inr refl);
+      tile_length = single_told f k es (rule 9) 0 has (met 9 d (lit< tt)) tt refl (inr refl);
       samples = samples_told f k es has met;
       compression = rw (compression_told f k es has met) (compression_is (short_or es 259 0) right.compression);
       offsets = place_told f k es (rule 10) has (met 10 d (lit< tt)) refl;

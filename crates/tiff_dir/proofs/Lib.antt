@@ -14,6 +14,7 @@ pub mod Ends
 pub mod Shorts
 pub mod Bounds
 pub mod Told
+pub mod GeoLemmas
 pub mod TileValues
 pub mod PacketLemmas
 pub mod WindowLemmas

@@ -14,7 +14,7 @@ use Rattle.tiff_dir.specs.declared.stage.Stage.TheVariants as stages
 use Rattle.tiff_dir.specs.declared.stage.Step.{Step}
 use Rattle.tiff_dir.specs.declared.fault.FileFault.{FileFault}
 use Rattle.tiff_dir.specs.File.{◌>>=◌, has_directory, values_at, value}
-use Rattle.tiff_dir.specs.Profile.{subfile_rule, profile, accepts}
+use Rattle.tiff_dir.specs.Profile.{subfile_rule, profile, is_depth, accepts}
 use Rattle.tiff_dir.specs.Level.{is_level, place_of}
 use Rattle.tiff_dir.specs.Needs.{outside_entry, outside_range}
 use Rattle.tiff_dir.specs.Fault.{IsUnsupported, IsFaultOfLevel, IsFaultOfDirectories}
@@ -22,7 +22,7 @@ use Rattle.tiff_dir.specs.Table.{field_of, found, meets, short_or, counts_sample
 use Rattle.tiff_dir.specs.Stage.{HasTable, HasShorts, HasFormats, IsSupported, IsPending, StepsOn, EndsDirectory, outside_ranges, ranges_from, three_shorts, still}
 use Rattle.tiff_dir.proofs.Chain.{some_and_from}
 use Rattle.tiff_dir.proofs.Fields.{field_told, value_told, kind_short, typed, met_entry, met_there, short_told, short_only, three_values}
-use Rattle.tiff_dir.proofs.Levels.{fits_cases, count_is, supported_by}
+use Rattle.tiff_dir.proofs.Levels.{fits_cases, count_is, supported_by, depth_supported}
 use Rattle.tiff_dir.proofs.GoingOn.{steps_same, ends_on}
 
 pub level_fault : (f : List ℕ) (k : ℕ) (fault : FileFault) → k < 16 → has_directory f k ≡ true → is_level f k ≡ true → IsFaultOfLevel f k fault → IsFaultOfDirectories f fault
@@ -89,7 +89,7 @@ formats_outside f k es formats has met right samples told =
           let ok = met 12 subfile_rule (lit< tt) in
           let none : (e : Entry) → found 339 es ≡ Some e → e.count ≡ 1 = λ e there. absurd (none-some e (sym is ∙ there)) in
           let default : short_or es 339 1 ≡ 1 = rw is refl in (
-            supported_by f k 339 (λ e. absurd (omega arith)) (λ e. absurd (omega arith))
+            supported_by f k 339 (λ e. absurd (omega arith)) (λ e. absurd (omega arith)) (λ e. absurd (omega arith))
                 (λ i v here. rw (short_only f k es (get_or profile 12 subfile_rule) 1 has ok refl none (inl refl) i v here ∙ default) refl),
             one_inside f k es (get_or profile 12 subfile_rule) has ok refl none,
           )
@@ -119,23 +119,23 @@ unfolding profile
 formats_value f k es has met right samples =
     short_told f k es (get_or profile 12 subfile_rule) 1 has (met 12 subfile_rule (lit< tt)) refl (λ e is. is_counted es 339 1 e right.1 samples is) (inl refl)
 
-pub bits_unsupported : (f : List ℕ) (k : ℕ) (es : List Entry) → HasTable f k es → AllPass (meets es) profile → HasCounts es → short_or es 277 1 ≡ 1 → short_or es 258 0 ≢ 8 → IsUnsupported f k 258
+pub bits_unsupported : (f : List ℕ) (k : ℕ) (es : List Entry) → HasTable f k es → AllPass (meets es) profile → HasCounts es → short_or es 277 1 ≡ 1 → is_depth (short_or es 258 0) ≡ false → IsUnsupported f k 258
 bits_unsupported f k es has met right samples bad =
-    inl (0, some_and_from (value f k 258 0) (λ v. accepts 258 v ≡ false) (short_or es 258 0) (bits_value f k es has met right samples) (ne_eqb (short_or es 258 0) 8 bad))
+    inl (0, some_and_from (value f k 258 0) (λ v. accepts 258 v ≡ false) (short_or es 258 0) (bits_value f k es has met right samples) bad)
 
 pub formats_unsupported : (f : List ℕ) (k : ℕ) (es : List Entry) → HasTable f k es → AllPass (meets es) profile → HasCounts es → short_or es 277 1 ≡ 1 → short_or es 339 1 ≢ 1 → IsUnsupported f k 339
 formats_unsupported f k es has met right samples bad =
     inl (0, some_and_from (value f k 339 0) (λ v. accepts 339 v ≡ false) (short_or es 339 1) (formats_value f k es has met right samples) (ne_eqb (short_or es 339 1) 1 bad))
 
-pub bits_inside : (f : List ℕ) (k : ℕ) (es : List Entry) → HasTable f k es → AllPass (meets es) profile → HasCounts es → short_or es 277 1 ≡ 1 → short_or es 258 0 ≡ 8
-    → (value f k 258 0 ≡ Some 8) × IsSupported f k 258 × (outside_range f k 258 ≡ None)
+pub bits_inside : (f : List ℕ) (k : ℕ) (es : List Entry) → HasTable f k es → AllPass (meets es) profile → HasCounts es → short_or es 277 1 ≡ 1 → is_depth (short_or es 258 0) ≡ true
+    → (value f k 258 0 ≡ Some (short_or es 258 0)) × IsSupported f k 258 × (outside_range f k 258 ≡ None)
 unfolding profile
 bits_inside f k es has met right samples good =
     let r : Rule = get_or profile 3 subfile_rule in
     let ok = met 3 subfile_rule (lit< tt) in
     let one : (e : Entry) → found 258 es ≡ Some e → e.count ≡ 1 = λ e is. is_counted es 258 1 e right.0 samples is in (
-      bits_value f k es has met right samples ∙ ap Some good,
-      supported_by f k 258 (λ e. absurd (omega arith)) (λ e. absurd (omega arith)) (λ i v here. rw (short_only f k es r 0 has ok refl one (inr refl) i v here ∙ good) refl),
+      bits_value f k es has met right samples,
+      depth_supported f k (short_or es 258 0) good (short_only f k es r 0 has ok refl one (inr refl)),
       one_inside f k es r has ok refl one,
     )
 
@@ -146,7 +146,7 @@ formats_inside f k es has met right samples good =
     let r : Rule = get_or profile 12 subfile_rule in
     let ok = met 12 subfile_rule (lit< tt) in
     let one : (e : Entry) → found 339 es ≡ Some e → e.count ≡ 1 = λ e is. is_counted es 339 1 e right.1 samples is in (
-      supported_by f k 339 (λ e. absurd (omega arith)) (λ e. absurd (omega arith)) (λ i v here. rw (short_only f k es r 1 has ok refl one (inl refl) i v here ∙ good) refl),
+      supported_by f k 339 (λ e. absurd (omega arith)) (λ e. absurd (omega arith)) (λ e. absurd (omega arith)) (λ i v here. rw (short_only f k es r 1 has ok refl one (inl refl) i v here ∙ good) refl),
       one_inside f k es r has ok refl one,
     )
 

@@ -1,5 +1,5 @@
 -- Three values of two bytes that stand outside their entry.
-use Rattle.std.proofs.Common.{◌≡◌, ℕ, zero, suc, ◌*◌, ◌<◌, ◌≤◌, inl, inr, Bool, true, false, ◌&&◌, ◌==◌, List, length, Some, None, IsSomeAnd, refl, sym, subst, ap, ◌∙◌, arith}
+use Rattle.std.proofs.Common.{◌≡◌, ℕ, zero, suc, ◌*◌, ◌<◌, ◌≤◌, inl, inr, Bool, true, false, ◌&&◌, ◌==◌, if◌then◌else◌, List, length, Option, Some, None, IsSomeAnd, refl, sym, subst, ap, ◌∙◌, arith}
 use Rattle.std.proofs.lemmas.Option.{same_Some, none-some}
 use Rattle.std.proofs.lemmas.Bool.{and_parts, and_cases, eqb-true, lt-ltb, le-ltb}
 use Rattle.tiff_dir.specs.declared.order.Order.{Order}
@@ -9,15 +9,12 @@ use Rattle.tiff_dir.specs.declared.stage.Step.{Step}
 use Rattle.tiff_dir.specs.Number.{number_in}
 use Rattle.tiff_dir.specs.File.{order_of, value}
 use Rattle.tiff_dir.specs.Fault.{IsUnsupported}
-use Rattle.tiff_dir.specs.Stage.{three_shorts, HasShorts, HasBits, IsPart, IsPending, IsSupported, StepsOn, EndsDirectory}
+use Rattle.tiff_dir.specs.Profile.{is_depth, accepts}
+use Rattle.tiff_dir.specs.Stage.{all_are, depth_in, three_shorts, HasShorts, HasBits, IsPart, IsPending, IsSupported, StepsOn, EndsDirectory}
 use Rattle.tiff_dir.proofs.Chain.{some_and_from}
 use Rattle.tiff_dir.proofs.Parts.{number_part}
-use Rattle.tiff_dir.proofs.Levels.{supported_by}
+use Rattle.tiff_dir.proofs.Levels.{supported_by, depth_supported, some_and_cases}
 use Rattle.tiff_dir.proofs.GoingOn.{steps_same, ends_on}
-
--- all three are this number
-abbrev pub all_are : Order → List ℕ → ℕ → Bool
-all_are o bytes w = (number_in o 0 2 bytes == w) && ((number_in o 2 2 bytes == w) && (number_in o 4 2 bytes == w))
 
 short_is : (f bytes : List ℕ) (o : Order) (k tag first i : ℕ) → order_of f ≡ Some o → HasShorts f k tag first → IsPart f (three_shorts first) bytes → length bytes ≡ 6 → i < 3 → value f k tag i ≡ Some (number_in o (i * 2) 2 bytes)
 short_is f bytes o k tag first i named shorts part len few =
@@ -54,24 +51,41 @@ one_other f bytes o k tag first w named shorts part len bad =
 
 -- BitsPerSample
 
-pub bits_wrong : (f bytes : List ℕ) (o : Order) (k first : ℕ) → order_of f ≡ Some o → HasShorts f k 258 first → IsPart f (three_shorts first) bytes → length bytes ≡ 6 → all_are o bytes 8 ≡ false → IsUnsupported f k 258
-bits_wrong f bytes o k first named shorts part len bad = inl (one_other f bytes o k 258 first 8 named shorts part len bad)
-
-pub bits_right : (f bytes : List ℕ) (o : Order) (k first : ℕ) → order_of f ≡ Some o → HasShorts f k 258 first → IsPart f (three_shorts first) bytes → length bytes ≡ 6 → all_are o bytes 8 ≡ true → (value f k 258 0 ≡ Some 8) × IsSupported f k 258
-bits_right f bytes o k first named shorts part len all = (
-  short_is f bytes o k 258 first 0 named shorts part len (omega arith) ∙ ap Some (eqb-true _ 8 (and_parts (number_in o 0 2 bytes == 8) _ all).0),
-  supported_by f k 258 (λ e. absurd (omega arith)) (λ e. absurd (omega arith)) (λ i v told. rw (all_same f bytes o k 258 first 8 named shorts part len all i v told) refl),
+bits_right : (f bytes : List ℕ) (o : Order) (k first bits : ℕ) → order_of f ≡ Some o → HasShorts f k 258 first → IsPart f (three_shorts first) bytes → length bytes ≡ 6 → is_depth bits ≡ true → all_are o bytes bits ≡ true → HasBits f k (Some bits)
+bits_right f bytes o k first bits named shorts part len good all = (
+  short_is f bytes o k 258 first 0 named shorts part len (omega arith) ∙ ap Some (eqb-true _ bits (and_parts (number_in o 0 2 bytes == bits) _ all).0),
+  good,
+  depth_supported f k bits good (all_same f bytes o k 258 first bits named shorts part len all),
 )
 
-pub has_bits : (f bytes : List ℕ) (o : Order) (k first : ℕ) (b : Bool) → order_of f ≡ Some o → HasShorts f k 258 first → IsPart f (three_shorts first) bytes → length bytes ≡ 6 → b ≡ all_are o bytes 8 → HasBits f k b
-has_bits f bytes o k first true named shorts part len is = bits_right f bytes o k first named shorts part len (sym is)
-has_bits f bytes o k first false named shorts part len is = bits_wrong f bytes o k first named shorts part len (sym is)
+bits_wrong : (f bytes : List ℕ) (o : Order) (k first : ℕ) → order_of f ≡ Some o → HasShorts f k 258 first → IsPart f (three_shorts first) bytes → length bytes ≡ 6
+    → (is_depth (number_in o 0 2 bytes) && all_are o bytes (number_in o 0 2 bytes)) ≡ false → HasBits f k None
+bits_wrong f bytes o k first named shorts part len bad =
+    let bits = number_in o 0 2 bytes in
+    let told = short_is f bytes o k 258 first 0 named shorts part len (omega arith) in
+    elim (and_cases (is_depth bits) (all_are o bytes bits) bad) [
+      | inl h ↦ inl (0, some_and_from (value f k 258 0) (λ v. accepts 258 v ≡ false) bits told h)
+      | inr h ↦
+          (let (i, other) = one_other f bytes o k 258 first bits named shorts part len h in
+          let (v, there, differ) = some_and_cases (value f k 258 i) (λ v. (v == bits) ≡ false) other in
+          let misfit = some_and_from (value f k 258 i) (λ x. IsSomeAnd (value f k 258 0) (λ y. (x == y) ≡ false)) v there
+          (some_and_from (value f k 258 0) (λ y. (v == y) ≡ false) bits told differ) in
+          inr (inr (inr (refl, (i, 0, misfit)))))
+    ]
 
-pub bits_at_true : (f : List ℕ) (k : ℕ) (b : Bool) → b ≡ true → HasBits f k b → (value f k 258 0 ≡ Some 8) × IsSupported f k 258
-bits_at_true f k b is bits = let P : Bool → Type 0 = λ x. HasBits f k x in subst P is bits
+pub has_bits : (f bytes : List ℕ) (o : Order) (k first : ℕ) → order_of f ≡ Some o → HasShorts f k 258 first → IsPart f (three_shorts first) bytes → length bytes ≡ 6 → HasBits f k (depth_in o bytes)
+has_bits f bytes o k first named shorts part len = at (is_depth (number_in o 0 2 bytes) && all_are o bytes (number_in o 0 2 bytes)) refl where
+  at : (b : Bool) → (is_depth (number_in o 0 2 bytes) && all_are o bytes (number_in o 0 2 bytes)) ≡ b → HasBits f k (if b then Some (number_in o 0 2 bytes) else None)
+  at true good =
+      let h = and_parts (is_depth (number_in o 0 2 bytes)) (all_are o bytes (number_in o 0 2 bytes)) good in
+      bits_right f bytes o k first (number_in o 0 2 bytes) named shorts part len h.0 h.1
+  at false bad = bits_wrong f bytes o k first named shorts part len bad
 
-pub bits_at_false : (f : List ℕ) (k : ℕ) (b : Bool) → b ≡ false → HasBits f k b → IsUnsupported f k 258
-bits_at_false f k b is bits = let P : Bool → Type 0 = λ x. HasBits f k x in subst P is bits
+pub bits_at : (f : List ℕ) (k : ℕ) (o : Option ℕ) (bits : ℕ) → o ≡ Some bits → HasBits f k o → HasBits f k (Some bits)
+bits_at f k o bits is has = let P : Option ℕ → Type 0 = λ x. HasBits f k x in subst P is has
+
+pub bits_none : (f : List ℕ) (k : ℕ) (o : Option ℕ) → o ≡ None → HasBits f k o → IsUnsupported f k 258
+bits_none f k o is has = let P : Option ℕ → Type 0 = λ x. HasBits f k x in subst P is has
 
 -- SampleFormat
 
@@ -80,11 +94,11 @@ formats_wrong f bytes o k first named shorts part len bad = inl (one_other f byt
 
 pub formats_right : (f bytes : List ℕ) (o : Order) (k first : ℕ) → order_of f ≡ Some o → HasShorts f k 339 first → IsPart f (three_shorts first) bytes → length bytes ≡ 6 → all_are o bytes 1 ≡ true → IsSupported f k 339
 formats_right f bytes o k first named shorts part len all =
-    supported_by f k 339 (λ e. absurd (omega arith)) (λ e. absurd (omega arith)) (λ i v told. rw (all_same f bytes o k 339 first 1 named shorts part len all i v told) refl)
+    supported_by f k 339 (λ e. absurd (omega arith)) (λ e. absurd (omega arith)) (λ e. absurd (omega arith)) (λ i v told. rw (all_same f bytes o k 339 first 1 named shorts part len all i v told) refl)
 
 -- Going on
 
-pub bits_to_formats : (f : List ℕ) (p : Pending) (first next : ℕ) (b : Bool) → IsPending f p → HasShorts f p.index 339 next → HasBits f p.index b
+pub bits_to_formats : (f : List ℕ) (p : Pending) (first next : ℕ) (b : Option ℕ) → IsPending f p → HasShorts f p.index 339 next → HasBits f p.index b
     → StepsOn f (stages.Bits p first (Some next)) (record { stage = stages.Formats p next b; level = None })
 bits_to_formats f p first next b pending shorts bits =
     steps_same f (stages.Bits p first (Some next)) (stages.Formats p next b) (three_shorts first) (pending, shorts, bits) refl refl refl
@@ -92,5 +106,5 @@ bits_to_formats f p first next b pending shorts bits =
 pub bits_to_end : (f : List ℕ) (p : Pending) (first : ℕ) (step : Step) → EndsDirectory f p.index step → StepsOn f (stages.Bits p first None) step
 bits_to_end f p first step ends = ends_on f (stages.Bits p first None) p.index (three_shorts first) step refl refl refl ends
 
-pub formats_to_end : (f : List ℕ) (p : Pending) (first : ℕ) (b : Bool) (step : Step) → EndsDirectory f p.index step → StepsOn f (stages.Formats p first b) step
+pub formats_to_end : (f : List ℕ) (p : Pending) (first : ℕ) (b : Option ℕ) (step : Step) → EndsDirectory f p.index step → StepsOn f (stages.Formats p first b) step
 formats_to_end f p first b step ends = ends_on f (stages.Formats p first b) p.index (three_shorts first) step refl refl refl ends

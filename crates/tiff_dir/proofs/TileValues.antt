@@ -2,7 +2,9 @@
 use Rattle.std.proofs.Common.{◌≡◌, ℕ, ◌+◌, ◌-◌, ◌*◌, ◌<◌, ◌≤◌, List, length, take, drop, Option, Some, None, refl, subst, ap, ◌∙◌, arith}
 use Rattle.std.proofs.Math.Nat.{mul-le-mul_right}
 use Rattle.std.proofs.lemmas.Option.{same_Some, none-some}
-use Rattle.std.proofs.lemmas.Bool.{lt-ltb}
+use Rattle.std.proofs.lemmas.Bool.{lt-ltb, false≢true}
+use Rattle.std.specs.Prelude.{IsTrue}
+use Rattle.tiff_dir.specs.Profile.{is_long, is_short_or_long}
 use Rattle.std.specs.Option.{option_map_or}
 use Rattle.tiff_dir.specs.declared.order.Order.{Order}
 use Rattle.tiff_dir.specs.declared.level.Level.{Level}
@@ -10,12 +12,13 @@ use Rattle.tiff_dir.specs.declared.level.Place.{Place}
 use Rattle.tiff_dir.specs.declared.level.Kind.{Kind}
 use Rattle.tiff_dir.specs.declared.level.Kind.TheVariants as kind
 use Rattle.tiff_dir.specs.Number.{number_in}
-use Rattle.tiff_dir.specs.File.{◌>>=◌, Field, order_of, number, kind_of, size_of, values_at, table, with_tag, field, field_value, value, default_of}
-use Rattle.tiff_dir.specs.Level.{place_of, level_directory, level_of, level_value}
+use Rattle.tiff_dir.specs.File.{◌>>=◌, Field, order_of, number, kind_of, size_of, values_at, field, field_value, value, absent_value}
+use Rattle.tiff_dir.specs.Described.{layout_of}
+use Rattle.tiff_dir.specs.Level.{Layout, place_of, level_directory, level_layout, level_value}
 use Rattle.tiff_dir.specs.Walk.{IsArrayOf, IsDescribed}
 use Rattle.tiff_dir.proofs.Parts.{number_part}
-use Rattle.tiff_dir.proofs.Ends.{level_parts}
-use Rattle.tiff_dir.proofs.Told.{level_found}
+use Rattle.tiff_dir.proofs.Ends.{grid_told, layout_parts}
+use Rattle.tiff_dir.proofs.Told.{layout_found}
 
 size_some : (k : Kind) → 0 < size_of k
 size_some kind.Byte = omega arith
@@ -31,42 +34,50 @@ size_some kind.SignedRational = omega arith
 size_some kind.Float = omega arith
 size_some kind.Double = omega arith
 
+pub long_is : (k : Kind) → IsTrue (is_long k) → k ≡ kind.Long
+long_is kind.Long is = refl
+long_is _ is = absurd (false≢true is)
+
+pub other_is : (k : Kind) → IsTrue (is_short_or_long k) → (k ≡ kind.Short → ⊥) → k ≡ kind.Long
+other_is kind.Short is no_short = absurd (no_short refl)
+other_is kind.Long is no_short = refl
+other_is _ is no_short = absurd (false≢true is)
+
 -- the number of tile t is in the array
 pub within : (t count size : ℕ) → t < count → t * size + size ≤ count * size
 within t count size less =
     let more : t + 1 ≤ count = omega arith in
     omega (arith, mul-le-mul_right size more)
 
-place_told : (f : List ℕ) (e : Field) (p : Place) → place_of f e ≡ Some p → (kind_of e.kind ≡ Some p.kind) × (values_at f e (size_of p.kind) ≡ Some p.first) × (e.count ≡ p.count)
+place_told : (f : List ℕ) (e : Field) (p : Place) → place_of f e ≡ Some p → ((e.kind >>= kind_of) ≡ Some p.kind) × (e.count ≡ Some p.count) × (values_at f e (p.count * size_of p.kind) ≡ Some p.first)
 unfolding place_of
-place_told f e p told = at (kind_of e.kind) told where
-  at : (o : Option Kind) → (o >>= λ k. values_at f e (size_of k) >>= λ first. Some (record { first = first; len = e.count * size_of k; count = e.count; kind = k })) ≡ Some p → (o ≡ Some p.kind) × (values_at f e (size_of p.kind) ≡ Some p.first) × (e.count ≡ p.count)
-  at None told = absurd (none-some p told)
-  at (Some k) told = more (values_at f e (size_of k)) refl told where
-    more : (o : Option ℕ) → values_at f e (size_of k) ≡ o → (o >>= λ first. Some (record { first = first; len = e.count * size_of k; count = e.count; kind = k })) ≡ Some p → (Some k ≡ Some p.kind) × (values_at f e (size_of p.kind) ≡ Some p.first) × (e.count ≡ p.count)
+place_told f e p told = at (e.kind >>= kind_of) e.count told where
+  at : (o : Option Kind) (c : Option ℕ) → (o >>= λ k. c >>= λ count. values_at f e (count * size_of k) >>= λ first. Some (record { first = first; len = count * size_of k; count = count; kind = k })) ≡ Some p
+      → (o ≡ Some p.kind) × (c ≡ Some p.count) × (values_at f e (p.count * size_of p.kind) ≡ Some p.first)
+  at None c told = absurd (none-some p told)
+  at (Some k) None told = absurd (none-some p told)
+  at (Some k) (Some n) told = more (values_at f e (n * size_of k)) refl told where
+    more : (o : Option ℕ) → values_at f e (n * size_of k) ≡ o → (o >>= λ first. Some (record { first = first; len = n * size_of k; count = n; kind = k })) ≡ Some p
+        → (Some k ≡ Some p.kind) × (Some n ≡ Some p.count) × (values_at f e (p.count * size_of p.kind) ≡ Some p.first)
     more None there told = absurd (none-some p told)
     more (Some first) there told =
-        let q : Place = record { first = first; len = e.count * size_of k; count = e.count; kind = k } in
-        let P : Place → Type 0 = λ x. (Some k ≡ Some x.kind) × (values_at f e (size_of x.kind) ≡ Some x.first) × (e.count ≡ x.count) in
-        subst P (same_Some q p told) (refl, there, refl)
+        let q : Place = record { first = first; len = n * size_of k; count = n; kind = k } in
+        let P : Place → Type 0 = λ x. (Some k ≡ Some x.kind) × (Some n ≡ Some x.count) × (values_at f e (x.count * size_of x.kind) ≡ Some x.first) in
+        subst P (same_Some q p told) (refl, refl, there)
 
 entry_value : (f : List ℕ) (e : Field) (p : Place) (t : ℕ) → place_of f e ≡ Some p → t < p.count → field_value f e t ≡ number f (p.first + t * size_of p.kind) (size_of p.kind)
-unfolding field_value
+unfolding field_value values_at number
 entry_value f e p t told less =
     let is = place_told f e p told in
     let test = lt-ltb t p.count less in
     rw (is.0, is.1, is.2, test) refl
 
 field_value_told : (f : List ℕ) (k tag t : ℕ) (p : Place) → (field f k tag >>= place_of f) ≡ Some p → t < p.count → value f k tag t ≡ number f (p.first + t * size_of p.kind) (size_of p.kind)
-unfolding field value
-field_value_told f k tag t p told less = at (table f k) told where
-  found : (o : Option Field) → (o >>= place_of f) ≡ Some p → option_map_or (λ e. field_value f e t) o (default_of tag) ≡ number f (p.first + t * size_of p.kind) (size_of p.kind)
-  found None told = absurd (none-some p told)
-  found (Some e) told = entry_value f e p t told less
-
-  at : (o : Option (List Field)) → (o >>= with_tag tag >>= place_of f) ≡ Some p → (o >>= λ fields. option_map_or (λ e. field_value f e t) (with_tag tag fields) (default_of tag)) ≡ number f (p.first + t * size_of p.kind) (size_of p.kind)
+unfolding value
+field_value_told f k tag t p told less = at (field f k tag) told where
+  at : (o : Option Field) → (o >>= place_of f) ≡ Some p → option_map_or (λ e. field_value f e t) o (absent_value f k tag) ≡ number f (p.first + t * size_of p.kind) (size_of p.kind)
   at None told = absurd (none-some p told)
-  at (Some fields) told = found (with_tag tag fields) told
+  at (Some e) told = entry_value f e p t told less
 
 array_value : (f bytes : List ℕ) (o : Order) (k tag t : ℕ) (p : Place) → order_of f ≡ Some o → (field f k tag >>= place_of f) ≡ Some p → p.len ≡ p.count * size_of p.kind → t < p.count → IsArrayOf f p bytes → length bytes ≡ p.len
     → value f k tag t ≡ Some (number_in o (t * size_of p.kind) (size_of p.kind) bytes)
@@ -80,29 +91,30 @@ level_value_at : (f : List ℕ) (n k tag t v : ℕ) → level_directory f n ≡ 
 unfolding level_value
 level_value_at f n k tag t v there told = rw there told
 
-pub offset_told : (f bytes : List ℕ) (o : Order) (n t : ℕ) (l : Level) → order_of f ≡ Some o → level_of f n ≡ Some l → l.offsets.len ≡ l.offsets.count * size_of l.offsets.kind → t < l.offsets.count → length bytes ≡ l.offsets.len
+pub offset_told : (f bytes : List ℕ) (o : Order) (n t : ℕ) (l : Layout) → order_of f ≡ Some o → level_layout f n ≡ Some l → l.offsets.len ≡ l.offsets.count * size_of l.offsets.kind → t < l.offsets.count → length bytes ≡ l.offsets.len
     → IsArrayOf f l.offsets bytes → level_value f n 324 t ≡ Some (number_in o (t * size_of l.offsets.kind) (size_of l.offsets.kind) bytes)
 offset_told f bytes o n t l named level len less whole part =
-    let (k, there, told) = level_found f n l level in
-    level_value_at f n k 324 t _ there (array_value f bytes o k 324 t l.offsets named (level_parts f k l told).7 len less part whole)
+    let (k, there, told) = layout_found f n l level in
+    level_value_at f n k 324 t _ there (array_value f bytes o k 324 t l.offsets named (layout_parts f k l told).4 len less part whole)
 
-pub count_told : (f bytes : List ℕ) (o : Order) (n t : ℕ) (l : Level) → order_of f ≡ Some o → level_of f n ≡ Some l → l.counts.len ≡ l.counts.count * size_of l.counts.kind → t < l.counts.count → length bytes ≡ l.counts.len
+pub count_told : (f bytes : List ℕ) (o : Order) (n t : ℕ) (l : Layout) → order_of f ≡ Some o → level_layout f n ≡ Some l → l.counts.len ≡ l.counts.count * size_of l.counts.kind → t < l.counts.count → length bytes ≡ l.counts.len
     → IsArrayOf f l.counts bytes → level_value f n 325 t ≡ Some (number_in o (t * size_of l.counts.kind) (size_of l.counts.kind) bytes)
 count_told f bytes o n t l named level len less whole part =
-    let (k, there, told) = level_found f n l level in
-    level_value_at f n k 325 t _ there (array_value f bytes o k 325 t l.counts named (level_parts f k l told).8 len less part whole)
+    let (k, there, told) = layout_found f n l level in
+    level_value_at f n k 325 t _ there (array_value f bytes o k 325 t l.counts named (layout_parts f k l told).5 len less part whole)
 
 -- The values of a level
 
-pub described : (f : List ℕ) (n : ℕ) (l : Level) → level_of f n ≡ Some l → IsDescribed f n l
-described f n l level =
-    let (k, there, told) = level_found f n l level in
-    let is = level_parts f k l told in
+pub described_by : (f : List ℕ) (n : ℕ) (l : Level) → level_layout f n ≡ Some (layout_of l) → IsDescribed f n l
+described_by f n l level =
+    let (k, there, told) = layout_found f n (layout_of l) level in
+    let is = layout_parts f k (layout_of l) told in
+    let grid = grid_told f k (layout_of l).grid is.0 in
     record {
-      width = level_value_at f n k 256 0 l.width there is.0;
-      length = level_value_at f n k 257 0 l.length there is.1;
-      tile_width = level_value_at f n k 322 0 l.tile_width there is.2;
-      tile_length = level_value_at f n k 323 0 l.tile_length there is.3;
-      samples = level_value_at f n k 277 0 l.samples there is.4;
-      bits = level_value_at f n k 258 0 l.bits there is.5;
+      width = level_value_at f n k 256 0 l.width there grid.0;
+      length = level_value_at f n k 257 0 l.length there grid.1;
+      tile_width = level_value_at f n k 322 0 l.tile_width there grid.2;
+      tile_length = level_value_at f n k 323 0 l.tile_length there grid.3;
+      samples = level_value_at f n k 277 0 l.samples there is.1;
+      bits = level_value_at f n k 258 0 l.bits there is.2;
     }

@@ -1,13 +1,12 @@
 -- What a walk knows of a file from one range to the next.
 use Rattle.std.proofs.Common.{◌≡◌, ◌≢◌, ℕ, zero, suc, ◌+◌, ◌-◌, ◌<◌, ◌≤◌, ◌⊎◌, inl, inr, true, false, List, [], ◌∷◌, ◌++◌, map, length, take, drop, Option, Some, None, IsSomeAnd, IfSome, Result, Ok, Err, refl, sym, subst, ap, ◌∙◌, arith}
-use Rattle.std.specs.Prelude.{slice_get, IsErrAnd, IsSome, All}
+use Rattle.std.specs.Prelude.{slice_get, IsErrAnd, IsSome}
 use Rattle.tiff_dir.specs.declared.fault.WalkError.{WalkError}
 use Rattle.tiff_dir.specs.declared.fault.WalkError.TheVariants as errors
 use Rattle.tiff_dir.specs.Shape.{IsNext, IsSoFar}
 use Rattle.std.proofs.lemmas.Option.{same_Some, none-some, slice_get-map}
-use Rattle.std.proofs.lemmas.Bool.{and_parts, or_left, lt-ltb, le-ltb, cases_lt, false≢true}
+use Rattle.std.proofs.lemmas.Bool.{and_parts, or_left, lt-ltb, le-ltb, cases_lt, cases_Bool, false≢true}
 use Rattle.std.proofs.lemmas.List.{map-append, append-nil, length-append}
-use Rattle.std.proofs.lemmas.List.Elements.{All-push}
 use Rattle.std.proofs.lemmas.List.Elements.{filter-append}
 use Rattle.std.specs.Option.{option_map, option_to_list}
 use Rattle.std.specs.List.{filter, list_any, last_or, range_with_len}
@@ -20,20 +19,24 @@ use Rattle.tiff_dir.specs.declared.fault.FileFault.{FileFault}
 use Rattle.tiff_dir.specs.declared.fault.FileFault.TheVariants.{Header, PastEnd, TooManyDirs}
 use Rattle.tiff_dir.specs.Query.{array_range}
 use Rattle.tiff_dir.specs.declared.level.Place.{Place}
-use Rattle.tiff_dir.proofs.Ends.{level_parts}
+use Rattle.tiff_dir.proofs.Ends.{layout_parts}
 use Rattle.tiff_dir.specs.File.{◌>>=◌, Field, field, order_of, number, has_directory, directories}
-use Rattle.tiff_dir.specs.Level.{is_level, place_of, level_directories, previous_level, level_at, levels, level_of, level_directory}
-use Rattle.tiff_dir.specs.Needs.{Range, ends_past, needs_of_directories}
+use Rattle.tiff_dir.specs.Described.{described, layout_of, AreLevels}
+use Rattle.tiff_dir.specs.Level.{Layout, is_level, place_of, level_directories, previous_level, layout_at, layouts, level_layout, level_directory}
+use Rattle.tiff_dir.specs.Needs.{Range, ends_past, range_of_place, field_range, needs_of_directories}
 use Rattle.tiff_dir.specs.Fault.{IsFaultOfDirectories}
-use Rattle.tiff_dir.specs.Stage.{range_of, index_of, still, outside_ranges, three_shorts, ranges_from, levels_below, AgreesAt, IsBefore, IsPart, IsOver, StepsOn}
-use Rattle.tiff_dir.specs.Walk.{Known, IsWanted, Agrees, wanted, to_come, bytes_in, IsWantedOf, HasEnded, AreLevels, range_of_place, IfFile, IsProfiled}
+use Rattle.tiff_dir.specs.Stage.{range_of, index_of, still, outside_ranges, three_shorts, ranges_from, is_past_first, is_first_table, layouts_below, AgreesAt, IsBefore, IsPart, IsOver, StepsOn}
+use Rattle.tiff_dir.specs.declared.geo.GeoEntries.{GeoEntries}
+use Rattle.tiff_dir.specs.GeoEntries.{AreNear}
+use Rattle.tiff_dir.specs.Known.{Known, HasGeo}
+use Rattle.tiff_dir.specs.Walk.{IsWanted, Agrees, given_of, wanted, to_come, bytes_in, IsWantedOf, HasEnded, IfFile}
 use Rattle.tiff_dir.proofs.Chain.{some_and_at, count_wanted, none_after}
 use Rattle.tiff_dir.proofs.Parts.{part_inside}
 use Rattle.tiff_dir.proofs.Ranges.{drop_next, filter_none, filter_all, range_split, last_or-map}
 
-pub told_new : (f : List ℕ) (ls : List Level) → ls ≡ [] → Agrees (record { stage = stages.Header; levels = ls; given = 0 }) f
-unfolding Agrees levels_below needs_of_directories directories ranges_from
-told_new f ls none = record { here = tt; levels = rw none refl; come = refl; inside = refl }
+pub told_new : (f : List ℕ) (ls : List Level) (geo : GeoEntries) → ls ≡ [] → Agrees (record { stage = stages.Header; levels = ls; geo = geo; given = 0 }) f
+unfolding Agrees layouts_below needs_of_directories directories ranges_from
+told_new f ls geo none = record { here = tt; levels = rw none refl; geo = λ past. absurd (false≢true past); come = refl; inside = refl }
 
 pub come_new : (f : List ℕ) (w : Known) → w.given ≡ 0 → to_come w f ≡ needs_of_directories f
 unfolding to_come
@@ -47,7 +50,7 @@ first_still f (stages.Table o k at n) r here e =
     let rest : List Range = outside_ranges f k ++ ranges_from f (suc k) in (rest, ap (λ (x : Range). x ∷ rest) (same_Some _ _ e))
 first_still f (stages.Bits p first formats) r here e =
     let rest : List Range = option_to_list (option_map three_shorts formats) ++ ranges_from f (suc p.index) in (rest, ap (λ (x : Range). x ∷ rest) (same_Some _ _ e))
-first_still f (stages.Formats p first eights) r here e =
+first_still f (stages.Formats p first bits) r here e =
     let rest : List Range = ranges_from f (suc p.index) in (rest, ap (λ (x : Range). x ∷ rest) (same_Some _ _ e))
 first_still f (stages.Ended o k) r here e = absurd (none-some r e)
 
@@ -67,7 +70,7 @@ first_come w f told = rw told.come (at w.stage told.here (range_of w.stage) refl
     ended (stages.Count o k a) is = absurd (none-some _ (sym is))
     ended (stages.Table o k a n) is = absurd (none-some _ (sym is))
     ended (stages.Bits p first formats) is = absurd (none-some _ (sym is))
-    ended (stages.Formats p first eights) is = absurd (none-some _ (sym is))
+    ended (stages.Formats p first bits) is = absurd (none-some _ (sym is))
     ended (stages.Ended o k) is = refl
   at stage here (Some r) is =
       let (rest, first) = first_still f stage r here is in
@@ -86,7 +89,7 @@ wanted_is w n is = at w.stage is where
   at (stages.Count o k a) is = (_, refl, is, omega arith)
   at (stages.Table o k a e) is = (_, refl, is, omega arith)
   at (stages.Bits p first formats) is = (_, refl, is, omega arith)
-  at (stages.Formats p first eights) is = (_, refl, is, omega arith)
+  at (stages.Formats p first bits) is = (_, refl, is, omega arith)
   at (stages.Ended o k) is = absurd is
 
 pub wanted_parts : (f bytes : List ℕ) (w : Known) → IsWantedOf f w bytes → IfSome (range_of w.stage) (λ r. IsPart f r bytes)
@@ -107,15 +110,28 @@ wanted_part f bytes w r is given =
 
 -- The next range
 
-pub told_next : (f bytes : List ℕ) (w : Known) (step : Step) (r : Range) (ls : List Level) → Agrees w f → wanted w ≡ Some r → IsPart f r bytes → length bytes ≡ r.len → 0 < r.len → StepsOn f w.stage step
-    → ls ≡ w.levels ++ option_to_list step.level → Agrees (record { stage = step.stage; levels = ls; given = w.given + 1 }) f
+-- the geo fields of the file, once the table that has them is passed
+pub geo_next : (f : List ℕ) (w : Known) (stage : Stage) (geo : GeoEntries) → Agrees w f → (is_past_first stage ≡ true → (is_past_first w.stage ≡ true) ⊎ (is_first_table w.stage ≡ true))
+    → (is_first_table w.stage ≡ true → HasGeo f geo) → (is_first_table w.stage ≡ false → geo ≡ w.geo) → is_past_first stage ≡ true → HasGeo f geo
+unfolding Agrees
+geo_next f w stage geo told first taken same past = elim (cases_Bool (is_first_table w.stage)) [
+  | inl here ↦ taken here
+  | inr other ↦ elim (first past) [
+    | inl before ↦ (let P : GeoEntries → Type 0 = λ g. HasGeo f g in subst P (sym (same other)) (told.geo before))
+    | inr here ↦ taken here
+  ]
+]
+
+pub told_next : (f bytes : List ℕ) (w : Known) (step : Step) (r : Range) (ls : List Level) (geo : GeoEntries) → Agrees w f → wanted w ≡ Some r → IsPart f r bytes → length bytes ≡ r.len → 0 < r.len → StepsOn f w.stage step
+    → ls ≡ w.levels ++ option_to_list step.level → (is_past_first step.stage ≡ true → HasGeo f geo) → Agrees (record { stage = step.stage; levels = ls; geo = geo; given = w.given + 1 }) f
 unfolding Agrees wanted
-told_next f bytes w step r ls told is part len some on same =
+told_next f bytes w step r ls geo told is part len some on same has =
     let come : still f w.stage ≡ r ∷ still f step.stage = on.come r is in
     let ends : ends_past f r ≡ false = le-ltb (length f) (r.first + r.len) (part_inside f bytes r.first r.len part len some) in
     record {
       here = on.here;
-      levels = ap (map Some) same ∙ map-append Some w.levels (option_to_list step.level) ∙ ap (λ (xs : List (Option Level)). xs ++ map Some (option_to_list step.level)) told.levels ∙ sym on.levels;
+      levels = ap (map described) same ∙ map-append described w.levels (option_to_list step.level) ∙ ap (λ (xs : List (Option Layout)). xs ++ map described (option_to_list step.level)) told.levels ∙ sym on.levels;
+      geo = has;
       come = drop_next w.given (needs_of_directories f) r (still f step.stage) (told.come ∙ come);
       inside = told.inside ∙ ap (list_any (ends_past f)) come ∙ rw ends refl;
     }
@@ -130,11 +146,11 @@ come_next f w r next told is given =
 
 -- the level before the next directory
 pub is_before : (f : List ℕ) (w : Known) → Agrees w f → IsBefore f (index_of w.stage) (last_or None w.levels)
-unfolding Agrees levels_below previous_level
+unfolding Agrees layouts_below previous_level
 is_before f w told =
-    sym (last_or-map (level_at f) None (filter (is_level f) (range_with_len 0 (index_of w.stage))))
+    sym (last_or-map (layout_at f) None (filter (is_level f) (range_with_len 0 (index_of w.stage))))
     ∙ ap (last_or None) (sym told.levels)
-    ∙ last_or-map Some None w.levels
+    ∙ last_or-map described None w.levels
 
 pub here_is : (f : List ℕ) (w : Known) → Agrees w f → AgreesAt f w.stage
 unfolding Agrees
@@ -147,7 +163,7 @@ ended_over f stages.Header here is = absurd (none-some _ (sym is))
 ended_over f (stages.Count o k a) here is = absurd (none-some _ (sym is))
 ended_over f (stages.Table o k a n) here is = absurd (none-some _ (sym is))
 ended_over f (stages.Bits p first formats) here is = absurd (none-some _ (sym is))
-ended_over f (stages.Formats p first eights) here is = absurd (none-some _ (sym is))
+ended_over f (stages.Formats p first bits) here is = absurd (none-some _ (sym is))
 ended_over f (stages.Ended o k) here is = (o, k, here, refl, refl)
 
 over_clean : (f : List ℕ) (o : Order) (k : ℕ) → IsOver f o k → list_any (ends_past f) (needs_of_directories f) ≡ false → (fault : FileFault) → IsFaultOfDirectories f fault → ⊥
@@ -194,11 +210,11 @@ over_directories f o (suc k) over =
     ∙ (rw (first, rest) (append-nil (range_with_len 0 (suc k))))
 
 pub ended_levels : (w : Known) (f : List ℕ) → HasEnded w → Agrees w f → AreLevels f w.levels
-unfolding Agrees wanted levels level_directories levels_below
+unfolding Agrees wanted layouts level_directories layouts_below
 ended_levels w f ended told =
     let (o, k, over, index, none) = ended_over f w.stage told.here ended in
-    told.levels ∙ ap (λ (n : ℕ). map (level_at f) (filter (is_level f) (range_with_len 0 n))) index
-    ∙ ap (λ (ks : List ℕ). map (level_at f) (filter (is_level f) ks)) (sym (over_directories f o k over))
+    told.levels ∙ ap (λ (n : ℕ). map (layout_at f) (filter (is_level f) (range_with_len 0 n))) index
+    ∙ ap (λ (ks : List ℕ). map (layout_at f) (filter (is_level f) ks)) (sym (over_directories f o k over))
 
 -- The answers of a call
 
@@ -212,11 +228,11 @@ if_memory (Err e) P is = let G : WalkError → Type 0 = λ x. IfFile (Err x) P i
 
 -- The bounds
 
-pub so_far : (stage : Stage) (levels ls : List Level) (given : ℕ) (step : Step) → IsSoFar stage levels given → IsNext stage (given + 1) step → ls ≡ levels ++ option_to_list step.level → IsSoFar step.stage ls (given + 1)
-so_far stage levels ls given step is next same = record {
+pub so_far : (stage : Stage) (levels ls : List Level) (before geo : GeoEntries) (given : ℕ) (step : Step) → IsSoFar stage levels before given → IsNext stage (given + 1) step → ls ≡ levels ++ option_to_list step.level → AreNear geo → IsSoFar step.stage ls geo (given + 1)
+so_far stage levels ls before geo given step is next same near = record {
   kept = next.kept;
   some = λ h. rw same (some_level (next.some h));
-  profiled = rw same (all_profiled step.level next.profiled);
+  near = near;
 } where
   some_level : (0 < index_of stage) ⊎ (IsSome step.level) → 0 < length (levels ++ option_to_list step.level)
   some_level (inl h) = let n = is.some h in omega (arith, length-append levels (option_to_list step.level))
@@ -224,10 +240,6 @@ so_far stage levels ls given step is next same = record {
     at : (o : Option Level) → IsSome o → 0 < length (levels ++ option_to_list o)
     at None h = absurd (false≢true h)
     at (Some l) h = omega (arith, length-append levels (l ∷ []))
-
-  all_profiled : (o : Option Level) → IfSome o IsProfiled → All IsProfiled (levels ++ option_to_list o)
-  all_profiled None h = rw append-nil is.profiled
-  all_profiled (Some l) h = All-push IsProfiled levels l is.profiled h
 
 -- What the end tells
 
@@ -237,39 +249,43 @@ ended_order w f o k is told = let P : Stage → Type 0 = λ x. AgreesAt f x in
     let over : IsOver f o k = subst P is told.here in over.follows.walked.named
 
 -- a level of the file by its number
-pub level_number : (f : List ℕ) (ls : List Level) (n : ℕ) → AreLevels f ls → level_of f n ≡ slice_get ls n
-unfolding levels level_of level_directory
-level_number f ls n are =
-    let same : option_map Some (slice_get ls n) ≡ option_map (level_at f) (slice_get (level_directories f) n) =
-    sym (slice_get-map Some ls n) ∙ ap (λ (xs : List (Option Level)). slice_get xs n) are ∙ slice_get-map (level_at f) (level_directories f) n in
+pub layout_number : (f : List ℕ) (ls : List Level) (n : ℕ) → AreLevels f ls → level_layout f n ≡ option_map layout_of (slice_get ls n)
+unfolding layouts level_layout level_directory
+layout_number f ls n are =
+    let same : option_map described (slice_get ls n) ≡ option_map (layout_at f) (slice_get (level_directories f) n) =
+    sym (slice_get-map described ls n) ∙ ap (λ (xs : List (Option Layout)). slice_get xs n) are ∙ slice_get-map (layout_at f) (level_directories f) n in
     at (slice_get ls n) (slice_get (level_directories f) n) same where
-      at : (a : Option Level) (b : Option ℕ) → option_map Some a ≡ option_map (level_at f) b → (b >>= level_at f) ≡ a
+      at : (a : Option Level) (b : Option ℕ) → option_map described a ≡ option_map (layout_at f) b → (b >>= layout_at f) ≡ option_map layout_of a
       at None None e = refl
       at None (Some k) e = absurd (none-some _ e)
       at (Some l) None e = absurd (none-some _ (sym e))
       at (Some l) (Some k) e = sym (same_Some _ _ e)
 
 -- the directory of a level
-pub level_found : (f : List ℕ) (n : ℕ) (l : Level) → level_of f n ≡ Some l → (k : ℕ) × (level_directory f n ≡ Some k) × (level_at f k ≡ Some l)
-unfolding level_of
-level_found f n l told = at (level_directory f n) told where
-  at : (o : Option ℕ) → (o >>= level_at f) ≡ Some l → (k : ℕ) × (o ≡ Some k) × (level_at f k ≡ Some l)
+pub layout_found : (f : List ℕ) (n : ℕ) (l : Layout) → level_layout f n ≡ Some l → (k : ℕ) × (level_directory f n ≡ Some k) × (layout_at f k ≡ Some l)
+unfolding level_layout
+layout_found f n l told = at (level_directory f n) told where
+  at : (o : Option ℕ) → (o >>= layout_at f) ≡ Some l → (k : ℕ) × (o ≡ Some k) × (layout_at f k ≡ Some l)
   at None e = absurd (none-some l e)
   at (Some k) e = (k, refl, e)
 
 -- where its arrays stand
 array_at : (f : List ℕ) (n k tag : ℕ) (p : Place) → level_directory f n ≡ Some k → (field f k tag >>= place_of f) ≡ Some p → array_range f n tag ≡ Some (range_of_place p)
-unfolding array_range
+unfolding array_range field_range
 array_at f n k tag p there told = rw there (at (field f k tag) told) where
-  at : (o : Option Field) → (o >>= place_of f) ≡ Some p → (o >>= λ e. place_of f e >>= λ q. Some (record { first = q.first; len = q.len })) ≡ Some (range_of_place p)
+  at : (o : Option Field) → (o >>= place_of f) ≡ Some p → (o >>= place_of f >>= λ q. Some (range_of_place q)) ≡ Some (range_of_place p)
   at None e = absurd (none-some p e)
   at (Some x) e = rw e refl
 
-pub offsets_at : (f : List ℕ) (n : ℕ) (l : Level) → level_of f n ≡ Some l → array_range f n 324 ≡ Some (range_of_place l.offsets)
-offsets_at f n l told = let (k, there, here) = level_found f n l told in array_at f n k 324 l.offsets there (level_parts f k l here).7
+pub offsets_at : (f : List ℕ) (n : ℕ) (l : Layout) → level_layout f n ≡ Some l → array_range f n 324 ≡ Some (range_of_place l.offsets)
+offsets_at f n l told = let (k, there, here) = layout_found f n l told in array_at f n k 324 l.offsets there (layout_parts f k l here).4
 
-pub counts_at : (f : List ℕ) (n : ℕ) (l : Level) → level_of f n ≡ Some l → array_range f n 325 ≡ Some (range_of_place l.counts)
-counts_at f n l told = let (k, there, here) = level_found f n l told in array_at f n k 325 l.counts there (level_parts f k l here).8
+pub counts_at : (f : List ℕ) (n : ℕ) (l : Layout) → level_layout f n ≡ Some l → array_range f n 325 ≡ Some (range_of_place l.counts)
+counts_at f n l told = let (k, there, here) = layout_found f n l told in array_at f n k 325 l.counts there (layout_parts f k l here).5
+
+pub given_as : (w : Known) → given_of w ≡ w.given
+unfolding given_of
+given_as w = refl
 
 pub wanted_as : (w : Known) → wanted w ≡ range_of w.stage
 unfolding wanted
@@ -280,5 +296,11 @@ ended_stage stages.Header is = absurd (none-some _ (sym is))
 ended_stage (stages.Count o k a) is = absurd (none-some _ (sym is))
 ended_stage (stages.Table o k a n) is = absurd (none-some _ (sym is))
 ended_stage (stages.Bits p first formats) is = absurd (none-some _ (sym is))
-ended_stage (stages.Formats p first eights) is = absurd (none-some _ (sym is))
+ended_stage (stages.Formats p first bits) is = absurd (none-some _ (sym is))
 ended_stage (stages.Ended o k) is = (o, k, refl)
+
+pub ended_geo : (w : Known) (f : List ℕ) → HasEnded w → Agrees w f → HasGeo f w.geo
+unfolding Agrees wanted
+ended_geo w f ended told =
+    let (o, k, is) = ended_stage w.stage ended in
+    told.geo (ap is_past_first is)

@@ -1,46 +1,51 @@
 -- A file has one window for a query.
 use Rattle.std.proofs.Common.{◌≡◌, ℕ, zero, suc, ◌+◌, ◌*◌, ◌/◌, ◌%◌, ◌<◌, List, length, Some, sym, ap, subst, ◌∙◌, arith}
-use Rattle.std.specs.Prelude.{slice_get, slice_index}
+use Rattle.std.specs.Prelude.{slice_index}
 use Rattle.std.proofs.Math.Nat.{div-lt_iff_lt-mul}
 use Rattle.std.proofs.lemmas.Option.{same_Some}
 use Rattle.std.proofs.lemmas.Grind.{same_number_lists}
-use Rattle.tiff_dir.specs.declared.level.Level.{Level}
+use Rattle.tiff_dir.specs.declared.order.Order.{Order}
 use Rattle.tiff_dir.specs.declared.level.Compression.{Compression}
 use Rattle.tiff_dir.specs.declared.level.Compression.TheVariants.{Plain, PackBits}
 use Rattle.tiff_dir.specs.declared.query.Query.{Query}
-use Rattle.tiff_dir.specs.Level.{level_of, segment, plain_row}
+use Rattle.tiff_dir.specs.File.{order_of}
+use Rattle.tiff_dir.specs.Level.{Layout, level_layout, segment, plain_row, plain_size}
 use Rattle.tiff_dir.specs.Query.{Rectangle}
-use Rattle.tiff_dir.specs.Window.{IsUnpackedBy, IsUnpacked, tile_at, place_in_tile, IsSample, HasSamples}
+use Rattle.tiff_dir.specs.Window.{IsUnpackedBy, IsUnpacked, tile_at, place_in_tile, sample_in, IsSample, HasSamples}
 use Rattle.tiff_dir.specs.Faulty.{IsWindow}
 use Rattle.tiff_dir.proofs.PacketLemmas.{packs_once}
 
-unpacked_once : (c : Compression) (l : Level) (bytes out out' : List ℕ) → IsUnpackedBy c l bytes out → IsUnpackedBy c l bytes out' → out ≡ out'
-unpacked_once Plain l bytes out out' p q = p ∙ sym q
-unpacked_once PackBits l bytes out out' p q = packs_once (plain_row l) bytes out out' p.1 q.1
+unpacked_once : (c : Compression) (row size : ℕ) (bytes out out' : List ℕ) → IsUnpackedBy c row size bytes out → IsUnpackedBy c row size bytes out' → out ≡ out'
+unpacked_once Plain row size bytes out out' p q = p ∙ sym q
+unpacked_once PackBits row size bytes out out' p q = packs_once row bytes out out' p.1 q.1
 
--- a sample, where its level is known
-record IsSampleIn (f : List ℕ) (n : ℕ) (l : Level) (x y c v : ℕ) : Type 0 where
+-- a sample, where its layout is known
+record IsSampleIn (f : List ℕ) (n : ℕ) (l : Layout) (x y c v : ℕ) : Type 0 where
+  order : Order
+  order_is : order_of f ≡ Some order
   bytes : List ℕ
-  bytes_are : segment f n (tile_at l x y) ≡ Some bytes
+  bytes_are : segment f n (tile_at l.grid x y) ≡ Some bytes
   plain : List ℕ
   unpacked : IsUnpacked l bytes plain
-  value : slice_get plain (place_in_tile l x y c) ≡ Some v
+  value : sample_in order l.bits plain (place_in_tile l x y c) ≡ Some v
 
-in_level : (f : List ℕ) (n x y c v : ℕ) (l : Level) → level_of f n ≡ Some l → IsSample f n x y c v → IsSampleIn f n l x y c v
-in_level f n x y c v l is s =
-    let same : s.level ≡ l = same_Some _ _ (sym s.level_is ∙ is) in
-    let P : Level → Type 0 = λ k. IsSampleIn f n k x y c v in
-    subst P same (record { bytes = s.bytes; bytes_are = s.bytes_are; plain = s.plain; unpacked = s.unpacked; value = s.value })
+in_layout : (f : List ℕ) (n x y c v : ℕ) (l : Layout) → level_layout f n ≡ Some l → IsSample f n x y c v → IsSampleIn f n l x y c v
+in_layout f n x y c v l is s =
+    let same : s.layout ≡ l = same_Some _ _ (sym s.layout_is ∙ is) in
+    let P : Layout → Type 0 = λ k. IsSampleIn f n k x y c v in
+    subst P same (record { order = s.order; order_is = s.order_is; bytes = s.bytes; bytes_are = s.bytes_are; plain = s.plain; unpacked = s.unpacked; value = s.value })
 
 pub sample_once : (f : List ℕ) (n x y c v w : ℕ) → IsSample f n x y c v → IsSample f n x y c w → v ≡ w
 sample_once f n x y c v w s t =
-    let l = s.level in
-    let a = in_level f n x y c v l s.level_is s in
-    let b = in_level f n x y c w l s.level_is t in
+    let l = s.layout in
+    let a = in_layout f n x y c v l s.layout_is s in
+    let b = in_layout f n x y c w l s.layout_is t in
     let same : b.bytes ≡ a.bytes = same_Some _ _ (sym b.bytes_are ∙ a.bytes_are) in
+    let order : a.order ≡ b.order = same_Some _ _ (sym a.order_is ∙ b.order_is) in
     let moved : IsUnpacked l a.bytes b.plain = subst (λ (bytes : List ℕ). IsUnpacked l bytes b.plain) same b.unpacked in
-    let plain : a.plain ≡ b.plain = unpacked_once l.compression l a.bytes a.plain b.plain a.unpacked moved in
-    same_Some _ _ (sym a.value ∙ ap (λ (p : List ℕ). slice_get p (place_in_tile l x y c)) plain ∙ b.value)
+    let plain : a.plain ≡ b.plain = unpacked_once l.compression (plain_row l) (plain_size l) a.bytes a.plain b.plain a.unpacked moved in
+    same_Some _ _ (sym a.value ∙ ap (λ (p : List ℕ). sample_in a.order l.bits p (place_in_tile l x y c)) plain
+    ∙ ap (λ (o : Order). sample_in o l.bits b.plain (place_in_tile l x y c)) order ∙ b.value)
 
 -- a place of the window is a sample of a pixel
 record IsPixel (w h s k : ℕ) : Type 0 where
@@ -72,19 +77,19 @@ pixel (suc w) h (suc s) k inside =
       place = ap (λ (n : ℕ). n * suc s + k % suc s) rows ∙ samples;
     }
 
--- the samples of a rectangle, where its level is known
-record HasSamplesIn (f : List ℕ) (r : Rectangle) (l : Level) (v : List ℕ) : Type 0 where
+-- the samples of a rectangle, where its layout is known
+record HasSamplesIn (f : List ℕ) (r : Rectangle) (l : Layout) (v : List ℕ) : Type 0 where
   size : length v ≡ r.width * r.height * l.samples
   each : (i j c : ℕ) → i < r.width → j < r.height → c < l.samples
       → IsSample f r.level (r.left + i) (r.top + j) c (slice_index v ((j * r.width + i) * l.samples + c))
 
 samples_once : (f : List ℕ) (r : Rectangle) (v u : List ℕ) → HasSamples f r v → HasSamples f r u → v ≡ u
 samples_once f r v u a b =
-    let same : b.level ≡ a.level = same_Some _ _ (sym b.level_is ∙ a.level_is) in
-    let P : Level → Type 0 = λ l. HasSamplesIn f r l u in
-    let other : HasSamplesIn f r a.level u = subst P same (record { size = b.size; each = b.each }) in
+    let same : b.layout ≡ a.layout = same_Some _ _ (sym b.layout_is ∙ a.layout_is) in
+    let P : Layout → Type 0 = λ l. HasSamplesIn f r l u in
+    let other : HasSamplesIn f r a.layout u = subst P same (record { size = b.size; each = b.each }) in
     same_number_lists v u (a.size ∙ sym other.size) (λ k inside.
-    let p = pixel r.width r.height a.level.samples k (omega (arith, a.size)) in
+    let p = pixel r.width r.height a.layout.samples k (omega (arith, a.size)) in
     sym (ap (slice_index v) p.place)
     ∙ sample_once f r.level (r.left + p.i) (r.top + p.j) p.c _ _ (a.each p.i p.j p.c p.left p.top p.sample) (other.each p.i p.j p.c p.left p.top p.sample)
     ∙ ap (slice_index u) p.place)

@@ -3,13 +3,14 @@
 use Rattle.std.specs.Prelude.{◌≡◌, ◌≢◌, ℕ, ◌*◌, ◌%◌, ◌<◌, ◌≤◌, ◌⊎◌, Bool, true, false, ◌&&◌, ◌||◌, nat_lt, nat_le, ◌==◌, if◌then◌else◌, List, [], ◌∷◌, length, Option, Some, None, IsSomeAnd}
 use Rattle.std.specs.List.{Any, list_any}
 use Rattle.tiff_dir.specs.declared.rule.Rule.{Rule}
+use Rattle.tiff_dir.specs.declared.rule.Typing.{Typing}
 use Rattle.tiff_dir.specs.declared.rule.Count.{Count}
-use Rattle.tiff_dir.specs.declared.rule.Count.TheVariants.{One, Samples, Tiles}
+use Rattle.tiff_dir.specs.declared.rule.Count.TheVariants.{One, Samples, Tiles, Exactly, Multiple}
 use Rattle.tiff_dir.specs.declared.fault.FileFault.{FileFault}
 use Rattle.tiff_dir.specs.declared.fault.FileFault.TheVariants.{Header, PastEnd, DirPlace, DirCount, TagOrder, TooManyDirs, Missing, FieldType, Unsupported, LevelShape, TileArray, TileSize}
-use Rattle.tiff_dir.specs.File.{◌>>=◌, order_of, number, directory, has_directory, entry_count, Field, table, with_tag, field, value}
-use Rattle.tiff_dir.specs.Profile.{subfile_rule, profile, has_typing, accepts, samples_fit, planes_fit, is_tile_side, tile_bytes, tiles_along, max_tile_bytes, max_tiles}
-use Rattle.tiff_dir.specs.Level.{is_level, previous_level}
+use Rattle.tiff_dir.specs.File.{◌>>=◌, order_of, number, directory, has_directory, entry_count, Field, fields, has_all_tags, field, value}
+use Rattle.tiff_dir.specs.Profile.{subfile_rule, profile, has_typing, is_multiple, accepts, samples_fit, planes_fit, is_tile_side, tile_bytes, max_tile_bytes, max_tiles}
+use Rattle.tiff_dir.specs.Level.{is_level, previous_level, grid_at, tile_total}
 use Rattle.tiff_dir.specs.Needs.{is_entry_count, ends_past, needs_of_directories}
 
 -- the bytes that name the order are there and are neither pair, or the number after them isn't 42
@@ -26,31 +27,41 @@ ascends [] = true
 ascends (a ∷ []) = true
 ascends (a ∷ b ∷ fields) = nat_lt a.tag b.tag && ascends (b ∷ fields)
 
--- a field has another number of values than the profile says
-abbrev pub IsMiscounted : List ℕ → ℕ → Count → Field → Type 0
-IsMiscounted f k One e = (e.count == 1) ≡ false
-IsMiscounted f k Samples e = IsSomeAnd (value f k 277 0) (λ samples. (e.count == samples) ≡ false)
-IsMiscounted f k Tiles e = ⊥
-
--- the rule's field is missing, or has another type or count
-abbrev pub IsRuleFault : List ℕ → ℕ → Rule → FileFault → Type 0
-IsRuleFault f k rule (Missing tag) =
-    (rule.tag ≡ tag) × (rule.required ≡ true) × IsSomeAnd (table f k) (λ fields. with_tag rule.tag fields ≡ None)
-IsRuleFault f k rule (FieldType tag) =
-    (rule.tag ≡ tag)
-    × IsSomeAnd (field f k rule.tag) (λ e. (has_typing rule.typing e.kind ≡ false) ⊎ IsMiscounted f k rule.count e)
-IsRuleFault f k rule _ = ⊥
-
 -- two values that are there don't fit each other
 abbrev pub IsMisfit : (ℕ → ℕ → Bool) → Option ℕ → Option ℕ → Type 0
 IsMisfit fits a b = IsSomeAnd a (λ x. IsSomeAnd b (λ y. fits x y ≡ false))
 
--- a value is none that the profile accepts
+-- a field has another type than the profile says, or another number of values
+abbrev pub IsMistyped : Typing → Field → Type 0
+IsMistyped typing e = IsSomeAnd e.kind (λ kind. has_typing typing kind ≡ false)
+
+abbrev pub IsMiscounted : List ℕ → ℕ → Count → Field → Type 0
+IsMiscounted f k One e = IsSomeAnd e.count (λ count. (count == 1) ≡ false)
+IsMiscounted f k Samples e = IsMisfit (λ count samples. count == samples) e.count (value f k 277 0)
+IsMiscounted f k Tiles e = ⊥
+IsMiscounted f k (Exactly n) e = IsSomeAnd e.count (λ count. (count == n) ≡ false)
+IsMiscounted f k (Multiple n) e = IsSomeAnd e.count (λ count. is_multiple n count ≡ false)
+
+-- the rule's field is missing, or has another type or count
+abbrev pub IsRuleFault : List ℕ → ℕ → Rule → FileFault → Type 0
+IsRuleFault f k rule (Missing tag) =
+    (rule.tag ≡ tag) × (rule.required ≡ true) × (has_all_tags f k ≡ true) × (field f k tag ≡ None)
+IsRuleFault f k rule (FieldType tag) =
+    (rule.tag ≡ tag) × IsSomeAnd (field f k tag) (λ e. IsMistyped rule.typing e ⊎ IsMiscounted f k rule.count e)
+IsRuleFault f k rule _ = ⊥
+
+-- BitsPerSample has two values that differ
+abbrev pub IsMixture : List ℕ → ℕ → Type 0
+IsMixture f k = (i j : ℕ) × IsMisfit (λ a b. a == b) (value f k 258 i) (value f k 258 j)
+
+-- A value is none that the profile accepts. Of SamplesPerPixel and PlanarConfiguration the accepted values depend on
+-- another field; the values of BitsPerSample are one and the same.
 abbrev pub IsUnsupported : List ℕ → ℕ → ℕ → Type 0
 IsUnsupported f k tag =
     ((i : ℕ) × IsSomeAnd (value f k tag i) (λ v. accepts tag v ≡ false))
     ⊎ (((tag ≡ 277) × IsMisfit samples_fit (value f k 277 0) (value f k 262 0))
-    ⊎ ((tag ≡ 284) × IsMisfit planes_fit (value f k 284 0) (value f k 277 0)))
+    ⊎ (((tag ≡ 284) × IsMisfit planes_fit (value f k 284 0) (value f k 277 0))
+    ⊎ ((tag ≡ 258) × IsMixture f k)))
 
 -- a side of 0
 abbrev pub HasNoSide : List ℕ → ℕ → ℕ → Type 0
@@ -78,32 +89,29 @@ plain_bytes f k = do
   tile_width ← value f k 322 0
   tile_length ← value f k 323 0
   samples ← value f k 277 0
-  Some (tile_bytes tile_width tile_length samples)
+  bits ← value f k 258 0
+  Some (tile_bytes tile_width tile_length samples bits)
 
--- how many tiles a directory has, by its sides
+-- how many tiles a directory has, by its grid
 unfoldable pub tile_count : List ℕ → ℕ → Option ℕ
 tile_count f k = do
-  width ← value f k 256 0
-  length ← value f k 257 0
-  tile_width ← value f k 322 0
-  tile_length ← value f k 323 0
-  if nat_lt 0 tile_width && nat_lt 0 tile_length
-      then Some (tiles_along width tile_width * tiles_along length tile_length) else None
+  grid ← grid_at f k
+  if nat_lt 0 grid.tile_width && nat_lt 0 grid.tile_length then Some (tile_total grid) else None
 
 abbrev pub IsNoTileSide : List ℕ → ℕ → ℕ → Type 0
 IsNoTileSide f k tag = IsSomeAnd (value f k tag 0) (λ side. is_tile_side side ≡ false)
 
 -- an array of tiles has another count than there are tiles
 abbrev pub IsNoTileArray : List ℕ → ℕ → ℕ → Type 0
-IsNoTileArray f k tag = IsMisfit (λ n count. n == count) (tile_count f k) (field f k tag >>= λ e. Some e.count)
+IsNoTileArray f k tag = IsMisfit (λ n count. n == count) (tile_count f k) (field f k tag >>= λ e. e.count)
 
 -- A fault of directory k, whether it is a level or not.
 abbrev pub IsFaultOfDirectory : List ℕ → ℕ → FileFault → Type 0
 IsFaultOfDirectory f k DirPlace = IsSomeAnd (directory f k) (λ at. is_directory_place at ≡ false)
 IsFaultOfDirectory f k DirCount = IsSomeAnd (entry_count f k) (λ n. is_entry_count n ≡ false)
-IsFaultOfDirectory f k TagOrder = IsSomeAnd (table f k) (λ fields. ascends fields ≡ false)
+IsFaultOfDirectory f k TagOrder = ascends (fields f k) ≡ false
 IsFaultOfDirectory f k (FieldType tag) = IsRuleFault f k subfile_rule (FieldType tag)
--- the first directory is no reduced picture
+-- the first directory is no reduced-resolution image
 IsFaultOfDirectory f k LevelShape = (k ≡ 0) × IsSomeAnd (value f 0 254 0) (λ v. v % 2 ≡ 1)
 IsFaultOfDirectory f k _ = ⊥
 

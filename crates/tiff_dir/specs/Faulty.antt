@@ -1,62 +1,90 @@
 -- What is wrong with a file for a query, and what its window is.
-use Rattle.std.specs.Prelude.{◌≡◌, ℕ, ◌⊎◌, Bool, true, false, ◌&&◌, nat_lt, nat_le, ◌==◌, List, Some, IsSomeAnd}
+use Rattle.std.specs.Prelude.{◌≡◌, ℕ, ◌⊎◌, Bool, true, false, ◌&&◌, nat_lt, nat_le, ◌*◌, ◌==◌, List, length, Option, Some, IsSomeAnd}
 use Rattle.std.specs.List.{list_any, IsAmong}
-use Rattle.tiff_dir.specs.declared.level.Level.{Level}
 use Rattle.tiff_dir.specs.declared.level.Compression.{Compression}
 use Rattle.tiff_dir.specs.declared.level.Compression.TheVariants.{Plain, PackBits}
 use Rattle.tiff_dir.specs.declared.query.Query.{Query}
+use Rattle.tiff_dir.specs.declared.query.Query.TheVariants.{Window, Info}
 use Rattle.tiff_dir.specs.declared.fault.FileFault.{FileFault}
 use Rattle.tiff_dir.specs.declared.fault.FileFault.TheVariants.{PastEnd, TileSize, Packet, Outside, TooLarge}
-use Rattle.tiff_dir.specs.Profile.{max_tile_bytes}
-use Rattle.tiff_dir.specs.Level.{level_of, level_value, segment, plain_size}
+use Rattle.tiff_dir.specs.File.{◌>>=◌}
+use Rattle.tiff_dir.specs.Packets.{Packs}
+use Rattle.tiff_dir.specs.Profile.{max_tile_bytes, sample_bytes}
+use Rattle.tiff_dir.specs.Level.{compression_of, level_directory, level_value, segment}
 use Rattle.tiff_dir.specs.Needs.{ends_past}
-use Rattle.tiff_dir.specs.Fault.{IsFaultOfDirectories}
+use Rattle.tiff_dir.specs.Geo.{IsGeoFault, IsKeyFault}
+use Rattle.tiff_dir.specs.Fault.{plain_bytes, IsFaultOfDirectories}
 use Rattle.tiff_dir.specs.Query.{Rectangle, rectangle, is_outside, is_too_large, window_tiles, needs_of_query}
-use Rattle.tiff_dir.specs.Window.{IsUnpacked, HasSamples}
-
--- a plain tile has as many bytes as its samples
-abbrev pub fills : Compression → Level → ℕ → Bool
-fills Plain l n = n == plain_size l
-fills PackBits l n = true
-
--- a tile may have so many bytes
-abbrev pub is_byte_count : Level → ℕ → Bool
-is_byte_count l n = nat_lt 0 n && nat_le n max_tile_bytes && fills l.compression l n
+use Rattle.tiff_dir.specs.Window.{HasSamples}
 
 -- tile t is one of the window's, in level n
-pub record IsTileOfWindow (f : List ℕ) (q : Query) (n t : ℕ) (l : Level) : Type 0 where
+pub record IsTileOfWindow (f : List ℕ) (q : Query) (n t : ℕ) : Type 0 where
   pub asked : Rectangle
   pub asked_is : rectangle f q ≡ Some asked
   pub level_is : asked.level ≡ n
-  pub described : level_of f n ≡ Some l
   pub among : IsAmong (window_tiles f q) t
+
+-- how the tiles of level n are packed, and how many bytes one has when it is unpacked
+abbrev pub level_compression : List ℕ → ℕ → Option Compression
+level_compression f n = level_value f n 259 0 >>= compression_of
+
+unfoldable pub level_plain_size : List ℕ → ℕ → Option ℕ
+level_plain_size f n = level_directory f n >>= plain_bytes f
+
+-- how many bytes a row of a tile has, when it is unpacked
+unfoldable pub level_plain_row : List ℕ → ℕ → Option ℕ
+level_plain_row f n = do
+  tile_width ← level_value f n 322 0
+  samples ← level_value f n 277 0
+  bits ← level_value f n 258 0
+  Some (tile_width * samples * sample_bytes bits)
+
+-- a tile may have so many bytes
+abbrev pub is_byte_count : ℕ → Bool
+is_byte_count n = nat_lt 0 n && nat_le n max_tile_bytes
+
+-- a plain tile has another number of bytes than its samples
+abbrev pub IsNotPlainSize : List ℕ → ℕ → ℕ → Type 0
+IsNotPlainSize f n count = (level_compression f n ≡ Some Plain) × IsSomeAnd (level_plain_size f n) (λ size. (count == size) ≡ false)
 
 -- the byte count of a tile of the window is wrong
 pub record HasBadTile (f : List ℕ) (q : Query) : Type 0 where
   pub level : ℕ
   pub tile : ℕ
-  pub described : Level
-  pub of_window : IsTileOfWindow f q level tile described
-  pub wrong : IsSomeAnd (level_value f level 325 tile) (λ n. is_byte_count described n ≡ false)
+  pub of_window : IsTileOfWindow f q level tile
+  pub wrong : IsSomeAnd (level_value f level 325 tile) (λ count. (is_byte_count count ≡ false) ⊎ IsNotPlainSize f level count)
 
--- the bytes of a tile of the window are no packets that fill it
+-- the bytes of a packed tile of the window are no packets that fill it
 pub record HasBadPackets (f : List ℕ) (q : Query) : Type 0 where
   pub level : ℕ
   pub tile : ℕ
-  pub described : Level
-  pub of_window : IsTileOfWindow f q level tile described
+  pub of_window : IsTileOfWindow f q level tile
+  pub packed : level_compression f level ≡ Some PackBits
+  pub row : ℕ
+  pub row_is : level_plain_row f level ≡ Some row
+  pub size : ℕ
+  pub size_is : level_plain_size f level ≡ Some size
   pub bytes : List ℕ
   pub bytes_are : segment f level tile ≡ Some bytes
-  pub wrong : (plain : List ℕ) → IsUnpacked described bytes plain → ⊥
+  pub wrong : (plain : List ℕ) → length plain ≡ size → Packs row bytes plain → ⊥
 
--- A fault of the query's own.
+-- A fault of a window's own.
+abbrev pub IsFaultOfWindow : List ℕ → Query → FileFault → Type 0
+IsFaultOfWindow f q PastEnd = list_any (ends_past f) (needs_of_query f q) ≡ true
+IsFaultOfWindow f q TileSize = HasBadTile f q
+IsFaultOfWindow f q Packet = HasBadPackets f q
+IsFaultOfWindow f q Outside = is_outside f q ≡ true
+IsFaultOfWindow f q TooLarge = is_too_large f q ≡ true
+IsFaultOfWindow f q _ = ⊥
+
+-- A fault of Info's own.
+abbrev pub IsFaultOfInfo : List ℕ → FileFault → Type 0
+IsFaultOfInfo f PastEnd = list_any (ends_past f) (needs_of_query f Info) ≡ true
+IsFaultOfInfo f fault = IsGeoFault f fault ⊎ IsKeyFault f fault
+
 abbrev pub IsFaultOfQuery : List ℕ → Query → FileFault → Type 0
-IsFaultOfQuery f q PastEnd = list_any (ends_past f) (needs_of_query f q) ≡ true
-IsFaultOfQuery f q TileSize = HasBadTile f q
-IsFaultOfQuery f q Packet = HasBadPackets f q
-IsFaultOfQuery f q Outside = is_outside f q ≡ true
-IsFaultOfQuery f q TooLarge = is_too_large f q ≡ true
-IsFaultOfQuery f q _ = ⊥
+IsFaultOfQuery f Info fault = IsFaultOfInfo f fault
+IsFaultOfQuery f (Window x y w h pick) fault = IsFaultOfWindow f (Window x y w h pick) fault
 
 -- The fault stands in the file for the query.
 unfoldable pub IsFaulty : List ℕ → Query → FileFault → Type 0

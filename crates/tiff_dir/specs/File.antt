@@ -1,7 +1,7 @@
 -- What a file's bytes say: its numbers, directories, fields and values (TIFF 6.0, section 2).
-use Rattle.std.specs.Prelude.{ℕ, zero, suc, ◌+◌, ◌*◌, Bool, true, false, ◌&&◌, nat_eq, nat_lt, nat_le, ◌==◌, if◌then◌else◌, List, [], ◌∷◌, length, codes, slice_get, Option, Some, None}
+use Rattle.std.specs.Prelude.{ℕ, zero, suc, ◌+◌, ◌*◌, Bool, true, false, ◌&&◌, nat_eq, nat_lt, nat_le, ◌==◌, if◌then◌else◌, List, [], ◌∷◌, length, codes, slice_get, Option, Some, None, unwrap_or}
 use Rattle.std.specs.Option.{option_map_or}
-use Rattle.std.specs.List.{filter, find, range_with_len, starts_with}
+use Rattle.std.specs.List.{cons_option, filter, find, range_with_len, starts_with}
 use Rattle.tiff_dir.specs.declared.order.Order.{Order}
 use Rattle.tiff_dir.specs.declared.order.Order.TheVariants.{Little, Big}
 use Rattle.tiff_dir.specs.declared.level.Kind.{Kind}
@@ -49,40 +49,42 @@ directories f = filter (has_directory f) (range_with_len 0 16)
 unfoldable pub entry_count : List ℕ → ℕ → Option ℕ
 entry_count f k = directory f k >>= λ at. number f at 2
 
--- what the first 8 of an entry's 12 bytes say, and where the entry stands
+-- What an entry says of a field: its tag, type and count, and where the entry stands. Type and count are there where
+-- their own bytes are.
 pub record Field : Type 0 where
   pub tag : ℕ
-  pub kind : ℕ
-  pub count : ℕ
+  pub kind : Option ℕ
+  pub count : Option ℕ
   pub place : ℕ
 
-abbrev pub field_at : Order → ℕ → List ℕ → Field
-field_at order at f = record {
-  tag = number_in order at 2 f;
-  kind = number_in order (at + 2) 2 f;
-  count = number_in order (at + 4) 4 f;
-  place = at;
-}
+-- the entry at this place, where its tag is in the file
+unfoldable pub field_at : List ℕ → ℕ → Option Field
+field_at f at = do
+  tag ← number f at 2
+  Some (record { tag = tag; kind = number f (at + 2) 2; count = number f (at + 4) 4; place = at })
 
--- the n entries from at
-unfoldable pub fields_from : Order → ℕ → ℕ → List ℕ → List Field
-fields_from order at zero f = []
-fields_from order at (suc n) f = field_at order at f ∷ fields_from order (at + 12) n f
+-- those of the n entries from this place whose tags are in the file
+unfoldable pub fields_from : List ℕ → ℕ → ℕ → List Field
+fields_from f at zero = []
+fields_from f at (suc n) = cons_option (field_at f at) (fields_from f (at + 12) n)
 
--- The entries of directory k, where its table with the next offset is in the file.
-unfoldable pub table : List ℕ → ℕ → Option (List Field)
-table f k = do
-  order ← order_of f
+-- The entries of directory k: 12 bytes each, behind the count.
+unfoldable pub fields : List ℕ → ℕ → List Field
+fields f k = unwrap_or (do
   at ← directory f k
   n ← entry_count f k
-  if nat_le (at + 2 + 12 * n + 4) (length f) then Some (fields_from order (at + 2) n f) else None
+  Some (fields_from f (at + 2) n)) []
+
+-- the tags of all its entries are in the file
+unfoldable pub has_all_tags : List ℕ → ℕ → Bool
+has_all_tags f k = option_map_or (λ n. length (fields f k) == n) (entry_count f k) false
 
 -- the first entry with the tag
 abbrev pub with_tag : ℕ → List Field → Option Field
 with_tag tag fields = find (λ e. e.tag == tag) fields
 
 unfoldable pub field : List ℕ → ℕ → ℕ → Option Field
-field f k tag = table f k >>= with_tag tag
+field f k tag = with_tag tag (fields f k)
 
 -- the types 1 to 12
 abbrev pub kinds : List Kind
@@ -109,17 +111,18 @@ size_of kind.SignedRational = 8
 size_of kind.Float = 4
 size_of kind.Double = 8
 
--- Where values of this size begin: left-justified in the entry's last four bytes where all of them fit,
--- otherwise at the offset that stands there.
+-- Where values of so many bytes begin: left-justified in the entry's last four bytes where all of them fit, otherwise
+-- at the offset that stands there.
 unfoldable pub values_at : List ℕ → Field → ℕ → Option ℕ
-values_at f e size = if nat_le (e.count * size) 4 then Some (e.place + 8) else number f (e.place + 8) 4
+values_at f e len = if nat_le len 4 then Some (e.place + 8) else number f (e.place + 8) 4
 
 -- value i of a field
 unfoldable pub field_value : List ℕ → Field → ℕ → Option ℕ
 field_value f e i = do
-  kind ← kind_of e.kind
-  at ← values_at f e (size_of kind)
-  if nat_lt i e.count then number f (at + i * size_of kind) (size_of kind) else None
+  kind ← e.kind >>= kind_of
+  count ← e.count
+  at ← values_at f e (count * size_of kind)
+  if nat_lt i count then number f (at + i * size_of kind) (size_of kind) else None
 
 -- what each value of an absent field stands for
 abbrev pub default_of : ℕ → Option ℕ
@@ -130,6 +133,10 @@ default_of tag =
     else if tag == 339 then Some 1
     else None
 
+-- a field is absent where all tags of its directory are in the file, and none is its own
+abbrev pub absent_value : List ℕ → ℕ → ℕ → Option ℕ
+absent_value f k tag = if has_all_tags f k then default_of tag else None
+
 -- Value i of the field with this tag in directory k.
 unfoldable pub value : List ℕ → ℕ → ℕ → ℕ → Option ℕ
-value f k tag i = table f k >>= λ fields. option_map_or (λ e. field_value f e i) (with_tag tag fields) (default_of tag)
+value f k tag i = option_map_or (λ e. field_value f e i) (field f k tag) (absent_value f k tag)

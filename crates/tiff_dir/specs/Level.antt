@@ -1,13 +1,12 @@
--- The levels of a file: its picture and the reduced pictures of it (TIFF 6.0, section 15; OGC 21-026).
+-- The levels of a file: its image and the reduced-resolution images of it (TIFF 6.0, sections 8 and 15; OGC 21-026).
 use Rattle.std.specs.Prelude.{ℕ, ◌+◌, ◌*◌, Bool, false, ◌||◌, ◌==◌, nat_le, if◌then◌else◌, List, map, length, slice_get, slice_range, Option, Some, None}
 use Rattle.std.specs.Option.{option_map_or}
 use Rattle.std.specs.List.{filter, last_or, range_with_len}
 use Rattle.tiff_dir.specs.declared.level.Place.{Place}
-use Rattle.tiff_dir.specs.declared.level.Level.{Level}
 use Rattle.tiff_dir.specs.declared.level.Compression.{Compression}
 use Rattle.tiff_dir.specs.declared.level.Compression.TheVariants.{Plain, PackBits}
 use Rattle.tiff_dir.specs.File.{◌>>=◌, Field, field, kind_of, size_of, values_at, value, directories}
-use Rattle.tiff_dir.specs.Profile.{tile_bytes, tiles_along}
+use Rattle.tiff_dir.specs.Profile.{sample_bytes, tile_bytes, tiles_along}
 
 -- directory 0, and each later one whose NewSubfileType is 1
 unfoldable pub is_level : List ℕ → ℕ → Bool
@@ -24,37 +23,63 @@ previous_level f k = last_or None (filter (is_level f) (range_with_len 0 k))
 -- where the values of a field stand, in its entry or outside
 unfoldable pub place_of : List ℕ → Field → Option Place
 place_of f e = do
-  kind ← kind_of e.kind
-  first ← values_at f e (size_of kind)
-  Some (record { first = first; len = e.count * size_of kind; count = e.count; kind = kind })
+  kind ← e.kind >>= kind_of
+  count ← e.count
+  first ← values_at f e (count * size_of kind)
+  Some (record { first = first; len = count * size_of kind; count = count; kind = kind })
 
 abbrev pub compression_of : ℕ → Option Compression
 compression_of v = if v == 1 then Some Plain else if v == 32773 then Some PackBits else None
 
--- the level that the fields of directory k describe, where all that it says is there
-unfoldable pub level_at : List ℕ → ℕ → Option Level
-level_at f k = do
+-- how a level is cut into tiles: its sides and the tiles', in pixels
+pub record Grid : Type 0 where
+  pub width : ℕ
+  pub length : ℕ
+  pub tile_width : ℕ
+  pub tile_length : ℕ
+
+-- what a directory says of its level, but for the bytes of the tiles' arrays
+pub record Layout : Type 0 where
+  pub grid : Grid
+  pub samples : ℕ
+  pub bits : ℕ
+  pub compression : Compression
+  pub offsets : Place
+  pub counts : Place
+
+-- the grid of directory k, where its four values are in the file
+unfoldable pub grid_at : List ℕ → ℕ → Option Grid
+grid_at f k = do
   width ← value f k 256 0
   length ← value f k 257 0
   tile_width ← value f k 322 0
   tile_length ← value f k 323 0
+  Some (record { width = width; length = length; tile_width = tile_width; tile_length = tile_length })
+
+-- the layout that directory k describes, where all that it says is in the file
+unfoldable pub layout_at : List ℕ → ℕ → Option Layout
+layout_at f k = do
+  grid ← grid_at f k
   samples ← value f k 277 0
   bits ← value f k 258 0
   compression ← value f k 259 0 >>= compression_of
   offsets ← field f k 324 >>= place_of f
   counts ← field f k 325 >>= place_of f
-  Some (record { width = width; length = length; tile_width = tile_width; tile_length = tile_length; samples = samples; bits = bits; compression = compression; offsets = offsets; counts = counts })
+  Some (record { grid = grid; samples = samples; bits = bits; compression = compression; offsets = offsets; counts = counts })
 
--- the levels in order, each where it is described
-unfoldable pub levels : List ℕ → List (Option Level)
-levels f = map (level_at f) (level_directories f)
+-- the layouts of the levels in order, each where it is described
+unfoldable pub layouts : List ℕ → List (Option Layout)
+layouts f = map (layout_at f) (level_directories f)
 
--- the directory of level n, and the level itself
+-- the directory of level n, its grid and its layout
 unfoldable pub level_directory : List ℕ → ℕ → Option ℕ
 level_directory f n = slice_get (level_directories f) n
 
-unfoldable pub level_of : List ℕ → ℕ → Option Level
-level_of f n = level_directory f n >>= level_at f
+unfoldable pub level_grid : List ℕ → ℕ → Option Grid
+level_grid f n = level_directory f n >>= grid_at f
+
+unfoldable pub level_layout : List ℕ → ℕ → Option Layout
+level_layout f n = level_directory f n >>= layout_at f
 
 -- value i of the field with this tag in level n
 unfoldable pub level_value : List ℕ → ℕ → ℕ → ℕ → Option ℕ
@@ -68,15 +93,15 @@ segment f n t = do
   if nat_le (first + count) (length f) then Some (slice_range f first (first + count)) else None
 
 -- how many tiles stand side by side, and how many there are
-abbrev pub across : Level → ℕ
-across l = tiles_along l.width l.tile_width
+abbrev pub across : Grid → ℕ
+across g = tiles_along g.width g.tile_width
 
-abbrev pub tile_total : Level → ℕ
-tile_total l = across l * tiles_along l.length l.tile_length
+abbrev pub tile_total : Grid → ℕ
+tile_total g = across g * tiles_along g.length g.tile_length
 
 -- how many bytes a tile has when it is unpacked, and a row of it
-abbrev pub plain_size : Level → ℕ
-plain_size l = tile_bytes l.tile_width l.tile_length l.samples
+abbrev pub plain_size : Layout → ℕ
+plain_size l = tile_bytes l.grid.tile_width l.grid.tile_length l.samples l.bits
 
-abbrev pub plain_row : Level → ℕ
-plain_row l = l.tile_width * l.samples
+abbrev pub plain_row : Layout → ℕ
+plain_row l = l.grid.tile_width * l.samples * sample_bytes l.bits

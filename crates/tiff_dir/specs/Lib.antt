@@ -4,12 +4,16 @@ pub mod Profile
 pub mod Level
 pub mod Needs
 pub mod Fault
+pub mod Geo
 pub mod FaultNumber
 pub mod Packets
 pub mod Query
 pub mod Window
 pub mod Faulty
+pub mod Described
 pub mod Table
+pub mod GeoEntries
 pub mod Stage
+pub mod Known
 pub mod Shape
 pub mod Walk

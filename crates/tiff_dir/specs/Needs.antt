@@ -32,9 +32,17 @@ table_range f k = do
   n ← entry_count f k
   if is_entry_count n then Some (record { first = at + 2; len = 12 * n + 4 }) else None
 
--- a field's values, where they stand outside its entry
+-- the bytes of a field's values
+abbrev pub range_of_place : Place → Range
+range_of_place p = record { first = p.first; len = p.len }
+
+-- the values of the field with this tag in directory k, in its entry or outside
+unfoldable pub field_range : List ℕ → ℕ → ℕ → Option Range
+field_range f k tag = field f k tag >>= place_of f >>= λ p. Some (range_of_place p)
+
+-- those that stand outside the entry
 abbrev pub outside_entry : Place → Option Range
-outside_entry p = if nat_lt 4 p.len then Some (record { first = p.first; len = p.len }) else None
+outside_entry p = if nat_lt 4 p.len then Some (range_of_place p) else None
 
 unfoldable pub outside_range : List ℕ → ℕ → ℕ → Option Range
 outside_range f k tag = field f k tag >>= place_of f >>= outside_entry

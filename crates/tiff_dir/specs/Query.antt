@@ -1,14 +1,14 @@
 -- What a query asks for, and which bytes of the file it needs.
-use Rattle.std.specs.Prelude.{ℕ, ◌+◌, ◌-◌, ◌*◌, ◌/◌, ◌%◌, Bool, false, not, ◌&&◌, ◌||◌, nat_lt, ◌==◌, if◌then◌else◌, List, [], ◌++◌, Option, Some, is_none}
-use Rattle.std.specs.List.{filter, filter_map, range_with_len, sum_by}
+use Rattle.std.specs.Prelude.{ℕ, ◌+◌, ◌-◌, ◌*◌, ◌/◌, ◌%◌, Bool, false, not, ◌&&◌, ◌||◌, nat_lt, nat_le, ◌==◌, if◌then◌else◌, List, [], ◌∷◌, ◌++◌, length, map, Option, Some, None, is_none, unwrap_or}
+use Rattle.std.specs.List.{filter, last_or, range_with_len, sum_by}
 use Rattle.std.specs.Option.{option_map_or, option_to_list}
-use Rattle.tiff_dir.specs.declared.level.Level.{Level}
 use Rattle.tiff_dir.specs.declared.query.Query.{Query}
-use Rattle.tiff_dir.specs.declared.query.Query.TheVariants.{Window}
+use Rattle.tiff_dir.specs.declared.query.Query.TheVariants.{Window, Info}
 use Rattle.tiff_dir.specs.declared.query.Pick.TheVariants as pick
-use Rattle.tiff_dir.specs.File.{◌>>=◌, field}
-use Rattle.tiff_dir.specs.Level.{place_of, level_directory, level_of, level_value, across, tile_total}
-use Rattle.tiff_dir.specs.Needs.{Range, ends_past, needs_of_directories}
+use Rattle.tiff_dir.specs.File.{◌>>=◌}
+use Rattle.tiff_dir.specs.Level.{Grid, level_directories, level_directory, level_grid, level_value, across, tile_total}
+use Rattle.tiff_dir.specs.Needs.{Range, ends_past, field_range, needs_of_directories}
+use Rattle.tiff_dir.specs.Geo.{geo_ranges}
 
 -- columns from left and rows from top, in the samples of a level
 pub record Rectangle : Type 0 where
@@ -18,19 +18,55 @@ pub record Rectangle : Type 0 where
   pub width : ℕ
   pub height : ℕ
 
+-- level n has at least so many columns of w columns of level 0
+abbrev pub has_columns : List ℕ → ℕ → ℕ → ℕ → Bool
+has_columns f columns w n =
+    option_map_or (λ width. option_map_or (λ first. nat_le (columns * first) (width * w)) (level_value f 0 256 0) false)
+    (level_value f n 256 0) false
+
+-- the greatest such level, level 0 if there is none
+unfoldable pub smallest_level : List ℕ → ℕ → ℕ → ℕ
+smallest_level f columns w =
+    unwrap_or (last_or None (filter (has_columns f columns w) (range_with_len 0 (length (level_directories f))))) 0
+
+-- a place along a side of level 0, along the same side of another level: rounded down, and rounded up
+abbrev pub scaled_down : ℕ → ℕ → ℕ → ℕ
+scaled_down side first at = at * side / first
+
+abbrev pub scaled_up : ℕ → ℕ → ℕ → ℕ
+scaled_up side first at = (at * side + first - 1) / first
+
+-- a window of level 0 in level n, rounded outwards
+unfoldable pub scaled : List ℕ → ℕ → ℕ → ℕ → ℕ → ℕ → Option Rectangle
+scaled f n x y w h = do
+  first_width ← level_value f 0 256 0
+  first_length ← level_value f 0 257 0
+  width ← level_value f n 256 0
+  length ← level_value f n 257 0
+  let left = scaled_down width first_width x in let top = scaled_down length first_length y in
+      Some (record { level = n; left = left; top = top; width = scaled_up width first_width (x + w) - left; height = scaled_up length first_length (y + h) - top })
+
 -- The rectangle that is asked for.
 unfoldable pub rectangle : List ℕ → Query → Option Rectangle
 rectangle f (Window x y w h (pick.Level n)) = Some (record { level = n; left = x; top = y; width = w; height = h })
+rectangle f (Window x y w h (pick.Columns columns)) = scaled f (smallest_level f columns w) x y w h
+rectangle f Info = None
 
 -- the side is there and ends before this place
 abbrev pub passes : ℕ → Option ℕ → Bool
 passes end side = option_map_or (λ s. nat_lt s end) side false
 
--- The window is empty, its level isn't there, or it passes a side of the level.
-unfoldable pub is_outside : List ℕ → Query → Bool
-is_outside f (Window x y w h (pick.Level n)) =
+-- a window is empty, its level isn't there, or it passes a side of the level
+abbrev pub is_outside_level : List ℕ → ℕ → ℕ → ℕ → ℕ → ℕ → Bool
+is_outside_level f n x y w h =
     (w == 0) || (h == 0) || is_none (level_directory f n)
     || passes (x + w) (level_value f n 256 0) || passes (y + h) (level_value f n 257 0)
+
+-- The window is outside the level that its numbers are given in.
+unfoldable pub is_outside : List ℕ → Query → Bool
+is_outside f (Window x y w h (pick.Level n)) = is_outside_level f n x y w h
+is_outside f (Window x y w h (pick.Columns columns)) = (columns == 0) || is_outside_level f 0 x y w h
+is_outside f Info = false
 
 abbrev pub max_window_samples : ℕ
 max_window_samples = 4194304
@@ -48,29 +84,25 @@ is_refused f q = is_outside f q || is_too_large f q
 abbrev pub overlap : ℕ → ℕ → ℕ → ℕ → Bool
 overlap a a_len b b_len = nat_lt a (b + b_len) && nat_lt b (a + a_len)
 
--- tile t of the level has a sample of the rectangle
-abbrev pub meets : Level → Rectangle → ℕ → Bool
-meets l r t =
-    overlap ((t % across l) * l.tile_width) l.tile_width r.left r.width
-    && overlap ((t / across l) * l.tile_length) l.tile_length r.top r.height
+-- tile t of the grid has a pixel of the rectangle
+abbrev pub meets : Grid → Rectangle → ℕ → Bool
+meets g r t =
+    overlap ((t % across g) * g.tile_width) g.tile_width r.left r.width
+    && overlap ((t / across g) * g.tile_length) g.tile_length r.top r.height
 
 -- the tiles of a rectangle, in ascending number
-unfoldable pub tiles_in : Level → Rectangle → List ℕ
-tiles_in l r = filter (meets l r) (range_with_len 0 (tile_total l))
+unfoldable pub tiles_in : Grid → Rectangle → List ℕ
+tiles_in g r = filter (meets g r) (range_with_len 0 (tile_total g))
 
 -- The tiles that the window needs: none where it is outside or too large.
 unfoldable pub window_tiles : List ℕ → Query → List ℕ
 window_tiles f q =
     if is_refused f q then []
-    else option_map_or (λ r. option_map_or (λ l. tiles_in l r) (level_of f r.level) []) (rectangle f q) []
+    else option_map_or (λ r. option_map_or (λ g. tiles_in g r) (level_grid f r.level) []) (rectangle f q) []
 
 -- the values of TileOffsets or TileByteCounts, in the entry or outside
 unfoldable pub array_range : List ℕ → ℕ → ℕ → Option Range
-array_range f n tag = do
-  k ← level_directory f n
-  e ← field f k tag
-  p ← place_of f e
-  Some (record { first = p.first; len = p.len })
+array_range f n tag = level_directory f n >>= λ k. field_range f k tag
 
 -- the bytes of a tile
 unfoldable pub tile_range : List ℕ → ℕ → ℕ → Option Range
@@ -79,9 +111,42 @@ tile_range f n t = do
   len ← level_value f n 325 t
   Some (record { first = first; len = len })
 
--- the window's tiles, each by itself
-unfoldable pub groups : List ℕ → Query → List Range
-groups f q = option_map_or (λ r. filter_map (tile_range f r.level) (window_tiles f q)) (rectangle f q) []
+-- ---- groups: tiles that follow each other in the file are read by one range
+
+-- some tiles, and the range from the first one's first byte to the last one's last
+pub record Group : Type 0 where
+  pub tiles : List ℕ
+  pub range : Range
+
+abbrev pub max_group_bytes : ℕ
+max_group_bytes = 1048576
+
+-- the range begins where the group's last tile ends, and the group with it isn't too long
+abbrev pub joins : Group → Range → Bool
+joins g r = (r.first == g.range.first + g.range.len) && nat_le (g.range.len + r.len) max_group_bytes
+
+abbrev pub alone : ℕ → Range → Group
+alone t r = record { tiles = t ∷ []; range = r }
+
+abbrev pub with_tile : Group → ℕ → Range → Group
+with_tile g t r = record { tiles = g.tiles ++ t ∷ []; range = record { first = g.range.first; len = g.range.len + r.len } }
+
+-- A group and the tiles after it: each joins the group of the one before, or begins the next. A tile whose values aren't
+-- there is in no group and ends the one before.
+unfoldable pub grouped_after : Option Group → List (ℕ × Option Range) → List Group
+grouped_after before [] = option_to_list before
+grouped_after before ((t, None) ∷ rest) = option_to_list before ++ grouped_after None rest
+grouped_after None ((t, Some r) ∷ rest) = grouped_after (Some (alone t r)) rest
+grouped_after (Some g) ((t, Some r) ∷ rest) =
+    if joins g r then grouped_after (Some (with_tile g t r)) rest else g ∷ grouped_after (Some (alone t r)) rest
+
+-- the groups of some tiles
+unfoldable pub grouped : (ℕ → Option Range) → List ℕ → List Group
+grouped range tiles = grouped_after None (map (λ t. (t, range t)) tiles)
+
+-- The groups of the window's tiles.
+unfoldable pub groups : List ℕ → Query → List Group
+groups f q = option_map_or (λ r. grouped (tile_range f r.level) (window_tiles f q)) (rectangle f q) []
 
 -- the arrays of the window's level
 unfoldable pub array_ranges : List ℕ → Query → List Range
@@ -89,8 +154,11 @@ array_ranges f q =
     if is_refused f q then []
     else option_map_or (λ r. option_to_list (array_range f r.level 324) ++ option_to_list (array_range f r.level 325)) (rectangle f q) []
 
+-- what a window needs, and what Info needs, besides the directories
 unfoldable pub needs_of_query : List ℕ → Query → List Range
-needs_of_query f q = array_ranges f q ++ groups f q
+needs_of_query f Info = geo_ranges f
+needs_of_query f (Window x y w h p) =
+    let q = Window x y w h p in array_ranges f q ++ map (λ (g : Group). g.range) (groups f q)
 
 -- The ranges of the file that the query needs.
 unfoldable pub needs : List ℕ → Query → List Range

@@ -1,12 +1,11 @@
 -- What is known of a file at each stage of a walk over its directories.
-use Rattle.std.specs.Prelude.{◌≡◌, ◌≢◌, ℕ, suc, ◌+◌, ◌-◌, ◌*◌, ◌<◌, ◌≤◌, ◌^◌, ◌⊎◌, ⊤, Bool, true, false, nat_lt, if◌then◌else◌, List, [], ◌∷◌, ◌++◌, map, take, drop, Option, Some, None}
+use Rattle.std.specs.Prelude.{◌≡◌, ◌≢◌, ℕ, suc, ◌+◌, ◌-◌, ◌*◌, ◌<◌, ◌≤◌, ◌^◌, ◌⊎◌, ⊤, Bool, true, false, ◌&&◌, ◌==◌, nat_lt, if◌then◌else◌, List, [], ◌∷◌, ◌++◌, map, take, drop, Option, Some, None, IfSome}
 use Rattle.std.specs.Option.{option_map, option_to_list}
 use Rattle.std.specs.List.{filter, flat_map, range_with_len}
 use Rattle.tiff_dir.specs.declared.order.Order.{Order}
 use Rattle.tiff_dir.specs.declared.table.Entry.{Entry}
 use Rattle.tiff_dir.specs.declared.level.Level.{Level}
 use Rattle.tiff_dir.specs.declared.level.Place.{Place}
-use Rattle.tiff_dir.specs.declared.level.Kind.TheVariants as kind
 use Rattle.tiff_dir.specs.declared.fault.FileFault.{FileFault}
 use Rattle.tiff_dir.specs.declared.fault.FileFault.TheVariants.{Missing, FieldType}
 use Rattle.tiff_dir.specs.declared.stage.Draft.{Draft}
@@ -14,8 +13,11 @@ use Rattle.tiff_dir.specs.declared.stage.Pending.{Pending}
 use Rattle.tiff_dir.specs.declared.stage.Step.{Step}
 use Rattle.tiff_dir.specs.declared.stage.Stage.{Stage}
 use Rattle.tiff_dir.specs.declared.stage.Stage.TheVariants.{Header, Count, Table, Bits, Formats, Ended}
-use Rattle.tiff_dir.specs.File.{◌>>=◌, order_of, number, directory, has_directory, table, field, value, size_of}
-use Rattle.tiff_dir.specs.Level.{is_level, previous_level, place_of, level_at, compression_of}
+use Rattle.tiff_dir.specs.Number.{number_in}
+use Rattle.tiff_dir.specs.File.{◌>>=◌, order_of, number, directory, has_directory, has_all_tags, fields, field, value, size_of}
+use Rattle.tiff_dir.specs.Profile.{is_depth, is_sample_count, is_long, is_short_or_long}
+use Rattle.tiff_dir.specs.Level.{Layout, is_level, previous_level, place_of, grid_at, layout_at, compression_of}
+use Rattle.tiff_dir.specs.Described.{described}
 use Rattle.tiff_dir.specs.Needs.{Range, is_entry_count, header_range, ranges_of_directory, outside_range}
 use Rattle.tiff_dir.specs.Fault.{is_directory_place, IsUnsupported, IsFaultAt, IsFaultOfDirectory, IsFaultOfLevel}
 use Rattle.tiff_dir.specs.Table.{field_of, found}
@@ -26,7 +28,7 @@ range_of Header = Some header_range
 range_of (Count order index at) = Some (record { first = at; len = 2 })
 range_of (Table order index at n) = Some (record { first = at + 2; len = 12 * n + 4 })
 range_of (Bits pending first formats) = Some (record { first = first; len = 6 })
-range_of (Formats pending first eights) = Some (record { first = first; len = 6 })
+range_of (Formats pending first bits) = Some (record { first = first; len = 6 })
 range_of (Ended order index) = None
 
 -- the number of the directory that the walk is at
@@ -35,20 +37,33 @@ index_of Header = 0
 index_of (Count order index at) = index
 index_of (Table order index at n) = index
 index_of (Bits pending first formats) = pending.index
-index_of (Formats pending first eights) = pending.index
+index_of (Formats pending first bits) = pending.index
 index_of (Ended order index) = index
+
+-- the table of the first directory has been read, or it is what is wanted
+abbrev pub is_past_first : Stage → Bool
+is_past_first Header = false
+is_past_first (Count order index at) = nat_lt 0 index
+is_past_first (Table order index at n) = nat_lt 0 index
+is_past_first (Bits pending first formats) = true
+is_past_first (Formats pending first bits) = true
+is_past_first (Ended order index) = true
+
+abbrev pub is_first_table : Stage → Bool
+is_first_table (Table order index at n) = index == 0
+is_first_table _ = false
 
 -- these are the bytes of the file in the range
 abbrev pub IsPart : List ℕ → Range → List ℕ → Type 0
 IsPart f r bytes = bytes ≡ take r.len (drop r.first f)
 
--- what the levels among the directories below k are
-unfoldable pub levels_below : List ℕ → ℕ → List (Option Level)
-levels_below f k = map (level_at f) (filter (is_level f) (range_with_len 0 k))
+-- the layouts of the levels among the directories below k
+unfoldable pub layouts_below : List ℕ → ℕ → List (Option Layout)
+layouts_below f k = map (layout_at f) (filter (is_level f) (range_with_len 0 k))
 
 -- the level before directory k, if there is one
 abbrev pub IsBefore : List ℕ → ℕ → Option Level → Type 0
-IsBefore f k previous = option_map (level_at f) (previous_level f k) ≡ option_map Some previous
+IsBefore f k previous = option_map (layout_at f) (previous_level f k) ≡ option_map described previous
 
 -- what the directories from k on need
 unfoldable pub ranges_from : List ℕ → ℕ → List Range
@@ -68,7 +83,7 @@ still f Header = header_range ∷ ranges_from f 0
 still f (Count order index at) = ranges_from f index
 still f (Table order index at n) = record { first = at + 2; len = 12 * n + 4 } ∷ (outside_ranges f index ++ ranges_from f (suc index))
 still f (Bits pending first formats) = three_shorts first ∷ (option_to_list (option_map three_shorts formats) ++ ranges_from f (suc pending.index))
-still f (Formats pending first eights) = three_shorts first ∷ ranges_from f (suc pending.index)
+still f (Formats pending first bits) = three_shorts first ∷ ranges_from f (suc pending.index)
 still f (Ended order index) = []
 
 -- the order and the number 42 are told, and no fault is in the directories below k
@@ -139,17 +154,25 @@ abbrev pub HasFormats : List ℕ → ℕ → Option ℕ → Type 0
 HasFormats f k None = IsSupported f k 339
 HasFormats f k (Some first) = HasShorts f k 339 first
 
--- the values of BitsPerSample are right, or not
-abbrev pub HasBits : List ℕ → ℕ → Bool → Type 0
-HasBits f k true = (value f k 258 0 ≡ Some 8) × IsSupported f k 258
-HasBits f k false = IsUnsupported f k 258
+-- the three numbers of two bytes are this one
+abbrev pub all_are : Order → List ℕ → ℕ → Bool
+all_are o bytes w = (number_in o 0 2 bytes == w) && ((number_in o 2 2 bytes == w) && (number_in o 4 2 bytes == w))
+
+-- they are one and the same depth of a sample
+abbrev pub depth_in : Order → List ℕ → Option ℕ
+depth_in o bytes = let bits = number_in o 0 2 bytes in if is_depth bits && all_are o bytes bits then Some bits else None
+
+-- the values of BitsPerSample are one and the same depth of the profile, or not
+abbrev pub HasBits : List ℕ → ℕ → Option ℕ → Type 0
+HasBits f k (Some bits) = (value f k 258 0 ≡ Some bits) × (is_depth bits ≡ true) × IsSupported f k 258
+HasBits f k None = IsUnsupported f k 258
 
 abbrev pub AgreesAt : List ℕ → Stage → Type 0
 AgreesAt f Header = ⊤
 AgreesAt f (Count order index at) = Reaches f order index at
 AgreesAt f (Table order index at n) = Counts f order index at n
 AgreesAt f (Bits p first formats) = IsPending f p × HasShorts f p.index 258 first × HasFormats f p.index formats
-AgreesAt f (Formats p first eights) = IsPending f p × HasShorts f p.index 339 first × HasBits f p.index eights
+AgreesAt f (Formats p first bits) = IsPending f p × HasShorts f p.index 339 first × HasBits f p.index bits
 AgreesAt f (Ended order index) = IsOver f order index
 
 -- the bytes are the table of directory k, with the place of the next one
@@ -163,14 +186,14 @@ IsAt f k stage = AgreesAt f stage × (still f stage ≡ ranges_from f k)
 -- The walk goes on to this stage, and the step has the level that was read, if one was.
 pub record StepsOn (f : List ℕ) (stage : Stage) (step : Step) : Type 0 where
   pub here : AgreesAt f step.stage
-  pub levels : levels_below f (index_of step.stage) ≡ levels_below f (index_of stage) ++ map Some (option_to_list step.level)
+  pub levels : layouts_below f (index_of step.stage) ≡ layouts_below f (index_of stage) ++ map described (option_to_list step.level)
   pub come : (r : Range) → range_of stage ≡ Some r → still f stage ≡ r ∷ still f step.stage
 
 -- The directory is done with: the walk goes on to the next one or ends.
 pub record EndsDirectory (f : List ℕ) (k : ℕ) (step : Step) : Type 0 where
   pub here : AgreesAt f step.stage
   pub index : index_of step.stage ≡ suc k
-  pub levels : levels_below f (suc k) ≡ levels_below f k ++ map Some (option_to_list step.level)
+  pub levels : layouts_below f (suc k) ≡ layouts_below f k ++ map described (option_to_list step.level)
   pub come : still f step.stage ≡ ranges_from f (suc k)
 
 -- The numbers of a draft that the profile bounds
@@ -188,9 +211,9 @@ pub record IsBounded (d : Draft) : Type 0 where
 
 pub record IsDraft (d : Draft) : Type 0 where
   pub bounded : IsBounded d
-  pub samples : (d.samples ≡ 1) ⊎ (d.samples ≡ 3)
-  pub long : d.offsets.kind ≡ kind.Long
-  pub whole : (d.counts.kind ≡ kind.Short) ⊎ (d.counts.kind ≡ kind.Long)
+  pub samples : is_sample_count d.samples ≡ true
+  pub long : is_long d.offsets.kind ≡ true
+  pub whole : is_short_or_long d.counts.kind ≡ true
 
 -- how many ranges a walk has taken at most, and that it is at one of 16 directories
 abbrev pub IsKept : Stage → ℕ → Type 0
@@ -198,12 +221,13 @@ IsKept Header given = given ≤ 0
 IsKept (Count order index at) given = (index < 16) × (given ≤ 1 + 4 * index)
 IsKept (Table order index at n) given = (index < 16) × (given ≤ 2 + 4 * index) × (n ≤ 256)
 IsKept (Bits p first formats) given = (p.index < 16) × (given ≤ 3 + 4 * p.index) × IsDraft p.draft
-IsKept (Formats p first eights) given = (p.index < 16) × (given ≤ 4 + 4 * p.index) × IsDraft p.draft
+IsKept (Formats p first bits) given = (p.index < 16) × (given ≤ 4 + 4 * p.index) × IsDraft p.draft × IfSome bits (λ n. is_depth n ≡ true)
 IsKept (Ended order index) given = (0 < index) × (index ≤ 16) × (given ≤ 1 + 4 * index)
 
 -- the table of directory k, with what each entry holds in itself
 pub record HasTable (f : List ℕ) (k : ℕ) (es : List Entry) : Type 0 where
   pub there : has_directory f k ≡ true
-  pub told : table f k ≡ Some (map field_of es)
+  pub whole : has_all_tags f k ≡ true
+  pub told : fields f k ≡ map field_of es
   pub short : (tag : ℕ) (e : Entry) → found tag es ≡ Some e → number f (e.place + 8) 2 ≡ Some e.short
   pub long : (tag : ℕ) (e : Entry) → found tag es ≡ Some e → number f (e.place + 8) 4 ≡ Some e.long

@@ -1,5 +1,5 @@
--- What a directory's entries hold in themselves, for fields of SHORT and LONG.
-use Rattle.std.specs.Prelude.{◌≡◌, ◌⊎◌, ℕ, zero, suc, ◌+◌, ◌*◌, ◌<◌, Bool, true, false, not, ◌&&◌, nat_le, ◌==◌, if◌then◌else◌, List, [], ◌∷◌, length, get_or, Option, None, IsSomeAnd}
+-- What a directory's entries hold in themselves, for fields of the profile's types.
+use Rattle.std.specs.Prelude.{◌≡◌, ◌⊎◌, ℕ, zero, suc, ◌+◌, ◌*◌, ◌<◌, Bool, true, false, not, ◌&&◌, nat_le, ◌==◌, if◌then◌else◌, List, [], ◌∷◌, length, get_or, Option, Some, None, IsSomeAnd}
 use Rattle.std.specs.Option.{option_map, option_map_or}
 use Rattle.std.specs.List.{find, AllPass}
 use Rattle.tiff_dir.specs.declared.order.Order.{Order}
@@ -7,16 +7,17 @@ use Rattle.tiff_dir.specs.declared.table.Entry.{Entry}
 use Rattle.tiff_dir.specs.declared.table.Table.{Table}
 use Rattle.tiff_dir.specs.declared.rule.Rule.{Rule}
 use Rattle.tiff_dir.specs.declared.rule.Count.{Count}
-use Rattle.tiff_dir.specs.declared.rule.Count.TheVariants.{One, Samples, Tiles}
+use Rattle.tiff_dir.specs.declared.rule.Count.TheVariants.{One, Samples, Tiles, Exactly, Multiple}
 use Rattle.tiff_dir.specs.declared.level.Place.{Place}
+use Rattle.tiff_dir.specs.declared.level.Kind.{Kind}
 use Rattle.tiff_dir.specs.declared.level.Kind.TheVariants as kind
 use Rattle.tiff_dir.specs.declared.level.Compression.TheVariants.{Plain, PackBits}
 use Rattle.tiff_dir.specs.declared.stage.Draft.{Draft}
 use Rattle.tiff_dir.specs.declared.fault.FileFault.{FileFault}
 use Rattle.tiff_dir.specs.declared.fault.FileFault.TheVariants.{Missing, FieldType, Unsupported}
 use Rattle.tiff_dir.specs.Number.{number_in}
-use Rattle.tiff_dir.specs.File.{Field}
-use Rattle.tiff_dir.specs.Profile.{profile, has_typing, accepts, samples_fit, planes_fit}
+use Rattle.tiff_dir.specs.File.{Field, size_of}
+use Rattle.tiff_dir.specs.Profile.{profile, has_typing, is_multiple, accepts, samples_fit, planes_fit}
 
 -- the entry in the 12 bytes from at, of bytes that stand in the file from base
 abbrev pub entry : Order → ℕ → ℕ → List ℕ → Entry
@@ -31,7 +32,7 @@ abbrev pub entries_of : Table → List Entry
 entries_of t = entries t.order (t.at + 2) 0 t.entries t.bytes.now
 
 abbrev pub field_of : Entry → Field
-field_of e = record { tag = e.tag; kind = e.kind; count = e.count; place = e.place }
+field_of e = record { tag = e.tag; kind = Some e.kind; count = Some e.count; place = e.place }
 
 -- the first entry with the tag
 abbrev pub found : ℕ → List Entry → Option Entry
@@ -42,6 +43,8 @@ abbrev pub counts_one : Count → ℕ → Bool
 counts_one One count = count == 1
 counts_one Samples count = true
 counts_one Tiles count = true
+counts_one (Exactly n) count = count == n
+counts_one (Multiple n) count = is_multiple n count
 
 -- the type is right, and the count where it is to be one
 abbrev pub allows : Rule → Entry → Bool
@@ -80,11 +83,15 @@ counts_samples es tag = option_map_or (λ e. e.count == short_or es 277 1) (foun
 abbrev pub long_in : List Entry → ℕ → Option ℕ
 long_in es tag = option_map (λ e. e.long) (found tag es)
 
+-- the types that the profile has
+abbrev pub kind_in : ℕ → Kind
+kind_in number = if number == 3 then kind.Short else if number == 4 then kind.Long else if number == 2 then kind.Ascii else kind.Double
+
 abbrev pub len_of : Entry → ℕ
-len_of e = e.count * (if e.kind == 3 then 2 else 4)
+len_of e = e.count * size_of (kind_in e.kind)
 
 abbrev pub place_in : Entry → Place
-place_in e = record { first = (if nat_le (len_of e) 4 then e.place + 8 else e.long); len = len_of e; count = e.count; kind = (if e.kind == 3 then kind.Short else kind.Long) }
+place_in e = record { first = (if nat_le (len_of e) 4 then e.place + 8 else e.long); len = len_of e; count = e.count; kind = kind_in e.kind }
 
 abbrev pub place_or : List Entry → ℕ → Place
 place_or es tag = option_map_or place_in (found tag es) (record { first = 0; len = 0; count = 0; kind = kind.Long })

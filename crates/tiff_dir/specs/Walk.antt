@@ -1,25 +1,20 @@
--- What callers see of a walk over a file's directories, which is given one range of the file after another.
-use Rattle.std.specs.Prelude.{◌≡◌, ℕ, ◌+◌, ◌-◌, ◌*◌, ◌%◌, ◌<◌, ◌≤◌, ◌^◌, ◌⊎◌, List, map, drop, slice_range, Option, Some, None, Result, Ok, Err, IsSomeAnd}
-use Rattle.std.specs.List.{list_any}
+-- The words for what callers see of a walk over a file's directories, which is given one range of the file after another.
+use Rattle.std.specs.Prelude.{◌≡◌, ℕ, ◌+◌, ◌-◌, ◌<◌, ◌≤◌, ◌^◌, ⊤, List, drop, slice_range, Option, Some, None, Result, Ok, Err, IsSomeAnd}
 use Rattle.tiff_dir.specs.declared.level.Level.{Level}
 use Rattle.tiff_dir.specs.declared.level.Place.{Place}
+use Rattle.tiff_dir.specs.declared.level.Kind.{Kind}
 use Rattle.tiff_dir.specs.declared.level.Kind.TheVariants as kind
+use Rattle.tiff_dir.specs.declared.geo.GeoPlaces.{GeoPlaces}
 use Rattle.tiff_dir.specs.declared.span.Span.{Span}
 use Rattle.tiff_dir.specs.declared.fault.FileFault.{FileFault}
 use Rattle.tiff_dir.specs.declared.fault.WalkError.{WalkError}
 use Rattle.tiff_dir.specs.declared.fault.WalkError.TheVariants as errors
-use Rattle.tiff_dir.specs.declared.stage.Stage.{Stage}
-use Rattle.tiff_dir.specs.File.{size_of}
-use Rattle.tiff_dir.specs.Profile.{max_tile_bytes, max_tiles}
-use Rattle.tiff_dir.specs.Level.{levels, level_value, plain_size, tile_total}
-use Rattle.tiff_dir.specs.Needs.{Range, ends_past, needs_of_directories}
-use Rattle.tiff_dir.specs.Stage.{range_of, AgreesAt, index_of, levels_below, still}
-
--- what a walk knows: where it stands, the levels so far, and how many ranges it has taken
-pub record Known : Type 0 where
-  pub stage : Stage
-  pub levels : List Level
-  pub given : ℕ
+use Rattle.tiff_dir.specs.Level.{level_value}
+use Rattle.tiff_dir.specs.Needs.{Range, range_of_place, needs_of_directories}
+use Rattle.tiff_dir.specs.Profile.{max_geo_bytes}
+use Rattle.tiff_dir.specs.Geo.{geo_place, IsGeoFault}
+use Rattle.tiff_dir.specs.Stage.{range_of}
+use Rattle.tiff_dir.specs.Known.{Known, IsTold}
 
 -- The range that the walk wants next, none at the end.
 unfoldable pub wanted : Known → Option Range
@@ -27,6 +22,10 @@ wanted w = range_of w.stage
 
 abbrev pub HasEnded : Known → Type 0
 HasEnded w = wanted w ≡ None
+
+-- How many ranges the walk has taken.
+unfoldable pub given_of : Known → ℕ
+given_of w = w.given
 
 -- as many bytes as the walk wants
 abbrev pub IsWanted : Known → ℕ → Type 0
@@ -44,20 +43,9 @@ IsWantedOf f w bytes = IsSomeAnd (wanted w) (λ r. bytes ≡ bytes_in f r)
 unfoldable pub to_come : Known → List ℕ → List Range
 to_come w f = drop w.given (needs_of_directories f)
 
--- what a walk knows is what the file says
-pub record IsTold (w : Known) (f : List ℕ) : Type 0 where
-  pub here : AgreesAt f w.stage
-  pub levels : map Some w.levels ≡ levels_below f (index_of w.stage)
-  pub come : drop w.given (needs_of_directories f) ≡ still f w.stage
-  pub inside : list_any (ends_past f) (needs_of_directories f) ≡ list_any (ends_past f) (still f w.stage)
-
--- A walk agrees with a file: all that it knows is what the file says, and no fault of the file was passed over.
+-- A walk agrees with a file: all that it holds is what the file says, and no fault of the file was passed over.
 unfoldable pub Agrees : Known → List ℕ → Type 0
 Agrees w f = IsTold w f
-
--- these are the levels of the file, each described
-abbrev pub AreLevels : List ℕ → List Level → Type 0
-AreLevels f ls = map Some ls ≡ levels f
 
 abbrev pub range_of_span : Span → Range
 range_of_span s = record { first = s.first; len = s.last + 1 - s.first }
@@ -83,31 +71,30 @@ IfFile (Ok _) P = Unit {0}
 IfFile (Err (errors.File fault)) P = P fault
 IfFile (Err errors.Memory) P = Unit {0}
 
--- where a field's values stand
-abbrev pub range_of_place : Place → Range
-range_of_place p = record { first = p.first; len = p.len }
-
 -- the bytes of the file where a field's values stand
 abbrev pub IsArrayOf : List ℕ → Place → List ℕ → Type 0
 IsArrayOf f p bytes = bytes ≡ bytes_in f (range_of_place p)
 
--- where an array of a level's tiles stands
-pub record IsArray (l : Level) (p : Place) : Type 0 where
-  pub count : p.count ≡ tile_total l
-  pub len : p.len ≡ p.count * size_of p.kind
-  pub near : p.first < 2 ^ 33
+-- the geo fields that are there stand at these places
+pub record AreGeoPlaces (f : List ℕ) (p : GeoPlaces) : Type 0 where
+  pub directory : geo_place f 34735 ≡ p.directory
+  pub doubles : geo_place f 34736 ≡ p.doubles
+  pub ascii : geo_place f 34737 ≡ p.ascii
+  pub scale : geo_place f 33550 ≡ p.scale
+  pub tiepoints : geo_place f 33922 ≡ p.tiepoints
+  pub transformation : geo_place f 34264 ≡ p.transformation
+  -- nothing is wrong with their types, counts and lengths
+  pub sound : (fault : FileFault) → IsGeoFault f fault → ⊥
 
--- a level keeps the profile
-pub record IsProfiled (l : Level) : Type 0 where
-  pub width : (0 < l.width) × (l.width < 2 ^ 32)
-  pub length : (0 < l.length) × (l.length < 2 ^ 32)
-  pub tile_width : (16 ≤ l.tile_width) × (l.tile_width % 16 ≡ 0) × (l.tile_width < 2 ^ 32)
-  pub tile_length : (16 ≤ l.tile_length) × (l.tile_length % 16 ≡ 0) × (l.tile_length < 2 ^ 32)
-  pub samples : (l.samples ≡ 1) ⊎ (l.samples ≡ 3)
-  pub bits : l.bits ≡ 8
-  pub plain : plain_size l ≤ max_tile_bytes
-  pub tiles : tile_total l ≤ max_tiles
-  pub offsets : IsArray l l.offsets
-  pub counts : IsArray l l.counts
-  pub long : l.offsets.kind ≡ kind.Long
-  pub whole : (l.counts.kind ≡ kind.Short) ⊎ (l.counts.kind ≡ kind.Long)
+-- if there is a place, it is of values of this type, and of at most 65,536 bytes; it begins below 2^33
+abbrev pub IsGeoPlace : Kind → Option Place → Type 0
+IsGeoPlace k None = ⊤
+IsGeoPlace k (Some p) = (p.kind ≡ k) × (0 < p.len) × (p.len ≤ max_geo_bytes) × (p.first < 2 ^ 33)
+
+pub record AreTyped (p : GeoPlaces) : Type 0 where
+  pub directory : IsGeoPlace kind.Short p.directory
+  pub doubles : IsGeoPlace kind.Double p.doubles
+  pub ascii : IsGeoPlace kind.Ascii p.ascii
+  pub scale : IsGeoPlace kind.Double p.scale
+  pub tiepoints : IsGeoPlace kind.Double p.tiepoints
+  pub transformation : IsGeoPlace kind.Double p.transformation

@@ -1,3 +1,7 @@
+ghost use Rattle.std.specs.Prelude.{◌≡◌, ◌*◌, ◌<◌, ◌≤◌, ◌^◌, ◌&&◌, IsTrue};
+ghost use Rattle.tiff_dir.specs.File.{size_of};
+ghost use Rattle.tiff_dir.specs.Profile.{is_depth, is_long, is_sample_count, is_short_or_long, is_tile_side, max_tile_bytes, max_tiles, tile_bytes, tiles_along};
+
 /// The type of a field's values (TIFF 6.0, section 2), in the order of the types' numbers.
 #[derive(Clone, Copy, Debug, PartialEq, Eq)]
 pub enum Kind {
@@ -13,6 +17,22 @@ pub enum Kind {
     SignedRational,
     Float,
     Double,
+}
+
+impl Kind {
+    /// How many bytes a value of the type has.
+    pub fn size(self) -> u64
+        ensures size { result ≡ size_of self }
+        ensures some { 0 < result }
+        ensures few { result ≤ 8 }
+    {
+        match self {
+            Kind::Byte | Kind::Ascii | Kind::SignedByte | Kind::Undefined => 1,
+            Kind::Short | Kind::SignedShort => 2,
+            Kind::Long | Kind::SignedLong | Kind::Float => 4,
+            Kind::Rational | Kind::SignedRational | Kind::Double => 8,
+        }
+    }
 }
 
 /// Where a field's values stand: `len` bytes from `first`, in the entry or outside it.
@@ -33,8 +53,8 @@ pub enum Compression {
     PackBits,
 }
 
-/// One picture of a file: sides and tile sides in samples, `bits` of a sample, and where the arrays
-/// of tile offsets and tile byte counts stand.
+/// One image of a file, as the profile allows it: sides and tile sides in pixels, the samples of a pixel, the bits of a
+/// sample, and where the arrays of tile offsets and tile byte counts stand.
 #[derive(Clone, Copy, Debug, PartialEq, Eq)]
 pub struct Level {
     pub width: u32,
@@ -46,4 +66,15 @@ pub struct Level {
     pub compression: Compression,
     pub offsets: Place,
     pub counts: Place,
+    ghost sides: { (0 < width) × (0 < length) },
+    ghost tile_sides: { IsTrue (is_tile_side tile_width) × IsTrue (is_tile_side tile_length) },
+    ghost one_or_three: { IsTrue (is_sample_count samples) },
+    ghost depth: { IsTrue (is_depth bits) },
+    ghost plain: { tile_bytes tile_width tile_length samples bits ≤ max_tile_bytes },
+    ghost tiles: { tiles_along width tile_width * tiles_along length tile_length ≤ max_tiles },
+    ghost offset_of_each: { offsets.count ≡ tiles_along width tile_width * tiles_along length tile_length },
+    ghost count_of_each: { counts.count ≡ tiles_along width tile_width * tiles_along length tile_length },
+    ghost kinds: { IsTrue (is_long offsets.kind) × IsTrue (is_short_or_long counts.kind) },
+    ghost lens: { (offsets.len ≡ offsets.count * size_of offsets.kind) × (counts.len ≡ counts.count * size_of counts.kind) },
+    ghost near: { (offsets.first < 2 ^ 33) × (counts.first < 2 ^ 33) },
 }

@@ -1,11 +1,14 @@
 // The steps of the walk over a level: its table, its values outside the entries, and its end.
 ghost use Rattle.std.specs.Prelude.{◌≡◌, ℕ, ◌+◌, ◌*◌, ◌<◌, ◌≤◌, ◌%◌, ◌&&◌, ◌||◌, ◌==◌, List, true, false, Some, IfOk, length, MatchResult};
+ghost use Rattle.std.specs.Option.{ForSome};
 ghost use Rattle.tiff_dir.specs.Number.{number_in};
 ghost use Rattle.tiff_dir.specs.File.{value};
 ghost use Rattle.tiff_dir.specs.Fault.{IsFaultOfDirectories, IsFaultOfDirectory};
 ghost use Rattle.tiff_dir.specs.Level.{is_level};
-ghost use Rattle.tiff_dir.specs.Shape.{level_from, IsEnd, IsNext};
-ghost use Rattle.tiff_dir.specs.Stage.{three_shorts, EndsDirectory, HasBits, HasFormats, HasShorts, IsBefore, IsDraft, IsPart, IsPending, IsSupported, IsTableOf, StepsOn};
+ghost use Rattle.tiff_dir.specs.Described.{layout_of};
+ghost use Rattle.tiff_dir.specs.Profile.{is_depth};
+ghost use Rattle.tiff_dir.specs.Shape.{has_arrays, has_sides, has_tiles, layout_from, IsEnd, IsNext};
+ghost use Rattle.tiff_dir.specs.Stage.{depth_in, three_shorts, EndsDirectory, HasBits, HasFormats, HasShorts, IsBefore, IsDraft, IsPart, IsPending, IsSupported, IsTableOf, StepsOn};
 ghost use Rattle.tiff_dir.specs.Table.{entries_of, IsReadFault, IsReadIn};
 ghost use Rattle.tiff_dir.specs.declared.fault.FileFault.{FileFault as Fault};
 
@@ -19,7 +22,7 @@ use crate::{FileFault, Level, Order};
 /// How many samples a pixel has whose BitsPerSample doesn't fit in the entry.
 const RGB: u16 = 3;
 
-/// The first directory is a reduced picture.
+/// The first directory is a reduced-resolution image.
 fn is_reduced_first(index: u32, subfile: u32) -> bool
     ensures { result ≡ ((index == 0) && (subfile % 2 == 1)) }
 {
@@ -92,13 +95,21 @@ pub(crate) fn after_level(
         };
         return Ok(Step { stage, level: None });
     }
-    if table.short(258, 0) != 8 {
+    let bits = table.short(258, 0);
+    if !is_depth(bits) {
         return Err(FileFault::Unsupported(258));
     }
     if table.short(339, 1) != 1 {
         return Err(FileFault::Unsupported(339));
     }
-    finish(pending, previous)
+    finish(pending, bits, previous)
+}
+
+/// A sample may have so many bits.
+fn is_depth(bits: u16) -> bool
+    ensures { result ≡ is_depth bits }
+{
+    bits == 8 || bits == 16
 }
 
 /// The three numbers are all this one.
@@ -109,6 +120,19 @@ fn are_all(order: Order, bytes: &[u8], value: u16) -> bool
     order.short_at(bytes, 0) == value
         && order.short_at(bytes, 2) == value
         && order.short_at(bytes, 4) == value
+}
+
+/// The three numbers, where they are one and the same depth of a sample.
+fn depth_of(order: Order, bytes: &[u8]) -> Option<u16>
+    requires { length bytes.now ≡ 6 }
+    ensures { result ≡ depth_in order bytes.now }
+{
+    let bits = order.short_at(bytes, 0);
+    if is_depth(bits) && are_all(order, bytes, bits) {
+        Some(bits)
+    } else {
+        None
+    }
 }
 
 /// Takes the values of BitsPerSample, and goes on to those of SampleFormat if they stand outside.
@@ -127,49 +151,55 @@ pub(crate) fn after_bits(
         → IsBefore f pending.index previous → IsPart f (three_shorts first) bytes.now
         → MatchResult result (StepsOn f (Stage.Bits pending first formats)) (IsFaultOfDirectories f) }
 {
-    let eights = are_all(pending.order, bytes, 8);
+    let bits = depth_of(pending.order, bytes);
     if let Some(first) = formats {
         let stage = Stage::Formats {
             pending,
             first,
-            eights,
+            bits,
         };
         return Ok(Step { stage, level: None });
     }
-    if !eights {
+    let Some(bits) = bits else {
         return Err(FileFault::Unsupported(258));
-    }
-    finish(pending, previous)
+    };
+    finish(pending, bits, previous)
 }
 
 /// Takes the values of SampleFormat.
 pub(crate) fn after_formats(
     pending: Pending,
     first: u32,
-    eights: bool,
+    bits: Option<u16>,
     bytes: &[u8],
     previous: Option<Level>,
 ) -> Result<Step, FileFault>
     requires few { pending.index < 16 }
     requires draft { IsDraft pending.draft }
     requires whole { length bytes.now ≡ 6 }
-    ensures next { IfOk result (IsNext (Stage.Formats pending first eights) (5 + 4 * pending.index)) }
-    ensures agrees { (f : List ℕ) → IsPending f pending → HasShorts f pending.index 339 first → HasBits f pending.index eights
+    requires depth { ForSome bits (λ n. is_depth n ≡ true) }
+    ensures next { IfOk result (IsNext (Stage.Formats pending first bits) (5 + 4 * pending.index)) }
+    ensures agrees { (f : List ℕ) → IsPending f pending → HasShorts f pending.index 339 first → HasBits f pending.index bits
         → IsBefore f pending.index previous → IsPart f (three_shorts first) bytes.now
-        → MatchResult result (StepsOn f (Stage.Formats pending first eights)) (IsFaultOfDirectories f) }
+        → MatchResult result (StepsOn f (Stage.Formats pending first bits)) (IsFaultOfDirectories f) }
 {
-    if !eights {
+    let Some(bits) = bits else {
         return Err(FileFault::Unsupported(258));
-    }
+    };
     if !are_all(pending.order, bytes, 1) {
         return Err(FileFault::Unsupported(339));
     }
-    finish(pending, previous)
+    finish(pending, bits, previous)
 }
 
-/// The level of a draft whose samples have 8 bits.
-fn level_of(draft: Draft) -> Level
-    ensures { result ≡ level_from draft }
+/// The level of a draft of the profile.
+fn level_of(draft: Draft, bits: u16) -> Level
+    requires draft { IsDraft draft }
+    requires depth { is_depth bits ≡ true }
+    requires sides { has_sides draft ≡ true }
+    requires tiles { has_tiles draft bits ≡ true }
+    requires arrays { has_arrays draft ≡ true }
+    ensures { layout_of result ≡ layout_from draft bits }
 {
     Level {
         width: draft.width,
@@ -177,7 +207,7 @@ fn level_of(draft: Draft) -> Level
         tile_width: draft.tile_width,
         tile_length: draft.tile_length,
         samples: draft.samples,
-        bits: 8,
+        bits,
         compression: draft.compression,
         offsets: draft.offsets,
         counts: draft.counts,
@@ -185,17 +215,18 @@ fn level_of(draft: Draft) -> Level
 }
 
 /// Ends a level whose values are all read, and goes to the next directory.
-fn finish(pending: Pending, previous: Option<Level>) -> Result<Step, FileFault>
+fn finish(pending: Pending, bits: u16, previous: Option<Level>) -> Result<Step, FileFault>
     requires few { pending.index < 16 }
     requires draft { IsDraft pending.draft }
+    requires depth { is_depth bits ≡ true }
     ensures end { IfOk result (IsEnd pending.index) }
-    ensures agrees { (f : List ℕ) → IsPending f pending → value f pending.index 258 0 ≡ Some 8 → IsSupported f pending.index 258 → IsSupported f pending.index 339
+    ensures agrees { (f : List ℕ) → IsPending f pending → value f pending.index 258 0 ≡ Some bits → IsSupported f pending.index 258 → IsSupported f pending.index 339
         → IsBefore f pending.index previous → MatchResult result (EndsDirectory f pending.index) (IsFaultOfDirectories f) }
 {
-    check_shape(previous, pending.draft)?;
+    check_shape(previous, pending.draft, bits)?;
     let stage = next(pending.order, pending.index + 1, pending.next)?;
     Ok(Step {
         stage,
-        level: Some(level_of(pending.draft)),
+        level: Some(level_of(pending.draft, bits)),
     })
 }

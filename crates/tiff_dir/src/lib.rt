@@ -2,6 +2,7 @@
 #![tactic(auto)]
 
 mod fault;
+mod geo;
 mod laws;
 mod level;
 mod level_steps;
@@ -21,6 +22,7 @@ mod values;
 mod walk;
 
 pub use fault::{FileFault, WalkError};
+pub use geo::GeoPlaces;
 pub use laws::{one_text, one_window};
 pub use level::{Compression, Kind, Level, Place};
 pub use memory::Memory;

@@ -1,7 +1,7 @@
 // From one directory to the next.
-ghost use Rattle.std.specs.Prelude.{◌≡◌, ℕ, ◌+◌, ◌*◌, ◌≤◌, List, IfOk, MatchResult};
+ghost use Rattle.std.specs.Prelude.{◌≡◌, ℕ, ◌+◌, ◌*◌, ◌<◌, ◌≤◌, List, true, IfOk, MatchResult};
 ghost use Rattle.tiff_dir.specs.Fault.{IsFaultOfDirectories};
-ghost use Rattle.tiff_dir.specs.Stage.{index_of, Follows, IsAt, IsKept};
+ghost use Rattle.tiff_dir.specs.Stage.{index_of, is_past_first, Follows, IsAt, IsKept};
 
 use crate::stage::Stage;
 use crate::{FileFault, Order};
@@ -13,6 +13,7 @@ pub(crate) fn next(order: Order, index: u32, at: u32) -> Result<Stage, FileFault
     requires { index ≤ 16 }
     ensures index { IfOk result (λ stage. index_of stage ≡ index) }
     ensures kept { IfOk result (λ stage. IsKept stage (1 + 4 * index)) }
+    ensures begins { IfOk result (λ stage. is_past_first stage ≡ true → 0 < index) }
     ensures agrees { (f : List ℕ) → Follows f order index at → MatchResult result (IsAt f index) (IsFaultOfDirectories f) }
 {
     if index > 0 && at == 0 {

@@ -112,17 +112,21 @@ const PROFILE: [Rule; 13] = [
 ];
 
 /// The type is the rule's, and so is a count that is to be one.
-fn is_allowed(rule: Rule, entry: Entry) -> bool
+pub(crate) fn is_allowed(rule: Rule, entry: Entry) -> bool
     ensures { result ≡ allows rule entry }
 {
     let typed = match rule.typing {
         Typing::Short => entry.kind == 3,
         Typing::Long => entry.kind == 4,
         Typing::ShortOrLong => entry.kind == 3 || entry.kind == 4,
+        Typing::Ascii => entry.kind == 2,
+        Typing::Double => entry.kind == 12,
     };
     let counted = match rule.count {
         Count::One => entry.count == 1,
         Count::Samples | Count::Tiles => true,
+        Count::Exactly(n) => entry.count == n,
+        Count::Multiple(n) => n > 0 && entry.count > 0 && entry.count % n == 0,
     };
     typed && counted
 }

@@ -1,8 +1,11 @@
 /// Which level a window is asked in.
 #[derive(Clone, Copy, Debug, PartialEq, Eq)]
 pub enum Pick {
-    /// The level of this number; the window's numbers are in its samples.
+    /// The level of this number; the window's numbers are in its pixels.
     Level(u32),
+    /// The smallest level in which the window has at least so many columns; the window's numbers are in the pixels of
+    /// level 0.
+    Columns(u32),
 }
 
 /// What is asked of a file.
@@ -16,4 +19,6 @@ pub enum Query {
         h: u32,
         pick: Pick,
     },
+    /// The sides of the levels, and what georeferences the image.
+    Info,
 }

@@ -4,6 +4,8 @@ pub enum Typing {
     Short,
     Long,
     ShortOrLong,
+    Ascii,
+    Double,
 }
 
 /// How many values a field of the profile has.
@@ -14,9 +16,12 @@ pub enum Count {
     Samples,
     /// As many as the level has tiles.
     Tiles,
+    Exactly(u32),
+    /// So many, or another multiple of it but 0.
+    Multiple(u32),
 }
 
-/// What the profile asks of a level's field.
+/// What the profile asks of a field.
 #[derive(Clone, Copy)]
 pub struct Rule {
     pub tag: u16,

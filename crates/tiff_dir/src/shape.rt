@@ -1,5 +1,5 @@
 // Whether the sides of a level, its tiles and their arrays are those of the profile.
-ghost use Rattle.std.specs.Prelude.{◌≡◌, ◌*◌, ◌<◌, true, false, nat_le, MatchOption, MatchResult};
+ghost use Rattle.std.specs.Prelude.{◌≡◌, ◌*◌, ◌<◌, ◌≤◌, true, false, nat_le, MatchOption, MatchResult};
 ghost use Rattle.tiff_dir.specs.Profile.{is_tile_side, max_tile_bytes, max_tiles, tile_bytes, tiles_along};
 ghost use Rattle.tiff_dir.specs.Shape.{fits_under, has_arrays, has_sides, has_tiles, IsShaped, IsShapeFault};
 
@@ -39,22 +39,24 @@ fn product(a: u32, b: u32) -> u64
 }
 
 /// Whether a tile of these sides has at most as many bytes as the profile allows.
-fn is_small(width: u32, length: u32, samples: u16) -> bool
-    requires { 0 < samples }
-    ensures { result ≡ nat_le (tile_bytes width length samples) max_tile_bytes }
+fn is_small(width: u32, length: u32, samples: u16, bits: u16) -> bool
+    requires samples { 0 < samples }
+    requires bits { 8 ≤ bits }
+    ensures { result ≡ nat_le (tile_bytes width length samples bits) max_tile_bytes }
 {
     let area = product(width, length);
-    area <= MAX_TILE_BYTES && area * u64::from(samples) <= MAX_TILE_BYTES
+    area <= MAX_TILE_BYTES && area * u64::from(samples) * u64::from(bits / 8) <= MAX_TILE_BYTES
 }
 
 /// The tile sides and the plain size of a tile are those of the profile.
-fn has_right_tiles(draft: Draft) -> bool
-    requires { 0 < draft.samples }
-    ensures { result ≡ has_tiles draft }
+fn has_right_tiles(draft: Draft, bits: u16) -> bool
+    requires samples { 0 < draft.samples }
+    requires bits { 8 ≤ bits }
+    ensures { result ≡ has_tiles draft bits }
 {
     is_side_of_tile(draft.tile_width)
         && is_side_of_tile(draft.tile_length)
-        && is_small(draft.tile_width, draft.tile_length, draft.samples)
+        && is_small(draft.tile_width, draft.tile_length, draft.samples, bits)
 }
 
 /// How many tiles cover a side.
@@ -80,7 +82,7 @@ fn total(across: u64, down: u64) -> Option<u64>
 /// There are not too many tiles, and as many offsets and byte counts.
 fn has_right_arrays(draft: Draft) -> bool
     requires sides { has_sides draft ≡ true }
-    requires tiles { has_tiles draft ≡ true }
+    requires tile_sides { (0 < draft.tile_width) × (0 < draft.tile_length) }
     ensures { result ≡ has_arrays draft }
 {
     let across = along(draft.width, draft.tile_width);
@@ -94,14 +96,19 @@ fn has_right_arrays(draft: Draft) -> bool
 }
 
 /// Whether the level of a draft has the shape that the profile asks for.
-pub(crate) fn check_shape(previous: Option<Level>, draft: Draft) -> Result<(), FileFault>
-    requires { 0 < draft.samples }
-    ensures { MatchResult result (λ _. IsShaped previous draft) (IsShapeFault previous draft) }
+pub(crate) fn check_shape(
+    previous: Option<Level>,
+    draft: Draft,
+    bits: u16,
+) -> Result<(), FileFault>
+    requires samples { 0 < draft.samples }
+    requires bits { 8 ≤ bits }
+    ensures { MatchResult result (λ _. IsShaped previous draft bits) (IsShapeFault previous draft bits) }
 {
     if !fits_below(previous, draft) {
         return Err(FileFault::LevelShape);
     }
-    if !has_right_tiles(draft) {
+    if !has_right_tiles(draft, bits) {
         return Err(FileFault::TileSize);
     }
     if !has_right_arrays(draft) {

@@ -45,11 +45,11 @@ pub enum Stage {
         first: u32,
         formats: Option<u32>,
     },
-    /// The three values of SampleFormat; those of BitsPerSample are all 8, or not.
+    /// The three values of SampleFormat; those of BitsPerSample are all this one, or outside the profile.
     Formats {
         pending: Pending,
         first: u32,
-        eights: bool,
+        bits: Option<u16>,
     },
     Ended {
         order: Order,

@@ -1,12 +1,15 @@
 // One step of the walk for each range that it wants.
-ghost use Rattle.std.specs.Prelude.{◌≡◌, ℕ, ◌+◌, ◌*◌, ◌<◌, ◌≤◌, ◌^◌, List, IsSomeAnd, IfSome, IfOk, length, MatchResult};
+ghost use Rattle.std.specs.Prelude.{◌≡◌, ℕ, ◌+◌, ◌*◌, ◌<◌, ◌≤◌, ◌^◌, List, true, false, IsSomeAnd, IfSome, IfOk, length, MatchResult};
 ghost use Rattle.std.specs.Option.{option_map};
 ghost use Rattle.tiff_dir.specs.File.{order_of};
 ghost use Rattle.tiff_dir.specs.Fault.{IsFaultOfDirectories};
 ghost use Rattle.tiff_dir.specs.Needs.{header_range};
+ghost use Rattle.tiff_dir.specs.GeoEntries.{AreNear};
+ghost use Rattle.tiff_dir.specs.Known.{HasGeo};
 ghost use Rattle.tiff_dir.specs.Shape.{IsNext};
-ghost use Rattle.tiff_dir.specs.Stage.{index_of, range_of, AgreesAt, IsBefore, IsKept, IsPart, IsTableOf, StepsOn};
+ghost use Rattle.tiff_dir.specs.Stage.{index_of, is_first_table, range_of, AgreesAt, IsBefore, IsKept, IsPart, IsTableOf, StepsOn};
 
+use crate::geo::GeoEntries;
 use crate::level_steps::{after_bits, after_formats, after_level, check_directory};
 use crate::next::next;
 use crate::stage::{Stage, Step};
@@ -126,9 +129,34 @@ pub(crate) fn step(
         Stage::Formats {
             pending,
             first,
-            eights,
-        } => after_formats(pending, first, eights, bytes, previous),
+            bits,
+        } => after_formats(pending, first, bits, bytes, previous),
         Stage::Ended { .. } => unreachable!(),
+    }
+}
+
+/// The entries of the geo fields, once the first directory's table is among the bytes that were given.
+pub(crate) fn geo_after(stage: Stage, bytes: &[u8], geo: GeoEntries) -> GeoEntries
+    requires whole { IsSomeAnd (range_of stage) (λ r. length bytes.now ≡ r.len) }
+    requires kept { (given : ℕ) × IsKept stage given }
+    requires near { AreNear geo }
+    ensures near { AreNear result }
+    ensures taken { is_first_table stage ≡ true → (f : List ℕ) → AgreesAt f stage → IfSome (range_of stage) (λ r. IsPart f r bytes.now) → HasGeo f result }
+    ensures same { is_first_table stage ≡ false → result ≡ geo }
+{
+    match stage {
+        Stage::Table {
+            order,
+            index,
+            at,
+            entries,
+        } if index == 0 => GeoEntries::of(&Table {
+            order,
+            at,
+            entries,
+            bytes,
+        }),
+        _ => geo,
     }
 }
 

@@ -2,24 +2,32 @@
 ghost use Rattle.std.specs.Prelude.{◌≡◌, ◌+◌, ◌*◌, ◌<◌, ◌^◌, true, length, MatchResult, if◌then◌else◌, ◌==◌};
 ghost use Rattle.tiff_dir.specs.Profile.{planes_fit, samples_fit};
 ghost use Rattle.tiff_dir.specs.Stage.{IsArrayPlace, IsBounded};
-ghost use Rattle.tiff_dir.specs.Table.{counts_samples, draft_in, entries_of, long_in, place_in, place_or, short_or, single_or, HasCounts, HasValues, IsCountFault, IsValueFault};
+ghost use Rattle.tiff_dir.specs.Table.{counts_samples, draft_in, kind_in, entries_of, long_in, place_in, place_or, short_or, single_or, HasCounts, HasValues, IsCountFault, IsValueFault};
 
 use crate::stage::Draft;
 use crate::table::{Entry, Table};
 use crate::{Compression, FileFault, Kind, Place};
 
-/// Where the values of an entry of SHORT or LONG stand.
-fn place_of_entry(entry: Entry) -> Place
+/// The type of this number, of those that the profile has.
+fn kind_in(number: u16) -> Kind
+    ensures { result ≡ kind_in number }
+{
+    match number {
+        3 => Kind::Short,
+        4 => Kind::Long,
+        2 => Kind::Ascii,
+        _ => Kind::Double,
+    }
+}
+
+/// Where the values of an entry stand that has a type of the profile.
+pub(crate) fn place_of_entry(entry: Entry) -> Place
     requires { entry.place + 8 < 2 ^ 33 }
     ensures place { result ≡ place_in entry }
     ensures array { IsArrayPlace result }
 {
-    let (kind, size) = if entry.kind == 3 {
-        (Kind::Short, 2)
-    } else {
-        (Kind::Long, 4)
-    };
-    let len = u64::from(entry.count) * size;
+    let kind = kind_in(entry.kind);
+    let len = u64::from(entry.count) * kind.size();
     let first = if len <= 4 {
         entry.place + 8
     } else {

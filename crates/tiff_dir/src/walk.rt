@@ -1,16 +1,19 @@
-ghost use Rattle.std.specs.Prelude.{◌≡◌, ℕ, ◌+◌, ◌<◌, ◌≤◌, List, [], ◌∷◌, ◌++◌, Some, All, IsSomeAnd, IfOk, IfErr, OnOk, OnErr, length, slice_get};
-ghost use Rattle.std.specs.Option.{option_to_list};
+ghost use Rattle.std.specs.Prelude.{◌≡◌, ℕ, ◌+◌, ◌<◌, ◌≤◌, List, [], ◌∷◌, ◌++◌, Some, IsSomeAnd, IfOk, IfErr, OnOk, OnErr, length, slice_get};
+ghost use Rattle.std.specs.Option.{option_map, option_to_list};
 ghost use Rattle.tiff_dir.specs.Fault.{IsFaultOfDirectories};
 ghost use Rattle.tiff_dir.specs.File.{order_of};
-ghost use Rattle.tiff_dir.specs.Level.{level_of};
-ghost use Rattle.tiff_dir.specs.Needs.{needs_of_directories};
+ghost use Rattle.tiff_dir.specs.Described.{layout_of, AreLevels};
+ghost use Rattle.tiff_dir.specs.Geo.{IsGeoFault};
+ghost use Rattle.tiff_dir.specs.Level.{level_layout};
+ghost use Rattle.tiff_dir.specs.Needs.{needs_of_directories, range_of_place};
 ghost use Rattle.tiff_dir.specs.Query.{array_range};
 ghost use Rattle.tiff_dir.specs.declared.fault.FileFault.{FileFault as Fault};
 ghost use Rattle.tiff_dir.specs.declared.level.Level.{Level as Described};
-ghost use Rattle.tiff_dir.specs.Walk.{range_of_place, to_come, wanted, Agrees, AreLevels, HasEnded, IfFile, IsDescribed, IsProfiled, IsWanted, IsWantedOf, Wants};
+ghost use Rattle.tiff_dir.specs.Walk.{given_of, to_come, wanted, Agrees, AreGeoPlaces, AreTyped, HasEnded, IfFile, IsDescribed, IsWanted, IsWantedOf, Wants};
 
+use crate::geo::{GeoEntries, GeoPlaces};
 use crate::stage::Stage;
-use crate::steps::{range, step};
+use crate::steps::{geo_after, range, step};
 use crate::{FileFault, Level, Order, Span, WalkError};
 use std::alloc::Global;
 use std::marker::Model;
@@ -22,18 +25,19 @@ use std::marker::Model;
 pub struct Walk {
     stage: Stage,
     levels: Vec<Level>,
+    geo: GeoEntries,
     given: u32,
 }
 
 impl Model for Walk {
-    ghost use Rattle.tiff_dir.specs.Walk.{Known};
+    ghost use Rattle.tiff_dir.specs.Known.{Known};
     ghost use Rattle.tiff_dir.specs.Shape.{IsSoFar};
 
     ghost Value = { Known };
 
-    ghost view = { λ w. record { stage = w.stage; levels = w.levels.items; given = w.given } };
+    ghost view = { λ w. record { stage = w.stage; levels = w.levels.items; geo = w.geo; given = w.given } };
 
-    ghost invariant = { λ w. IsSoFar w.stage w.levels.items w.given };
+    ghost invariant = { λ w. IsSoFar w.stage w.levels.items w.geo w.given };
 }
 
 /// Adds the level, if there is one.
@@ -53,11 +57,12 @@ impl Walk {
     pub fn new(alloc: Global) -> Walk
         ensures agrees { (f : List ℕ) → Agrees result f }
         ensures come { (f : List ℕ) → to_come result f ≡ needs_of_directories f }
-        ensures given { result.given ≡ 0 }
+        ensures given { given_of result ≡ 0 }
     {
         Walk {
             stage: Stage::Header,
             levels: Vec::new(alloc),
+            geo: GeoEntries::none(),
             given: 0,
         }
     }
@@ -100,12 +105,11 @@ impl Walk {
     pub fn levels(&self) -> &[Level]
         requires { HasEnded self.now }
         ensures levels { (f : List ℕ) → Agrees self.now f → AreLevels f result.now }
-        ensures profiled { All IsProfiled result.now }
         ensures some { 0 < length result.now }
         // The file's directories are without fault.
         ensures clean { (f : List ℕ) → Agrees self.now f → (fault : Fault) → IsFaultOfDirectories f fault → ⊥ }
         // Each level is that of its number, has its values, and its arrays stand at its places.
-        ensures level { (f : List ℕ) → Agrees self.now f → (n : ℕ) → level_of f n ≡ slice_get result.now n }
+        ensures level { (f : List ℕ) → Agrees self.now f → (n : ℕ) → level_layout f n ≡ option_map layout_of (slice_get result.now n) }
         ensures values { (f : List ℕ) → Agrees self.now f → (n : ℕ) (l : Described) → slice_get result.now n ≡ Some l → IsDescribed f n l }
         ensures offsets { (f : List ℕ) → Agrees self.now f → (n : ℕ) (l : Described) → slice_get result.now n ≡ Some l → array_range f n 324 ≡ Some (range_of_place l.offsets) }
         ensures counts { (f : List ℕ) → Agrees self.now f → (n : ℕ) (l : Described) → slice_get result.now n ≡ Some l → array_range f n 325 ≡ Some (range_of_place l.counts) }
@@ -113,9 +117,21 @@ impl Walk {
         self.levels.as_slice()
     }
 
+    /// Where the values of the geo fields stand, when the walk has ended, or what is wrong with them: a type or a count
+    /// (FieldType), or more than 65,536 bytes (TooLarge). The fields are looked at in the order directory, doubles, ascii,
+    /// scale, tiepoints, transformation; what is wrong concerns the query Info alone.
+    pub fn geo_places(&self) -> Result<GeoPlaces, FileFault>
+        requires { HasEnded self.now }
+        ensures places { IfOk result (λ places. (f : List ℕ) → Agrees self.now f → AreGeoPlaces f places) }
+        ensures typed { IfOk result AreTyped }
+        ensures fault { IfErr result (λ fault. (f : List ℕ) → Agrees self.now f → IsGeoFault f fault) }
+    {
+        self.geo.places()
+    }
+
     /// How many ranges the walk has taken.
     pub fn given(&self) -> u32
-        ensures count { result ≡ self.now.given }
+        ensures count { result ≡ given_of self.now }
         ensures few { (HasEnded self.now → ⊥) → result ≤ 64 }
     {
         self.given
@@ -127,13 +143,15 @@ impl Walk {
         ensures agrees { OnOk result ((f : List ℕ) → Agrees self.old f → IsWantedOf f self.old bytes.now → Agrees self.new f) }
         ensures come { OnOk result ((f : List ℕ) → Agrees self.old f → IsSomeAnd (wanted self.old) (λ r. to_come self.old f ≡ r ∷ to_come self.new f)) }
         ensures fault { IfFile result (λ fault. (f : List ℕ) → Agrees self.old f → IsWantedOf f self.old bytes.now → IsFaultOfDirectories f fault) }
-        ensures given { OnOk result (self.new.given ≡ self.old.given + 1) }
+        ensures given { OnOk result (given_of self.new ≡ given_of self.old + 1) }
         ensures err { OnErr result (self.new ≡ self.old) }
     {
         let previous = self.levels.last().copied();
         let step = step(self.stage, bytes, self.given, previous)?;
+        let geo = geo_after(self.stage, bytes, self.geo);
         keep(&mut self.levels, step.level)?;
         self.stage = step.stage;
+        self.geo = geo;
         self.given += 1;
         Ok(())
     }

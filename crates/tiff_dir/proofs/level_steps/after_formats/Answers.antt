@@ -4,12 +4,12 @@ use Rattle.tiff_dir.specs.declared.fault.FileFault.TheVariants.{Unsupported}
 use Rattle.tiff_dir.specs.Fault.{IsFaultOfDirectories}
 use Rattle.tiff_dir.specs.Stage.{StepsOn, EndsDirectory}
 use Rattle.tiff_dir.proofs.Outside.{level_fault, then_also}
-use Rattle.tiff_dir.proofs.Shorts.{bits_at_true, bits_at_false, formats_wrong, formats_right, formats_to_end}
+use Rattle.tiff_dir.proofs.Shorts.{bits_at, bits_none, formats_wrong, formats_right, formats_to_end}
 use Rattle.tiff_dir.proofs.level_steps.after_formats.Goals as goal
 
-pub returns-then-not-eights-clause-agrees : goal.returns-then-not-eights-clause-agrees
-returns-then-not-eights-clause-agrees c = λ f is shorts bits before part.
-    level_fault f c.args.pending.index (Unsupported 258) c.requires.few is.there is.level (bits_at_false f c.args.pending.index c.args.eights c.if-not-eights.true bits)
+pub returns-in_default-clause-agrees : goal.returns-in_default-clause-agrees
+returns-in_default-clause-agrees c = λ f is shorts bits before part.
+    level_fault f c.args.pending.index (Unsupported 258) c.requires.few is.there is.level (bits_none f c.args.pending.index c.args.bits c.in_default.is bits)
 
 pub returns-then-not-are_all-clause-agrees : goal.returns-then-not-are_all-clause-agrees
 returns-then-not-are_all-clause-agrees c = λ f is shorts bits before part.
@@ -18,8 +18,8 @@ returns-then-not-are_all-clause-agrees c = λ f is shorts bits before part.
 
 pub returns-clause-agrees : goal.returns-clause-agrees
 returns-clause-agrees c = λ f is shorts bits before part.
-    let eight = bits_at_true f c.args.pending.index c.args.eights c.if-not-eights.false bits in
+    let depth = bits_at f c.args.pending.index c.args.bits c.in-Some.bits c.in-Some.is bits in
     let one = formats_right f c.args.bytes.now c.args.pending.order c.args.pending.index c.args.first is.walked.named shorts part c.requires.whole (sym c.are_all.ensures ∙ c.if-not-are_all.false) in
-    then_also (EndsDirectory f c.args.pending.index) (StepsOn f (Formats c.args.pending c.args.first c.args.eights)) (IsFaultOfDirectories f) c.finish.result
-    (c.finish.ensures.agrees f is eight.0 eight.1 one before)
-    (λ step ends. formats_to_end f c.args.pending c.args.first c.args.eights step ends)
+    then_also (EndsDirectory f c.args.pending.index) (StepsOn f (Formats c.args.pending c.args.first c.args.bits)) (IsFaultOfDirectories f) c.finish.result
+    (c.finish.ensures.agrees f is depth.0 depth.2 one before)
+    (λ step ends. formats_to_end f c.args.pending c.args.first c.args.bits step ends)

@@ -1,7 +1,8 @@
-use Rattle.std.proofs.Common.{◌≡◌, ◌≢◌, ◌∙◌, Some, sym, refl}
+use Rattle.std.proofs.Common.{◌≡◌, ◌≢◌, ◌∙◌, Some, true, false, sym, ap, refl}
 use Rattle.tiff_dir.specs.declared.stage.Pending.{Pending}
 use Rattle.tiff_dir.specs.declared.stage.Stage.TheVariants.{Table}
 use Rattle.tiff_dir.specs.declared.fault.FileFault.TheVariants.{Unsupported}
+use Rattle.tiff_dir.specs.Profile.{is_depth}
 use Rattle.tiff_dir.specs.Table.{entries_of, long_in, short_or}
 use Rattle.tiff_dir.specs.Fault.{IsFaultOfDirectories}
 use Rattle.tiff_dir.specs.Stage.{HasTable, IsPending, StepsOn, EndsDirectory}
@@ -33,14 +34,14 @@ returns-then-draft-eq-RGB-clause-agrees c = λ f is level sound before.
     (bits_outside f c.args.index es c.in-Some.first has read.met read.counts samples bits)
     (formats_outside f c.args.index es c.long-formats.result has read.met read.counts samples (sym c.long-formats.ensures))
 
-pub returns-then-short-ne8-clause-agrees : goal.returns-then-short-ne8-clause-agrees
-returns-then-short-ne8-clause-agrees c = λ f is level sound before.
+pub returns-then-not-is_depth-clause-agrees : goal.returns-then-not-is_depth-clause-agrees
+returns-then-not-is_depth-clause-agrees c = λ f is level sound before.
     let es = entries_of c.args.table.now in
     let has : HasTable f c.args.index es = has_table f _ _ _ _ _ is c.args.table.now.whole in
     let read = c.in_ok-draft.ensures.read in
     let three : short_or es 277 1 ≢ 3 = λ e. c.if-draft-eq-RGB.false (draft_samples es c.in_ok-draft.draft read ∙ e) in
     let samples = one_sample es read.values three in
-    let bad : short_or es 258 0 ≢ 8 = λ e. c.if-short-ne8.true (c.short.ensures ∙ e) in
+    let bad : is_depth (short_or es 258 0) ≡ false = rw (← c.short-bits.ensures) (sym c.is_depth.ensures ∙ c.if-not-is_depth.true) in
     level_fault f c.args.index (Unsupported 258) c.requires.few has.there level (bits_unsupported f c.args.index es has read.met read.counts samples bad)
 
 pub returns-then-short-ne1-clause-agrees : goal.returns-then-short-ne1-clause-agrees
@@ -50,7 +51,7 @@ returns-then-short-ne1-clause-agrees c = λ f is level sound before.
     let read = c.in_ok-draft.ensures.read in
     let three : short_or es 277 1 ≢ 3 = λ e. c.if-draft-eq-RGB.false (draft_samples es c.in_ok-draft.draft read ∙ e) in
     let samples = one_sample es read.values three in
-    let bad : short_or es 339 1 ≢ 1 = λ e. c.if-short-ne1.true (c.short-2.ensures ∙ e) in
+    let bad : short_or es 339 1 ≢ 1 = λ e. c.if-short-ne1.true (c.short.ensures ∙ e) in
     level_fault f c.args.index (Unsupported 339) c.requires.few has.there level (formats_unsupported f c.args.index es has read.met read.counts samples bad)
 
 pub returns-clause-agrees : goal.returns-clause-agrees
@@ -62,10 +63,10 @@ returns-clause-agrees c = λ f is level sound before.
     let pending : IsPending f p = rw c.next.ensures (pending_is f _ c.args.table.now.order c.args.index c.args.table.now.at c.args.table.now.entries es c.in_ok-draft.draft is c.args.table.now.whole has read level sound) in
     let three : short_or es 277 1 ≢ 3 = λ e. c.if-draft-eq-RGB.false (draft_samples es c.in_ok-draft.draft read ∙ e) in
     let samples = one_sample es read.values three in
-    let eight : short_or es 258 0 ≡ 8 = sym c.short.ensures ∙ c.if-short-ne8.false in
-    let one : short_or es 339 1 ≡ 1 = sym c.short-2.ensures ∙ c.if-short-ne1.false in
-    let bits = bits_inside f c.args.index es has read.met read.counts samples eight in
+    let depth : is_depth (short_or es 258 0) ≡ true = rw (← c.short-bits.ensures) (sym c.is_depth.ensures ∙ c.if-not-is_depth.false) in
+    let one : short_or es 339 1 ≡ 1 = sym c.short.ensures ∙ c.if-short-ne1.false in
+    let bits = bits_inside f c.args.index es has read.met read.counts samples depth in
     let formats = formats_inside f c.args.index es has read.met read.counts samples one in
     then_also (EndsDirectory f c.args.index) (StepsOn f (Table c.args.table.now.order c.args.index c.args.table.now.at c.args.table.now.entries)) (IsFaultOfDirectories f) c.finish.result
-    (c.finish.ensures.agrees f pending bits.0 bits.1 formats.0 before)
+    (c.finish.ensures.agrees f pending (bits.0 ∙ ap Some (sym c.short-bits.ensures)) bits.1 formats.0 before)
     (λ step ends. table_to_end f c.args.table.now.order c.args.index c.args.table.now.at c.args.table.now.entries step level bits.2 formats.1 ends)

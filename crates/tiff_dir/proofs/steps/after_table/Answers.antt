@@ -1,4 +1,5 @@
 use Rattle.std.proofs.Common.{◌≡◌, ◌+◌, ◌∙◌, inl, arith, false}
+use Rattle.std.proofs.lemmas.Bool.{lt-ltb}
 use Rattle.tiff_dir.specs.Fault.{IsFaultOfDirectories}
 use Rattle.tiff_dir.specs.Level.{is_level}
 use Rattle.tiff_dir.specs.Stage.{Follows}
@@ -26,7 +27,7 @@ pub returns-clause-next : goal.returns-clause-next
 returns-clause-next c = record {
   kept = kept_less c.in_ok-stage.stage _ _ (omega arith) c.in_ok-stage.ensures.kept;
   some = λ h. inl (c.in_ok-check_directory.ensures.first c.if-branch.false);
-  profiled = tt;
+  first = λ past. inl (lt-ltb 0 c.args.index (c.in_ok-check_directory.ensures.first c.if-branch.false));
 }
 
 pub returns-clause-agrees : goal.returns-clause-agrees

@@ -1,7 +1,8 @@
 use Rattle.std.proofs.Common.{◌≡◌, ◌+◌, ◌-◌, ◌∙◌, Some, refl, ap, sym, arith}
 use Rattle.tiff_dir.specs.Needs.{Range}
 use Rattle.tiff_dir.specs.Stage.{range_of}
-use Rattle.tiff_dir.specs.Walk.{Known, wanted}
+use Rattle.tiff_dir.specs.Known.{Known}
+use Rattle.tiff_dir.specs.Walk.{wanted}
 use Rattle.tiff_dir.proofs.Chain.{some_and_from}
 use Rattle.tiff_dir.proofs.Told.{wanted_as, past_end, first_come}
 use Rattle.tiff_dir.proofs.walk.Walk.need.Goals as goal

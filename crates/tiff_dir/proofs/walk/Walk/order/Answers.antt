@@ -1,6 +1,6 @@
 use Rattle.std.proofs.Common.{◌≡◌, None, ap, sym, ◌∙◌}
 use Rattle.tiff_dir.specs.Stage.{range_of}
-use Rattle.tiff_dir.specs.Walk.{Known}
+use Rattle.tiff_dir.specs.Known.{Known}
 use Rattle.tiff_dir.proofs.Told.{wanted_as, ended_stage, ended_clean, ended_order}
 use Rattle.tiff_dir.proofs.walk.Walk.order.Goals as goal
 

@@ -1,0 +1,55 @@
+-- The entries of the geo fields in a table, and what they say by the rules for them.
+use Rattle.std.specs.Prelude.{◌≡◌, ℕ, ◌+◌, ◌<◌, ◌^◌, ◌⊎◌, ⊤, not, nat_lt, if◌then◌else◌, List, Option, Some, None, Result, Ok, Err, get_or}
+use Rattle.tiff_dir.specs.declared.table.Entry.{Entry}
+use Rattle.tiff_dir.specs.declared.geo.GeoEntries.{GeoEntries}
+use Rattle.tiff_dir.specs.declared.geo.GeoPlaces.{GeoPlaces}
+use Rattle.tiff_dir.specs.declared.level.Place.{Place}
+use Rattle.tiff_dir.specs.declared.rule.Rule.{Rule}
+use Rattle.tiff_dir.specs.declared.rule.Typing.TheVariants as typing
+use Rattle.tiff_dir.specs.declared.rule.Count.TheVariants.{Exactly, Multiple}
+use Rattle.tiff_dir.specs.declared.fault.FileFault.{FileFault}
+use Rattle.tiff_dir.specs.declared.fault.FileFault.TheVariants.{FieldType, TooLarge}
+use Rattle.tiff_dir.specs.Profile.{geo_rule, max_geo_bytes}
+use Rattle.tiff_dir.specs.Table.{allows, found, len_of, place_in}
+
+-- those among the entries of a table
+abbrev pub geo_in : List Entry → GeoEntries
+geo_in es = record { directory = found 34735 es; doubles = found 34736 es; ascii = found 34737 es; scale = found 33550 es; tiepoints = found 33922 es; transformation = found 34264 es }
+
+-- where the values stand of a rule's entry
+abbrev pub place_by : Rule → Option Entry → Result (Option Place) FileFault
+place_by r None = Ok None
+place_by r (Some e) =
+    if not (allows r e) then Err (FieldType r.tag)
+    else if nat_lt max_geo_bytes (len_of e) then Err TooLarge
+    else Ok (Some (place_in e))
+
+pub record ArePlacesBy (g : GeoEntries) (p : GeoPlaces) : Type 0 where
+  pub directory : place_by (geo_rule 0) g.directory ≡ Ok p.directory
+  pub doubles : place_by (geo_rule 1) g.doubles ≡ Ok p.doubles
+  pub ascii : place_by (geo_rule 2) g.ascii ≡ Ok p.ascii
+  pub scale : place_by (geo_rule 3) g.scale ≡ Ok p.scale
+  pub tiepoints : place_by (geo_rule 4) g.tiepoints ≡ Ok p.tiepoints
+  pub transformation : place_by (geo_rule 5) g.transformation ≡ Ok p.transformation
+
+abbrev pub IsFaultBy : GeoEntries → FileFault → Type 0
+IsFaultBy g fault =
+    (place_by (geo_rule 0) g.directory ≡ Err fault)
+    ⊎ ((place_by (geo_rule 1) g.doubles ≡ Err fault)
+    ⊎ ((place_by (geo_rule 2) g.ascii ≡ Err fault)
+    ⊎ ((place_by (geo_rule 3) g.scale ≡ Err fault)
+    ⊎ ((place_by (geo_rule 4) g.tiepoints ≡ Err fault)
+    ⊎ (place_by (geo_rule 5) g.transformation ≡ Err fault)))))
+
+-- the place behind an entry's first eight bytes has 33 bits
+abbrev pub IsNear : Option Entry → Type 0
+IsNear None = ⊤
+IsNear (Some e) = e.place + 8 < 2 ^ 33
+
+pub record AreNear (g : GeoEntries) : Type 0 where
+  pub directory : IsNear g.directory
+  pub doubles : IsNear g.doubles
+  pub ascii : IsNear g.ascii
+  pub scale : IsNear g.scale
+  pub tiepoints : IsNear g.tiepoints
+  pub transformation : IsNear g.transformation

@@ -1,0 +1,157 @@
+//! The fields that georeference the image (OGC 19-008), of the first directory.
+ghost use Rattle.std.specs.Prelude.{◌≡◌, ◌+◌, ◌<◌, ◌^◌, IfOk, IfSome, MatchResult};
+ghost use Rattle.std.specs.Option.{ForSome};
+ghost use Rattle.tiff_dir.specs.GeoEntries.{geo_in, place_by, AreNear, ArePlacesBy, IsFaultBy};
+ghost use Rattle.tiff_dir.specs.Table.{entries_of};
+ghost use Rattle.tiff_dir.specs.Walk.{AreTyped};
+
+use crate::profile::is_allowed;
+use crate::rule::{Count, Rule, Typing};
+use crate::table::{Entry, Table};
+use crate::values::place_of_entry;
+use crate::{FileFault, Place};
+
+/// The greatest number of bytes of a geo field.
+const MAX_GEO_BYTES: u64 = 65_536;
+
+const DIRECTORY: Rule = Rule {
+    tag: 34735,
+    typing: Typing::Short,
+    count: Count::Multiple(1),
+    required: false,
+};
+
+const DOUBLES: Rule = Rule {
+    tag: 34736,
+    typing: Typing::Double,
+    count: Count::Multiple(1),
+    required: false,
+};
+
+const ASCII: Rule = Rule {
+    tag: 34737,
+    typing: Typing::Ascii,
+    count: Count::Multiple(1),
+    required: false,
+};
+
+const SCALE: Rule = Rule {
+    tag: 33550,
+    typing: Typing::Double,
+    count: Count::Exactly(3),
+    required: false,
+};
+
+const TIEPOINTS: Rule = Rule {
+    tag: 33922,
+    typing: Typing::Double,
+    count: Count::Multiple(6),
+    required: false,
+};
+
+const TRANSFORMATION: Rule = Rule {
+    tag: 34264,
+    typing: Typing::Double,
+    count: Count::Exactly(16),
+    required: false,
+};
+
+/// Where the values of the geo fields stand, of those that the first directory has.
+#[derive(Clone, Copy, Debug, PartialEq, Eq)]
+pub struct GeoPlaces {
+    /// GeoKeyDirectory (34735): SHORT.
+    pub directory: Option<Place>,
+    /// GeoDoubleParams (34736): DOUBLE.
+    pub doubles: Option<Place>,
+    /// GeoAsciiParams (34737): ASCII.
+    pub ascii: Option<Place>,
+    /// ModelPixelScale (33550): three DOUBLE.
+    pub scale: Option<Place>,
+    /// ModelTiepoint (33922): six DOUBLE for each point.
+    pub tiepoints: Option<Place>,
+    /// ModelTransformation (34264): sixteen DOUBLE.
+    pub transformation: Option<Place>,
+}
+
+/// The entries of the geo fields, of those that the first directory has.
+#[derive(Clone, Copy)]
+pub struct GeoEntries {
+    pub directory: Option<Entry>,
+    pub doubles: Option<Entry>,
+    pub ascii: Option<Entry>,
+    pub scale: Option<Entry>,
+    pub tiepoints: Option<Entry>,
+    pub transformation: Option<Entry>,
+}
+
+/// Where the values of the rule's field stand, if its entry is there.
+fn place_by(rule: Rule, entry: Option<Entry>) -> Result<Option<Place>, FileFault>
+    requires { ForSome entry (λ e. e.place + 8 < 2 ^ 33) }
+    ensures place { result ≡ place_by rule entry }
+    ensures near { IfOk result (λ o. IfSome o (λ p. p.first < 2 ^ 33)) }
+{
+    let Some(entry) = entry else {
+        return Ok(None);
+    };
+    if !is_allowed(rule, entry) {
+        return Err(FileFault::FieldType(rule.tag));
+    }
+    let place = place_of_entry(entry);
+    if place.len > MAX_GEO_BYTES {
+        return Err(FileFault::TooLarge);
+    }
+    Ok(Some(place))
+}
+
+impl GeoEntries {
+    /// None of them.
+    pub const fn none() -> GeoEntries
+        ensures near { AreNear result }
+    {
+        GeoEntries {
+            directory: None,
+            doubles: None,
+            ascii: None,
+            scale: None,
+            tiepoints: None,
+            transformation: None,
+        }
+    }
+
+    /// Those that a table has.
+    pub fn of(table: &Table<'_>) -> GeoEntries
+        ensures entries { result ≡ geo_in (entries_of table.now) }
+        ensures near { AreNear result }
+    {
+        GeoEntries {
+            directory: table.find(DIRECTORY.tag),
+            doubles: table.find(DOUBLES.tag),
+            ascii: table.find(ASCII.tag),
+            scale: table.find(SCALE.tag),
+            tiepoints: table.find(TIEPOINTS.tag),
+            transformation: table.find(TRANSFORMATION.tag),
+        }
+    }
+
+    /// Where the values of the geo fields stand, or what is wrong with the first of them.
+    pub fn places(self) -> Result<GeoPlaces, FileFault>
+        requires { AreNear self }
+        ensures places { MatchResult result (ArePlacesBy self) (IsFaultBy self) }
+        ensures typed { IfOk result AreTyped }
+    {
+        let directory = place_by(DIRECTORY, self.directory)?;
+        let doubles = place_by(DOUBLES, self.doubles)?;
+        let ascii = place_by(ASCII, self.ascii)?;
+        let scale = place_by(SCALE, self.scale)?;
+        let tiepoints = place_by(TIEPOINTS, self.tiepoints)?;
+        let transformation = place_by(TRANSFORMATION, self.transformation)?;
+        Ok(GeoPlaces {
+            directory,
+            doubles,
+            ascii,
+            scale,
+            tiepoints,
+            transformation,
+        })
+    }
+}
