@@ -1,27 +1,59 @@
--- Looking for an entry by its tag.
-use Rattle.std.proofs.Common.{◌≡◌, ℕ, suc, ◌+◌, ◌==◌, cond, true, false, List, Option, Some, None, refl, sym, ◌∙◌, arith}
-use Rattle.tiff_dir.specs.declared.order.Order.{Order}
-use Rattle.tiff_dir.specs.Number.{number_in}
+-- Looking for an entry by its tag, and counting entries.
+use Rattle.std.proofs.Common.{◌≡◌, ℕ, suc, ◌+◌, ◌*◌, ◌==◌, Bool, true, false, List, length, Option, Some, None, refl, sym, ap, ◌∙◌, arith}
+use Rattle.std.specs.Prelude.{is_some}
+use Rattle.std.specs.Option.{option_map, option_map_or}
+use Rattle.std.specs.List.{cons_option}
+use Rattle.reference.specs.declared.fields.Entry.{Entry}
+use Rattle.reference.specs.Entry.{field_of}
 use Rattle.tiff_dir.specs.File.{Field, field_at, fields_from, with_tag}
 
--- the first entry, or what is among the others
-pub first_of : (order : Order) (at next n left tag : ℕ) (f : List ℕ) → next ≡ at + 12 → n ≡ left + 1
-    → with_tag tag (fields_from order at n f) ≡ cond (number_in order at 2 f == tag) (Some (field_at order at f)) (with_tag tag (fields_from order next left f))
+-- the first entry, if its tag is there, and the others
+first_of : (at next n left : ℕ) (f : List ℕ) → next ≡ at + 12 → n ≡ left + 1 → fields_from f at n ≡ cons_option (field_at f at) (fields_from f next left)
 unfolding fields_from
-first_of order at next n left tag f e1 e2 =
+first_of at next n left f e1 e2 =
     let e : n ≡ suc left = omega arith in
     rw (e, e1) refl
 
-pub none_of : (order : Order) (at n tag : ℕ) (f : List ℕ) → n ≡ 0 → with_tag tag (fields_from order at n f) ≡ None
+pub none_of : (at n : ℕ) (tag : ℕ) (f : List ℕ) → n ≡ 0 → with_tag tag (fields_from f at n) ≡ None
 unfolding fields_from
-none_of order at n tag f e = rw e refl
+none_of at n tag f e = rw e refl
 
-pub passed : (order : Order) (at next n left tag : ℕ) (f : List ℕ) (found : Option Field) → next ≡ at + 12 → n ≡ left + 1
-    → (number_in order at 2 f == tag) ≡ false → with_tag tag (fields_from order at n f) ≡ found
-    → with_tag tag (fields_from order next left f) ≡ found
-passed order at next n left tag f found e1 e2 other is = sym (rw other at (first_of order at next n left tag f e1 e2)) ∙ is
+pub no_fields : (at n : ℕ) (f : List ℕ) → n ≡ 0 → length (fields_from f at n) ≡ 0
+unfolding fields_from
+no_fields at n f e = rw e refl
 
-pub here : (order : Order) (at n tag : ℕ) (f : List ℕ) (found : Option Field) (left : ℕ) → n ≡ left + 1
-    → (number_in order at 2 f == tag) ≡ true → with_tag tag (fields_from order at n f) ≡ found
-    → found ≡ Some (field_at order at f)
-here order at n tag f found left e same is = sym is ∙ rw same at (first_of order at (at + 12) n left tag f (omega arith) e)
+-- whether an entry that may be there has the tag
+abbrev tagged : ℕ → Option Field → Bool
+tagged tag o = option_map_or (λ e. e.tag == tag) o false
+
+pub passed : (at next n left tag : ℕ) (f : List ℕ) (o : Option Field) → next ≡ at + 12 → n ≡ left + 1 → o ≡ field_at f at → tagged tag o ≡ false → with_tag tag (fields_from f next left) ≡ with_tag tag (fields_from f at n)
+passed at next n left tag f o e1 e2 is other = sym (ap (with_tag tag) (first_of at next n left f e1 e2) ∙ ap (λ x. with_tag tag (cons_option x (fields_from f next left))) (sym is) ∙ go o other) where
+  go : (x : Option Field) → tagged tag x ≡ false → with_tag tag (cons_option x (fields_from f next left)) ≡ with_tag tag (fields_from f next left)
+  go None other = refl
+  go (Some e) other = rw other refl
+
+pub here : (at n tag : ℕ) (f : List ℕ) (o : Option Field) (left : ℕ) → n ≡ left + 1 → o ≡ field_at f at → tagged tag o ≡ true → o ≡ with_tag tag (fields_from f at n)
+here at n tag f o left e2 is same = sym (ap (with_tag tag) (first_of at (at + 12) n left f refl e2) ∙ ap (λ x. with_tag tag (cons_option x (fields_from f (at + 12) left))) (sym is) ∙ go o same) where
+  go : (x : Option Field) → tagged tag x ≡ true → with_tag tag (cons_option x (fields_from f (at + 12) left)) ≡ x
+  go None same = absurd (cc)
+  go (Some e) same = rw same refl
+
+pub seen_tag : (tag : ℕ) (o : Option Entry) → tagged tag (option_map field_of o) ≡ option_map_or (λ (e : Entry). e.tag == tag) o false
+seen_tag tag None = refl
+seen_tag tag (Some e) = refl
+
+pub seen_some : (o : Option Entry) → is_some (option_map field_of o) ≡ is_some o
+seen_some None = refl
+seen_some (Some e) = refl
+
+pub counted : (at next n left : ℕ) (f : List ℕ) (o : Option Field) → next ≡ at + 12 → n ≡ left + 1 → o ≡ field_at f at → is_some o ≡ true → length (fields_from f at n) ≡ length (fields_from f next left) + 1
+counted at next n left f o e1 e2 is there = ap length (first_of at next n left f e1 e2) ∙ ap (λ x. length (cons_option x (fields_from f next left))) (sym is) ∙ one o there where
+  one : (x : Option Field) → is_some x ≡ true → length (cons_option x (fields_from f next left)) ≡ length (fields_from f next left) + 1
+  one None there = absurd (cc)
+  one (Some e) there = omega arith
+
+pub not_counted : (at next n left : ℕ) (f : List ℕ) (o : Option Field) → next ≡ at + 12 → n ≡ left + 1 → o ≡ field_at f at → is_some o ≡ false → length (fields_from f at n) ≡ length (fields_from f next left)
+not_counted at next n left f o e1 e2 is there = ap length (first_of at next n left f e1 e2) ∙ ap (λ x. length (cons_option x (fields_from f next left))) (sym is) ∙ none o there where
+  none : (x : Option Field) → is_some x ≡ false → length (cons_option x (fields_from f next left)) ≡ length (fields_from f next left)
+  none None there = refl
+  none (Some e) there = absurd (cc)

@@ -1,30 +1,65 @@
 -- Adding up lists of ranges.
-use Rattle.std.proofs.Common.{◌≡◌, ℕ, ◌+◌, ◌<◌, ◌≤◌, ◌^◌, ◌⊎◌, inr, subst, Bool, true, false, not, cond, List, [], ◌∷◌, ◌++◌, length, get_or, take, Option, Some, None, refl, sym, ap, ◌∙◌, arith, append_assoc}
-use Rattle.std.specs.List.{filter, filter_map, cons_option, sum_by}
-use Rattle.std.specs.Option.{option_to_list}
-use Rattle.std.proofs.lemmas.List.{take_more}
-use Rattle.std.proofs.lemmas.List.Elements.{filter_map-append}
+use Rattle.std.proofs.Common.{◌≡◌, ℕ, ◌+◌, ◌<◌, ◌≤◌, ◌^◌, ◌⊎◌, inr, subst, Bool, true, false, not, cond, List, [], ◌∷◌, ◌++◌, map, length, get_or, drop, Option, Some, None, Result, Ok, Err, refl, sym, ap, ◌∙◌, arith, append_assoc}
+use Rattle.std.specs.List.{filter, sum_by}
+use Rattle.std.specs.Option.{option_map, option_to_list}
+use Rattle.std.proofs.lemmas.List.{drop_all, drop_more}
 use Rattle.std.proofs.lemmas.List.Sums.{sum_by-cons}
 use Rattle.tiff_dir.specs.Needs.{Range, ends_past}
-use Rattle.std.specs.Prelude.{MatchOption, IfSome, IfNone}
+use Rattle.std.specs.Prelude.{MatchOption, IfSome, IfNone, OnOk}
 use Rattle.tiff_dir.specs.declared.query.Query.{Query}
-use Rattle.tiff_dir.specs.Query.{blocks, needs, cost}
+use Rattle.tiff_dir.specs.Query.{Group, joins, alone, with_tile, grouped_after, grouped, blocks, needs, cost}
 use Rattle.reference.specs.declared.needs.Range as listed
-use Rattle.reference.specs.Ranges.{blocks_inside, range_of, ranges_of}
+use Rattle.reference.specs.Ranges.{blocks_inside, may_join, range_of, ranges_of, ranges_after, with_range}
 
-cons_option-nil : {X : Type 0} (o : Option X) → cons_option o [] ≡ option_to_list o
-cons_option-nil None = refl
-cons_option-nil (Some x) = refl
+-- ---- groups by their ranges alone
 
--- one more item
-pub filter_map_more : {X Y : Type 0} (h : X → Option Y) (xs : List X) (i : ℕ) (d : X) (out new start : List Y) → i < length xs
-    → out ≡ start ++ filter_map h (take i xs) → new ≡ out ++ option_to_list (h (get_or xs i d))
-    → new ≡ start ++ filter_map h (take (i + 1) xs)
-filter_map_more h xs i d out new start inside was added =
-    added ∙ ap (λ ys. ys ++ option_to_list (h (get_or xs i d))) was
-    ∙ append_assoc start (filter_map h (take i xs)) (option_to_list (h (get_or xs i d)))
-    ∙ ap (λ ys. start ++ ys) (sym (ap (filter_map h) (take_more xs i d inside) ∙ filter_map-append h (take i xs) (get_or xs i d ∷ [])
-    ∙ ap (λ ys. filter_map h (take i xs) ++ ys) (cons_option-nil (h (get_or xs i d)))))
+abbrev range_in : Group → Range
+range_in g = g.range
+
+either : {A B : Type 0} (b : Bool) (f : A → B) (x y : A) (u v : B) → f x ≡ u → f y ≡ v → f (cond b x y) ≡ cond b u v
+either true f x y u v one other = one
+either false f x y u v one other = other
+
+-- the ranges of groups
+pub after_ranges : (before : Option Group) (tiles : List (ℕ × Option Range)) → map range_in (grouped_after before tiles) ≡ ranges_after (option_map range_in before) (map (λ p. p.1) tiles)
+unfolding grouped_after
+after_ranges None [] = refl
+after_ranges (Some g) [] = refl
+after_ranges None ((t, None) ∷ rest) = after_ranges None rest
+after_ranges (Some g) ((t, None) ∷ rest) = ap (λ rs. g.range ∷ rs) (after_ranges None rest)
+after_ranges None ((t, Some r) ∷ rest) = after_ranges (Some (alone t r)) rest
+after_ranges (Some g) ((t, Some r) ∷ rest) =
+    either (joins g r) (map range_in) (grouped_after (Some (with_tile g t r)) rest) (g ∷ grouped_after (Some (alone t r)) rest) _ _
+    (after_ranges (Some (with_tile g t r)) rest) (ap (λ rs. g.range ∷ rs) (after_ranges (Some (alone t r)) rest))
+
+firsts : (range : ℕ → Option Range) (tiles : List ℕ) → map (λ (p : ℕ × Option Range). p.1) (map (λ t. (t, range t)) tiles) ≡ map range tiles
+firsts range [] = refl
+firsts range (t ∷ tiles) = ap (λ rs. range t ∷ rs) (firsts range tiles)
+
+pub groups_ranged : (range : ℕ → Option Range) (tiles : List ℕ) → map range_in (grouped range tiles) ≡ ranges_after None (map range tiles)
+unfolding grouped
+groups_ranged range tiles = after_ranges None (map (λ t. (t, range t)) tiles) ∙ ap (ranges_after None) (firsts range tiles)
+
+-- one more tile
+pub one_tile_more : (range : ℕ → Option Range) (tiles : List ℕ) (i : ℕ) (out new all : List Range) (before after : Option Range) → i < length tiles
+    → out ++ ranges_after before (map range (drop i tiles)) ≡ all
+    → ((rest : List (Option Range)) → new ++ ranges_after after rest ≡ out ++ ranges_after before (range (get_or tiles i 0) ∷ rest))
+    → new ++ ranges_after after (map range (drop (i + 1) tiles)) ≡ all
+one_tile_more range tiles i out new all before after inside is step =
+    let first : drop i tiles ≡ get_or tiles i 0 ∷ drop (i + 1) tiles = drop_more tiles i 0 inside in
+    step (map range (drop (i + 1) tiles)) ∙ ap (λ ts. out ++ ranges_after before (map range ts)) (sym first) ∙ is
+
+on_ok_then : {T E : Type 0} (r : Result T E) (P Q : Type 0) → OnOk r P → (P → Q) → OnOk r Q
+on_ok_then (Ok x) P Q p then = then p
+on_ok_then (Err e) P Q p then = tt
+
+-- the last group
+pub all_grouped : {T E : Type 0} (r : Result T E) (range : ℕ → Option Range) (tiles : List ℕ) (i : ℕ) (out new start : List Range) (last : Option Range) → length tiles ≤ i
+    → out ++ ranges_after last (map range (drop i tiles)) ≡ start ++ ranges_after None (map range tiles)
+    → OnOk r (new ≡ out ++ option_to_list last) → OnOk r (new ≡ start ++ map range_in (grouped range tiles))
+all_grouped r range tiles i out new start last past is pushed = on_ok_then r _ _ pushed (λ added.
+    let none : drop i tiles ≡ [] = drop_all i tiles past in
+    added ∙ (rw none at is) ∙ ap (λ rs. start ++ rs) (sym (groups_ranged range tiles)))
 
 -- the blocks of the ranges that end inside the file
 pub sum_inside : (f : List ℕ) (rs : List Range) → sum_by blocks (filter (λ r. not (ends_past f r)) rs) ≡ sum_by (blocks_inside (length f)) rs

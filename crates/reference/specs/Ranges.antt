@@ -1,5 +1,6 @@
 -- Ranges as the definitions see them.
-use Rattle.std.specs.Prelude.{ℕ, ◌+◌, nat_lt, if◌then◌else◌, List, map}
+use Rattle.std.specs.Prelude.{ℕ, ◌+◌, Bool, ◌&&◌, ◌==◌, nat_lt, nat_le, if◌then◌else◌, List, [], ◌∷◌, ◌++◌, map, Option, Some, None}
+use Rattle.std.specs.Option.{option_to_list}
 use Rattle.tiff_dir.specs.Needs as need
 use Rattle.tiff_dir.specs.Query.{blocks}
 use Rattle.reference.specs.declared.needs.Range.{Range}
@@ -9,6 +10,25 @@ range_of r = record { first = r.first; len = r.len }
 
 abbrev pub ranges_of : List Range → List need.Range
 ranges_of rs = map range_of rs
+
+-- ---- groups by their ranges alone
+
+abbrev pub Ranged : Type 0
+Ranged = Option need.Range
+
+abbrev pub may_join : need.Range → need.Range → Bool
+may_join g r = (r.first == g.first + g.len) && nat_le (g.len + r.len) 1048576
+
+abbrev pub with_range : need.Range → need.Range → need.Range
+with_range g r = record { first = g.first; len = g.len + r.len }
+
+-- the ranges of an open group and of the tiles after it
+abbrev pub ranges_after : Ranged → List Ranged → List need.Range
+ranges_after before [] = option_to_list before
+ranges_after before (None ∷ rest) = option_to_list before ++ ranges_after None rest
+ranges_after None (Some r ∷ rest) = ranges_after (Some r) rest
+ranges_after (Some g) (Some r ∷ rest) =
+    if may_join g r then ranges_after (Some (with_range g r)) rest else g ∷ ranges_after (Some r) rest
 
 -- the blocks of a range that ends inside a file of so many bytes
 abbrev pub blocks_inside : ℕ → need.Range → ℕ

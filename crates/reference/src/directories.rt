@@ -1,7 +1,6 @@
 //! The directories of a file and their fields.
 ghost use Rattle.std.specs.Prelude.{◌≡◌, ◌<◌, ◌≤◌, ◌+◌, ◌*◌, length};
-ghost use Rattle.tiff_dir.specs.Number.{number_in};
-ghost use Rattle.tiff_dir.specs.File.{directory, has_directory, entry_count, Field, field_at, field, fields_from, table, with_tag};
+ghost use Rattle.tiff_dir.specs.File.{directory, has_directory, entry_count};
 
 use crate::numbers::{long, order_of, short};
 

@@ -1,58 +1,102 @@
 //! The fields of a directory and their values.
-ghost use Rattle.std.specs.Prelude.{◌≡◌, ◌<◌, ◌≤◌, ◌^◌, ◌+◌, ◌*◌, ℕ, List, IfSome, length, Option};
-ghost use Rattle.std.specs.Option.{option_map};
-ghost use Rattle.tiff_dir.specs.Number.{number_in};
+ghost use Rattle.std.specs.Prelude.{◌≡◌, ◌<◌, ◌≤◌, ◌^◌, ◌+◌, ◌*◌, ℕ, List, IfSome, false, ◌==◌, length, Option};
+ghost use Rattle.std.specs.Option.{option_map, option_map_or};
 ghost use Rattle.tiff_dir.specs.Level.{place_of};
-ghost use Rattle.tiff_dir.specs.File.{default_of, field_value, fields_from, kind_of, table, size_of, value, values_at, with_tag};
-ghost use Rattle.reference.specs.Entry.{field_of, fields_with, place_in};
+ghost use Rattle.tiff_dir.specs.File.{default_of, field, field_at, field_value, fields_from, has_all_tags, kind_of, value, values_at, with_tag};
+ghost use Rattle.reference.specs.Entry.{field_of, place_in};
 
 use crate::directories::{directory, entry_count};
-use crate::numbers::{long, long_in, number, order_of, short_in};
-use tiff_dir::{Kind, Order, Place};
+use crate::numbers::{long, number, short};
+use tiff_dir::{Kind, Place};
 
-/// What the first 8 of an entry's 12 bytes say, and where the entry stands.
+/// What an entry says of its field, and where the entry stands. Type and count are there where their bytes are in the
+/// file.
 #[derive(Clone, Copy, Debug, PartialEq, Eq)]
 pub struct Entry {
     pub tag: u16,
-    pub kind: u16,
-    pub count: u32,
+    pub kind: Option<u16>,
+    pub count: Option<u32>,
     pub place: u64,
 }
 
+/// The entry at this place, where its tag is in the file.
+#[tactic(auto, unfolding(tiff_dir::specs::File::field_at))]
+fn entry_at(file: &[u8], at: u64) -> Option<Entry>
+    requires { at < 2 ^ 62 }
+    ensures entry { option_map field_of result ≡ field_at file.now at }
+    ensures near { IfSome result (λ e. e.place < 2 ^ 62) }
+{
+    let tag = short(file, at)?;
+    Some(Entry {
+        tag,
+        kind: short(file, at + 2),
+        count: long(file, at + 4),
+        place: at,
+    })
+}
+
+fn has_tag(entry: Option<Entry>, tag: u16) -> bool
+    ensures { result ≡ option_map_or (λ e. e.tag == tag) entry false }
+{
+    match entry {
+        Some(entry) => entry.tag == tag,
+        None => false,
+    }
+}
+
 /// The first of the `entries` entries from `first` that has the tag.
-fn find_entry(file: &[u8], order: Order, first: u64, entries: u16, tag: u16) -> Option<Entry>
-    requires there { first + 12 * entries ≤ length file.now }
-    requires near { first + 12 * entries < 2 ^ 62 }
-    ensures found { option_map field_of result ≡ with_tag tag (fields_from order first entries file.now) }
+fn find_entry(file: &[u8], first: u64, entries: u16, tag: u16) -> Option<Entry>
+    requires { first + 12 * entries < 2 ^ 62 }
+    ensures found { option_map field_of result ≡ with_tag tag (fields_from file.now first entries) }
     ensures near { IfSome result (λ e. e.place < 2 ^ 62) }
 {
     for i in 0..u64::from(entries) {
-        let at = first + 12 * i;
-        if short_in(order, file, at as usize) == tag {
-            return Some(Entry {
-                tag,
-                kind: short_in(order, file, at as usize + 2),
-                count: long_in(order, file, at as usize + 4),
-                place: at,
-            });
+        let entry = entry_at(file, first + 12 * i);
+        if has_tag(entry, tag) {
+            return entry;
         }
     }
     None
 }
 
-/// The field with the tag in directory `k`, where the directory's table is in the file.
-#[tactic(auto, unfolding(tiff_dir::specs::File::table))]
-fn entry_with(file: &[u8], k: u32, tag: u16) -> Option<Option<Entry>>
-    ensures found { option_map (option_map field_of) result ≡ fields_with tag (table file.now k) }
-    ensures near { IfSome result (λ e. IfSome e (λ found. found.place < 2 ^ 62)) }
+/// How many of the `entries` entries from `first` have their tags in the file.
+fn count_tags(file: &[u8], first: u64, entries: u16) -> u64
+    requires { first + 12 * entries < 2 ^ 62 }
+    ensures { result ≡ length (fields_from file.now first entries) }
 {
-    let order = order_of(file)?;
+    let mut count = 0;
+    for i in 0..u64::from(entries) {
+        let entry = entry_at(file, first + 12 * i);
+        if entry.is_some() {
+            count += 1;
+        }
+    }
+    count
+}
+
+/// The field with the tag in directory `k`.
+#[tactic(auto, unfolding(tiff_dir::specs::File::field, tiff_dir::specs::File::fields))]
+fn field(file: &[u8], k: u32, tag: u16) -> Option<Entry>
+    ensures found { option_map field_of result ≡ field file.now k tag }
+    ensures near { IfSome result (λ e. e.place < 2 ^ 62) }
+{
     let at = u64::from(directory(file, k)?);
     let entries = entry_count(file, k)?;
-    if at + 2 + 12 * u64::from(entries) + 4 > file.len() as u64 {
-        return None;
+    find_entry(file, at + 2, entries, tag)
+}
+
+/// Whether the tags of all entries of directory `k` are in the file.
+#[tactic(auto, unfolding(tiff_dir::specs::File::has_all_tags, tiff_dir::specs::File::fields, tiff_dir::specs::File::entry_count))]
+fn has_all_tags(file: &[u8], k: u32) -> bool
+    ensures { result ≡ has_all_tags file.now k }
+{
+    let Some(at) = directory(file, k) else {
+        return false;
+    };
+    match short(file, u64::from(at)) {
+        Some(entries) => { count_tags(file, u64::from(at) + 2, entries) == u64::from(entries) }
+        None => false,
     }
-    Some(find_entry(file, order, at + 2, entries, tag))
 }
 
 /// The type of this number.
@@ -76,29 +120,14 @@ fn kind_of(number: u16) -> Option<Kind>
     }
 }
 
-/// How many bytes a value of the type has.
-fn size_of(kind: Kind) -> usize
-    ensures size { result ≡ size_of kind }
-    ensures some { 1 ≤ result }
-    ensures few { result ≤ 8 }
-{
-    match kind {
-        Kind::Byte | Kind::Ascii | Kind::SignedByte | Kind::Undefined => 1,
-        Kind::Short | Kind::SignedShort => 2,
-        Kind::Long | Kind::SignedLong | Kind::Float => 4,
-        Kind::Rational | Kind::SignedRational | Kind::Double => 8,
-    }
-}
-
-/// Where the field's values of `size` bytes begin.
+/// Where values of `len` bytes of the field begin.
 #[tactic(auto, unfolding(tiff_dir::specs::File::values_at))]
-fn values_at(file: &[u8], entry: Entry, size: usize) -> Option<u64>
-    requires few { size ≤ 8 }
-    requires near { entry.place < 2 ^ 62 }
-    ensures at { result ≡ values_at file.now (field_of entry) size }
+fn values_at(file: &[u8], entry: Entry, len: u64) -> Option<u64>
+    requires { entry.place < 2 ^ 62 }
+    ensures at { result ≡ values_at file.now (field_of entry) len }
     ensures near { IfSome result (λ at. at < 2 ^ 62 + 8) }
 {
-    if u64::from(entry.count) * size as u64 <= 4 {
+    if len <= 4 {
         Some(entry.place + 8)
     } else {
         Some(u64::from(long(file, entry.place + 8)?))
@@ -111,13 +140,13 @@ fn field_value(file: &[u8], entry: Entry, i: u64) -> Option<u64>
     requires { entry.place < 2 ^ 62 }
     ensures { result ≡ field_value file.now (field_of entry) i }
 {
-    let kind = kind_of(entry.kind)?;
-    let size = size_of(kind);
-    let at = values_at(file, entry, size)?;
-    if i >= u64::from(entry.count) {
+    let kind = kind_of(entry.kind?)?;
+    let count = entry.count?;
+    let at = values_at(file, entry, u64::from(count) * kind.size())?;
+    if i >= u64::from(count) {
         return None;
     }
-    number(file, at + i * size as u64, size)
+    number(file, at + i * kind.size(), kind.size() as usize)
 }
 
 /// What each value of an absent field stands for.
@@ -136,9 +165,10 @@ fn default_of(tag: u16) -> Option<u64>
 pub fn value(file: &[u8], k: u32, tag: u16, i: u64) -> Option<u64>
     ensures { result ≡ value file.now k tag i }
 {
-    match entry_with(file, k, tag)? {
+    match field(file, k, tag) {
         Some(entry) => field_value(file, entry, i),
-        None => default_of(tag),
+        None if has_all_tags(file, k) => default_of(tag),
+        None => None,
     }
 }
 
@@ -148,21 +178,21 @@ fn place_of(file: &[u8], entry: Entry) -> Option<Place>
     requires { entry.place < 2 ^ 62 }
     ensures { result ≡ place_of file.now (field_of entry) }
 {
-    let kind = kind_of(entry.kind)?;
-    let size = size_of(kind);
-    let first = values_at(file, entry, size)?;
+    let kind = kind_of(entry.kind?)?;
+    let count = entry.count?;
+    let len = u64::from(count) * kind.size();
+    let first = values_at(file, entry, len)?;
     Some(Place {
         first,
-        len: u64::from(entry.count) * size as u64,
-        count: entry.count,
+        len,
+        count,
         kind,
     })
 }
 
 /// Where the values of the field with this tag in directory `k` stand.
-#[tactic(auto, unfolding(tiff_dir::specs::File::field))]
 pub fn place(file: &[u8], k: u32, tag: u16) -> Option<Place>
     ensures { result ≡ place_in file.now k tag }
 {
-    place_of(file, entry_with(file, k, tag)??)
+    place_of(file, field(file, k, tag)?)
 }

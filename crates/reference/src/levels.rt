@@ -1,12 +1,13 @@
 //! The levels of a file and the bytes of their tiles.
-ghost use Rattle.std.specs.Prelude.{◌≡◌, ◌<◌, ◌≤◌, ◌^◌, ◌+◌, ◌*◌, ◌/◌, ℕ, IfOk, IfSome, IsTrue, option_copied, length, Some, None, List};
-ghost use Rattle.tiff_dir.specs.Level.{compression_of, is_level, level_directories, level_directory, level_value, level_at, segment};
-ghost use Rattle.reference.specs.Modest.{are_modest, is_modest, modest_at, modest_level, part};
+ghost use Rattle.std.specs.Prelude.{◌≡◌, ◌<◌, ◌≤◌, ◌^◌, ◌+◌, ◌*◌, ◌/◌, ℕ, ◌&&◌, nat_lt, IfOk, IfSome, IsTrue, option_copied, length, Some, None, List};
+ghost use Rattle.tiff_dir.specs.Level.{compression_of, is_level, level_directories, level_directory, level_value, segment};
+ghost use Rattle.std.specs.Option.{option_map};
+ghost use Rattle.reference.specs.Modest.{grid_of, is_modest, is_modest_grid, layout_of, modest_at, modest_grid, modest_grid_at, modest_level, part};
 
 use crate::directories::has_directory;
 use crate::fields::{place, value};
 use std::alloc::{AllocError, Global};
-use tiff_dir::{Compression, Level};
+use tiff_dir::{Compression, Place};
 
 /// Whether directory `k` is a level.
 #[tactic(auto, unfolding(tiff_dir::specs::Level::is_level))]
@@ -54,64 +55,80 @@ fn compression_of(number: u64) -> Option<Compression>
     }
 }
 
-/// The sides of a level and of its tiles, the samples of a pixel and the bits of a sample, as they stand in a file.
-#[derive(Clone, Copy)]
-struct Numbers {
-    width: u64,
-    length: u64,
-    tile_width: u64,
-    tile_length: u64,
-    samples: u64,
-    bits: u64,
+/// How a level is cut into tiles: its sides and the tiles', in pixels.
+#[derive(Clone, Copy, Debug, PartialEq, Eq)]
+pub struct Grid {
+    pub width: u32,
+    pub length: u32,
+    pub tile_width: u32,
+    pub tile_length: u32,
 }
 
-/// Whether the plain program reads a level of these numbers.
-fn are_modest(n: &Numbers) -> bool
-    ensures { result ≡ are_modest n.now.width n.now.length n.now.tile_width n.now.tile_length n.now.samples n.now.bits }
+/// What a directory says of its level, whether the profile allows it or not.
+#[derive(Clone, Copy, Debug, PartialEq, Eq)]
+pub struct Level {
+    pub grid: Grid,
+    pub samples: u16,
+    pub bits: u16,
+    pub compression: Compression,
+    pub offsets: Place,
+    pub counts: Place,
+}
+
+/// Whether the plain program reads a level of these sides.
+fn is_modest_side(side: u64) -> bool
+    ensures { result ≡ nat_lt side (2 ^ 30) }
 {
-    if n.width >= 1 << 30 || n.length >= 1 << 30 {
-        return false;
-    }
-    if n.tile_width == 0 || n.tile_width >= 1 << 24 {
-        return false;
-    }
-    if n.tile_length == 0 || n.tile_length >= 1 << 24 {
-        return false;
-    }
-    n.samples < 1 << 12 && n.bits < 1 << 16
+    side < 1 << 30
 }
 
-/// The level that directory `k` describes, where its numbers are modest.
-#[tactic(auto, unfolding(tiff_dir::specs::Level::level_at))]
-pub fn level_at(file: &[u8], k: u32) -> Option<Level>
-    ensures level { result ≡ modest_at file.now k }
-    ensures modest { IfSome result (λ l. IsTrue (is_modest l)) }
+fn is_modest_tile_side(side: u64) -> bool
+    ensures { result ≡ (nat_lt 0 side && nat_lt side (2 ^ 24)) }
+{
+    side > 0 && side < 1 << 24
+}
+
+/// The grid of directory `k`, where its numbers are modest.
+#[tactic(auto, unfolding(tiff_dir::specs::Level::grid_at))]
+pub fn grid_at(file: &[u8], k: u32) -> Option<Grid>
+    ensures grid { option_map grid_of result ≡ modest_grid_at file.now k }
+    ensures modest { IfSome result (λ g. IsTrue (is_modest_grid (grid_of g))) }
 {
     let width = value(file, k, 256, 0)?;
     let length = value(file, k, 257, 0)?;
     let tile_width = value(file, k, 322, 0)?;
     let tile_length = value(file, k, 323, 0)?;
+    if !is_modest_side(width) || !is_modest_side(length) {
+        return None;
+    }
+    if !is_modest_tile_side(tile_width) || !is_modest_tile_side(tile_length) {
+        return None;
+    }
+    Some(Grid {
+        width: width as u32,
+        length: length as u32,
+        tile_width: tile_width as u32,
+        tile_length: tile_length as u32,
+    })
+}
+
+/// The level that directory `k` describes, where its numbers are modest.
+#[tactic(auto, unfolding(tiff_dir::specs::Level::layout_at))]
+pub fn level_at(file: &[u8], k: u32) -> Option<Level>
+    ensures level { option_map layout_of result ≡ modest_at file.now k }
+    ensures modest { IfSome result (λ l. IsTrue (is_modest (layout_of l))) }
+{
+    let grid = grid_at(file, k)?;
     let samples = value(file, k, 277, 0)?;
     let bits = value(file, k, 258, 0)?;
     let compression = compression_of(value(file, k, 259, 0)?)?;
     let offsets = place(file, k, 324)?;
     let counts = place(file, k, 325)?;
-    let numbers = Numbers {
-        width,
-        length,
-        tile_width,
-        tile_length,
-        samples,
-        bits,
-    };
-    if !are_modest(&numbers) {
+    if samples >= 1 << 8 || bits < 8 || bits > 64 {
         return None;
     }
     Some(Level {
-        width: width as u32,
-        length: length as u32,
-        tile_width: tile_width as u32,
-        tile_length: tile_length as u32,
+        grid,
         samples: samples as u16,
         bits: bits as u16,
         compression,
@@ -120,11 +137,23 @@ pub fn level_at(file: &[u8], k: u32) -> Option<Level>
     })
 }
 
+/// The grid of level `n`, where its numbers are modest.
+#[tactic(auto, unfolding(tiff_dir::specs::Level::level_grid))]
+pub fn level_grid(alloc: Global, file: &[u8], n: usize) -> Result<Option<Grid>, AllocError>
+    ensures grid { IfOk result (λ o. option_map grid_of o ≡ modest_grid file.now n) }
+    ensures modest { IfOk result (λ o. IfSome o (λ g. IsTrue (is_modest_grid (grid_of g)))) }
+{
+    match level_directory(alloc, file, n)? {
+        Some(k) => Ok(grid_at(file, k)),
+        None => Ok(None),
+    }
+}
+
 /// Level `n`, where its numbers are modest.
-#[tactic(auto, unfolding(tiff_dir::specs::Level::level_of))]
+#[tactic(auto, unfolding(tiff_dir::specs::Level::level_layout))]
 pub fn level_of(alloc: Global, file: &[u8], n: usize) -> Result<Option<Level>, AllocError>
-    ensures level { IfOk result (λ l. l ≡ modest_level file.now n) }
-    ensures modest { IfOk result (λ o. IfSome o (λ l. IsTrue (is_modest l))) }
+    ensures level { IfOk result (λ o. option_map layout_of o ≡ modest_level file.now n) }
+    ensures modest { IfOk result (λ o. IfSome o (λ l. IsTrue (is_modest (layout_of l)))) }
 {
     match level_directory(alloc, file, n)? {
         Some(k) => Ok(level_at(file, k)),

@@ -1,20 +1,21 @@
 //! The ranges of a file that a query needs.
-ghost use Rattle.std.specs.Prelude.{◌≡◌, ◌++◌, ◌<◌, ◌≤◌, ◌^◌, ◌⊎◌, ℕ, IfOk, IfSome, IfNone, MatchOption, OnOk, Option, List, map, not};
-ghost use Rattle.std.specs.List.{flat_map, filter, filter_map, sum_by};
+ghost use Rattle.std.specs.Prelude.{◌≡◌, ◌++◌, ◌<◌, ◌≤◌, ◌^◌, ◌⊎◌, ℕ, IfOk, IfSome, IfNone, MatchOption, OnOk, Option, Some, None, List, ◌∷◌, if◌then◌else◌, map, not};
+ghost use Rattle.std.specs.List.{flat_map, filter, sum_by};
 ghost use Rattle.std.specs.Option.{option_map, option_to_list};
 ghost use Rattle.tiff_dir.specs.File.{directories};
 ghost use Rattle.tiff_dir.specs.Level.{level_directory};
-ghost use Rattle.tiff_dir.specs.Needs.{count_range, ends_past, needs_of_directories, outside_range, ranges_of_directory, table_range};
-ghost use Rattle.tiff_dir.specs.Query.{array_range, array_ranges, blocks, cost, groups, needs, tile_range};
+ghost use Rattle.tiff_dir.specs.Needs.{count_range, ends_past, field_range, needs_of_directories, outside_range, range_of_place, ranges_of_directory, table_range};
+ghost use Rattle.tiff_dir.specs.Query.{array_range, array_ranges, blocks, cost, grouped, needs, tile_range};
 ghost use Rattle.reference.specs.Modest.{HasNoModestLevel};
-ghost use Rattle.reference.specs.Ranges.{blocks_inside, range_of, ranges_of};
+ghost use Rattle.reference.specs.Asked.{window_of};
+ghost use Rattle.reference.specs.Ranges.{blocks_inside, may_join, range_of, ranges_after, ranges_of, with_range, Ranged};
 
 use crate::directories::{directory, entry_count, has_directory};
 use crate::fields::place;
 use crate::levels::{is_level, level_directory, level_value};
-use crate::query::{asked_rectangle, is_refused, window_tiles};
+use crate::query::{Rectangle, is_refused, window_tiles};
 use std::alloc::{AllocError, Global};
-use tiff_dir::Query;
+use tiff_dir::Place;
 
 /// `len` bytes from `first`.
 #[derive(Clone, Copy, Debug, PartialEq, Eq)]
@@ -46,6 +47,23 @@ fn table_range(file: &[u8], k: u32) -> Option<Range>
     })
 }
 
+/// The bytes of a field's values.
+fn place_range(place: Place) -> Range
+    ensures { range_of result ≡ range_of_place place }
+{
+    Range {
+        first: place.first,
+        len: place.len,
+    }
+}
+
+#[tactic(auto, unfolding(tiff_dir::specs::Needs::field_range))]
+fn field_range(file: &[u8], k: u32, tag: u16) -> Option<Range>
+    ensures { option_map range_of result ≡ field_range file.now k tag }
+{
+    Some(place_range(place(file, k, tag)?))
+}
+
 #[tactic(auto, unfolding(tiff_dir::specs::Needs::outside_range))]
 fn outside_range(file: &[u8], k: u32, tag: u16) -> Option<Range>
     ensures { option_map range_of result ≡ outside_range file.now k tag }
@@ -54,10 +72,7 @@ fn outside_range(file: &[u8], k: u32, tag: u16) -> Option<Range>
     if place.len <= 4 {
         return None;
     }
-    Some(Range {
-        first: place.first,
-        len: place.len,
-    })
+    Some(place_range(place))
 }
 
 fn push_some(out: &mut Vec<Range>, range: Option<Range>) -> Result<(), AllocError>
@@ -117,18 +132,12 @@ fn push_directories(
     Ok(())
 }
 
-#[tactic(auto, unfolding(tiff_dir::specs::Query::array_range, tiff_dir::specs::File::field))]
+#[tactic(auto, unfolding(tiff_dir::specs::Query::array_range))]
 fn array_range(alloc: Global, file: &[u8], n: usize, tag: u16) -> Result<Option<Range>, AllocError>
     ensures { IfOk result (λ o. option_map range_of o ≡ array_range file.now n tag) }
 {
-    let Some(k) = level_directory(alloc, file, n)? else {
-        return Ok(None);
-    };
-    match place(file, k, tag) {
-        Some(place) => Ok(Some(Range {
-            first: place.first,
-            len: place.len,
-        })),
+    match level_directory(alloc, file, n)? {
+        Some(k) => Ok(field_range(file, k, tag)),
         None => Ok(None),
     }
 }
@@ -145,52 +154,88 @@ fn tile_range(alloc: Global, file: &[u8], n: usize, t: u64) -> Result<Option<Ran
     }
 }
 
-#[tactic(auto, unfolding(tiff_dir::specs::Query::array_ranges))]
+#[tactic(auto, unfolding(tiff_dir::specs::Query::array_ranges, tiff_dir::specs::Query::rectangle))]
 fn push_arrays(
     alloc: Global,
     out: &mut Vec<Range>,
     file: &[u8],
-    query: Query,
+    r: Rectangle,
 ) -> Result<(), AllocError>
-    ensures { OnOk result (ranges_of out.new.items ≡ ranges_of out.old.items ++ array_ranges file.now query) }
+    ensures { OnOk result (ranges_of out.new.items ≡ ranges_of out.old.items ++ array_ranges file.now (window_of r)) }
 {
-    if is_refused(alloc, file, query)? {
+    if is_refused(alloc, file, r)? {
         return Ok(());
     }
-    let n = asked_rectangle(query).level as usize;
+    let n = r.level as usize;
     push_some(out, array_range(alloc, file, n, 324)?)?;
     push_some(out, array_range(alloc, file, n, 325)?)?;
     Ok(())
 }
 
-fn push_tiles(
+/// The range of a group and the tile behind it, where the tile joins the group.
+fn joined(group: Range, tile: Range) -> Option<Range>
+    ensures { option_map range_of result ≡ (if may_join (range_of group) (range_of tile) then Some (with_range (range_of group) (range_of tile)) else None) }
+{
+    let end = group.first.checked_add(group.len)?;
+    let len = group.len.checked_add(tile.len)?;
+    if tile.first != end || len > 1048576 {
+        return None;
+    }
+    Some(Range {
+        first: group.first,
+        len,
+    })
+}
+
+/// Takes the next tile after a group: the group that is open then, once those that are done are added.
+fn push_tile(
+    out: &mut Vec<Range>,
+    before: Option<Range>,
+    tile: Option<Range>,
+) -> Result<Option<Range>, AllocError>
+    ensures { IfOk result (λ after. (rest : List Ranged) → ranges_of out.new.items ++ ranges_after (option_map range_of after) rest
+        ≡ ranges_of out.old.items ++ ranges_after (option_map range_of before) (option_map range_of tile ∷ rest)) }
+{
+    if let Some(group) = before
+        && let Some(tile) = tile
+        && let Some(whole) = joined(group, tile)
+    {
+        return Ok(Some(whole));
+    }
+    push_some(out, before)?;
+    Ok(tile)
+}
+
+/// Adds the groups of the tiles.
+fn push_groups(
     alloc: Global,
     out: &mut Vec<Range>,
     file: &[u8],
     n: usize,
     tiles: &[u64],
 ) -> Result<(), AllocError>
-    ensures { OnOk result (ranges_of out.new.items ≡ ranges_of out.old.items ++ filter_map (tile_range file.now n) tiles.now) }
+    ensures { OnOk result (ranges_of out.new.items ≡ ranges_of out.old.items ++ map (λ g. g.range) (grouped (tile_range file.now n) tiles.now)) }
 {
+    let mut group = None;
     for t in tiles {
-        push_some(out, tile_range(alloc, file, n, *t)?)?;
+        let tile = tile_range(alloc, file, n, *t)?;
+        group = push_tile(out, group, tile)?;
     }
-    Ok(())
+    push_some(out, group)
 }
 
-/// The ranges of the file that the query needs, where the plain program reads the query's level.
-#[tactic(auto, unfolding(tiff_dir::specs::Query::needs, tiff_dir::specs::Query::needs_of_query, tiff_dir::specs::Query::groups))]
-pub fn needs(alloc: Global, file: &[u8], query: Query) -> Result<Option<Vec<Range>>, AllocError>
-    ensures ranges { IfOk result (λ o. IfSome o (λ v. ranges_of v.items ≡ needs file.now query)) }
-    ensures none { IfOk result (λ o. IfNone o (HasNoModestLevel file.now query)) }
+/// The ranges of the file that the window needs, where the plain program reads its level.
+#[tactic(auto, unfolding(tiff_dir::specs::Query::needs, tiff_dir::specs::Query::needs_of_query, tiff_dir::specs::Query::groups, tiff_dir::specs::Query::rectangle))]
+pub fn needs(alloc: Global, file: &[u8], r: Rectangle) -> Result<Option<Vec<Range>>, AllocError>
+    ensures ranges { IfOk result (λ o. IfSome o (λ v. ranges_of v.items ≡ needs file.now (window_of r))) }
+    ensures none { IfOk result (λ o. IfNone o (HasNoModestLevel file.now r.level)) }
 {
     let mut out = needs_of_directories(alloc, file)?;
-    push_arrays(alloc, &mut out, file, query)?;
-    let n = asked_rectangle(query).level as usize;
-    let Some(tiles) = window_tiles(alloc, file, query)? else {
+    push_arrays(alloc, &mut out, file, r)?;
+    let Some(tiles) = window_tiles(alloc, file, r)? else {
         return Ok(None);
     };
-    push_tiles(alloc, &mut out, file, n, &tiles)?;
+    push_groups(alloc, &mut out, file, r.level as usize, &tiles)?;
     Ok(Some(out))
 }
 
@@ -220,16 +265,16 @@ fn sum_blocks(ranges: &[Range], complete: u64) -> Option<u64>
     Some(total)
 }
 
-/// The blocks of the ranges that the query needs and that end inside the file.
+/// The blocks of the ranges that the window needs and that end inside the file.
 #[tactic(auto, unfolding(tiff_dir::specs::Query::cost))]
-pub fn cost(alloc: Global, file: &[u8], query: Query) -> Result<Option<u64>, AllocError>
-    ensures cost { IfOk result (λ o. IfSome o (λ n. n ≡ cost file.now query)) }
-    ensures none { IfOk result (λ o. IfNone o (HasNoModestLevel file.now query ⊎ (2 ^ 64 ≤ cost file.now query))) }
+pub fn cost(alloc: Global, file: &[u8], r: Rectangle) -> Result<Option<u64>, AllocError>
+    ensures cost { IfOk result (λ o. IfSome o (λ n. n ≡ cost file.now (window_of r))) }
+    ensures none { IfOk result (λ o. IfNone o (HasNoModestLevel file.now r.level ⊎ (2 ^ 64 ≤ cost file.now (window_of r)))) }
 {
     if file.len() as u64 >= 1 << 63 {
         return Ok(None);
     }
-    match needs(alloc, file, query)? {
+    match needs(alloc, file, r)? {
         Some(ranges) => Ok(sum_blocks(&ranges, file.len() as u64)),
         None => Ok(None),
     }

@@ -1,23 +1,24 @@
 //! The samples of a file.
-ghost use Rattle.std.specs.Prelude.{◌≡◌, ◌<◌, ◌≤◌, ◌^◌, ◌+◌, ◌*◌, ◌%◌, ℕ, IfOk, IfSome, IfNone, IsSome, IsTrue, Some, option_copied, length, slice_get};
+ghost use Rattle.std.specs.Prelude.{◌≡◌, ◌<◌, ◌≤◌, ◌^◌, ◌+◌, ◌*◌, ◌%◌, ℕ, IfOk, IfSome, IfNone, IsSome, IsTrue, Some, length};
 ghost use Rattle.tiff_dir.specs.Level.{plain_row, plain_size, segment};
-ghost use Rattle.tiff_dir.specs.Window.{place_in_tile, tile_at, IsSample, IsUnpacked};
+ghost use Rattle.tiff_dir.specs.Window.{place_in_tile, sample_in, tile_at, IsSample, IsUnpacked};
 ghost use Rattle.reference.specs.Missing.{HasNoSample, IsNotUnpacked};
-ghost use Rattle.reference.specs.Modest.{is_modest, modest_level};
+ghost use Rattle.reference.specs.Modest.{grid_of, is_modest, is_modest_grid, layout_of, modest_level};
 
-use crate::levels::{level_of, segment};
+use crate::levels::{Grid, Level, level_of, segment};
+use crate::numbers::{number_in, order_of};
 use crate::packets::unpack;
 use crate::query::tiles_along;
 use std::alloc::{AllocError, Global};
-use tiff_dir::{Compression, Level, one_text};
+use tiff_dir::{Compression, Order, one_text};
 
 /// The number of the tile that has the pixel.
-fn tile_at(level: &Level, x: u32, y: u32) -> u64
-    requires { IsTrue (is_modest level.now) }
-    ensures { result ≡ tile_at level.now x y }
+fn tile_at(grid: &Grid, x: u32, y: u32) -> u64
+    requires { IsTrue (is_modest_grid (grid_of grid.now)) }
+    ensures { result ≡ tile_at (grid_of grid.now) x y }
 {
-    let across = tiles_along(level.width, level.tile_width);
-    u64::from(y / level.tile_length) * across + u64::from(x / level.tile_width)
+    let across = tiles_along(grid.width, grid.tile_width);
+    u64::from(y / grid.tile_length) * across + u64::from(x / grid.tile_width)
 }
 
 /// The number of a pixel in its tile, row by row.
@@ -31,35 +32,45 @@ fn pixel_number(row: u32, column: u32, width: u32) -> usize
     row as usize * width as usize + column as usize
 }
 
-/// Where sample `c` of the pixel stands in its tile.
+/// Which sample of its tile is sample `c` of the pixel.
 fn place_in_tile(level: &Level, x: u32, y: u32, c: u16) -> usize
-    requires { IsTrue (is_modest level.now) }
-    ensures { result ≡ place_in_tile level.now x y c }
+    requires { IsTrue (is_modest (layout_of level.now)) }
+    ensures place { result ≡ place_in_tile (layout_of level.now) x y c }
+    ensures small { result < 2 ^ 58 }
 {
-    let row = y % level.tile_length;
-    let column = x % level.tile_width;
-    pixel_number(row, column, level.tile_width) * usize::from(level.samples) + usize::from(c)
+    let row = y % level.grid.tile_length;
+    let column = x % level.grid.tile_width;
+    pixel_number(row, column, level.grid.tile_width) * usize::from(level.samples) + usize::from(c)
+}
+
+/// How many samples a tile of these sides has.
+fn sample_count(width: u32, length: u32, samples: u16) -> usize
+    requires width { width < 2 ^ 24 }
+    requires length { length < 2 ^ 24 }
+    requires samples { samples < 2 ^ 8 }
+    ensures value { result ≡ width * length * samples }
+    ensures small { result < 2 ^ 56 }
+{
+    width as usize * length as usize * usize::from(samples)
 }
 
 /// How many bytes a row of a tile has, and the whole tile, when it is unpacked.
 fn row_and_size(level: &Level) -> (usize, usize)
-    requires { IsTrue (is_modest level.now) }
-    ensures row { result.0 ≡ plain_row level.now }
-    ensures size { result.1 ≡ plain_size level.now }
+    requires { IsTrue (is_modest (layout_of level.now)) }
+    ensures row { result.0 ≡ plain_row (layout_of level.now) }
+    ensures size { result.1 ≡ plain_size (layout_of level.now) }
 {
-    let samples = usize::from(level.samples);
-    let width = level.tile_width as usize;
-    (
-        width * samples,
-        width * level.tile_length as usize * samples,
-    )
+    let bytes = usize::from(level.bits / 8);
+    let row = level.grid.tile_width as usize * usize::from(level.samples) * bytes;
+    let samples = sample_count(level.grid.tile_width, level.grid.tile_length, level.samples);
+    (row, samples * bytes)
 }
 
 /// The samples of a tile whose segment this is, where it has as many as the tile.
 fn plain_tile(alloc: Global, level: &Level, bytes: &[u8]) -> Result<Option<Vec<u8>>, AllocError>
-    requires { IsTrue (is_modest level.now) }
-    ensures tile { IfOk result (λ o. IfSome o (λ plain. IsUnpacked level.now bytes.now plain.items)) }
-    ensures none { IfOk result (λ o. IfNone o (IsNotUnpacked level.now bytes.now)) }
+    requires { IsTrue (is_modest (layout_of level.now)) }
+    ensures tile { IfOk result (λ o. IfSome o (λ plain. IsUnpacked (layout_of level.now) bytes.now plain.items)) }
+    ensures none { IfOk result (λ o. IfNone o (IsNotUnpacked (layout_of level.now) bytes.now)) }
 {
     one_text();
     let (row, size) = row_and_size(level);
@@ -76,6 +87,21 @@ fn plain_tile(alloc: Global, level: &Level, bytes: &[u8]) -> Result<Option<Vec<u
     }
 }
 
+/// The value of sample `p` of an unpacked tile.
+#[tactic(auto, unfolding(tiff_dir::specs::Window::sample_in))]
+fn sample_in(order: Order, bits: u16, plain: &[u8], p: usize) -> Option<u64>
+    requires some { 8 ≤ bits }
+    requires few { bits ≤ 64 }
+    requires small { p < 2 ^ 58 }
+    ensures { result ≡ sample_in order bits plain.now p }
+{
+    let size = usize::from(bits / 8);
+    if p * size + size > plain.len() {
+        return None;
+    }
+    Some(number_in(order, plain, p * size, size))
+}
+
 /// Sample `c` of the pixel in column `x` and row `y` of level `n`, where its level is modest and its tile is good.
 /// None at another level says nothing.
 pub fn sample(
@@ -85,20 +111,24 @@ pub fn sample(
     x: u32,
     y: u32,
     c: u16,
-) -> Result<Option<u8>, AllocError>
+) -> Result<Option<u64>, AllocError>
     ensures some { IfOk result (λ o. IfSome o (λ v. IsSample file.now n x y c v)) }
     ensures none { IsSome (modest_level file.now n) → IfOk result (λ o. IfNone o (HasNoSample file.now n x y c)) }
 {
     one_text();
+    let Some(order) = order_of(file) else {
+        return Ok(None);
+    };
     let Some(level) = level_of(alloc, file, n as usize)? else {
         return Ok(None);
     };
-    let tile = tile_at(&level, x, y);
+    let tile = tile_at(&level.grid, x, y);
     let Some(bytes) = segment(alloc, file, n as usize, tile)? else {
         return Ok(None);
     };
     let Some(plain) = plain_tile(alloc, &level, bytes)? else {
         return Ok(None);
     };
-    Ok(plain.get(place_in_tile(&level, x, y, c)).copied())
+    let place = place_in_tile(&level, x, y, c);
+    Ok(sample_in(order, level.bits, &plain, place))
 }

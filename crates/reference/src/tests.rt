@@ -1,16 +1,16 @@
 use super::*;
 use crate::directories::{directory, entry_count, has_directory};
 use crate::fields::{place, value};
-use crate::levels::{is_level, level_at, level_directories, level_of, level_value, segment};
-use crate::needs::{Range, all_directories, cost, needs, needs_of_directories};
-use crate::query::{
-    Rectangle, asked_rectangle, is_outside, is_refused, is_too_large, window_tiles,
+use crate::levels::{
+    Grid, Level, is_level, level_at, level_directories, level_of, level_value, segment,
 };
+use crate::needs::{Range, all_directories, cost, needs, needs_of_directories};
+use crate::query::{Rectangle, is_outside, is_refused, is_too_large, window_tiles};
 use fixtures::{f1, f1m, f2, f2b, f3};
 use std::alloc::Global;
 use std::process::Abort;
 use std::test::Fail;
-use tiff_dir::{Compression, Kind, Level, Order, Pick, Place, Query};
+use tiff_dir::{Compression, Kind, Order, Place};
 
 fn at(first: u64, len: u64, count: u32) -> Place {
     Place {
@@ -24,10 +24,12 @@ fn at(first: u64, len: u64, count: u32) -> Place {
 /// A level of tiles of 16 by 16.
 fn level(side: u32, compression: Compression, offsets: Place, counts: Place) -> Level {
     Level {
-        width: side,
-        length: side,
-        tile_width: 16,
-        tile_length: 16,
+        grid: Grid {
+            width: side,
+            length: side,
+            tile_width: 16,
+            tile_length: 16,
+        },
         samples: 1,
         bits: 8,
         compression,
@@ -36,13 +38,13 @@ fn level(side: u32, compression: Compression, offsets: Place, counts: Place) -> 
     }
 }
 
-fn window(x: u32, y: u32, w: u32, h: u32, n: u32) -> Query {
-    Query::Window {
-        x,
-        y,
-        w,
-        h,
-        pick: Pick::Level(n),
+fn window(left: u32, top: u32, width: u32, height: u32, level: u32) -> Rectangle {
+    Rectangle {
+        level,
+        left,
+        top,
+        width,
+        height,
     }
 }
 
@@ -58,15 +60,15 @@ fn expect_needs(
     rt: &impl Abort,
     alloc: Global,
     file: &[u8],
-    query: Query,
+    window: Rectangle,
     want: &[(u64, u64)],
     blocks: u64,
 ) -> Result<(), Fail> {
-    match needs(alloc, file, query)? {
+    match needs(alloc, file, window)? {
         Some(ranges) => expect_ranges(rt, &ranges, want),
         None => return Err(Fail::new("no ranges")),
     }
-    assert_eq!(rt; cost(alloc, file, query)?, Some(blocks));
+    assert_eq!(rt; cost(alloc, file, window)?, Some(blocks));
     Ok(())
 }
 
@@ -75,10 +77,10 @@ fn expect_tiles(
     rt: &impl Abort,
     alloc: Global,
     file: &[u8],
-    query: Query,
+    window: Rectangle,
     want: &[u64],
 ) -> Result<(), Fail> {
-    match window_tiles(alloc, file, query)? {
+    match window_tiles(alloc, file, window)? {
         Some(tiles) => assert_eq!(rt; tiles.as_slice(), want),
         None => return Err(Fail::new("no tiles")),
     }
@@ -92,7 +94,7 @@ fn samples_of_one_tile(rt: HostRuntime) -> Result<(), Fail> {
         for y in 0..16u8 {
             for x in 0..16u8 {
                 let found = sample(alloc, &file, 0, u32::from(x), u32::from(y), 0)?;
-                assert_eq!(rt; found, Some(16 * y + x), "at {x} {y}");
+                assert_eq!(rt; found, Some(u64::from(16 * y + x)), "at {x} {y}");
             }
         }
         assert_eq!(rt; sample(alloc, &file, 1, 0, 0, 0)?, None);
@@ -118,13 +120,17 @@ fn samples_of_two_levels(rt: HostRuntime) -> Result<(), Fail> {
     for y in 0..32u8 {
         for x in 0..32u8 {
             let found = sample(alloc, &file, 0, u32::from(x), u32::from(y), 0)?;
-            assert_eq!(rt; found, Some(16 + y / 16 * 2 + x / 16), "at {x} {y}");
+            assert_eq!(rt;
+                found,
+                Some(u64::from(16 + y / 16 * 2 + x / 16)),
+                "at {x} {y}"
+            );
         }
     }
     for y in 0..16u8 {
         for x in 0..16u32 {
             let found = sample(alloc, &file, 1, x, u32::from(y), 0)?;
-            assert_eq!(rt; found, Some(y), "at {x} {y}");
+            assert_eq!(rt; found, Some(u64::from(y)), "at {x} {y}");
         }
     }
     assert_eq!(rt; sample(alloc, &file, 2, 0, 0, 0)?, None);
@@ -246,6 +252,21 @@ fn needs_of_windows(rt: HostRuntime) -> Result<(), Fail> {
     ];
     let last = window(240, 240, 16, 16, 0);
     expect_needs(&rt, alloc, &f2(alloc)?, last, &many, 6)?;
+    let joined = [
+        (0, 8),
+        (8, 2),
+        (10, 112),
+        (122, 1024),
+        (1146, 1024),
+        (2170, 65536),
+    ];
+    let whole = window(0, 0, 256, 256, 0);
+    expect_needs(&rt, alloc, &f2(alloc)?, whole, &joined, 10)?;
+    let mut compressed = f1(alloc)?;
+    if let Some(byte) = compressed.get_mut(54) {
+        *byte = 5;
+    }
+    expect_needs(&rt, alloc, &compressed, window(0, 0, 1, 1, 0), &one, 6)?;
     let file = f3(alloc)?;
     let first = [
         (0, 8),
@@ -255,12 +276,9 @@ fn needs_of_windows(rt: HostRuntime) -> Result<(), Fail> {
         (172, 124),
         (296, 16),
         (312, 16),
-        (400, 256),
-        (656, 256),
-        (912, 256),
-        (1168, 256),
+        (400, 1024),
     ];
-    expect_needs(&rt, alloc, &file, window(15, 15, 2, 2, 0), &first, 11)?;
+    expect_needs(&rt, alloc, &file, window(15, 15, 2, 2, 0), &first, 8)?;
     let second = [
         (0, 8),
         (8, 2),
@@ -313,14 +331,6 @@ fn tiles_of_windows(rt: HostRuntime) -> Result<(), Fail> {
     let file = f3(alloc)?;
     expect_tiles(&rt, alloc, &file, window(15, 15, 2, 2, 0), &[0, 1, 2, 3])?;
     expect_tiles(&rt, alloc, &file, window(0, 0, 1, 1, 1), &[0])?;
-    let asked = Rectangle {
-        level: 1,
-        left: 2,
-        top: 3,
-        width: 4,
-        height: 5,
-    };
-    assert_eq!(rt; asked_rectangle(window(2, 3, 4, 5, 1)), asked);
     Ok(())
 }
 

@@ -4,4 +4,4 @@ use Rattle.reference.proofs.fields.find_entry.Given as goal
 
 -- none of the entries so far has the tag
 abbrev pub invariant-loop-i : goal.invariant-loop-i
-invariant-loop-i l = with_tag l.tag (fields_from l.order (l.first + 12 * l.i) (l.entries - l.i) l.file) ≡ with_tag l.tag (fields_from l.order l.first l.entries l.file)
+invariant-loop-i l = with_tag l.tag (fields_from l.file (l.first + 12 * l.i) (l.entries - l.i)) ≡ with_tag l.tag (fields_from l.file l.first l.entries)

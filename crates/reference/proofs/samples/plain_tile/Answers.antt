@@ -1,6 +1,7 @@
 use Rattle.std.proofs.Common.{◌≡◌, sym, ap, length, subst, arith, IfSome, IfNone}
 use Rattle.tiff_dir.specs.Packets.{Packs}
 use Rattle.reference.specs.Unpacking.{IsNotPacked}
+use Rattle.reference.specs.Modest.{layout_of}
 use Rattle.reference.proofs.SampleLemmas.{no_tile}
 use Rattle.reference.proofs.samples.plain_tile.Goals as goal
 use Rattle.reference.proofs.samples.plain_tile.Goals.{in_default-via-in-Some+else-len-size, in_default-via-in_default}
@@ -9,7 +10,7 @@ pub returns-in_default-clause-none : goal.returns-in_default-clause-none
 returns-in_default-clause-none c =
     let row = c.row_and_size-row.ensures.row in
     let bytes = c.args.bytes.now in
-    no_tile c.args.level.now bytes c.in-PackBits.is (λ plain size packs.
+    no_tile (layout_of c.args.level.now) bytes c.in-PackBits.is (λ plain size packs.
     let here = subst (λ n. Packs n bytes plain) (sym row) packs in
     elim c.in_default.branch [
       | in_default-via-in-Some+else-len-size w ↦
