@@ -13,8 +13,10 @@ use Rattle.tiff_dir.specs.declared.level.Kind.{Kind}
 use Rattle.tiff_dir.specs.declared.level.Kind.TheVariants as kind
 use Rattle.tiff_dir.specs.Number.{number_in}
 use Rattle.tiff_dir.specs.File.{◌>>=◌, Field, order_of, number, kind_of, size_of, values_at, field, field_value, value, absent_value}
-use Rattle.tiff_dir.specs.Described.{layout_of}
-use Rattle.tiff_dir.specs.Level.{Layout, place_of, level_directory, level_layout, level_value}
+use Rattle.tiff_dir.specs.Described.{grid_of, layout_of}
+use Rattle.tiff_dir.specs.Fault.{plain_bytes}
+use Rattle.tiff_dir.specs.Faulty.{level_compression, level_plain_size, level_plain_row}
+use Rattle.tiff_dir.specs.Level.{Layout, place_of, compression_of, grid_at, level_directory, level_grid, level_layout, level_value, plain_row, plain_size}
 use Rattle.tiff_dir.specs.Walk.{IsArrayOf, IsDescribed}
 use Rattle.tiff_dir.proofs.Parts.{number_part}
 use Rattle.tiff_dir.proofs.Ends.{grid_told, layout_parts}
@@ -105,6 +107,23 @@ count_told f bytes o n t l named level len less whole part =
 
 -- The values of a level
 
+grid_of_level : (f : List ℕ) (n k : ℕ) (l : Level) → level_directory f n ≡ Some k → grid_at f k ≡ Some (grid_of l) → level_grid f n ≡ Some (grid_of l)
+unfolding level_grid
+grid_of_level f n k l there told = rw there told
+
+compression_of_level : (f : List ℕ) (n k : ℕ) (l : Level) → level_directory f n ≡ Some k → (value f k 259 0 >>= compression_of) ≡ Some l.compression → level_compression f n ≡ Some l.compression
+unfolding level_value
+compression_of_level f n k l there told = rw there told
+
+size_of_level : (f : List ℕ) (n k : ℕ) (l : Level) → level_directory f n ≡ Some k → value f k 322 0 ≡ Some l.tile_width → value f k 323 0 ≡ Some l.tile_length → value f k 277 0 ≡ Some l.samples → value f k 258 0 ≡ Some l.bits
+    → level_plain_size f n ≡ Some (plain_size (layout_of l))
+unfolding level_plain_size plain_bytes
+size_of_level f n k l there width length samples bits = rw there (rw (width, length, samples, bits) refl)
+
+row_of_level : (f : List ℕ) (n : ℕ) (l : Level) → level_value f n 322 0 ≡ Some l.tile_width → level_value f n 277 0 ≡ Some l.samples → level_value f n 258 0 ≡ Some l.bits → level_plain_row f n ≡ Some (plain_row (layout_of l))
+unfolding level_plain_row
+row_of_level f n l width samples bits = rw (width, samples, bits) refl
+
 pub described_by : (f : List ℕ) (n : ℕ) (l : Level) → level_layout f n ≡ Some (layout_of l) → IsDescribed f n l
 described_by f n l level =
     let (k, there, told) = layout_found f n (layout_of l) level in
@@ -117,4 +136,8 @@ described_by f n l level =
       tile_length = level_value_at f n k 323 0 l.tile_length there grid.3;
       samples = level_value_at f n k 277 0 l.samples there is.1;
       bits = level_value_at f n k 258 0 l.bits there is.2;
+      grid = grid_of_level f n k l there is.0;
+      compression = compression_of_level f n k l there is.3;
+      plain_size = size_of_level f n k l there grid.2 grid.3 is.1 is.2;
+      plain_row = row_of_level f n l (level_value_at f n k 322 0 l.tile_width there grid.2) (level_value_at f n k 277 0 l.samples there is.1) (level_value_at f n k 258 0 l.bits there is.2);
     }

@@ -9,7 +9,9 @@ use Rattle.tiff_dir.specs.declared.span.Span.{Span}
 use Rattle.tiff_dir.specs.declared.fault.FileFault.{FileFault}
 use Rattle.tiff_dir.specs.declared.fault.WalkError.{WalkError}
 use Rattle.tiff_dir.specs.declared.fault.WalkError.TheVariants as errors
-use Rattle.tiff_dir.specs.Level.{level_value}
+use Rattle.tiff_dir.specs.Level.{level_grid, level_value, plain_row, plain_size}
+use Rattle.tiff_dir.specs.Described.{grid_of, layout_of}
+use Rattle.tiff_dir.specs.Faulty.{level_compression, level_plain_size, level_plain_row}
 use Rattle.tiff_dir.specs.Needs.{Range, range_of_place, needs_of_directories}
 use Rattle.tiff_dir.specs.Profile.{max_geo_bytes}
 use Rattle.tiff_dir.specs.Geo.{geo_place, IsGeoFault}
@@ -64,6 +66,10 @@ pub record IsDescribed (f : List ℕ) (n : ℕ) (l : Level) : Type 0 where
   pub tile_length : level_value f n 323 0 ≡ Some l.tile_length
   pub samples : level_value f n 277 0 ≡ Some l.samples
   pub bits : level_value f n 258 0 ≡ Some l.bits
+  pub grid : level_grid f n ≡ Some (grid_of l)
+  pub compression : level_compression f n ≡ Some l.compression
+  pub plain_size : level_plain_size f n ≡ Some (plain_size (layout_of l))
+  pub plain_row : level_plain_row f n ≡ Some (plain_row (layout_of l))
 
 -- what holds of the fault of a refusal
 abbrev pub IfFile : Result (Unit {0}) WalkError → (FileFault → Type 0) → Type 0

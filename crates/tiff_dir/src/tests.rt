@@ -217,21 +217,18 @@ fn one_tile_in_both_orders(rt: HostRuntime) -> Result<(), Fail> {
         assert_eq!(rt; walk.given(), 3);
         assert!(rt; has_ended(&walk));
         assert_eq!(rt; walk.order(), order);
-        let level = Level {
-            width: 16,
-            length: 16,
-            tile_width: 16,
-            tile_length: 16,
-            samples: 1,
-            bits: 8,
-            compression: Compression::Plain,
-            offsets: place(102, 4, 1, Kind::Long),
-            counts: place(114, 4, 1, Kind::Long),
-        };
         let levels = walk.levels();
-        assert_eq!(rt; levels, [level].as_slice());
+        assert_eq!(rt; levels.len(), 1);
+        assert!(rt; levels.len() == 1);
         let first = levels[0];
+        assert_eq!(rt; (first.width, first.length), (16, 16));
+        assert_eq!(rt; (first.tile_width, first.tile_length), (16, 16));
+        assert_eq!(rt; (first.samples, first.bits), (1, 8));
+        assert_eq!(rt; first.compression, Compression::Plain);
+        assert_eq!(rt; first.offsets, place(102, 4, 1, Kind::Long));
+        assert_eq!(rt; first.counts, place(114, 4, 1, Kind::Long));
         assert!(rt; first.offsets.len == 4 && first.counts.len == 4);
+        assert!(rt; first.offsets.count == 1);
         let (offsets, counts) = (&file[102..106], &file[114..118]);
         assert_eq!(rt; tile_of(order, &first, 0, offsets, counts), (122, 256));
     }
@@ -411,7 +408,7 @@ const ROWS: [Row; 40] = [
         Some(FileFault::FieldType(339)),
     ),
     (
-        &[(258, 3, 1, 16), (339, 3, 1, 2)],
+        &[(258, 3, 1, 12), (339, 3, 1, 2)],
         0,
         &[],
         Some(FileFault::Unsupported(258)),

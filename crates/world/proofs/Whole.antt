@@ -4,9 +4,8 @@ use Rattle.std.specs.Prelude.{IfOk, IfSome, OnErr, nat_lt}
 use Rattle.std.proofs.Common.{Vec, Global}
 use Rattle.std.proofs.lemmas.List.{take_more, take_all}
 use Rattle.std.proofs.lemmas.Option.{same_Some}
-use Rattle.tiff_dir.specs.declared.level.Level.{Level}
 use Rattle.tiff_dir.specs.declared.query.Query.{Query}
-use Rattle.tiff_dir.specs.Level.{level_of}
+use Rattle.tiff_dir.specs.Level.{Layout, level_layout}
 use Rattle.tiff_dir.specs.Query.{Rectangle}
 use Rattle.http_range.specs.Book.{Publication, Book, Catalogue, In, Includes, HasDistinctTags, version_tag}
 use Rattle.tiff_dir.specs.declared.memory.Memory.{Memory}
@@ -96,20 +95,20 @@ record IsSameShape (w h s b w' h' s' b' : ℕ) : Type 0 where
   samples : s ≡ s'
   bits : b ≡ b'
 
-shape_in : (f : List ℕ) (q : Query) (w h s b : ℕ) (r : Rectangle) (l : Level) (a : HasShape f q w h s b) → a.asked ≡ r → a.level ≡ l → IsSameShape r.width r.height l.samples l.bits w h s b
+shape_in : (f : List ℕ) (q : Query) (w h s b : ℕ) (r : Rectangle) (l : Layout) (a : HasShape f q w h s b) → a.asked ≡ r → a.layout ≡ l → IsSameShape r.width r.height l.samples l.bits w h s b
 shape_in f q w h s b r l a e k = record {
   width = sym (ap (λ (x : Rectangle). x.width) e) ∙ a.width;
   height = sym (ap (λ (x : Rectangle). x.height) e) ∙ a.height;
-  samples = sym (ap (λ (x : Level). x.samples) k) ∙ a.samples_are;
-  bits = sym (ap (λ (x : Level). x.bits) k) ∙ a.bits_are;
+  samples = sym (ap (λ (x : Layout). x.samples) k) ∙ a.samples_are;
+  bits = sym (ap (λ (x : Layout). x.bits) k) ∙ a.bits_are;
 }
 
 same_shape : (f : List ℕ) (q : Query) (w h s b w' h' s' b' : ℕ) → HasShape f q w h s b → HasShape f q w' h' s' b' → IsSameShape w h s b w' h' s' b'
 same_shape f q w h s b w' h' s' b' x y =
     let asked : y.asked ≡ x.asked = same_Some _ _ (sym y.asked_is ∙ x.asked_is) in
-    let level : y.level ≡ x.level = same_Some _ _ (sym y.level_is ∙ (ap (λ (r : Rectangle). level_of f r.level) asked ∙ x.level_is)) in
-    let a = shape_in f q w h s b x.asked x.level x refl refl in
-    let c = shape_in f q w' h' s' b' x.asked x.level y asked level in
+    let layout : y.layout ≡ x.layout = same_Some _ _ (sym y.layout_is ∙ (ap (λ (r : Rectangle). level_layout f r.level) asked ∙ x.layout_is)) in
+    let a = shape_in f q w h s b x.asked x.layout x refl refl in
+    let c = shape_in f q w' h' s' b' x.asked x.layout y asked layout in
     record { width = sym a.width ∙ c.width; height = sym a.height ∙ c.height; samples = sym a.samples ∙ c.samples; bits = sym a.bits ∙ c.bits }
 
 same_said : (laws : LowerLaws) (f : List ℕ) (q : Query) (x y : Said) → IsTrueOf f q x → IsTrueOf f q y → SaysTheSame x y

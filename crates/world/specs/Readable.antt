@@ -5,29 +5,41 @@ use Rattle.tiff_dir.specs.declared.level.Level.{Level}
 use Rattle.tiff_dir.specs.declared.level.Compression.{Compression}
 use Rattle.tiff_dir.specs.declared.level.Compression.TheVariants.{Plain, PackBits}
 use Rattle.tiff_dir.specs.declared.query.Query.{Query}
+use Rattle.tiff_dir.specs.declared.query.Query.TheVariants.{Window}
+use Rattle.tiff_dir.specs.declared.query.Pick.TheVariants as pick
 use Rattle.tiff_dir.specs.declared.fault.FileFault.{FileFault}
 use Rattle.tiff_dir.specs.declared.fault.FileFault.TheVariants.{PastEnd, TileSize, Outside, TooLarge}
 use Rattle.tiff_dir.specs.File.{order_of}
-use Rattle.tiff_dir.specs.Level.{level_of, level_value, plain_size}
+use Rattle.tiff_dir.specs.Described.{layout_of}
+use Rattle.tiff_dir.specs.Level.{Layout, level_layout, level_value}
 use Rattle.tiff_dir.specs.Fault.{IsFaultOfDirectories}
 use Rattle.tiff_dir.specs.Query.{rectangle, is_refused, array_range, tile_range}
-use Rattle.tiff_dir.specs.Walk.{IsDescribed, IsProfiled, range_of_place}
-use Rattle.tiff_dir.specs.Needs.{ends_past}
-use Rattle.tiff_dir.specs.Faulty.{is_byte_count}
+use Rattle.tiff_dir.specs.Walk.{IsDescribed}
+use Rattle.tiff_dir.specs.Needs.{ends_past, range_of_place}
 
--- one plain tile covers the level
-pub record IsOneTile (l : Level) : Type 0 where
+-- one plain tile of samples of 8 bits covers the level
+pub record IsOneTile (l : Layout) : Type 0 where
   pub plain : l.compression ≡ Plain
-  pub wide : l.width ≤ l.tile_width
-  pub long : l.length ≤ l.tile_length
+  pub eight : l.bits ≡ 8
+  pub wide : l.grid.width ≤ l.grid.tile_width
+  pub long : l.grid.length ≤ l.grid.tile_length
+
+-- how many bytes it has
+abbrev pub tile_size : Level → ℕ
+tile_size l = l.tile_width * l.tile_length * l.samples
 
 -- the window's level is one plain tile
 abbrev pub AsksOneTile : List ℕ → Query → Type 0
-AsksOneTile f q = IsSomeAnd (rectangle f q) (λ r. IsSomeAnd (level_of f r.level) IsOneTile)
+AsksOneTile f q = IsSomeAnd (rectangle f q) (λ r. IsSomeAnd (level_layout f r.level) IsOneTile)
+
+-- the query is a window of a level by its number
+abbrev pub of_level : Query → Bool
+of_level (Window x y w h (pick.Level n)) = true
+of_level _ = false
 
 -- the directories have a fault, the window is refused, or its level is one plain tile
 abbrev pub IsReadable : List ℕ → Query → Type 0
-IsReadable f q = ((fault : FileFault) × IsFaultOfDirectories f fault) ⊎ ((is_refused f q ≡ true) ⊎ AsksOneTile f q)
+IsReadable f q = ((fault : FileFault) × IsFaultOfDirectories f fault) ⊎ ((of_level q ≡ true) × ((is_refused f q ≡ true) ⊎ AsksOneTile f q))
 
 -- ---- one step after the other
 
@@ -35,9 +47,8 @@ IsReadable f q = ((fault : FileFault) × IsFaultOfDirectories f fault) ⊎ ((is_
 pub record IsLevelOf (f : List ℕ) (n : ℕ) (order : Order) (l : Level) : Type 0 where
   pub clean : (fault : FileFault) → IsFaultOfDirectories f fault → ⊥
   pub order_is : order_of f ≡ Some order
-  pub level_is : level_of f n ≡ Some l
+  pub level_is : level_layout f n ≡ Some (layout_of l)
   pub described : IsDescribed f n l
-  pub profiled : IsProfiled l
   pub offsets : array_range f n 324 ≡ Some (range_of_place l.offsets)
   pub counts : array_range f n 325 ≡ Some (range_of_place l.counts)
 
@@ -53,7 +64,7 @@ is_plain Plain = true
 is_plain PackBits = false
 
 abbrev pub is_one_tile : Level → Bool
-is_one_tile l = is_plain l.compression && nat_le l.width l.tile_width && nat_le l.length l.tile_length
+is_one_tile l = is_plain l.compression && (l.bits == 8) && nat_le l.width l.tile_width && nat_le l.length l.tile_length
 
 -- count bytes from first, where they are in the file
 abbrev pub part_of : List ℕ → ℕ → ℕ → Option (List ℕ)
@@ -64,16 +75,16 @@ abbrev pub IsArrayFault : List ℕ → ℕ → Level → FileFault → Type 0
 IsArrayFault f n l PastEnd =
     (ends_past f (range_of_place l.offsets) ≡ true)
     ⊎ ((ends_past f (range_of_place l.counts) ≡ true) ⊎ IsSomeAnd (tile_range f n 0) (λ r. ends_past f r ≡ true))
-IsArrayFault f n l TileSize = IsSomeAnd (level_value f n 325 0) (λ count. is_byte_count l count ≡ false)
+IsArrayFault f n l TileSize = IsSomeAnd (level_value f n 325 0) (λ count. (count == tile_size l) ≡ false)
 IsArrayFault f n l _ = ⊥
 
 -- the bytes of the only tile, and nothing is wrong with it or with the arrays
 pub record IsTileRead (f : List ℕ) (n : ℕ) (l : Level) (bytes : List ℕ) : Type 0 where
   pub first : ℕ
   pub first_is : level_value f n 324 0 ≡ Some first
-  pub count_is : level_value f n 325 0 ≡ Some (plain_size l)
-  pub inside : first + plain_size l ≤ length f
-  pub bytes_are : bytes ≡ slice_range f first (first + plain_size l)
+  pub count_is : level_value f n 325 0 ≡ Some (tile_size l)
+  pub inside : first + tile_size l ≤ length f
+  pub bytes_are : bytes ≡ slice_range f first (first + tile_size l)
   pub offsets : ends_past f (range_of_place l.offsets) ≡ false
   pub counts : ends_past f (range_of_place l.counts) ≡ false
 

@@ -1,9 +1,8 @@
 -- What a report says, and when it is true.
 use Rattle.std.specs.Prelude.{◌≡◌, ℕ, List, Option, Some}
-use Rattle.tiff_dir.specs.declared.level.Level.{Level}
 use Rattle.tiff_dir.specs.declared.query.Query.{Query}
 use Rattle.tiff_dir.specs.declared.fault.FileFault.{FileFault}
-use Rattle.tiff_dir.specs.Level.{level_of}
+use Rattle.tiff_dir.specs.Level.{Layout, level_layout}
 use Rattle.tiff_dir.specs.Query.{Rectangle, rectangle}
 use Rattle.tiff_dir.specs.Faulty.{IsFaulty, IsWindow}
 use Rattle.http_range.specs.Book.{Publication, Book, In}
@@ -35,10 +34,10 @@ pub record HasShape (f : List ℕ) (q : Query) (w h samples bits : ℕ) : Type 0
   pub asked_is : rectangle f q ≡ Some asked
   pub width : asked.width ≡ w
   pub height : asked.height ≡ h
-  pub level : Level
-  pub level_is : level_of f asked.level ≡ Some level
-  pub samples_are : level.samples ≡ samples
-  pub bits_are : level.bits ≡ bits
+  pub layout : Layout
+  pub layout_is : level_layout f asked.level ≡ Some layout
+  pub samples_are : layout.samples ≡ samples
+  pub bits_are : layout.bits ≡ bits
 
 -- what is said is true of this file
 abbrev pub IsTrueOf : List ℕ → Query → Said → Type 0

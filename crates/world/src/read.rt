@@ -1,8 +1,9 @@
 //! The answer to a query, from a whole file.
-ghost use Rattle.std.specs.Prelude.{◌≡◌, ◌<◌, ◌⊎◌, ℕ, true, None, IfOk, IfSome, IsSome, length};
-ghost use Rattle.tiff_dir.specs.Walk.{Agrees, IsProfiled};
+ghost use Rattle.std.specs.Prelude.{◌≡◌, ◌<◌, ◌⊎◌, ℕ, true, false, None, IfOk, IfSome, IsSome, MatchOption, length};
+ghost use Rattle.tiff_dir.specs.Described.{layout_of};
+ghost use Rattle.tiff_dir.specs.Walk.{Agrees};
 ghost use Rattle.world.specs.Report.{IsTrueOf, said_of};
-ghost use Rattle.world.specs.Readable.{is_one_tile, refusal_in, IsLevelOf, IsOneTile, IsReadable};
+ghost use Rattle.world.specs.Readable.{is_one_tile, of_level, refusal_in, IsLevelOf, IsOneTile, IsReadable};
 ghost use Rattle.world.specs.Asked.{asked_in};
 ghost use Rattle.world.specs.Walked.{IsNext, IsWalked};
 
@@ -58,8 +59,7 @@ fn read_level(
     level: &Level,
     window: Window,
 ) -> Result<Outcome, Memory>
-    requires profiled { IsProfiled level.now }
-    requires one { IsOneTile level.now }
+    requires one { IsOneTile (layout_of level.now) }
     requires good { refusal_in level.now window.x window.y window.w window.h ≡ None }
     ensures { IfOk result (λ outcome. (n : ℕ) → IsLevelOf file.now n order level.now
         → IsTrueOf file.now (asked_in n window) (said_of outcome)) }
@@ -86,7 +86,6 @@ fn read_window(
     level: &Level,
     window: Window,
 ) -> Result<Option<Outcome>, Memory>
-    requires { IsProfiled level.now }
     ensures true_of { IfOk result (λ o. IfSome o (λ outcome. (n : ℕ) → IsLevelOf file.now n order level.now
         → IsTrueOf file.now (asked_in n window) (said_of outcome))) }
     ensures reads { IfOk result (λ o. (IsSome (refusal_in level.now window.x window.y window.w window.h) ⊎ (is_one_tile level.now ≡ true)) → IsSome o) }
@@ -101,9 +100,9 @@ fn read_window(
     Ok(Some(outcome))
 }
 
-/// The level of a window, and the window.
-fn asked(query: Query) -> (u32, Window)
-    ensures { query ≡ asked_in result.0 result.1 }
+/// The level of a window, and the window, where it is of a level by its number.
+fn asked(query: Query) -> Option<(u32, Window)>
+    ensures { MatchOption result (of_level query ≡ false) (λ p. query ≡ asked_in p.0 p.1) }
 {
     match query {
         Query::Window {
@@ -112,7 +111,8 @@ fn asked(query: Query) -> (u32, Window)
             w,
             h,
             pick: Pick::Level(n),
-        } => (n, Window { x, y, w, h }),
+        } => Some((n, Window { x, y, w, h })),
+        _ => None,
     }
 }
 
@@ -125,8 +125,10 @@ pub fn read(alloc: Global, file: &[u8], query: Query) -> Result<Option<Outcome>,
         Ok(walk) => walk,
         Err(fault) => return Ok(Some(Outcome::Fault(fault))),
     };
-    let (n, window) = asked(query);
     let order = walk.order();
+    let Some((n, window)) = asked(query) else {
+        return Ok(None);
+    };
     match walk.levels().get(n as usize) {
         None => Ok(Some(Outcome::Fault(FileFault::Outside))),
         Some(level) => read_window(alloc, file, order, level, window),

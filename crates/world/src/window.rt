@@ -1,8 +1,7 @@
 //! The window of a level that is one plain tile.
 ghost use Rattle.std.specs.Prelude.{◌≡◌, None, ◌+◌, ◌*◌, ◌≤◌, ◌<◌, ◌^◌, ℕ, IfOk, IfSome, IsTrue, MatchResult, length, nat_lt, option_copied};
-ghost use Rattle.tiff_dir.specs.Level.{plain_size};
-ghost use Rattle.tiff_dir.specs.Walk.{IsProfiled};
-ghost use Rattle.world.specs.Readable.{is_one_tile, part_of, refusal_in, IsArrayFault, IsCut, IsLevelOf, IsOneTile, IsTileRead};
+ghost use Rattle.tiff_dir.specs.Described.{layout_of};
+ghost use Rattle.world.specs.Readable.{is_one_tile, part_of, refusal_in, tile_size, IsArrayFault, IsCut, IsLevelOf, IsOneTile, IsTileRead};
 
 use http_range::Memory;
 use std::alloc::Global;
@@ -52,6 +51,7 @@ pub fn is_one_tile(level: &Level) -> bool
     ensures { result ≡ is_one_tile level.now }
 {
     level.compression == Compression::Plain
+        && level.bits == 8
         && level.width <= level.tile_width
         && level.length <= level.tile_length
 }
@@ -94,11 +94,10 @@ pub fn cut(
 
 /// The bytes of the level's only tile, or what is wrong with its arrays or with the tile.
 pub fn tile_bytes<'f>(file: &'f [u8], order: Order, level: &Level) -> Result<&'f [u8], FileFault>
-    requires profiled { IsProfiled level.now }
-    requires one { IsOneTile level.now }
+    requires one { IsOneTile (layout_of level.now) }
     ensures read { (n : ℕ) → IsLevelOf file.now n order level.now
         → MatchResult result (λ bytes. IsTileRead file.now n level.now bytes.now) (IsArrayFault file.now n level.now) }
-    ensures size { IfOk result (λ bytes. length bytes.now ≡ plain_size level.now) }
+    ensures size { IfOk result (λ bytes. length bytes.now ≡ tile_size level.now) }
 {
     let Some(offsets) = part(file, level.offsets.first, level.offsets.len) else {
         return Err(FileFault::PastEnd);
@@ -107,7 +106,7 @@ pub fn tile_bytes<'f>(file: &'f [u8], order: Order, level: &Level) -> Result<&'f
         return Err(FileFault::PastEnd);
     };
     let (first, count) = tile_of(order, level, 0, offsets, counts);
-    if u64::from(count) != plain_size(level) {
+    if u64::from(count) != tile_size(level) {
         return Err(FileFault::TileSize);
     }
     match part(file, u64::from(first), u64::from(count)) {
@@ -117,9 +116,9 @@ pub fn tile_bytes<'f>(file: &'f [u8], order: Order, level: &Level) -> Result<&'f
 }
 
 /// How many bytes a tile of the level has.
-fn plain_size(level: &Level) -> u64
-    requires { IsProfiled level.now }
-    ensures { result ≡ plain_size level.now }
+fn tile_size(level: &Level) -> u64
+    requires { IsOneTile (layout_of level.now) }
+    ensures { result ≡ tile_size level.now }
 {
     u64::from(level.tile_width) * u64::from(level.tile_length) * u64::from(level.samples)
 }
@@ -131,10 +130,9 @@ pub fn cut_window(
     level: &Level,
     window: Window,
 ) -> Result<Vec<u8>, Memory>
-    requires profiled { IsProfiled level.now }
-    requires one { IsOneTile level.now }
+    requires one { IsOneTile (layout_of level.now) }
     requires good { refusal_in level.now window.x window.y window.w window.h ≡ None }
-    requires tile { length tile.now ≡ plain_size level.now }
+    requires tile { length tile.now ≡ tile_size level.now }
     ensures { IfOk result (λ v. IsCut tile.now (level.now.tile_width * level.now.samples) (window.x * level.now.samples) (window.w * level.now.samples)
         window.y window.h v.items) }
 {

@@ -40,8 +40,8 @@ fn samples(alloc: Global, file: &[u8], sides: [u32; 4]) -> Result<Vec<u8>, Fail>
     let mut samples = Vec::new(alloc);
     for row in y..y.saturating_add(h) {
         for column in x..x.saturating_add(w) {
-            let value = sample(alloc, file, 0, column, row, 0)?;
-            samples.push(value.ok_or("no sample")?)?;
+            let value = sample(alloc, file, 0, column, row, 0)?.ok_or("no sample")?;
+            samples.push(u8::try_from(value).map_err(|_| "more than a byte")?)?;
         }
     }
     Ok(samples)

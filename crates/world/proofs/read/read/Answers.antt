@@ -1,12 +1,12 @@
 use Rattle.std.proofs.Common.{◌≡◌, ◌∙◌, Some, sym, ap, subst, length}
 use Rattle.std.specs.Prelude.{slice_get}
 use Rattle.std.proofs.lemmas.Option.{slice_get-get_or}
-use Rattle.std.proofs.lemmas.List.Elements.{All-get_or}
 use Rattle.tiff_dir.specs.declared.fault.FileFault.TheVariants.{Outside}
 use Rattle.tiff_dir.specs.Faulty.{IsFaulty}
-use Rattle.tiff_dir.specs.Walk.{IsProfiled}
+use Rattle.std.specs.Option.{option_map}
+use Rattle.tiff_dir.specs.Described.{layout_of}
 use Rattle.world.specs.Walked.{IsWalked}
-use Rattle.world.proofs.AnswerLemmas.{no_level, not_below, reads_at, true_at}
+use Rattle.world.proofs.AnswerLemmas.{not_asked, no_level, not_below, reads_at, true_at}
 use Rattle.world.proofs.ReadLemmas.{of_directories}
 use Rattle.world.proofs.read.read.Goals as goal
 
@@ -17,25 +17,24 @@ returns-in-Err-clause-true_of c =
 pub returns-in-None-clause-true_of : goal.returns-in-None-clause-true_of
 returns-in-None-clause-true_of c =
     let walked = subst (IsWalked c.args.file.now) c.in-Ok.is c.in_ok-walk.ensures in
-    subst (λ q. IsFaulty c.args.file.now q Outside) (sym c.asked-n.ensures)
-    (no_level c.args.file.now c.asked-n.result.0 c.levels.result.now c.asked-n.result.1 (c.levels.ensures.levels c.args.file.now walked.0)
-    (not_below c.asked-n.result.0 (length c.levels.result.now) (sym c.in-None.ensures.lookup.0)))
+    subst (λ q. IsFaulty c.args.file.now q Outside) (sym c.in-Some.ensures)
+    (no_level c.args.file.now c.in-Some.n c.levels.result.now c.in-Some.window (c.levels.ensures.levels c.args.file.now walked.0)
+    (not_below c.in-Some.n (length c.levels.result.now) (sym c.in-None.ensures.lookup.0)))
 
 pub returns-clause-true_of : goal.returns-clause-true_of
 returns-clause-true_of c =
     let f = c.args.file.now in
-    let n = c.asked-n.result.0 in
-    let l = c.in-Some.level.now in
+    let n = c.in-Some.n in
+    let l = c.in-Some-get.level.now in
     let walked = subst (IsWalked f) c.in-Ok.is c.in_ok-walk.ensures in
-    let found = c.in-Some.ensures.lookup.3 in
+    let found = c.in-Some-get.ensures.lookup.3 in
     let at : slice_get c.levels.result.now n ≡ Some l = slice_get-get_or c.levels.result.now n l found.0 ∙ ap Some (sym (found.1 l)) in
-    true_at f c.args.query n c.order-order.result l c.asked-n.result.1 c.read_window.result c.asked-n.ensures
+    true_at f c.args.query n c.order-order.result l c.in-Some.window c.read_window.result c.in-Some.ensures
     (record {
       clean = c.order-order.ensures.clean f walked.0;
       order_is = c.order-order.ensures.order f walked.0;
-      level_is = c.levels.ensures.level f walked.0 n ∙ at;
+      level_is = c.levels.ensures.level f walked.0 n ∙ ap (option_map layout_of) at;
       described = c.levels.ensures.values f walked.0 n l at;
-      profiled = subst IsProfiled (sym (found.1 l)) (All-get_or IsProfiled c.levels.result.now n l found.0 c.levels.ensures.profiled);
       offsets = c.levels.ensures.offsets f walked.0 n l at;
       counts = c.levels.ensures.counts f walked.0 n l at;
     })
@@ -44,19 +43,24 @@ returns-clause-true_of c =
 pub returns-clause-reads : goal.returns-clause-reads
 returns-clause-reads c =
     let f = c.args.file.now in
-    let n = c.asked-n.result.0 in
-    let l = c.in-Some.level.now in
+    let n = c.in-Some.n in
+    let l = c.in-Some-get.level.now in
     let walked = subst (IsWalked f) c.in-Ok.is c.in_ok-walk.ensures in
-    let found = c.in-Some.ensures.lookup.3 in
+    let found = c.in-Some-get.ensures.lookup.3 in
     let at : slice_get c.levels.result.now n ≡ Some l = slice_get-get_or c.levels.result.now n l found.0 ∙ ap Some (sym (found.1 l)) in
-    reads_at f c.args.query n c.order-order.result l c.asked-n.result.1 c.read_window.result c.asked-n.ensures
+    reads_at f c.args.query n c.order-order.result l c.in-Some.window c.read_window.result c.in-Some.ensures
     (record {
       clean = c.order-order.ensures.clean f walked.0;
       order_is = c.order-order.ensures.order f walked.0;
-      level_is = c.levels.ensures.level f walked.0 n ∙ at;
+      level_is = c.levels.ensures.level f walked.0 n ∙ ap (option_map layout_of) at;
       described = c.levels.ensures.values f walked.0 n l at;
-      profiled = subst IsProfiled (sym (found.1 l)) (All-get_or IsProfiled c.levels.result.now n l found.0 c.levels.ensures.profiled);
       offsets = c.levels.ensures.offsets f walked.0 n l at;
       counts = c.levels.ensures.counts f walked.0 n l at;
     })
     c.read_window.ensures.reads
+
+pub returns-in_default-clause-reads : goal.returns-in_default-clause-reads
+returns-in_default-clause-reads c = λ readable.
+    let f = c.args.file.now in
+    let walked = subst (IsWalked f) c.in-Ok.is c.in_ok-walk.ensures in
+    absurd (not_asked f c.args.query (c.order-order.ensures.clean f walked.0) c.in_default.ensures readable)

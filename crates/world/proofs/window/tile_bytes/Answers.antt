@@ -1,4 +1,5 @@
 use Rattle.std.proofs.Common.{arith, inr}
+use Rattle.world.proofs.LevelLemmas.{some_tile}
 use Rattle.world.proofs.TileLemmas.{part_some, part_none, tile_past}
 use Rattle.world.proofs.window.tile_bytes.Goals as goal
 
@@ -11,3 +12,6 @@ returns-in-None-clause-read c = λ n at.
     (c.tile_of-first.ensures.first c.args.file.now n at.order_is at.level_is offsets.1)
     (c.tile_of-first.ensures.len c.args.file.now n at.order_is at.level_is counts.1)
     (omega (arith, past, c.from-2.ensures, c.from-3.ensures))))
+
+pub tile_of-first-requires-clause-tile : goal.tile_of-first-requires-clause-tile
+tile_of-first-requires-clause-tile c = some_tile c.args.level.now c.requires.one
