@@ -212,18 +212,18 @@ rule_fault f k es r (Missing tag) has bad =
 rule_fault f k es r (FieldType tag) has bad =
     let P : ℕ → Type 0 = λ t. IsSomeAnd (field f k t) (λ e. IsMistyped r.typing e ⊎ IsMiscounted f k r.count e) in
     (bad.0, subst P bad.0 (at (found r.tag es) refl bad.1)) where
-  wrong : (c : Count) (e : Entry) → counts_one c e.count ≡ false → IsMiscounted f k c (field_of e)
-  wrong One e bad = bad
-  wrong Samples e bad = absurd (false≢true (sym bad))
-  wrong Tiles e bad = absurd (false≢true (sym bad))
-  wrong (Exactly n) e bad = bad
-  wrong (Multiple n) e bad = bad
+      wrong : (c : Count) (e : Entry) → counts_one c e.count ≡ false → IsMiscounted f k c (field_of e)
+      wrong One e bad = bad
+      wrong Samples e bad = absurd (false≢true (sym bad))
+      wrong Tiles e bad = absurd (false≢true (sym bad))
+      wrong (Exactly n) e bad = bad
+      wrong (Multiple n) e bad = bad
 
-  at : (o : Option Entry) → found r.tag es ≡ o → IsSomeAnd o (λ e. allows r e ≡ false) → IsSomeAnd (field f k r.tag) (λ e. IsMistyped r.typing e ⊎ IsMiscounted f k r.count e)
-  at None is bad = absurd bad
-  at (Some e) is bad =
-      some_and_from (field f k r.tag) (λ x. IsMistyped r.typing x ⊎ IsMiscounted f k r.count x) (field_of e) (field_told f k es r.tag has ∙ rw is refl)
-      (elim (and_cases (has_typing r.typing e.kind) (counts_one r.count e.count) bad) [ inl h ↦ inl h | inr h ↦ inr (wrong r.count e h) ])
+      at : (o : Option Entry) → found r.tag es ≡ o → IsSomeAnd o (λ e. allows r e ≡ false) → IsSomeAnd (field f k r.tag) (λ e. IsMistyped r.typing e ⊎ IsMiscounted f k r.count e)
+      at None is bad = absurd bad
+      at (Some e) is bad =
+          some_and_from (field f k r.tag) (λ x. IsMistyped r.typing x ⊎ IsMiscounted f k r.count x) (field_of e) (field_told f k es r.tag has ∙ rw is refl)
+          (elim (and_cases (has_typing r.typing e.kind) (counts_one r.count e.count) bad) [ inl h ↦ inl h | inr h ↦ inr (wrong r.count e h) ])
 rule_fault f k es r _ has bad = absurd bad
 
 -- the field of a rule that is met, and counted where it counts samples
@@ -236,15 +236,15 @@ no_rule_fault f k es r has met right (Missing tag) bad =
 no_rule_fault f k es r has met right (FieldType tag) bad =
     let P : ℕ → Type 0 = λ t. IsSomeAnd (field f k t) (λ e. IsMistyped r.typing e ⊎ IsMiscounted f k r.count e) in
     at (found r.tag es) refl (rw (field_told f k es r.tag has) at (subst P (sym bad.0) bad.1)) where
-  wrong : (c : Count) (e : Entry) → r.count ≡ c → found r.tag es ≡ Some e → counts_one c e.count ≡ true → IsMiscounted f k c (field_of e) → ⊥
-  wrong One e is at ok bad = false≢true (sym bad ∙ ok)
-  wrong Samples e is at ok bad = let (s, told, same) = right is e at in false≢true (sym (some_and_at _ (λ n. (e.count == n) ≡ false) _ told bad) ∙ same)
-  wrong Tiles e is at ok bad = bad
-  wrong (Exactly n) e is at ok bad = false≢true (sym bad ∙ ok)
-  wrong (Multiple n) e is at ok bad = false≢true (sym bad ∙ ok)
+      wrong : (c : Count) (e : Entry) → r.count ≡ c → found r.tag es ≡ Some e → counts_one c e.count ≡ true → IsMiscounted f k c (field_of e) → ⊥
+      wrong One e is at ok bad = false≢true (sym bad ∙ ok)
+      wrong Samples e is at ok bad = let (s, told, same) = right is e at in false≢true (sym (some_and_at _ (λ n. (e.count == n) ≡ false) _ told bad) ∙ same)
+      wrong Tiles e is at ok bad = bad
+      wrong (Exactly n) e is at ok bad = false≢true (sym bad ∙ ok)
+      wrong (Multiple n) e is at ok bad = false≢true (sym bad ∙ ok)
 
-  at : (o : Option Entry) → found r.tag es ≡ o → IsSomeAnd (option_map field_of o) (λ e. IsMistyped r.typing e ⊎ IsMiscounted f k r.count e) → ⊥
-  at None is bad = bad
-  at (Some e) is (inl h) = false≢true (sym h ∙ typed r e (met_entry es r e met is))
-  at (Some e) is (inr h) = wrong r.count e refl is (counted r e (met_entry es r e met is)) h
+      at : (o : Option Entry) → found r.tag es ≡ o → IsSomeAnd (option_map field_of o) (λ e. IsMistyped r.typing e ⊎ IsMiscounted f k r.count e) → ⊥
+      at None is bad = bad
+      at (Some e) is (inl h) = false≢true (sym h ∙ typed r e (met_entry es r e met is))
+      at (Some e) is (inr h) = wrong r.count e refl is (counted r e (met_entry es r e met is)) h
 no_rule_fault f k es r has met right _ bad = bad

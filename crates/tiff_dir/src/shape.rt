@@ -96,11 +96,7 @@ fn has_right_arrays(draft: Draft) -> bool
 }
 
 /// Whether the level of a draft has the shape that the profile asks for.
-pub(crate) fn check_shape(
-    previous: Option<Level>,
-    draft: Draft,
-    bits: u16,
-) -> Result<(), FileFault>
+pub(crate) fn check_shape(previous: Option<Level>, draft: Draft, bits: u16) -> Result<(), FileFault>
     requires samples { 0 < draft.samples }
     requires bits { 8 ≤ bits }
     ensures { MatchResult result (λ _. IsShaped previous draft bits) (IsShapeFault previous draft bits) }

@@ -4,6 +4,9 @@ ghost use Rattle.tiff_dir.specs.Walk.{HasEnded};
 use super::*;
 use std::test::Fail;
 
+mod depths;
+mod geo;
+
 /// The tag, type, count and value of an entry; one SHORT stands left-justified.
 type Entry = (u16, u16, u32, u32);
 

@@ -27,7 +27,7 @@ returns-clause-agrees c = λ f is shorts formats before part.
     let G : Option ℕ → Type 0 = λ o. MatchResult c.finish.result (StepsOn f (Bits c.args.pending c.args.first o)) (IsFaultOfDirectories f) in
     let H : Option ℕ → Type 0 = λ o. HasBits f c.args.pending.index o in
     let bits = bits_at f c.args.pending.index c.depth_of-bits.result c.in-Some-bits.bits c.in-Some-bits.is
-        (subst H (sym c.depth_of-bits.ensures) (has_bits f c.args.bytes.now c.args.pending.order c.args.pending.index c.args.first is.walked.named shorts part c.requires.whole)) in
+    (subst H (sym c.depth_of-bits.ensures) (has_bits f c.args.bytes.now c.args.pending.order c.args.pending.index c.args.first is.walked.named shorts part c.requires.whole)) in
     subst G (sym c.in_default.is) (then_also (EndsDirectory f c.args.pending.index) (StepsOn f (Bits c.args.pending c.args.first None)) (IsFaultOfDirectories f) c.finish.result
     (c.finish.ensures.agrees f is bits.0 bits.2 (subst P c.in_default.is formats) before)
     (λ step ends. bits_to_end f c.args.pending c.args.first step ends))

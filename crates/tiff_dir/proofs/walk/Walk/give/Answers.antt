@@ -46,7 +46,7 @@ returns-clause-agrees c = λ f t given.
     let before : IsBefore f (index_of c.self.inside.stage) c.copied-previous.result = rw previous (is_before f w told) in
     let on = c.in_ok-step.ensures.agrees f (here_is f w told) before (wanted_parts f c.args.bytes.now w part) in
     let geo = geo_next f w c.in_ok-step.step.stage c.geo_after-geo.result told c.in_ok-step.ensures.next.first
-        (λ first. c.geo_after-geo.ensures.taken first f (here_is f w told) (wanted_parts f c.args.bytes.now w part)) c.geo_after-geo.ensures.same in
+    (λ first. c.geo_after-geo.ensures.taken first f (here_is f w told) (wanted_parts f c.args.bytes.now w part)) c.geo_after-geo.ensures.same in
     told_next f c.args.bytes.now w c.in_ok-step.step r c.keep.new.levels.items c.geo_after-geo.result told is (wanted_part f c.args.bytes.now w r is part) len (rw (← len) some) on c.in_ok-keep.ensures.ok geo
 
 pub returns-clause-come : goal.returns-clause-come
