@@ -73,7 +73,7 @@ grid_drafted : (f : List ℕ) (k : ℕ) (d : Draft) → IsDrafted f k d → grid
 unfolding grid_at
 grid_drafted f k d is = rw (is.width, is.length, is.tile_width, is.tile_length) refl
 
-layout_told : (f : List ℕ) (k : ℕ) (d : Draft) (bits : ℕ) → IsDrafted f k d → value f k 258 0 ≡ Some bits → layout_at f k ≡ Some (layout_from d bits)
+pub layout_told : (f : List ℕ) (k : ℕ) (d : Draft) (bits : ℕ) → IsDrafted f k d → value f k 258 0 ≡ Some bits → layout_at f k ≡ Some (layout_from d bits)
 unfolding layout_at
 layout_told f k d bits is told = rw (grid_drafted f k d is, is.samples, told, is.compression, is.offsets, is.counts) refl
 
@@ -95,7 +95,7 @@ before_none : (f : List ℕ) (o : Option ℕ) → option_map (layout_at f) o ≡
 before_none f None e = refl
 before_none f (Some b) e = absurd (none-some _ (sym e))
 
-no_width : (f : List ℕ) (k : ℕ) (d : Draft) → IsDrafted f k d → has_sides d ≡ false → IsFaultOfLevel f k LevelShape
+pub no_width : (f : List ℕ) (k : ℕ) (d : Draft) → IsDrafted f k d → has_sides d ≡ false → IsFaultOfLevel f k LevelShape
 no_width f k d is bad = elim (and_cases (nat_lt 0 d.width) (nat_lt 0 d.length) bad) [
   | inl h ↦ (let none : d.width ≡ 0 = omega (arith, ltb-false 0 d.width h) in inl (some_and_from (value f k 256 0) (λ s. s ≡ 0) d.width is.width none))
   | inr h ↦ (let none : d.length ≡ 0 = omega (arith, ltb-false 0 d.length h) in inr (inl (some_and_from (value f k 257 0) (λ s. s ≡ 0) d.length is.length none)))
@@ -146,7 +146,7 @@ tiles_parts d bits good =
     let two = and_parts (is_tile_side d.tile_length) (nat_le (tile_bytes d.tile_width d.tile_length d.samples bits) max_tile_bytes) one.1 in
     (one.0, two.0, two.1)
 
-tiles_fault : (f : List ℕ) (k : ℕ) (d : Draft) (bits : ℕ) → IsDrafted f k d → value f k 258 0 ≡ Some bits → has_tiles d bits ≡ false → IsFaultOfLevel f k TileSize
+pub tiles_fault : (f : List ℕ) (k : ℕ) (d : Draft) (bits : ℕ) → IsDrafted f k d → value f k 258 0 ≡ Some bits → has_tiles d bits ≡ false → IsFaultOfLevel f k TileSize
 tiles_fault f k d bits is told bad = elim (and_cases (is_tile_side d.tile_width) (is_tile_side d.tile_length && nat_le (tile_bytes d.tile_width d.tile_length d.samples bits) max_tile_bytes) bad) [
   | inl h ↦ inl (some_and_from (value f k 322 0) (λ s. is_tile_side s ≡ false) d.tile_width is.tile_width h)
   | inr h ↦ elim (and_cases (is_tile_side d.tile_length) (nat_le (tile_bytes d.tile_width d.tile_length d.samples bits) max_tile_bytes) h) [
@@ -202,7 +202,7 @@ no_array_fault f k tag d bits p is tiles there good bad =
     let two = some_and_at (field f k tag >>= λ e. e.count) (λ c. (tiles_of d == c) ≡ false) _ (place_count f (field f k tag) p there) one in
     false≢true (sym two ∙ good)
 
-arrays_fault : (f : List ℕ) (k : ℕ) (d : Draft) (bits : ℕ) → IsDrafted f k d → has_tiles d bits ≡ true → has_arrays d ≡ false → IsFaultOfLevel f k TileArray
+pub arrays_fault : (f : List ℕ) (k : ℕ) (d : Draft) (bits : ℕ) → IsDrafted f k d → has_tiles d bits ≡ true → has_arrays d ≡ false → IsFaultOfLevel f k TileArray
 arrays_fault f k d bits is tiles bad = elim (and_cases (nat_le (tiles_of d) max_tiles) ((tiles_of d == d.offsets.count) && (tiles_of d == d.counts.count)) bad) [
   | inl h ↦ inl (some_and_from (tile_count f k) (λ n. nat_le n max_tiles ≡ false) _ (count_drafted f k d bits is tiles) h)
   | inr h ↦ elim (and_cases (tiles_of d == d.offsets.count) (tiles_of d == d.counts.count) h) [

@@ -269,7 +269,7 @@ place_told f k es r has met required =
     let kind = kind_is r.typing e.kind (typed r e (met_entry es r e met there)) in
     rw (field_told f k es r.tag has) (rw there (place_entry f e (has.long r.tag e there) kind))
 
-drafted : (f : List ℕ) (k : ℕ) (es : List Entry) → HasTable f k es → AllPass (meets es) profile → HasValues es → IsDrafted f k (draft_in es)
+pub drafted : (f : List ℕ) (k : ℕ) (es : List Entry) → HasTable f k es → AllPass (meets es) profile → HasValues es → IsDrafted f k (draft_in es)
 unfolding draft_in profile
 drafted f k es has met right =
     let d : Rule = subfile_rule in

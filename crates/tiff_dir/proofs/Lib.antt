@@ -18,3 +18,4 @@ pub mod GeoLemmas
 pub mod TileValues
 pub mod PacketLemmas
 pub mod WindowLemmas
+pub mod Clean

@@ -109,7 +109,7 @@ bits_there es met none = let (e, there) = met_there es (get_or profile 3 subfile
 pub one_sample : (es : List Entry) → HasValues es → short_or es 277 1 ≢ 3 → short_or es 277 1 ≡ 1
 one_sample es right not = elim (fits_cases (short_or es 277 1) (short_or es 262 0) right.samples) [ inl one ↦ one | inr three ↦ absurd (not three) ]
 
-bits_value : (f : List ℕ) (k : ℕ) (es : List Entry) → HasTable f k es → AllPass (meets es) profile → HasCounts es → short_or es 277 1 ≡ 1 → value f k 258 0 ≡ Some (short_or es 258 0)
+pub bits_value : (f : List ℕ) (k : ℕ) (es : List Entry) → HasTable f k es → AllPass (meets es) profile → HasCounts es → short_or es 277 1 ≡ 1 → value f k 258 0 ≡ Some (short_or es 258 0)
 unfolding profile
 bits_value f k es has met right samples =
     short_told f k es (get_or profile 3 subfile_rule) 0 has (met 3 subfile_rule (lit< tt)) refl (λ e is. is_counted es 258 1 e right.0 samples is) (inr refl)

@@ -186,7 +186,7 @@ ended_clean w f ended told =
     let (o, k, over, index, none) = ended_over f w.stage told.here ended in
     over_clean f o k over (told.inside ∙ ap (list_any (ends_past f)) none)
 
-there_below : (f : List ℕ) (k j : ℕ) → has_directory f k ≡ true → j ≤ k → has_directory f j ≡ true
+pub there_below : (f : List ℕ) (k j : ℕ) → has_directory f k ≡ true → j ≤ k → has_directory f j ≡ true
 unfolding has_directory
 there_below f zero j there le = let e : j ≡ zero = omega arith in rw e refl
 there_below f (suc k) j there le = elim (cases_lt k j) [
