@@ -1,9 +1,8 @@
 -- What a file without fault in its directories has: each table, and each level's layout.
-use Rattle.std.proofs.Common.{◌≡◌, ◌≢◌, ℕ, zero, suc, ◌+◌, ◌-◌, ◌*◌, ◌<◌, ◌≤◌, ◌⊎◌, inl, inr, Bool, true, false, not, ◌&&◌, ◌||◌, ◌==◌, if◌then◌else◌, List, [], ◌∷◌, ◌++◌, length, get_or, take, drop, Option, Some, None, IsSomeAnd, refl, sym, subst, ap, ◌∙◌, arith, lit<}
-use Rattle.std.specs.Prelude.{nat_lt, nat_le}
-use Rattle.std.specs.Option.{option_map, option_map_or, option_to_list}
+use Rattle.std.proofs.Common.{◌≡◌, ◌≢◌, ℕ, zero, suc, ◌+◌, ◌*◌, ◌<◌, ◌≤◌, ◌⊎◌, inl, inr, Bool, true, false, if◌then◌else◌, List, [], ◌∷◌, ◌++◌, length, get_or, take, drop, Option, Some, None, refl, sym, subst, ap, ◌∙◌, arith}
+use Rattle.std.specs.Option.{option_to_list}
 use Rattle.std.specs.List.{filter, flat_map, list_any, range_with_len, AllPass}
-use Rattle.std.proofs.lemmas.Bool.{and_parts, and_cases, cases_Bool, cases_eq, cases_order, eqb-true, ltb-false, or_parts, false≢true, not_from_true}
+use Rattle.std.proofs.lemmas.Bool.{and_parts, cases_Bool, cases_eq, ltb-false, false≢true}
 use Rattle.std.proofs.lemmas.List.{length-take, length-drop}
 use Rattle.std.proofs.lemmas.Option.{none-some, same_Some}
 use Rattle.tiff_dir.specs.declared.order.Order.{Order}
@@ -13,14 +12,14 @@ use Rattle.tiff_dir.specs.declared.stage.Draft.{Draft}
 use Rattle.tiff_dir.specs.declared.fault.FileFault.{FileFault}
 use Rattle.tiff_dir.specs.declared.fault.FileFault.TheVariants.{Header, PastEnd, DirPlace, DirCount, Missing, FieldType, Unsupported, LevelShape, TileSize, TileArray}
 use Rattle.tiff_dir.specs.Number.{number_in}
-use Rattle.tiff_dir.specs.File.{◌>>=◌, order_of, number, directory, has_directory, is_above_zero, directories, entry_count, value}
-use Rattle.tiff_dir.specs.Profile.{subfile_rule, profile, accepts, samples_fit, planes_fit, is_depth, is_sample_count}
-use Rattle.tiff_dir.specs.Level.{Layout, is_level, layout_at}
+use Rattle.tiff_dir.specs.File.{order_of, number, directory, has_directory, is_above_zero, directories, entry_count, value}
+use Rattle.tiff_dir.specs.Profile.{profile, accepts, samples_fit, is_depth, is_sample_count}
+use Rattle.tiff_dir.specs.Level.{is_level, layout_at}
 use Rattle.tiff_dir.specs.Needs.{Range, ends_past, is_entry_count, header_range, count_range, table_range, outside_range, ranges_of_directory, needs_of_directories}
 use Rattle.tiff_dir.specs.Fault.{is_directory_place, IsFaultOfLevel, IsFaultOfDirectories}
-use Rattle.tiff_dir.specs.Table.{entries, found, allows, meets, short_or, counts_samples, draft_in, long_in, IsEntryFault, HasValues, HasCounts}
+use Rattle.tiff_dir.specs.Table.{entries, found, allows, meets, short_or, draft_in, long_in, IsEntryFault, HasValues, HasCounts}
 use Rattle.tiff_dir.specs.Shape.{has_sides, has_tiles, has_arrays, layout_from}
-use Rattle.tiff_dir.specs.Stage.{three_shorts, IsWalked, Reaches, Counts, HasTable, HasShorts, IsDrafted, IsPart}
+use Rattle.tiff_dir.specs.Stage.{three_shorts, IsWalked, Counts, HasTable, IsDrafted}
 use Rattle.tiff_dir.proofs.Parts.{number_inside}
 use Rattle.tiff_dir.proofs.Chain.{some_and_from}
 use Rattle.tiff_dir.proofs.Fields.{has_table}
@@ -282,5 +281,5 @@ laid f o k clean order few there level =
       tiles = tiles;
       arrays = not_false (has_arrays d) (λ bad. sound TileArray (arrays_fault f k d bits is tiles bad));
     } where
-  count_fits : (s p : ℕ) → samples_fit s p ≡ true → is_sample_count s ≡ true
-  count_fits s p ok = elim (fits_cases s p ok) [ inl one ↦ rw one refl | inr three ↦ rw three refl ]
+      count_fits : (s p : ℕ) → samples_fit s p ≡ true → is_sample_count s ≡ true
+      count_fits s p ok = elim (fits_cases s p ok) [ inl one ↦ rw one refl | inr three ↦ rw three refl ]

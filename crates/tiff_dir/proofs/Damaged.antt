@@ -17,7 +17,7 @@ use Rattle.tiff_dir.specs.Needs.{count_range, table_range, field_range, outside_
 use Rattle.tiff_dir.specs.Query.{Rectangle, rectangle, is_outside, is_too_large, tiles_in, window_tiles, array_range, tile_range, grouped_after, grouped, groups, array_ranges, needs_of_query}
 use Rattle.tiff_dir.specs.Fault.{plain_bytes, IsUnsupported, IsFaultOfLevel, IsFaultOfDirectories}
 use Rattle.tiff_dir.specs.Faulty.{is_byte_count, level_plain_size, IsNotPlainSize, HasBadTile, IsFaulty}
-use Rattle.tiff_dir.proofs.Fixtures.{header, one_directory, one_tile, deep_tile}
+use Rattle.tiff_dir.proofs.Fixtures.{header, one_directory, one_tile}
 
 -- the first sample
 abbrev pub first_sample : Query

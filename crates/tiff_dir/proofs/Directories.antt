@@ -5,7 +5,7 @@ use Rattle.tiff_dir.specs.declared.order.Order.{Order}
 use Rattle.tiff_dir.specs.declared.table.Entry.{Entry}
 use Rattle.tiff_dir.specs.declared.fault.FileFault.{FileFault}
 use Rattle.tiff_dir.specs.declared.fault.FileFault.TheVariants.{Missing, DirPlace, DirCount, TagOrder, FieldType, LevelShape}
-use Rattle.tiff_dir.specs.File.{directory, entry_count, fields, value}
+use Rattle.tiff_dir.specs.File.{directory, entry_count, value}
 use Rattle.tiff_dir.specs.Profile.{subfile_rule}
 use Rattle.tiff_dir.specs.Level.{is_level}
 use Rattle.tiff_dir.specs.Needs.{is_entry_count}

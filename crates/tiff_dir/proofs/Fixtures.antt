@@ -1,5 +1,5 @@
 -- The definitions at small files, by computation.
-use Rattle.std.proofs.Common.{◌≡◌, ℕ, zero, suc, ◌+◌, ◌*◌, ◌/◌, ◌%◌, false, List, [], ◌∷◌, ◌++◌, take, drop, length, Option, Some, None, refl}
+use Rattle.std.proofs.Common.{◌≡◌, ℕ, ◌/◌, ◌%◌, false, List, [], ◌∷◌, ◌++◌, take, length, Some, refl}
 use Rattle.std.specs.List.{flat_map, range_with_len}
 use Rattle.tiff_dir.specs.declared.order.Order.{Order}
 use Rattle.tiff_dir.specs.declared.order.Order.TheVariants.{Little, Big}
@@ -7,14 +7,14 @@ use Rattle.tiff_dir.specs.declared.level.Kind.TheVariants as kind
 use Rattle.tiff_dir.specs.declared.level.Place.{Place}
 use Rattle.tiff_dir.specs.declared.level.Compression.TheVariants.{Plain, PackBits}
 use Rattle.tiff_dir.specs.declared.query.Query.{Query}
-use Rattle.tiff_dir.specs.declared.query.Query.TheVariants.{Window, Info}
+use Rattle.tiff_dir.specs.declared.query.Query.TheVariants.{Window}
 use Rattle.tiff_dir.specs.declared.query.Pick.TheVariants as pick
 use Rattle.tiff_dir.specs.Number.{number_in}
 use Rattle.tiff_dir.specs.File.{order_of, number, directory, has_directory, directories, entry_count, field_at, fields_from, fields, has_all_tags, field, values_at, field_value, value}
 use Rattle.tiff_dir.specs.Level.{Layout, is_level, level_directories, place_of, grid_at, layout_at, layouts, level_directory, level_grid, level_layout, level_value, segment}
-use Rattle.tiff_dir.specs.Needs.{Range, count_range, table_range, field_range, outside_range, ranges_of_directory, needs_of_directories}
+use Rattle.tiff_dir.specs.Needs.{count_range, table_range, field_range, outside_range, ranges_of_directory, needs_of_directories}
 use Rattle.tiff_dir.specs.Geo.{geo_place, geo_ranges}
-use Rattle.tiff_dir.specs.Query.{Rectangle, Group, smallest_level, scaled, rectangle, is_outside, is_too_large, tiles_in, window_tiles, array_range, tile_range, grouped_after, grouped, groups, array_ranges, needs_of_query, needs, cost}
+use Rattle.tiff_dir.specs.Query.{Group, smallest_level, scaled, rectangle, is_outside, is_too_large, tiles_in, window_tiles, array_range, tile_range, grouped_after, grouped, groups, array_ranges, needs_of_query, needs, cost}
 
 -- ---- numbers and entries as they are written
 

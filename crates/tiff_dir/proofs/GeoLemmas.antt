@@ -1,19 +1,16 @@
 -- What the entries of the geo fields tell of the file.
-use Rattle.std.proofs.Common.{◌≡◌, ℕ, zero, suc, ◌+◌, ◌*◌, ◌<◌, ◌≤◌, ◌^◌, ◌⊎◌, inl, inr, ◌%◌, ◌&&◌, ◌==◌, Bool, true, false, not, if◌then◌else◌, List, length, get_or, Option, Some, None, Result, Ok, Err, IsSomeAnd, IfSome, refl, sym, subst, ap, ◌∙◌, arith, lit<}
+use Rattle.std.proofs.Common.{◌≡◌, ℕ, zero, suc, ◌+◌, ◌*◌, ◌<◌, ◌^◌, ◌⊎◌, inl, inr, ◌%◌, ◌&&◌, ◌==◌, Bool, true, false, not, if◌then◌else◌, List, length, get_or, Option, Some, None, Ok, Err, IsSomeAnd, IfSome, refl, sym, subst, ◌∙◌, arith, lit<}
 use Rattle.std.specs.Prelude.{nat_lt, nat_le}
 use Rattle.std.specs.Option.{option_map}
-use Rattle.std.specs.List.{Any}
-use Rattle.std.proofs.lemmas.Bool.{and_parts, cases_Bool, ltb-true, ltb-false, leb-true, eqb-true, le-leb, lt-ltb, false≢true}
+use Rattle.std.proofs.lemmas.Bool.{and_parts, ltb-true, ltb-false, eqb-true, le-leb, false≢true}
 use Rattle.std.proofs.lemmas.Bool.Decides.{nat_tests}
 use Rattle.std.proofs.lemmas.List.{get_or_default}
-use Rattle.std.proofs.lemmas.Option.{none-some}
 use Rattle.std.proofs.Math.Nat.{mul-pos}
 use Rattle.tiff_dir.specs.declared.order.Order.{Order}
 use Rattle.tiff_dir.specs.declared.table.Entry.{Entry}
 use Rattle.tiff_dir.specs.declared.geo.GeoEntries.{GeoEntries}
 use Rattle.tiff_dir.specs.declared.geo.GeoPlaces.{GeoPlaces}
 use Rattle.tiff_dir.specs.declared.rule.Rule.{Rule}
-use Rattle.tiff_dir.specs.declared.rule.Count.{Count}
 use Rattle.tiff_dir.specs.declared.rule.Count.TheVariants.{Samples}
 use Rattle.tiff_dir.specs.declared.level.Place.{Place}
 use Rattle.tiff_dir.specs.declared.level.Kind.{Kind}
@@ -22,7 +19,7 @@ use Rattle.tiff_dir.specs.declared.stage.Stage.{Stage}
 use Rattle.tiff_dir.specs.declared.stage.Stage.TheVariants.{Table}
 use Rattle.tiff_dir.specs.declared.fault.FileFault.{FileFault}
 use Rattle.tiff_dir.specs.declared.fault.FileFault.TheVariants.{FieldType, TooLarge}
-use Rattle.tiff_dir.specs.File.{◌>>=◌, Field, kind_of, size_of, field, value}
+use Rattle.tiff_dir.specs.File.{◌>>=◌, kind_of, size_of, field}
 use Rattle.tiff_dir.specs.Profile.{subfile_rule, geo_profile, geo_rule, max_geo_bytes, has_typing, is_multiple}
 use Rattle.tiff_dir.specs.Level.{place_of}
 use Rattle.tiff_dir.specs.Geo.{field_len, geo_place, IsLargeField, IsGeoFault}
@@ -31,10 +28,10 @@ use Rattle.tiff_dir.specs.GeoEntries.{geo_in, place_by, ArePlacesBy, IsFaultBy}
 use Rattle.tiff_dir.specs.Known.{HasGeo}
 use Rattle.tiff_dir.specs.Stage.{range_of, AgreesAt, HasTable, IsPart}
 use Rattle.tiff_dir.specs.Table.{allows, counts_one, entries, field_of, found, kind_in, len_of, meets, place_in}
-use Rattle.tiff_dir.specs.Walk.{AreGeoPlaces, AreTyped, IsGeoPlace}
+use Rattle.tiff_dir.specs.Walk.{AreGeoPlaces, IsGeoPlace}
 use Rattle.tiff_dir.proofs.Chain.{some_and_at, some_and_from}
 use Rattle.tiff_dir.proofs.Fields.{IsKind, has_table, field_told, kind_is, typed, rule_fault, no_rule_fault}
-use Rattle.tiff_dir.proofs.Levels.{place_entry, some_and_cases}
+use Rattle.tiff_dir.proofs.Levels.{place_entry}
 
 pub geo_taken : (f bytes : List ℕ) (stage : Stage) (o : Order) (k at n : ℕ) (g : GeoEntries) → stage ≡ Table o k at n → k ≡ 0 → g ≡ geo_in (entries o (at + 2) 0 n bytes) → length bytes ≡ 12 * n + 4
     → AgreesAt f stage → IfSome (range_of stage) (λ r. IsPart f r bytes) → HasGeo f g

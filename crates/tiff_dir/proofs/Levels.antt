@@ -16,7 +16,7 @@ use Rattle.tiff_dir.specs.declared.fault.FileFault.{FileFault}
 use Rattle.tiff_dir.specs.declared.fault.FileFault.TheVariants.{Missing, FieldType, Unsupported}
 use Rattle.tiff_dir.specs.Number.{number_in}
 use Rattle.tiff_dir.specs.File.{◌>>=◌, kind_of, size_of, number, field, values_at, value}
-use Rattle.tiff_dir.specs.Profile.{subfile_rule, profile, has_typing, is_depth, accepts, samples_fit, planes_fit}
+use Rattle.tiff_dir.specs.Profile.{subfile_rule, profile, is_depth, accepts, samples_fit, planes_fit}
 use Rattle.tiff_dir.specs.Level.{is_level, place_of, compression_of}
 use Rattle.tiff_dir.specs.Fault.{IsMistyped, IsMiscounted, IsRuleFault, IsUnsupported, IsMisfit, IsFaultOfDirectory, IsFaultOfLevel}
 use Rattle.tiff_dir.specs.Table.{field_of, found, meets, IsFaultOfEntries, short_or, counts_samples, kind_in, place_in, place_or, draft_in, HasValues, IsValueFault, HasCounts, IsCountFault, IsReadIn, IsReadFault}

@@ -19,3 +19,6 @@ pub mod TileValues
 pub mod PacketLemmas
 pub mod WindowLemmas
 pub mod Clean
+pub mod Covered
+pub mod Clear
+pub mod Existence

@@ -89,7 +89,7 @@ array_value f bytes o k tag t p named told len less part whole =
     let fits : t * size_of p.kind + size_of p.kind ≤ p.len = omega (arith, within t p.count (size_of p.kind) less) in
     field_value_told f k tag t p told less ∙ number_part f bytes o p.first p.len (t * size_of p.kind) (size_of p.kind) named here whole fits (size_some p.kind)
 
-level_value_at : (f : List ℕ) (n k tag t v : ℕ) → level_directory f n ≡ Some k → value f k tag t ≡ Some v → level_value f n tag t ≡ Some v
+pub level_value_at : (f : List ℕ) (n k tag t v : ℕ) → level_directory f n ≡ Some k → value f k tag t ≡ Some v → level_value f n tag t ≡ Some v
 unfolding level_value
 level_value_at f n k tag t v there told = rw there told
 

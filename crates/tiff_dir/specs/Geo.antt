@@ -1,12 +1,12 @@
 -- The fields that georeference an image: where they stand, and what is wrong with them (OGC 19-008, sections 7 and 8).
 -- They are looked at in the first directory, for the query Info alone.
-use Rattle.std.specs.Prelude.{◌≡◌, ◌≢◌, ℕ, ◌+◌, ◌*◌, ◌<◌, ◌⊎◌, Bool, false, nat_lt, nat_le, ◌==◌, if◌then◌else◌, List, Option, Some, None, IsSomeAnd}
+use Rattle.std.specs.Prelude.{◌≡◌, ◌≢◌, ℕ, ◌+◌, ◌*◌, ◌<◌, ◌⊎◌, false, nat_lt, nat_le, ◌==◌, if◌then◌else◌, List, Option, Some, None, IsSomeAnd}
 use Rattle.std.specs.Option.{option_map_or}
 use Rattle.std.specs.List.{Any, filter_map}
 use Rattle.tiff_dir.specs.declared.rule.Rule.{Rule}
 use Rattle.tiff_dir.specs.declared.level.Place.{Place}
 use Rattle.tiff_dir.specs.declared.fault.FileFault.{FileFault}
-use Rattle.tiff_dir.specs.declared.fault.FileFault.TheVariants.{PastEnd, FieldType, TooLarge, KeyHead, KeyOrder, KeyPlace}
+use Rattle.tiff_dir.specs.declared.fault.FileFault.TheVariants.{FieldType, TooLarge, KeyHead, KeyOrder, KeyPlace}
 use Rattle.tiff_dir.specs.File.{◌>>=◌, Field, kind_of, size_of, has_all_tags, field, value}
 use Rattle.tiff_dir.specs.Profile.{geo_profile, max_geo_bytes}
 use Rattle.tiff_dir.specs.Level.{place_of}

@@ -1,12 +1,10 @@
 -- The entries of the geo fields in a table, and what they say by the rules for them.
-use Rattle.std.specs.Prelude.{◌≡◌, ℕ, ◌+◌, ◌<◌, ◌^◌, ◌⊎◌, ⊤, not, nat_lt, if◌then◌else◌, List, Option, Some, None, Result, Ok, Err, get_or}
+use Rattle.std.specs.Prelude.{◌≡◌, ◌+◌, ◌<◌, ◌^◌, ◌⊎◌, ⊤, not, nat_lt, if◌then◌else◌, List, Option, Some, None, Result, Ok, Err}
 use Rattle.tiff_dir.specs.declared.table.Entry.{Entry}
 use Rattle.tiff_dir.specs.declared.geo.GeoEntries.{GeoEntries}
 use Rattle.tiff_dir.specs.declared.geo.GeoPlaces.{GeoPlaces}
 use Rattle.tiff_dir.specs.declared.level.Place.{Place}
 use Rattle.tiff_dir.specs.declared.rule.Rule.{Rule}
-use Rattle.tiff_dir.specs.declared.rule.Typing.TheVariants as typing
-use Rattle.tiff_dir.specs.declared.rule.Count.TheVariants.{Exactly, Multiple}
 use Rattle.tiff_dir.specs.declared.fault.FileFault.{FileFault}
 use Rattle.tiff_dir.specs.declared.fault.FileFault.TheVariants.{FieldType, TooLarge}
 use Rattle.tiff_dir.specs.Profile.{geo_rule, max_geo_bytes}

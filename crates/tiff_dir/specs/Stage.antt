@@ -1,5 +1,5 @@
 -- What is known of a file at each stage of a walk over its directories.
-use Rattle.std.specs.Prelude.{◌≡◌, ◌≢◌, ℕ, suc, ◌+◌, ◌-◌, ◌*◌, ◌<◌, ◌≤◌, ◌^◌, ◌⊎◌, ⊤, Bool, true, false, ◌&&◌, ◌==◌, nat_lt, if◌then◌else◌, List, [], ◌∷◌, ◌++◌, map, take, drop, Option, Some, None, IfSome}
+use Rattle.std.specs.Prelude.{◌≡◌, ◌≢◌, ℕ, suc, ◌+◌, ◌-◌, ◌*◌, ◌<◌, ◌≤◌, ◌^◌, ⊤, Bool, true, false, ◌&&◌, ◌==◌, nat_lt, if◌then◌else◌, List, [], ◌∷◌, ◌++◌, map, take, drop, Option, Some, None, IfSome}
 use Rattle.std.specs.Option.{option_map, option_to_list}
 use Rattle.std.specs.List.{filter, flat_map, range_with_len}
 use Rattle.tiff_dir.specs.declared.order.Order.{Order}
@@ -16,7 +16,7 @@ use Rattle.tiff_dir.specs.declared.stage.Stage.TheVariants.{Header, Count, Table
 use Rattle.tiff_dir.specs.Number.{number_in}
 use Rattle.tiff_dir.specs.File.{◌>>=◌, order_of, number, directory, has_directory, has_all_tags, fields, field, value, size_of}
 use Rattle.tiff_dir.specs.Profile.{is_depth, is_sample_count, is_long, is_short_or_long}
-use Rattle.tiff_dir.specs.Level.{Layout, is_level, previous_level, place_of, grid_at, layout_at, compression_of}
+use Rattle.tiff_dir.specs.Level.{Layout, is_level, previous_level, place_of, layout_at, compression_of}
 use Rattle.tiff_dir.specs.Described.{described}
 use Rattle.tiff_dir.specs.Needs.{Range, is_entry_count, header_range, ranges_of_directory, outside_range}
 use Rattle.tiff_dir.specs.Fault.{is_directory_place, IsUnsupported, IsFaultAt, IsFaultOfDirectory, IsFaultOfLevel}

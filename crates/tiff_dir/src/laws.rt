@@ -1,12 +1,22 @@
 //! Laws of the definitions, which upper crates rest on. Each function does nothing: its contract is the law.
 ghost use Rattle.std.specs.Prelude.{◌≡◌, ℕ, List};
 ghost use Rattle.tiff_dir.specs.declared.query.Query.{Query};
+ghost use Rattle.tiff_dir.specs.declared.query.Query.TheVariants.{Window};
+ghost use Rattle.tiff_dir.specs.declared.query.Pick.{Pick};
+ghost use Rattle.tiff_dir.specs.declared.fault.FileFault.{FileFault};
 ghost use Rattle.tiff_dir.specs.Packets.{PacketsAreApart, TextsAreUnique};
-ghost use Rattle.tiff_dir.specs.Faulty.{IsWindow};
+ghost use Rattle.tiff_dir.specs.Faulty.{IsFaulty, IsWindow};
 
 /// A file has one window for a query.
 pub fn one_window()
     ensures window { (f : List ℕ) (q : Query) (v u : List ℕ) → IsWindow f q v → IsWindow f q u → v ≡ u }
+{}
+
+/// A file in which no fault stands for a window has one: that it has none is impossible.
+pub fn some_window()
+    ensures window { (f : List ℕ) (x y width height : ℕ) (pick : Pick)
+        → ((fault : FileFault) → IsFaulty f (Window x y width height pick) fault → ⊥)
+        → ((v : List ℕ) → IsWindow f (Window x y width height pick) v → ⊥) → ⊥ }
 {}
 
 /// Bytes are packets in one way, and stand for one text.

@@ -1,4 +1,4 @@
-use Rattle.std.proofs.Common.{ℕ, ◌∙◌, Option, None, MatchResult, sym, subst}
+use Rattle.std.proofs.Common.{ℕ, Option, None, MatchResult, sym, subst}
 use Rattle.tiff_dir.specs.declared.stage.Stage.TheVariants.{Bits, Formats}
 use Rattle.tiff_dir.specs.declared.fault.FileFault.TheVariants.{Unsupported}
 use Rattle.tiff_dir.specs.Fault.{IsFaultOfDirectories}

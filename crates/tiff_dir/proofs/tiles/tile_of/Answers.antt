@@ -1,4 +1,4 @@
-use Rattle.std.proofs.Common.{◌≡◌, ◌*◌, ◌<◌, inl, inr, ◌∙◌, Some, sym, ap}
+use Rattle.std.proofs.Common.{◌≡◌, ◌*◌, ◌<◌, ◌∙◌, Some, sym, ap}
 use Rattle.tiff_dir.specs.declared.level.Kind.TheVariants.{Long}
 use Rattle.tiff_dir.specs.Described.{layout_of}
 use Rattle.tiff_dir.specs.Level.{level_value}

@@ -1,9 +1,8 @@
-use Rattle.std.proofs.Common.{◌≡◌, ◌∙◌, Result, Ok, Err, IfOk, IfErr, MatchResult, true, None, ap, sym, subst}
+use Rattle.std.proofs.Common.{Result, Ok, Err, IfOk, IfErr, MatchResult, subst}
 use Rattle.tiff_dir.specs.declared.geo.GeoPlaces.{GeoPlaces}
 use Rattle.tiff_dir.specs.declared.fault.FileFault.{FileFault}
-use Rattle.tiff_dir.specs.Stage.{range_of, is_past_first}
 use Rattle.tiff_dir.specs.GeoEntries.{ArePlacesBy, IsFaultBy}
-use Rattle.tiff_dir.specs.Known.{Known, HasGeo}
+use Rattle.tiff_dir.specs.Known.{Known}
 use Rattle.tiff_dir.specs.Walk.{Agrees, HasEnded, AreGeoPlaces}
 use Rattle.tiff_dir.specs.Geo.{IsGeoFault}
 use Rattle.tiff_dir.proofs.GeoLemmas.{places_told, fault_told}
