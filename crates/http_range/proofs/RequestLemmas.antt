@@ -13,15 +13,15 @@ use Rattle.std.specs.Str.{IsAscii}
 use Rattle.httparse.specs.Grammar.{AllPass, is_token_byte, is_uri_byte, is_value_byte, crlf, RequestHead, IsRequestHead, print_request}
 use Rattle.httparse.proofs.GrammarLemmas.{request_unique, print_request-append}
 use Rattle.http_range.specs.Tag.{is_kept_tag}
-use Rattle.http_range.specs.Text.{NamedValue, line, message, closing}
+use Rattle.http_range.specs.Text.{FieldLine, line, head_with, closing}
 use Rattle.http_range.specs.Names.{is_name, is_name_byte, is_host, is_host_byte}
 use Rattle.http_range.specs.Ask.{CanAsk, request_line, range_value, if_range, request_fields, request_text, asked_request}
 use Rattle.http_range.specs.Seen.{SeenRequest, IsRequestFront, seen_request, HasRequest}
 use Rattle.http_range.proofs.ValueLemmas.{both, back_bare, decimal_pass}
-use Rattle.http_range.proofs.LineLemmas.{IsPlain, ArePlain, field_of, lines-are, fields-are, seen-are, length-fields, length-message}
+use Rattle.http_range.proofs.LineLemmas.{IsPlain, ArePlain, field_of, lines-are, fields-are, seen-are, length-fields, length-head_with}
 use Rattle.http_range.proofs.ReplyLemmas.{token_of, plain_visible, closing_plain, plain-append, pass_value, value_literal, length_20, tag_plain}
 
-abbrev head_by : List ℕ → List NamedValue → RequestHead
+abbrev head_by : List ℕ → List FieldLine → RequestHead
 head_by name ls = record {
   blank = [];
   method = codes "GET";
@@ -36,15 +36,15 @@ regroup : (g n v e f c r : List ℕ)
     → (g ++ n ++ v ++ e ++ f ++ c) ++ r ≡ g ++ (n ++ (v ++ (e ++ ((f ++ c) ++ r))))
 regroup g n v e f c r = simp append_assoc
 
-request-append : (name : List ℕ) (ls : List NamedValue) (rest : List ℕ)
-    → message (request_line name) ls ++ rest ≡ print_request (head_by name ls) ++ rest
+request-append : (name : List ℕ) (ls : List FieldLine) (rest : List ℕ)
+    → head_with (request_line name) ls ++ rest ≡ print_request (head_by name ls) ++ rest
 request-append name ls rest =
     regroup (codes "GET /") name (codes " HTTP/1.1") (codes "\r\n") (flat_map line ls) (codes "\r\n") rest
     ∙ ap (λ (t : List ℕ). codes "GET /" ++ (name ++ (codes " HTTP/1.1" ++ (codes "\r\n" ++ ((t ++ codes "\r\n") ++ rest)))))
     (sym (lines-are ls))
     ∙ sym (print_request-append (head_by name ls) rest)
 
-request-is : (name : List ℕ) (ls : List NamedValue) → message (request_line name) ls ≡ print_request (head_by name ls)
+request-is : (name : List ℕ) (ls : List FieldLine) → head_with (request_line name) ls ≡ print_request (head_by name ls)
 request-is name ls = sym (append-nil _) ∙ request-append name ls [] ∙ append-nil _
 
 -- ---- names and hosts
@@ -115,7 +115,7 @@ if_range_few None = omega arith
 if_range_few (Some tag) = omega arith
 
 module _ (host name : List ℕ) (first last : ℕ) (tag : Option (List ℕ)) (can : CanAsk host name first last tag) where
-  abbrev lines : List NamedValue
+  abbrev lines : List FieldLine
   lines = request_fields host first last tag
 
   abbrev head : RequestHead
@@ -149,7 +149,7 @@ module _ (host name : List ℕ) (first last : ℕ) (tag : Option (List ℕ)) (ca
   whole : (bytes more : List ℕ) → bytes ≡ request_text host name first last tag ++ more → IsRequestFront bytes head
   whole bytes more is =
       let text = request_text host name first last tag in
-      let small = length-message (request_line name) lines plain line_short few in
+      let small = length-head_with (request_line name) lines plain line_short few in
       let m = 8192 - length text in
       let e : 8192 ≡ length text + m = omega arith in
       let n = few in record {

@@ -4,12 +4,12 @@ use Rattle.httparse.specs.Grammar.{ResponseHead, ReadsResponse, print_response, 
 use Rattle.httparse.specs.Spans.{name_and_value, ResponseOverflows}
 use Rattle.http_range.specs.declared.reading.Why.{Why}
 use Rattle.http_range.specs.declared.reading.Why.TheVariants.{Cut, Head, Status, NoTag, WeakTag, TagTooLong, NoRange, NoLength, Coding}
-use Rattle.http_range.specs.Text.{NamedValue}
+use Rattle.http_range.specs.Text.{FieldLine}
 
 -- what is read of a head, and the bytes after it
 pub record SeenHead : Type 0 where
-  pub code : ℕ
-  pub fields : List NamedValue
+  pub status : ℕ
+  pub fields : List FieldLine
   pub rest : List ℕ
 
 -- the bytes where a head is looked for
@@ -24,7 +24,7 @@ pub record IsHeadOf (bytes : List ℕ) (h : ResponseHead) : Type 0 where
 
 abbrev pub seen_head : List ℕ → ResponseHead → SeenHead
 seen_head bytes h = record {
-  code = status_code h;
+  status = status_code h;
   fields = map name_and_value h.fields;
   rest = drop (length (print_response h)) bytes;
 }

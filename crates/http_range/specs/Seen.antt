@@ -2,14 +2,14 @@
 use Rattle.std.specs.Prelude.{◌≡◌, ℕ, ◌≤◌, List, length, take, map, Option, Some, None}
 use Rattle.httparse.specs.Grammar.{RequestHead, ReadsRequest}
 use Rattle.httparse.specs.Spans.{name_and_value}
-use Rattle.http_range.specs.Text.{NamedValue}
+use Rattle.http_range.specs.Text.{FieldLine}
 
 -- the parts of a request's head; white space round a value is dropped
 pub record SeenRequest : Type 0 where
   pub method : List ℕ
   pub target : List ℕ
   pub minor : ℕ
-  pub fields : List NamedValue
+  pub fields : List FieldLine
 
 -- h stands at the front of bytes, whole in the first 8,192, with at most 32 fields
 pub record IsRequestFront (bytes : List ℕ) (h : RequestHead) : Type 0 where

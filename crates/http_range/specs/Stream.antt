@@ -2,7 +2,7 @@
 use Rattle.std.specs.Prelude.{◌≡◌, ℕ, suc, Bool, true, false, ◌&&◌, ◌||◌, ◌==◌, not, if◌then◌else◌, List, [], ◌∷◌, ◌++◌, length, drop, Option, Some, None}
 use Rattle.std.specs.List.{slice_split}
 use Rattle.http_range.specs.Book.{Catalogue}
-use Rattle.http_range.specs.Served.{Served, text_of, IsAnswer}
+use Rattle.http_range.specs.Response.{Response, text_of, IsAnswer}
 
 -- nothing stands in the line, or CR alone
 abbrev pub is_empty_line : List ℕ → Bool
@@ -39,8 +39,8 @@ first_message stream = message_from [] stream
 pub data AreAnswers (catalogue : Catalogue) : ℕ → List ℕ → List ℕ → Type 0 where
   full : (stream : List ℕ) → AreAnswers catalogue 0 stream []
   unfinished : (n : ℕ) (stream : List ℕ) → first_message stream ≡ None → AreAnswers catalogue (suc n) stream []
-  closed : (n : ℕ) (stream message : List ℕ) (s : Served) → first_message stream ≡ Some message
+  closed : (n : ℕ) (stream message : List ℕ) (s : Response) → first_message stream ≡ Some message
       → IsAnswer catalogue message s → s.close ≡ true → AreAnswers catalogue (suc n) stream (text_of s)
-  more : (n : ℕ) (stream message : List ℕ) (s : Served) (text : List ℕ) → first_message stream ≡ Some message
+  more : (n : ℕ) (stream message : List ℕ) (s : Response) (text : List ℕ) → first_message stream ≡ Some message
       → IsAnswer catalogue message s → s.close ≡ false → AreAnswers catalogue n (drop (length message) stream) text
       → AreAnswers catalogue (suc n) stream (text_of s ++ text)

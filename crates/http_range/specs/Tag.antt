@@ -18,6 +18,10 @@ is_weak_tag text =
     nat_lt 2 (length text) && slice_index text 0 == 0x57 && slice_index text 1 == 0x2F
     && is_opaque_tag (drop 2 text)
 
+-- an entity tag, strong or weak
+abbrev pub is_entity_tag : List ℕ → Bool
+is_entity_tag text = is_opaque_tag text || is_weak_tag text
+
 -- a tag that is kept: strong, and of 64 bytes at most
 abbrev pub is_kept_tag : List ℕ → Bool
 is_kept_tag text = is_opaque_tag text && nat_le (length text) 64

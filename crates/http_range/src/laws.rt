@@ -1,10 +1,10 @@
 //! Laws of the definitions, for the crates above. Each function does nothing: its contract is the law.
-ghost use Rattle.http_range.specs.Laws.{HonestyIsKept, TagsAreQuoted, ContentRangesAreForms, TagsTellVersions, VersionTagsAreKept, AnswersAreUnique, StreamsAreAnsweredOnce, ClientsAreAnswered, ClientsAreAnsweredAlone, PublishReplaces, PublishedIsNamed};
+ghost use Rattle.http_range.specs.Laws.{FrontsAreRead, ChecksAreRead, HonestyIsKept, TagsAreQuoted, ContentRangesAreForms, TagsTellPublications, PublicationTagsAreKept, AnswersAreUnique, StreamsAreAnsweredOnce, ClientsAreAnswered, ClientsAreAnsweredAlone, PublishReplaces, PublishedIsNamed};
 
 /// Different epochs or numbers give different tags, and each is a tag that is kept.
-pub fn tags_tell_versions()
-    ensures apart { TagsTellVersions }
-    ensures kept { VersionTagsAreKept }
+pub fn tags_tell_publications()
+    ensures apart { TagsTellPublications }
+    ensures kept { PublicationTagsAreKept }
 {}
 
 /// A message has one answer of a catalogue, and a stream one text of answers.
@@ -28,6 +28,12 @@ pub fn publications_replace()
 /// An answer of a server is honest, and stays so where it is cut and where the book grows.
 pub fn honesty_is_kept()
     ensures { HonestyIsKept }
+{}
+
+/// What is read of a server's answer, whole or cut.
+pub fn fronts_are_read()
+    ensures answers { FrontsAreRead }
+    ensures checks { ChecksAreRead }
 {}
 
 /// The tests and functions that read tags and Content-Range are the forms of the standard.

@@ -6,23 +6,30 @@
 mod answer_head;
 mod ask;
 mod bytes;
+mod check;
+mod conditional;
 mod digits;
 mod fields;
 mod laws;
 mod line;
+mod members;
+mod names;
 mod numeral;
+mod publication;
 mod range;
 mod reading;
 mod reply;
 mod request;
 mod tag;
-mod version;
 
 pub use ask::write_request;
+pub use check::{CheckReading, read_check};
+pub use conditional::any_match;
 pub use laws::{
-    answers_are_unique, clients_are_answered, honesty_is_kept, publications_replace,
-    tags_tell_versions, values_have_forms,
+    answers_are_unique, clients_are_answered, fronts_are_read, honesty_is_kept,
+    publications_replace, tags_tell_publications, values_have_forms,
 };
+pub use names::{is_host, is_name};
 pub use range::{RangeSpec, Resolved, read_range, resolve};
 pub use reading::{Piece, Reading, Why, read_answer};
 pub use reply::{Reply, write_head};

@@ -1,4 +1,4 @@
-ghost use Rattle.http_range.specs.Examples.{AreParts, part_rows, TextRows, MessageRows, AreAnswers, case_rows};
+ghost use Rattle.http_range.specs.Examples.{AreParts, part_rows, TextRows, MessageRows, AreCases, case_rows, condition_rows};
 
 use crate::{
     Memory, Piece, RangeSpec, Reading, Reply, Resolved, Span, Tag, Why, read_answer, read_range,
@@ -12,7 +12,8 @@ fn rows_hold()
     ensures parts { AreParts part_rows }
     ensures texts { TextRows }
     ensures messages { MessageRows }
-    ensures answers { AreAnswers case_rows }
+    ensures answers { AreCases case_rows }
+    ensures conditions { AreCases condition_rows }
 {}
 
 #[test]

@@ -1,4 +1,4 @@
-use Rattle.http_range.proofs.ExampleLemmas.{parts_are, texts_are, messages_are, answers_are}
+use Rattle.http_range.proofs.ExampleLemmas.{parts_are, texts_are, messages_are, answers_are, conditions_are}
 use Rattle.http_range.proofs.tests.rows_hold.Goals as goal
 
 pub returns-clause-parts : goal.returns-clause-parts
@@ -12,3 +12,6 @@ returns-clause-answers c = answers_are
 
 pub returns-clause-messages : goal.returns-clause-messages
 returns-clause-messages c = messages_are
+
+pub returns-clause-conditions : goal.returns-clause-conditions
+returns-clause-conditions c = conditions_are

@@ -1,12 +1,12 @@
 use Rattle.std.proofs.Common.{arith}
 use Rattle.std.proofs.lemmas.List.{take_all}
 use Rattle.http_range.proofs.HeadLemmas.{head_found, head_cut}
-use Rattle.http_range.proofs.reading.head_of.Goals as goal
+use Rattle.http_range.proofs.answer_head.head_of.Goals as goal
 
 pub returns-in-Ok-Complete : goal.returns-in-Ok-Complete
 returns-in-Ok-Complete c =
     let complete = rw c.in-Ok-Complete.field-0-is at c.in-Ok-Complete.ensures.complete in
-    head_found c.args.bytes.now _ _ _ c.in-Ok-Complete.head c.front_of-front.ensures.front c.after-rest.ensures
+    head_found c.args.bytes.now _ _ _ c.in-Ok-Complete.head c.new.result c.new.ensures c.front_of-front.ensures.front c.after.ensures
     c.parse_response.auto.headers complete
 
 pub returns-then-bytes-lt4096 : goal.returns-then-bytes-lt4096

@@ -1,7 +1,7 @@
 //! The tags of publications.
 ghost use Rattle.std.specs.Prelude.{◌≡◌, ◌≤◌, ◌+◌, ◌++◌, length};
 ghost use Rattle.arrayvec.specs.ArrayVec.{array_vec_len};
-ghost use Rattle.http_range.specs.Book.{version_tag};
+ghost use Rattle.http_range.specs.Book.{publication_tag};
 
 use crate::tag::Tag;
 use arrayvec::ArrayVec;
@@ -9,17 +9,17 @@ use itoa::Buffer;
 
 impl Tag {
     /// The tag `"E-N"` of publication `number` of an epoch. It takes no memory.
-    pub fn of_version(epoch: u32, number: u32) -> Tag
-        ensures { result ≡ version_tag epoch number }
+    pub fn of_publication(epoch: u32, number: u32) -> Tag
+        ensures { result ≡ publication_tag epoch number }
     {
-        let text = version_text(epoch, number);
+        let text = publication_text(epoch, number);
         Tag::new(text.as_slice()).unwrap()
     }
 }
 
-#[tactic(auto, unfolding(crate::specs::Book::version_tag))]
-fn version_text(epoch: u32, number: u32) -> ArrayVec<u8, 64>
-    ensures { result.items ≡ version_tag epoch number }
+#[tactic(auto, unfolding(crate::specs::Book::publication_tag))]
+fn publication_text(epoch: u32, number: u32) -> ArrayVec<u8, 64>
+    ensures { result.items ≡ publication_tag epoch number }
 {
     let mut text = ArrayVec::new();
     let mut buffer = Buffer::new();

@@ -1,6 +1,6 @@
 -- What kinds of answers a server gives.
 use Rattle.std.proofs.Common.{◌≡◌, ℕ, ◌+◌, ◌-◌, ◌<◌, ◌≤◌, ◌⊎◌, inl, inr, Bool, true, false, cond, List, [], ◌++◌, length, take, drop, min, refl, sym, ap, ◌∙◌, arith, append_assoc, append-nil, codes, take-append-drop, length-append, length-drop, Option, Some, None}
-use Rattle.std.specs.Prelude.{IsErr, IfOk}
+use Rattle.std.specs.Prelude.{IsErr, IfOk, option_and_then}
 use Rattle.std.proofs.Math.Dec.{eqb, ltb}
 use Rattle.std.proofs.lemmas.Bool.{ltb-true, eqb-false}
 use Rattle.httparse.proofs.GrammarLemmas.{request_unique}
@@ -8,13 +8,13 @@ use Rattle.http_range.specs.declared.range.RangeSpec.{RangeSpec}
 use Rattle.http_range.specs.declared.range.RangeSpec.TheVariants.{Between, From, Suffix}
 use Rattle.http_range.specs.declared.range.Resolved.{Resolved}
 use Rattle.http_range.specs.declared.range.Resolved.TheVariants.{Whole, Part, Unsatisfiable}
-use Rattle.http_range.specs.declared.reply.Reply.TheVariants.{R200, R206, R400, R405}
+use Rattle.http_range.specs.declared.reply.Reply.TheVariants.{R200, R206, R400, R405, R412}
 use Rattle.http_range.specs.Range.{range_spec, resolved, resolved_or}
 use Rattle.http_range.specs.Reply.{IsSent}
-use Rattle.http_range.specs.Reading.{reply_seen}
+use Rattle.http_range.specs.Reading.{reply_seen, tag_seen}
 use Rattle.http_range.specs.Seen.{SeenRequest, HasRequest, seen_request}
 use Rattle.http_range.specs.Book.{Publication, IsPublication, Catalogue, IsCatalogue, published}
-use Rattle.http_range.specs.Served.{Served, has_other_version, lacks_host, announces_body, has_other_method, has_other_form, asks_close, is_method, part_or_whole, range_to_serve, target_name, refused, serve_head, serve_part, serve_file, answer_by}
+use Rattle.http_range.specs.Response.{Response, has_other_version, lacks_host, announces_body, has_other_method, lacks_origin_form, asks_close, is_method, fails_precondition, is_unmodified, serve_tag, range_to_serve, target_name, refused, serve_head, serve_part, serve_file, answer_by}
 use Rattle.http_range.specs.Honest.{IsFront, IsPieceOf}
 use Rattle.http_range.specs.Laws.{AnswersAreUnique}
 use Rattle.http_range.proofs.BookLemmas.{published_own, published_lawful}
@@ -41,22 +41,24 @@ front_length xs ys a = omega (arith, ap length a.1, length-append xs a.0)
 -- ---- the kinds
 
 -- the answer carries no tag, and a client doesn't use it
-pub record IsRefusal (s : Served) : Type 0 where
+pub record IsRefusal (s : Response) : Type 0 where
   pub nameless : s.name ≡ None
   pub sent : IsSent s.reply
   pub told : (rest : List ℕ) → IsErr (reply_seen s.reply rest)
+  pub untagged : IsErr (tag_seen s.reply)
 
 -- the answer carries the tag of p, and a client reads a piece of p
-pub record IsFileAnswer (catalogue : Catalogue) (s : Served) (p : Publication) : Type 0 where
+pub record IsFileAnswer (catalogue : Catalogue) (s : Response) (p : Publication) : Type 0 where
   pub has : published p.name catalogue ≡ Some p
   pub named : s.name ≡ Some p.name
   pub sent : IsSent s.reply
   pub told : (k : ℕ) → IfOk (reply_seen s.reply (take k s.body)) (IsPieceOf p)
+  pub tagged : IfOk (tag_seen s.reply) (λ tag. tag ≡ p.tag)
 
-abbrev pub Kind : Catalogue → Served → Type 0
+abbrev pub Kind : Catalogue → Response → Type 0
 Kind catalogue s = IsRefusal s ⊎ ((p : Publication) × IsFileAnswer catalogue s p)
 
-kind_if : (catalogue : Catalogue) (t : Bool) (a b : Served) → Kind catalogue a → Kind catalogue b → Kind catalogue (cond t a b)
+kind_if : (catalogue : Catalogue) (t : Bool) (a b : Response) → Kind catalogue a → Kind catalogue b → Kind catalogue (cond t a b)
 kind_if catalogue true a b ka kb = ka
 kind_if catalogue false a b ka kb = kb
 
@@ -96,7 +98,7 @@ resolved_inside (Suffix x) n a b some ordered is = by_test (eqb x 0) refl is
         let f : n - 1 ≡ b = cc in
         record { ascending = omega arith; below = omega arith }
 
-part_inside : (value : Option (List ℕ)) (n a b : ℕ) → 1 ≤ n → part_or_whole value n ≡ Part a b → IsInside a b n
+part_inside : (value : Option (List ℕ)) (n a b : ℕ) → 1 ≤ n → resolved_or (option_and_then range_spec value) n ≡ Part a b → IsInside a b n
 part_inside None n a b some is = absurd (cc)
 part_inside (Some text) n a b some is = by_spec (range_spec text) refl is
   where
@@ -108,8 +110,9 @@ part_inside (Some text) n a b some is = by_spec (range_spec text) refl is
 -- ---- each answer has its kind
 
 module _ (catalogue : Catalogue) (lawful : IsCatalogue catalogue) where
-  plain : (s : Served) → s.name ≡ None → IsSent s.reply → ((rest : List ℕ) → IsErr (reply_seen s.reply rest)) → Kind catalogue s
-  plain s nameless sent told = inl (record { nameless = nameless; sent = sent; told = told })
+  plain : (s : Response) → s.name ≡ None → IsSent s.reply → ((rest : List ℕ) → IsErr (reply_seen s.reply rest)) → IsErr (tag_seen s.reply)
+      → Kind catalogue s
+  plain s nameless sent told untagged = inl (record { nameless = nameless; sent = sent; told = told; untagged = untagged })
 
   module _ (p : Publication) (has : published p.name catalogue ≡ Some p) (is : IsPublication p) (close : Bool) where
     whole_piece : (body : List ℕ) → IsFront body p.file → (k : ℕ)
@@ -125,23 +128,26 @@ module _ (catalogue : Catalogue) (lawful : IsCatalogue catalogue) where
           body = inner;
         }
 
+    kind_tag : Kind catalogue (serve_tag p close)
+    kind_tag = inr (p, record { has = has; named = refl; sent = is.tagged; told = λ k. tt; tagged = refl })
+
     kind_head : Kind catalogue (serve_head p close)
     kind_head =
         let small = is.small in
-        inr (p, record { has = has; named = refl; sent = (is.tagged, omega arith); told = whole_piece [] (front_nil p.file) })
+        inr (p, record { has = has; named = refl; sent = (is.tagged, omega arith); told = whole_piece [] (front_nil p.file); tagged = refl })
 
-    kind_part : (value : Option (List ℕ)) (w : Resolved) → part_or_whole value (length p.file) ≡ w → Kind catalogue (serve_part w p close)
+    kind_part : (value : Option (List ℕ)) (w : Resolved) → resolved_or (option_and_then range_spec value) (length p.file) ≡ w → Kind catalogue (serve_part w p close)
     kind_part value Whole same =
         let small = is.small in
-        inr (p, record { has = has; named = refl; sent = (is.tagged, omega arith); told = whole_piece p.file (front_same p.file) })
+        inr (p, record { has = has; named = refl; sent = (is.tagged, omega arith); told = whole_piece p.file (front_same p.file); tagged = refl })
     kind_part value Unsatisfiable same =
-        let small = is.small in plain (serve_part Unsatisfiable p close) refl (omega arith) (λ rest. refl)
+        let small = is.small in plain (serve_part Unsatisfiable p close) refl (omega arith) (λ rest. refl) refl
     kind_part value (Part a b) same =
         let small = is.small in
         let inside = part_inside value (length p.file) a b is.some same in
         let ab = inside.ascending in
         let bn = inside.below in
-        inr (p, record { has = has; named = refl; sent = (is.tagged, inside.ascending, inside.below, omega arith); told = part_piece a b inside })
+        inr (p, record { has = has; named = refl; sent = (is.tagged, inside.ascending, inside.below, omega arith); told = part_piece a b inside; tagged = refl })
       where
         part_piece : (a b : ℕ) → IsInside a b (length p.file) → (k : ℕ)
             → IfOk (reply_seen (R206 p.tag a b (length p.file)) (take k (take (b - a + 1) (drop a p.file)))) (IsPieceOf p)
@@ -163,15 +169,17 @@ module _ (catalogue : Catalogue) (lawful : IsCatalogue catalogue) where
             }
 
   kind_file : (r : SeenRequest) (o : Option Publication) → published (target_name r) catalogue ≡ o → Kind catalogue (serve_file o r)
-  kind_file r None found = plain (serve_file None r) refl tt (λ rest. refl)
+  kind_file r None found = plain (serve_file None r) refl tt (λ rest. refl) refl
   kind_file r (Some p) found =
       let has = published_own (target_name r) catalogue p found in
       let is = published_lawful (target_name r) catalogue p lawful found in
-      kind_if catalogue (is_method (codes "HEAD") r) _ _ (kind_head p has is (asks_close r))
-      (kind_part p has is (asks_close r) (range_to_serve r p.tag) _ refl)
+      kind_if catalogue (fails_precondition r p.tag) _ _ (plain (refused R412 (asks_close r)) refl tt (λ rest. refl) refl)
+      (kind_if catalogue (is_unmodified r p.tag) _ _ (kind_tag p has is (asks_close r))
+      (kind_if catalogue (is_method (codes "HEAD") r) _ _ (kind_head p has is (asks_close r))
+      (kind_part p has is (asks_close r) (range_to_serve r p.tag) _ refl)))
 
   bad : Kind catalogue (refused R400 true)
-  bad = plain (refused R400 true) refl tt (λ rest. refl)
+  bad = plain (refused R400 true) refl tt (λ rest. refl) refl
 
   pub kind_of : (o : Option SeenRequest) → Kind catalogue (answer_by catalogue o)
   kind_of None = bad
@@ -179,8 +187,8 @@ module _ (catalogue : Catalogue) (lawful : IsCatalogue catalogue) where
       kind_if catalogue (has_other_version r) _ _ bad
       (kind_if catalogue (lacks_host r) _ _ bad
       (kind_if catalogue (announces_body r) _ _ bad
-      (kind_if catalogue (has_other_method r) _ _ (plain (refused R405 (asks_close r)) refl tt (λ rest. refl))
-      (kind_if catalogue (has_other_form r) _ _ bad (kind_file r _ refl)))))
+      (kind_if catalogue (has_other_method r) _ _ (plain (refused R405 (asks_close r)) refl tt (λ rest. refl) refl)
+      (kind_if catalogue (lacks_origin_form r) _ _ bad (kind_file r _ refl)))))
 
 -- ---- a message has one answer
 
