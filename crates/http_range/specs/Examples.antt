@@ -11,7 +11,7 @@ use Rattle.http_range.specs.Ask.{request_text}
 use Rattle.http_range.specs.Seen.{SeenRequest}
 use Rattle.http_range.specs.Book.{Catalogue, publication_tag}
 use Rattle.http_range.specs.Response.{Response, answer_by}
-use Rattle.http_range.specs.Stream.{first_message}
+use Rattle.http_range.specs.Stream.{IsFirstMessage, IsUnfinished}
 
 -- ---- parts
 
@@ -90,11 +90,11 @@ abbrev pub get_a : List ℕ
 get_a = codes "GET /a HTTP/1.1\r\nHost: h\r\n\r\n"
 
 pub record MessageRows : Type 0 where
-  pub first_of_two : first_message (get_a ++ get_a) ≡ Some get_a
-  pub cut : first_message (codes "GET /a HTTP/1.1\r\nHost: h\r\n\r") ≡ None
-  pub bare_feeds : first_message (codes "GET\n\nGET") ≡ Some (codes "GET\n\n")
-  pub blank_lines_first : first_message (codes "\r\n\n\r\nGET\r\n\r\n") ≡ Some (codes "\r\n\n\r\nGET\r\n\r\n")
-  pub blank_lines_alone : first_message (codes "\r\n\r\n\n") ≡ None
+  pub first_of_two : IsFirstMessage (get_a ++ get_a) get_a
+  pub cut : IsUnfinished (codes "GET /a HTTP/1.1\r\nHost: h\r\n\r")
+  pub bare_feeds : IsFirstMessage (codes "GET\n\nGET") (codes "GET\n\n")
+  pub blank_lines_first : IsFirstMessage (codes "\r\n\n\r\nGET\r\n\r\n") (codes "\r\n\n\r\nGET\r\n\r\n")
+  pub blank_lines_alone : IsUnfinished (codes "\r\n\r\n\n")
 
 -- ---- the server's cases
 

@@ -1,10 +1,12 @@
 -- Laws of the definitions, each the contract of a function of `laws`.
-use Rattle.std.specs.Prelude.{◌≡◌, ◌≢◌, ◌<◌, ◌≤◌, ◌^◌, ◌↔◌, ◌⊎◌, ℕ, Bool, IsTrue, IsErr, IfOk, List, [], ◌∷◌, ◌++◌, take, codes, Option, Some, None, Result}
+use Rattle.std.specs.Prelude.{◌≡◌, ◌≢◌, ◌<◌, ◌≤◌, ◌^◌, ◌↔◌, ◌⊎◌, ℕ, Bool, IsTrue, IsErr, IfOk, List, [], ◌∷◌, ◌++◌, length, take, drop, codes, Option, Some, None, Result}
 use Rattle.std.specs.List.{AllPass}
 use Rattle.http_range.specs.Ask.{CanAsk, request_text}
 use Rattle.http_range.specs.Book.{Publication, IsPublication, Book, Includes, Covers, Catalogue, IsCatalogue, published, publish, publication_tag}
 use Rattle.http_range.specs.Response.{Response, text_of, IsAnswer, response_to_client}
-use Rattle.http_range.specs.Stream.{AreAnswers}
+use Rattle.http_range.specs.declared.limits.TheConstants.{MESSAGE_LIMIT}
+use Rattle.http_range.specs.Seen.{SeenRequest, HasRequest}
+use Rattle.http_range.specs.Stream.{AreAnswers, HasNoMessage, IsFirstMessage, IsUnfinished}
 use Rattle.http_range.specs.Honest.{IsFront, IsHonestFor, IsNamelessFront, IsHonest, IsPieceOf, IsPieceOfBook}
 use Rattle.http_range.specs.declared.reading.Why.{Why}
 use Rattle.http_range.specs.declared.reply.Reply.{Reply}
@@ -31,11 +33,31 @@ AnswersAreUnique =
     (catalogue : Catalogue) (message : List ℕ) (s t : Response)
     → IsAnswer catalogue message s → IsAnswer catalogue message t → s ≡ t
 
--- so has a stream
+-- a stream has one list of answers
 abbrev pub StreamsAreAnsweredOnce : Type 0
 StreamsAreAnsweredOnce =
-    (catalogue : Catalogue) (n : ℕ) (stream text other : List ℕ)
-    → AreAnswers catalogue n stream text → AreAnswers catalogue n stream other → text ≡ other
+    (catalogue : Catalogue) (n : ℕ) (stream : List ℕ) (rs others : List Response)
+    → AreAnswers catalogue n stream rs → AreAnswers catalogue n stream others → rs ≡ others
+
+-- what a message of a stream is to its server
+pub record MessagesStay : Type 0 where
+  -- a message that was found stays the first one when bytes follow
+  pub found : (stream message more : List ℕ) → IsFirstMessage stream message → IsFirstMessage (stream ++ more) message
+  -- it has 1 to 8,192 bytes, and the rest of the stream stands behind it
+  pub short : (stream message : List ℕ) → IsFirstMessage stream message
+      → (1 ≤ length message) × (length message ≤ MESSAGE_LIMIT) × (message ++ drop (length message) stream ≡ stream)
+  -- there is no other
+  pub one : (stream message other : List ℕ) → IsFirstMessage stream message → IsFirstMessage stream other → message ≡ other
+  -- an unfinished stream is shorter than a message may be, and what was gone through need not be gone through again
+  pub unfinished : (stream more : List ℕ) → IsUnfinished stream
+      → (length stream < MESSAGE_LIMIT) × HasNoMessage (stream ++ more) (length stream)
+  -- an unfinished stream has no message
+  pub apart : (stream message : List ℕ) → IsUnfinished stream → ¬ (IsFirstMessage stream message)
+
+-- a head that was found in a message is the same when bytes follow
+abbrev pub HeadsStay : Type 0
+HeadsStay =
+    (bytes more : List ℕ) (seen : SeenRequest) → HasRequest bytes (Some seen) → HasRequest (bytes ++ more) (Some seen)
 
 -- what is answered to a client's request, whatever follows it in the stream
 abbrev pub ClientsAreAnswered : Type 0

@@ -1,5 +1,5 @@
 //! Laws of the definitions, for the crates above. Each function does nothing: its contract is the law.
-ghost use Rattle.http_range.specs.Laws.{FrontsAreRead, ChecksAreRead, HonestyIsKept, TagsAreQuoted, ContentRangesAreForms, TagsTellPublications, PublicationTagsAreKept, AnswersAreUnique, StreamsAreAnsweredOnce, ClientsAreAnswered, ClientsAreAnsweredAlone, PublishReplaces, PublishedIsNamed};
+ghost use Rattle.http_range.specs.Laws.{FrontsAreRead, ChecksAreRead, HonestyIsKept, TagsAreQuoted, ContentRangesAreForms, TagsTellPublications, PublicationTagsAreKept, AnswersAreUnique, StreamsAreAnsweredOnce, MessagesStay, HeadsStay, ClientsAreAnswered, ClientsAreAnsweredAlone, PublishReplaces, PublishedIsNamed};
 
 /// Different epochs or numbers give different tags, and each is a tag that is kept.
 pub fn tags_tell_publications()
@@ -7,7 +7,13 @@ pub fn tags_tell_publications()
     ensures kept { PublicationTagsAreKept }
 {}
 
-/// A message has one answer of a catalogue, and a stream one text of answers.
+/// What was found of a message or of its head stays so when bytes follow.
+pub fn messages_stay()
+    ensures messages { MessagesStay }
+    ensures heads { HeadsStay }
+{}
+
+/// A message has one answer of a catalogue, and a stream one list of answers.
 pub fn answers_are_unique()
     ensures message { AnswersAreUnique }
     ensures stream { StreamsAreAnsweredOnce }

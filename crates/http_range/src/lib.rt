@@ -11,6 +11,7 @@ mod conditional;
 mod digits;
 mod fields;
 mod laws;
+mod limits;
 mod line;
 mod members;
 mod names;
@@ -20,6 +21,7 @@ mod range;
 mod reading;
 mod reply;
 mod request;
+mod stream;
 mod tag;
 
 pub use ask::write_request;
@@ -27,13 +29,15 @@ pub use check::{CheckReading, read_check};
 pub use conditional::any_match;
 pub use laws::{
     answers_are_unique, clients_are_answered, fronts_are_read, honesty_is_kept,
-    publications_replace, tags_tell_publications, values_have_forms,
+    messages_stay, publications_replace, tags_tell_publications, values_have_forms,
 };
+pub use limits::{ANSWERS_LIMIT, MESSAGE_LIMIT};
 pub use names::{is_host, is_name};
 pub use range::{RangeSpec, Resolved, read_range, resolve};
 pub use reading::{Piece, Reading, Why, read_answer};
 pub use reply::{Reply, write_head};
 pub use request::{Request, read_request};
+pub use stream::message_length;
 pub use tag::Tag;
 pub use tiff_dir::{Memory, Span};
 
