@@ -1,5 +1,5 @@
 -- What a server answers to a client's request.
-use Rattle.std.proofs.Common.{◌≡◌, ℕ, ◌-◌, ◌^◌, ◌<◌, ◌≤◌, min, Bool, true, false, cond, List, ◌++◌, length, refl, sym, ap, ◌∙◌, Option, Some, None, [], subst, append-nil}
+use Rattle.std.proofs.Common.{◌≡◌, ℕ, ◌-◌, ◌^◌, ◌<◌, ◌≤◌, min, Bool, true, false, cond, ◌||◌, List, ◌++◌, length, refl, sym, ap, ◌∙◌, Option, Some, None, [], subst, append-nil}
 use Rattle.std.specs.Prelude.{◌↔◌, option_and_then}
 use Rattle.http_range.specs.Members.{members}
 use Rattle.std.proofs.Math.Dec.{ltb}
@@ -9,12 +9,13 @@ use Rattle.http_range.specs.declared.range.RangeSpec.{RangeSpec}
 use Rattle.http_range.specs.declared.range.Resolved.TheVariants.{Whole, Part, Unsatisfiable}
 use Rattle.http_range.specs.declared.reply.Reply.TheVariants.{R416}
 use Rattle.http_range.specs.Range.{range_spec, resolved_or}
-use Rattle.http_range.specs.Ask.{range_value, asked_request, request_text}
+use Rattle.http_range.specs.Ask.{range_value, asked_request, request_text, CanCheck, checked_request, check_text}
 use Rattle.http_range.specs.Book.{Publication, Catalogue, published}
-use Rattle.http_range.specs.Response.{Response, refused, serve_part, serve_file, answer_by, IsAnswer, response_to_client}
-use Rattle.http_range.specs.Laws.{ClientsAreAnswered, ClientsAreAnsweredAlone}
+use Rattle.http_range.specs.Response.{Response, refused, serve_tag, serve_head, serve_part, serve_file, answer_by, IsAnswer, response_to_client, response_to_check}
+use Rattle.http_range.specs.Laws.{ClientsAreAnswered, ClientsAreAnsweredAlone, ChecksAreAnswered}
 use Rattle.http_range.proofs.RangeLemmas.{range_spec-range_value}
-use Rattle.http_range.proofs.RequestLemmas.{asked_read, asked_has}
+use Rattle.http_range.proofs.RequestLemmas.{asked_read, asked_has, checked_read, checked_has}
+use Rattle.http_range.proofs.MatchLemmas.{matches_itself}
 
 module _ (p : Publication) (first last : ℕ) (ordered : first ≤ last) (small : last < 2 ^ 64) where
   abbrev within : Response
@@ -68,3 +69,29 @@ clients_answered_alone catalogue host name first last tag response can ordered =
     ↔ (response ≡ response_to_client (published name catalogue) first last tag))
     (append-nil (request_text host name first last tag))
     (clients_answered catalogue host name [] first last tag response can ordered)
+
+-- ---- the check
+
+module _ (host name tag : List ℕ) (can : CanCheck host name tag) where
+  check_file : (o : Option Publication) → serve_file o (checked_request host name tag) ≡ response_to_check o tag
+  unfolding members trim_ows
+  check_file None = refl
+  check_file (Some p) =
+      ap (λ (t : Bool). cond (t || false) (serve_tag p true) (serve_head p true)) (matches_itself tag p.tag can.kept)
+      ∙ by_test (bytes_eq tag p.tag)
+    where
+      by_test : (t : Bool) → cond (t || false) (serve_tag p true) (serve_head p true) ≡ cond t (serve_tag p true) (serve_head p true)
+      by_test true = refl
+      by_test false = refl
+
+  checked_answer : (catalogue : Catalogue)
+      → answer_by catalogue (Some (checked_request host name tag)) ≡ response_to_check (published name catalogue) tag
+  checked_answer catalogue = check_file (published name catalogue)
+
+pub checks_answered : ChecksAreAnswered
+checks_answered catalogue host name tag more response can =
+    let text = check_text host name tag ++ more in
+    let answer = checked_answer host name tag can catalogue in (
+      λ is. is.2 ∙ ap (answer_by catalogue) (checked_read host name tag more can text refl is.0 is.1) ∙ answer,
+      λ is. (Some (checked_request host name tag), checked_has host name tag more can text refl, is ∙ sym answer),
+    )

@@ -25,7 +25,7 @@ last_apart xs some last =
     let none : drop (suc j) xs ≡ [] = drop_all (suc j) xs (omega arith) in
     split_at xs j 0 (omega arith) ∙ rw (last, none)
 
-opaque_parts : (text : List ℕ) → is_opaque_tag text ≡ true
+pub opaque_parts : (text : List ℕ) → is_opaque_tag text ≡ true
     → (inner : List ℕ) × (text ≡ 34 ∷ (inner ++ 34 ∷ [])) × AllPass is_tag_byte inner
 opaque_parts [] h = absurd (let long = (quoted_parts [] h).long in omega arith)
 opaque_parts (x ∷ xs) h =

@@ -15,6 +15,7 @@ pub mod ResponseLemmas
 pub mod HonestLemmas
 pub mod AskedLemmas
 pub mod FormLemmas
+pub mod MatchLemmas
 pub mod ExampleLemmas
 pub mod MessageLemmas
 pub mod StreamLemmas

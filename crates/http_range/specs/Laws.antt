@@ -1,9 +1,9 @@
 -- Laws of the definitions, each the contract of a function of `laws`.
 use Rattle.std.specs.Prelude.{◌≡◌, ◌≢◌, ◌<◌, ◌≤◌, ◌^◌, ◌↔◌, ◌⊎◌, ℕ, Bool, IsTrue, IsErr, IfOk, List, [], ◌∷◌, ◌++◌, length, take, drop, codes, Option, Some, None, Result}
 use Rattle.std.specs.List.{AllPass}
-use Rattle.http_range.specs.Ask.{CanAsk, request_text}
+use Rattle.http_range.specs.Ask.{CanAsk, request_text, CanCheck, check_text}
 use Rattle.http_range.specs.Book.{Publication, IsPublication, Book, Includes, Covers, Catalogue, IsCatalogue, published, publish, publication_tag}
-use Rattle.http_range.specs.Response.{Response, text_of, IsAnswer, response_to_client}
+use Rattle.http_range.specs.Response.{Response, text_of, IsAnswer, response_to_client, response_to_check}
 use Rattle.http_range.specs.declared.limits.TheConstants.{MESSAGE_LIMIT}
 use Rattle.http_range.specs.Seen.{SeenRequest, HasRequest}
 use Rattle.http_range.specs.Stream.{AreAnswers, HasNoMessage, IsFirstMessage, IsUnfinished}
@@ -74,6 +74,13 @@ ClientsAreAnsweredAlone =
     → CanAsk host name first last tag → first ≤ last
     → IsAnswer catalogue (request_text host name first last tag) response
     ↔ (response ≡ response_to_client (published name catalogue) first last tag)
+
+-- what is answered to a client's check, whatever follows it: the tag alone exactly where the file still has it
+abbrev pub ChecksAreAnswered : Type 0
+ChecksAreAnswered =
+    (catalogue : Catalogue) (host name tag more : List ℕ) (response : Response) → CanCheck host name tag
+    → IsAnswer catalogue (check_text host name tag ++ more) response
+    ↔ (response ≡ response_to_check (published name catalogue) tag)
 
 -- a publication stands under its name, and changes no other name
 pub record PublishReplaces : Type 0 where

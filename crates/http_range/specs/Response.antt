@@ -138,7 +138,7 @@ abbrev pub IsAnswer : Catalogue → List ℕ → Response → Type 0
 IsAnswer catalogue message response =
     (seen : Option SeenRequest) × HasRequest message seen × (response ≡ answer_by catalogue seen)
 
--- ---- the answer to a client's own request
+-- ---- the answers to a client's own requests
 
 -- the client has no revision, or that of the tag
 abbrev pub is_current : Option (List ℕ) → List ℕ → Bool
@@ -153,3 +153,8 @@ response_to_client (Some p) first last known =
     then (if nat_lt first (length p.file) then serve_part (Part first (min last (length p.file - 1))) p true
     else refused (R416 (length p.file)) true)
     else serve_part Whole p true
+
+-- what is answered to a client that checks whether the file has this tag
+abbrev pub response_to_check : Option Publication → List ℕ → Response
+response_to_check None tag = refused R404 true
+response_to_check (Some p) tag = if bytes_eq tag p.tag then serve_tag p true else serve_head p true

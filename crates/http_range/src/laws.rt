@@ -1,5 +1,5 @@
 //! Laws of the definitions, for the crates above. Each function does nothing: its contract is the law.
-ghost use Rattle.http_range.specs.Laws.{FrontsAreRead, ChecksAreRead, HonestyIsKept, TagsAreQuoted, ContentRangesAreForms, TagsTellPublications, PublicationTagsAreKept, AnswersAreUnique, StreamsAreAnsweredOnce, MessagesStay, HeadsStay, ClientsAreAnswered, ClientsAreAnsweredAlone, PublishReplaces, PublishedIsNamed};
+ghost use Rattle.http_range.specs.Laws.{FrontsAreRead, ChecksAreRead, HonestyIsKept, TagsAreQuoted, ContentRangesAreForms, TagsTellPublications, PublicationTagsAreKept, AnswersAreUnique, StreamsAreAnsweredOnce, MessagesStay, HeadsStay, ClientsAreAnswered, ClientsAreAnsweredAlone, ChecksAreAnswered, PublishReplaces, PublishedIsNamed};
 
 /// Different epochs or numbers give different tags, and each is a tag that is kept.
 pub fn tags_tell_publications()
@@ -19,10 +19,11 @@ pub fn answers_are_unique()
     ensures stream { StreamsAreAnsweredOnce }
 {}
 
-/// What a server answers to the text of a client's request.
+/// What a server answers to the text of a client's request, and of its check.
 pub fn clients_are_answered()
     ensures followed { ClientsAreAnswered }
     ensures alone { ClientsAreAnsweredAlone }
+    ensures checks { ChecksAreAnswered }
 {}
 
 /// What `publish` and `published` say of each other.

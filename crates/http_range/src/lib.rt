@@ -1,6 +1,6 @@
 //! Byte ranges, entity tags and heads of HTTP/1.1 (RFC 9110, RFC 9112), for files that are read by single ranges.
 //!
-//! Only `write_request` and `write_head` take memory. Positions and lengths are in bytes, and positions count from 0.
+//! Only `write_request`, `write_check` and `write_head` take memory. Positions and lengths are in bytes, and positions count from 0.
 #![tactic(auto)]
 
 mod answer_head;
@@ -24,7 +24,7 @@ mod request;
 mod stream;
 mod tag;
 
-pub use ask::write_request;
+pub use ask::{write_check, write_request};
 pub use check::{CheckReading, read_check};
 pub use conditional::any_match;
 pub use laws::{
