@@ -6,6 +6,7 @@ ghost use Rattle.http_range.specs.Reading.{is_coded, kept_tag, only_tag, tag_in}
 
 use crate::bytes::after;
 use crate::fields::Fields;
+use crate::limits::{FIELD_LIMIT, HEAD_LIMIT};
 use crate::reading::Why;
 use crate::tag::{Tag, is_opaque_tag, is_weak_tag};
 use httparse::Status;
@@ -22,13 +23,13 @@ pub(crate) struct AnswerHead<'b> {
 /// The bytes where a head is looked for.
 fn front_of(bytes: &[u8]) -> &[u8]
     ensures front { result.now ≡ front_of bytes.now }
-    ensures short { length result.now ≤ 4096 }
+    ensures short { length result.now ≤ HEAD_LIMIT }
     ensures within { length result.now ≤ length bytes.now }
 {
-    if bytes.len() < 4096 {
+    if bytes.len() < HEAD_LIMIT {
         bytes
     } else {
-        &bytes[..4096]
+        &bytes[..HEAD_LIMIT]
     }
 }
 
@@ -37,7 +38,7 @@ pub(crate) fn head_of(bytes: &[u8]) -> Result<AnswerHead<'_>, Why>
     ensures { FindsHead bytes.now (found_seen result) }
 {
     let front = front_of(bytes);
-    let mut spans = [EMPTY_HEADER_SPAN; 32];
+    let mut spans = [EMPTY_HEADER_SPAN; FIELD_LIMIT];
     match parse_response(front, &mut spans) {
         Ok(Status::Complete(head)) => Ok(AnswerHead {
             status: head.code,
@@ -45,7 +46,7 @@ pub(crate) fn head_of(bytes: &[u8]) -> Result<AnswerHead<'_>, Why>
             rest: after(bytes, head.len),
         }),
         Ok(Status::Partial) => {
-            if bytes.len() < 4096 {
+            if bytes.len() < HEAD_LIMIT {
                 Err(Why::Cut)
             } else {
                 Err(Why::Head)

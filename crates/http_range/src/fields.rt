@@ -7,6 +7,7 @@ ghost use Rattle.http_range.specs.Conditional.{one_matches};
 ghost use Rattle.httparse.specs.Spans.{IsHeaderWithin, header_bytes};
 
 use crate::conditional::any_match;
+use crate::limits::FIELD_LIMIT;
 use crate::members::has_member;
 use crate::tag::Tag;
 use httparse::spans::HeaderSpan;
@@ -16,7 +17,7 @@ use std::marker::Model;
 #[derive(Drop)]
 pub(crate) struct Fields<'b> {
     bytes: &'b [u8],
-    spans: [HeaderSpan; 32],
+    spans: [HeaderSpan; FIELD_LIMIT],
     count: usize,
 }
 
@@ -34,8 +35,8 @@ impl<'b> Model for Fields<'b> {
 
 impl<'b> Fields<'b> {
     /// The first `count` field lines, where the spans lie in the bytes.
-    pub(crate) fn new(bytes: &'b [u8], spans: [HeaderSpan; 32], count: usize) -> Fields<'b>
-        requires room { count ≤ 32 }
+    pub(crate) fn new(bytes: &'b [u8], spans: [HeaderSpan; FIELD_LIMIT], count: usize) -> Fields<'b>
+        requires room { count ≤ FIELD_LIMIT }
         requires within { AreWithin bytes.now (take count spans) }
         ensures { result ≡ fields_at bytes.entry.now (take count spans) }
     {

@@ -3,6 +3,7 @@ ghost use Rattle.std.specs.Prelude.{◌≡◌, ◌≤◌, ◌+◌, ◌++◌, len
 ghost use Rattle.arrayvec.specs.ArrayVec.{array_vec_len};
 ghost use Rattle.http_range.specs.Book.{publication_tag};
 
+use crate::limits::TAG_LIMIT;
 use crate::tag::Tag;
 use arrayvec::ArrayVec;
 use itoa::Buffer;
@@ -18,7 +19,7 @@ impl Tag {
 }
 
 #[tactic(auto, unfolding(crate::specs::Book::publication_tag))]
-fn publication_text(epoch: u32, number: u32) -> ArrayVec<u8, 64>
+fn publication_text(epoch: u32, number: u32) -> ArrayVec<u8, TAG_LIMIT>
     ensures { result.items ≡ publication_tag epoch number }
 {
     let mut text = ArrayVec::new();
@@ -31,8 +32,8 @@ fn publication_text(epoch: u32, number: u32) -> ArrayVec<u8, 64>
     text
 }
 
-fn append(text: &mut ArrayVec<u8, 64>, bytes: &[u8])
-    requires { array_vec_len text.old + length bytes.now ≤ 64 }
+fn append(text: &mut ArrayVec<u8, TAG_LIMIT>, bytes: &[u8])
+    requires { array_vec_len text.old + length bytes.now ≤ TAG_LIMIT }
     ensures { text.new.items ≡ text.old.items ++ bytes.now }
 {
     let added = text.try_extend_from_slice(bytes);

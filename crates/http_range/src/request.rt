@@ -9,6 +9,7 @@ ghost use Rattle.http_range.specs.Ask.{CanAsk, request_text, asked_request};
 
 use crate::bytes::up_to;
 use crate::fields::Fields;
+use crate::limits::{FIELD_LIMIT, MESSAGE_LIMIT};
 use crate::tag::Tag;
 use httparse::Status;
 use httparse::spans::{EMPTY_HEADER_SPAN, parse_request};
@@ -107,8 +108,8 @@ pub fn read_request(bytes: &[u8]) -> Option<Request<'_>>
 fn find(bytes: &[u8]) -> Option<Request<'_>>
     ensures { HasRequest bytes.now result }
 {
-    let front = up_to(bytes, 8192);
-    let mut spans = [EMPTY_HEADER_SPAN; 32];
+    let front = up_to(bytes, MESSAGE_LIMIT as u64);
+    let mut spans = [EMPTY_HEADER_SPAN; FIELD_LIMIT];
     match parse_request(front, &mut spans) {
         Ok(Status::Complete(head)) => Some(Request {
             method: head.method.of(front),

@@ -9,8 +9,8 @@ returns-in-Ok-Complete c =
     head_found c.args.bytes.now _ _ _ c.in-Ok-Complete.head c.new.result c.new.ensures c.front_of-front.ensures.front c.after.ensures
     c.parse_response.auto.headers complete
 
-pub returns-then-bytes-lt4096 : goal.returns-then-bytes-lt4096
-returns-then-bytes-lt4096 c =
+pub returns-then-bytes-lt-HEAD_LIMIT : goal.returns-then-bytes-lt-HEAD_LIMIT
+returns-then-bytes-lt-HEAD_LIMIT c =
     let none = rw c.in-Ok-Partial.field-0-is at c.in-Ok-Partial.ensures.partial in
     let open_head = rw c.in-Ok-Partial.field-0-is at c.in-Ok-Partial.ensures.unfinished in
-    head_cut c.args.bytes.now _ c.front_of-front.ensures.front (take_all 4096 c.args.bytes.now (omega arith)) c.if-bytes-lt4096.true none open_head
+    head_cut c.args.bytes.now _ c.front_of-front.ensures.front (take_all 4096 c.args.bytes.now (omega arith)) c.if-bytes-lt-HEAD_LIMIT.true none open_head
