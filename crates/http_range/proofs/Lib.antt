@@ -16,6 +16,5 @@ pub mod HonestLemmas
 pub mod AskedLemmas
 pub mod FormLemmas
 pub mod MatchLemmas
-pub mod ExampleLemmas
 pub mod MessageLemmas
 pub mod StreamLemmas

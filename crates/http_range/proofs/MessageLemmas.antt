@@ -85,6 +85,7 @@ messages_stay = record {
     unfinished_short stream none,
     λ k le. ap is_message (take_same k stream more le) ∙ none k le,
   );
+  none = λ stream k le. let e : k ≡ 0 = omega arith in ap (λ (n : ℕ). is_message (take n stream)) e ∙ empty_none;
   apart = no_message;
 }
 
@@ -97,15 +98,6 @@ none_more stream k none here n le = elim (cases_lt n (k + 1)) [
   | inl below ↦ none n (omega arith)
   | inr above ↦ let same : n ≡ k + 1 = omega arith in ap (λ (m : ℕ). is_message (take m stream)) same ∙ here
 ]
-
-pub message_here : (stream : List ℕ) (k : ℕ) → HasNoMessage stream k → k < length stream → is_message (take (k + 1) stream) ≡ true
-    → IsFirstMessage stream (take (k + 1) stream)
-message_here stream k none inside is =
-    let long : length (take (k + 1) stream) ≡ k + 1 = omega (arith, length-take (k + 1) stream) in record {
-      front = ap (λ (n : ℕ). take n stream) long;
-      is_one = is;
-      shortest = λ n below. none n (omega arith);
-    }
 
 -- ---- heads
 

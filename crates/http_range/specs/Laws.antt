@@ -51,6 +51,8 @@ pub record MessagesStay : Type 0 where
   -- an unfinished stream is shorter than a message may be, and what was gone through need not be gone through again
   pub unfinished : (stream more : List ℕ) → IsUnfinished stream
       → (length stream < MESSAGE_LIMIT) × HasNoMessage (stream ++ more) (length stream)
+  -- nothing is no message
+  pub none : (stream : List ℕ) → HasNoMessage stream 0
   -- an unfinished stream has no message
   pub apart : (stream message : List ℕ) → IsUnfinished stream → ¬ (IsFirstMessage stream message)
 

@@ -21,4 +21,3 @@ pub mod Response
 pub mod Stream
 pub mod Honest
 pub mod Laws
-pub mod Examples

@@ -41,5 +41,3 @@ pub use stream::message_length;
 pub use tag::Tag;
 pub use tiff_dir::{Memory, Span};
 
-#[cfg(test)]
-mod tests;

@@ -1,5 +1,5 @@
 use Rattle.std.proofs.Common.{sym, ◌∙◌}
-use Rattle.http_range.proofs.MessageLemmas.{none_more, message_here}
+use Rattle.http_range.proofs.MessageLemmas.{none_more}
 use Rattle.http_range.proofs.stream.message_length.Goals as goal
 
 pub loop-n-preserved : goal.loop-n-preserved

@@ -10,8 +10,7 @@ use Rattle.http_range.specs.Reply.{content_range}
 use Rattle.http_range.specs.Ask.{range_value}
 use Rattle.http_range.specs.Book.{publication_tag}
 use Rattle.http_range.specs.Stream.{is_message, HasNoMessage}
-use Rattle.http_range.proofs.ValueLemmas.{both}
-use Rattle.http_range.specs.Examples.{AreParts, part_rows, TextRows, MessageRows, get_a, AreCases, case_rows, condition_rows}
+use Rattle.http_rows.specs.Rows.{AreParts, part_rows, TextRows, MessageRows, get_a, AreCases, case_rows, condition_rows}
 
 pub parts_are : AreParts part_rows
 unfolding range_spec
@@ -37,6 +36,10 @@ texts_are = record {
   not_modified_length = refl;
   unsatisfiable = refl;
 }
+
+both : (a b : Bool) → (a && b) ≡ true → (a ≡ true) × (b ≡ true)
+both true b is = (refl, is)
+both false b is = absurd (let wrong : false ≡ true = is in cc)
 
 not_true : (b : Bool) → not b ≡ true → b ≡ false
 not_true true is = absurd (let wrong : false ≡ true = is in cc)

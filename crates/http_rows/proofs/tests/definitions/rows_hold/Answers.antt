@@ -1,5 +1,5 @@
-use Rattle.http_range.proofs.ExampleLemmas.{parts_are, texts_are, messages_are, answers_are, conditions_are}
-use Rattle.http_range.proofs.tests.rows_hold.Goals as goal
+use Rattle.http_rows.proofs.RowLemmas.{parts_are, texts_are, messages_are, answers_are, conditions_are}
+use Rattle.http_rows.proofs.tests.definitions.rows_hold.Goals as goal
 
 pub returns-clause-parts : goal.returns-clause-parts
 returns-clause-parts c = parts_are
