@@ -1,6 +1,6 @@
 -- Tags and Content-Range values, computed, have the forms of the standard.
 use Rattle.std.proofs.Common.{◌≡◌, ℕ, suc, ◌+◌, ◌-◌, ◌^◌, ◌<◌, ◌≤◌, Bool, true, false, cond, ◌&&◌, List, [], ◌∷◌, ◌++◌, length, get_or, take, drop, refl, sym, ap, ◌∙◌, subst, arith, append_assoc, take-append-drop, codes, Option, Some, None}
-use Rattle.std.specs.Prelude.{nat_eq}
+use Rattle.std.specs.Prelude.{nat_eq, option_and_then}
 use Rattle.std.specs.List.{AllPass, before_first, after_first, position_or_len, starts_with}
 use Rattle.std.specs.Str.{all_ascii_digits}
 use Rattle.std.specs.Str.Parse.{digits_value}
@@ -10,7 +10,7 @@ use Rattle.std.proofs.lemmas.Bool.{lt-ltb, le-leb, ltb-true, ltb-false, leb-true
 use Rattle.std.proofs.lemmas.List.{drop_all}
 use Rattle.std.proofs.lemmas.List.Sums.{list_all-from_AllPass, split_at_first, passes_at_first}
 use Rattle.http_range.specs.declared.reading.ContentRange.{ContentRange}
-use Rattle.http_range.specs.Digits.{number_64}
+use Rattle.http_range.specs.Digits.{with_64_bits, number_64}
 use Rattle.http_range.specs.Tag.{is_tag_byte, is_opaque_tag, is_weak_tag}
 use Rattle.http_range.specs.ContentRange.{IsContentRange, range_by, range_of}
 use Rattle.http_range.specs.Laws.{TagsAreQuoted, ContentRangesAreForms}
@@ -84,7 +84,7 @@ number_64_parts text n is =
     by_test (ltb 0 (length text)) (all_ascii_digits text) (ltb (digits_value 10 text) (2 ^ 64)) refl refl is
   where
     by_test : (a b c : Bool) → ltb 0 (length text) ≡ a → all_ascii_digits text ≡ b
-        → cond (a && b && c) (Some (digits_value 10 text)) None ≡ Some n → IsNumber64 text
+        → option_and_then with_64_bits (cond (a && b) (Some (digits_value 10 text)) None) ≡ Some n → IsNumber64 text
     by_test true true c some digits is = record { some = ltb-true _ _ some; digits = digits }
     by_test true false c some digits is = absurd (cc)
     by_test false b c some digits is = absurd (cc)

@@ -1,17 +1,17 @@
 -- A tag alone in a condition matches exactly itself.
-use Rattle.std.proofs.Common.{◌≡◌, ℕ, ◌<◌, Bool, true, false, cond, not, ◌&&◌, ◌||◌, List, [], ◌∷◌, ◌++◌, length, map, refl, sym, ap, ◌∙◌, subst, arith, append-nil, codes}
+use Rattle.std.proofs.Common.{◌≡◌, ℕ, Bool, true, false, cond, not, ◌&&◌, ◌||◌, List, [], ◌∷◌, ◌++◌, map, refl, sym, ap, ◌∙◌, subst, arith, append-nil, codes}
 use Rattle.std.proofs.lemmas.List.{reverse-reverse}
 use Rattle.std.proofs.lemmas.List.Sums.{list_all-from_AllPass}
 use Rattle.http_range.specs.Fields.{is_there}
 use Rattle.std.specs.Prelude.{reverse}
-use Rattle.std.specs.List.{list_all, list_any}
+use Rattle.std.specs.List.{list_all}
 use Rattle.std.specs.Str.{bytes_eq}
 use Rattle.std.proofs.Math.Dec.{eqb}
 use Rattle.std.proofs.lemmas.Bool.Decides.{nat_tests}
 use Rattle.httparse.specs.Grammar.{trim_ows, skip_ows}
 use Rattle.http_range.specs.Tag.{is_tag_byte, is_opaque_tag, is_weak_tag, is_kept_tag}
 use Rattle.http_range.specs.Members.{before_parts, parts_from, is_open, members}
-use Rattle.http_range.specs.Conditional.{is_match, may_be_listed, any_match}
+use Rattle.http_range.specs.Conditional.{may_be_listed, any_match}
 use Rattle.http_range.proofs.ValueLemmas.{both, tag_not_weak, tag_pass, tag_nonempty, skip_none, back_bare}
 use Rattle.http_range.proofs.FormLemmas.{opaque_parts}
 

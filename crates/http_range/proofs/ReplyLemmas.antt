@@ -1,5 +1,5 @@
 -- A reply's fields are plain lines, and they are read as what was written.
-use Rattle.std.proofs.Common.{◌≡◌, ℕ, ◌+◌, ◌-◌, ◌^◌, ◌<◌, ◌≤◌, Bool, true, false, List, [], ◌∷◌, ◌++◌, length, get_or, take, refl, ap, subst, arith, append-nil, append_assoc, length-append, Option, Some, None, codes, Ok, reverse}
+use Rattle.std.proofs.Common.{◌≡◌, ℕ, ◌+◌, ◌-◌, ◌^◌, ◌<◌, ◌≤◌, Bool, true, false, List, [], ◌∷◌, ◌++◌, length, get_or, take, refl, subst, arith, append-nil, append_assoc, length-append, Option, Some, codes, Ok, reverse}
 use Rattle.std.specs.Prelude.{decimal}
 use Rattle.std.specs.List.{list_all}
 use Rattle.std.proofs.Math.Dec.{eqb}
@@ -15,7 +15,6 @@ use Rattle.http_range.specs.Tag.{is_kept_tag}
 use Rattle.http_range.specs.declared.reply.Reply.{Reply}
 use Rattle.http_range.specs.declared.reply.Reply.TheVariants.{R200, R206, R304, R400, R404, R405, R412, R416}
 use Rattle.http_range.specs.Reply.{content_range, content_length, file_fields, fields_of, IsSent}
-use Rattle.http_range.specs.Digits.{number_64}
 use Rattle.http_range.specs.ContentRange.{range_of}
 use Rattle.http_range.specs.Piece.{◌>>=◌}
 use Rattle.http_range.specs.Reading.{kept_tag, whole_piece, part_piece, reading_of}

@@ -1,9 +1,9 @@
 -- The conditions If-Match and If-None-Match (RFC 9110, sections 8.8.3.2, 13.1.1 and 13.1.2).
-use Rattle.std.specs.Prelude.{ℕ, Bool, true, false, ◌&&◌, ◌||◌, not, if◌then◌else◌, List, [], ◌∷◌, drop, codes}
+use Rattle.std.specs.Prelude.{ℕ, Bool, true, ◌&&◌, ◌||◌, not, if◌then◌else◌, List, drop, codes}
 use Rattle.std.specs.List.{list_all, list_any}
 use Rattle.std.specs.Str.{bytes_eq}
 use Rattle.httparse.specs.Grammar.{trim_ows}
-use Rattle.http_range.specs.Tag.{is_opaque_tag, is_weak_tag, is_entity_tag}
+use Rattle.http_range.specs.Tag.{is_weak_tag, is_entity_tag}
 use Rattle.http_range.specs.Fields.{is_there}
 use Rattle.http_range.specs.Members.{members}
 

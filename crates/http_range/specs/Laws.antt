@@ -4,7 +4,7 @@ use Rattle.std.specs.List.{AllPass}
 use Rattle.http_range.specs.Ask.{CanAsk, request_text, CanCheck, check_text}
 use Rattle.http_range.specs.Book.{Publication, IsPublication, Book, Includes, Covers, Catalogue, IsCatalogue, published, publish, publication_tag}
 use Rattle.http_range.specs.Response.{Response, text_of, IsAnswer, response_to_client, response_to_check}
-use Rattle.http_range.specs.declared.limits.TheConstants.{MESSAGE_LIMIT}
+use Rattle.http_range.specs.declared.limits.TheConstants.{FIELD_LIMIT, TAG_LIMIT, HEAD_LIMIT, MESSAGE_LIMIT, ANSWERS_LIMIT}
 use Rattle.http_range.specs.Seen.{SeenRequest, HasRequest}
 use Rattle.http_range.specs.Stream.{AreAnswers, HasNoMessage, IsFirstMessage, IsUnfinished}
 use Rattle.http_range.specs.Honest.{IsFront, IsHonestFor, IsNamelessFront, IsHonest, IsPieceOf, IsPieceOfBook}
@@ -16,6 +16,14 @@ use Rattle.http_range.specs.Reading.{front_seen, front_tag, ReadsAnswer, ReadsCh
 use Rattle.http_range.specs.ContentRange.{IsContentRange, range_of}
 use Rattle.http_range.specs.declared.reading.ContentRange.{ContentRange}
 use Rattle.http_range.specs.Tag.{is_tag_byte, is_opaque_tag, is_weak_tag, is_kept_tag}
+
+-- the limits, in numbers
+pub record LimitsAre : Type 0 where
+  pub fields : FIELD_LIMIT ≡ 32
+  pub tag : TAG_LIMIT ≡ 64
+  pub head : HEAD_LIMIT ≡ 4096
+  pub message : MESSAGE_LIMIT ≡ 8192
+  pub answers : ANSWERS_LIMIT ≡ 100
 
 -- the tags of two publications of one server are different
 abbrev pub TagsTellPublications : Type 0

@@ -90,12 +90,7 @@ fn is_named(bytes: &[u8], span: HeaderSpan, name: &[u8]) -> bool
     span.name.of(bytes).eq_ignore_ascii_case(name)
 }
 
-fn nth_value<'b>(
-    bytes: &'b [u8],
-    spans: &[HeaderSpan],
-    name: &[u8],
-    i: usize,
-) -> Option<&'b [u8]>
+fn nth_value<'b>(bytes: &'b [u8], spans: &[HeaderSpan], name: &[u8], i: usize) -> Option<&'b [u8]>
     requires { AreWithin bytes.now spans.now }
     ensures { option_copied result ≡ slice_get (values_of name.now (fields_at bytes.now spans.now)) i }
 {

@@ -1,5 +1,10 @@
 //! Laws of the definitions, for the crates above. Each function does nothing: its contract is the law.
-ghost use Rattle.http_range.specs.Laws.{FrontsAreRead, ChecksAreRead, HonestyIsKept, TagsAreQuoted, ContentRangesAreForms, TagsTellPublications, PublicationTagsAreKept, AnswersAreUnique, StreamsAreAnsweredOnce, MessagesStay, HeadsStay, ClientsAreAnswered, ClientsAreAnsweredAlone, ChecksAreAnswered, PublishReplaces, PublishedIsNamed};
+ghost use Rattle.http_range.specs.Laws.{LimitsAre, FrontsAreRead, ChecksAreRead, HonestyIsKept, TagsAreQuoted, ContentRangesAreForms, TagsTellPublications, PublicationTagsAreKept, AnswersAreUnique, StreamsAreAnsweredOnce, MessagesStay, HeadsStay, ClientsAreAnswered, ClientsAreAnsweredAlone, ChecksAreAnswered, PublishReplaces, PublishedIsNamed};
+
+/// The limits that the definitions name.
+pub fn limits_are()
+    ensures { LimitsAre }
+{}
 
 /// Different epochs or numbers give different tags, and each is a tag that is kept.
 pub fn tags_tell_publications()

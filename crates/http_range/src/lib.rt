@@ -28,7 +28,7 @@ pub use ask::{write_check, write_request};
 pub use check::{CheckReading, read_check};
 pub use conditional::any_match;
 pub use laws::{
-    answers_are_unique, clients_are_answered, fronts_are_read, honesty_is_kept,
+    answers_are_unique, clients_are_answered, fronts_are_read, honesty_is_kept, limits_are,
     messages_stay, publications_replace, tags_tell_publications, values_have_forms,
 };
 pub use limits::{ANSWERS_LIMIT, MESSAGE_LIMIT};
@@ -40,4 +40,3 @@ pub use request::{Request, read_request};
 pub use stream::message_length;
 pub use tag::Tag;
 pub use tiff_dir::{Memory, Span};
-

@@ -39,13 +39,7 @@ fn without_return(text: &[u8]) -> &[u8]
 {
     match text {
         [] => text,
-        [before @ .., last] => {
-            if *last == b'\r' {
-                before
-            } else {
-                text
-            }
-        }
+        [before @ .., last] => { if *last == b'\r' { before } else { text } }
     }
 }
 

@@ -1,4 +1,4 @@
-use Rattle.std.proofs.Common.{◌≡◌, ◌+◌, [], ◌∷◌, length, ap, ◌∙◌, arith}
+use Rattle.std.proofs.Common.{◌≡◌, [], ◌∷◌, length, ap, ◌∙◌, arith}
 use Rattle.http_range.specs.Members.{members, members_of_rest, members_left}
 use Rattle.http_range.proofs.MembersLemmas.{members_at, members_whole}
 use Rattle.http_range.proofs.members.MembersIterator.next.Goals.{After-trim, After-trim-else-end-list}
