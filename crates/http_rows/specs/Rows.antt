@@ -11,7 +11,8 @@ use Rattle.http_range.specs.Ask.{request_text}
 use Rattle.http_range.specs.Seen.{SeenRequest}
 use Rattle.http_range.specs.Book.{Catalogue, publication_tag}
 use Rattle.http_range.specs.Response.{Response, answer_by}
-use Rattle.http_range.specs.Stream.{IsFirstMessage, IsUnfinished}
+use Rattle.http_range.specs.Stream.{IsFirstMessage, IsUnfinished, IsAnswered, ending_of}
+use Rattle.http_range.specs.Stream.Ending.{Closed, Limit, EndOfInput}
 
 -- ---- parts
 
@@ -210,3 +211,22 @@ case_rows =
     ∷ (asks (codes "GET") (codes "/b") (host ∷ (codes "Connection", codes "closed") ∷ []), plain R404 false)
     ∷ (asks (codes "PUT") (codes "/b") (host ∷ (codes "Connection", codes "a") ∷ (codes "Connection", codes "close") ∷ []), plain R405 true)
     ∷ []
+
+-- ---- streams, from their bytes
+
+abbrev pub get_and_close : List ℕ
+get_and_close = codes "GET /a HTTP/1.1\r\nHost: h\r\nConnection: close\r\n\r\n"
+
+abbrev pub whole_and_close : Response
+whole_and_close = with_tag (R200 tag_1 378) true file_1
+
+pub record StreamRows : Type 0 where
+  -- two messages and the beginning of a third
+  pub two : IsAnswered shelf (get_a ++ get_a ++ codes "GET") (whole_file ∷ whole_file ∷ [])
+  pub two_end : ending_of (whole_file ∷ whole_file ∷ []) ≡ EndOfInput
+  -- what follows an answer that closes isn't answered
+  pub closing : IsAnswered shelf (get_and_close ++ get_a) (whole_and_close ∷ [])
+  pub closing_end : ending_of (whole_and_close ∷ []) ≡ Closed
+  -- nothing
+  pub none : IsAnswered shelf [] []
+  pub hundred_end : ending_of (replicate 100 whole_file) ≡ Limit

@@ -87,7 +87,11 @@ const CHANGED_LINES: [(usize, &[u8], u8); 28] = [
     (4, b"Content-Range: bytes 0-65535/65535", 7),
     (4, b"Content-Range: bytes 65535-0/67706", 7),
     (4, b"Content-Range: bytes 0-65535/18446744073709551616", 7),
-    (4, b"Content-Range: bytes 0-65535/67706\r\ncontent-range: bytes 0-65535/67706", 7),
+    (
+        4,
+        b"Content-Range: bytes 0-65535/67706\r\ncontent-range: bytes 0-65535/67706",
+        7,
+    ),
     (4, b"Content-Range: bytes 00-065535/067706", 0),
     (4, b"Content-Range: bytes 0-65535/18446744073709551615", 0),
     (5, b"Content-Length: 65535", 8),

@@ -66,12 +66,18 @@ fn checks_are_written(rt: HostRuntime) -> Result<(), Fail> {
 /// Answers to a check, and the number of the reason why they are not used, or 0 for the tag.
 const ANSWERS: [(&[u8], u8); 11] = [
     (b"HTTP/1.1 304 Not Modified\r\nETag: \"1-1\"\r\n\r\n", 0),
-    (b"HTTP/1.1 200 OK\r\nETag: \"1-1\"\r\nContent-Length: 378\r\n\r\n", 0),
+    (
+        b"HTTP/1.1 200 OK\r\nETag: \"1-1\"\r\nContent-Length: 378\r\n\r\n",
+        0,
+    ),
     (b"HTTP/1.1 206 \r\nETag: \"1-1\"\r\n\r\nII*", 0),
     (b"HTTP/1.1 304 Not Modified\r\nETag: \"1-1\"\r\n\r", 1),
     (b"HTP/1.1 304", 2),
     (b"HTTP/1.1 404 Not Found\r\nContent-Length: 0\r\n\r\n", 3),
-    (b"HTTP/1.1 412 Precondition Failed\r\nETag: \"1-1\"\r\n\r\n", 3),
+    (
+        b"HTTP/1.1 412 Precondition Failed\r\nETag: \"1-1\"\r\n\r\n",
+        3,
+    ),
     (b"HTTP/1.1 304 Not Modified\r\n\r\n", 4),
     (b"HTTP/1.1 304 Not Modified\r\nETag: W/\"1-1\"\r\n\r\n", 5),
     (

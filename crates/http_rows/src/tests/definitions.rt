@@ -1,4 +1,4 @@
-ghost use Rattle.http_rows.specs.Rows.{AreParts, part_rows, TextRows, MessageRows, AreCases, case_rows, condition_rows};
+ghost use Rattle.http_rows.specs.Rows.{AreParts, part_rows, TextRows, MessageRows, AreCases, case_rows, condition_rows, StreamRows};
 
 // The definitions give the worked rows: proved by computing.
 fn rows_hold()
@@ -7,6 +7,7 @@ fn rows_hold()
     ensures messages { MessageRows }
     ensures answers { AreCases case_rows }
     ensures conditions { AreCases condition_rows }
+    ensures streams { StreamRows }
 {}
 
 #[test]

@@ -54,4 +54,3 @@ fn requests_as_they_come(rt: HostRuntime) -> Result<(), Fail> {
     assert!(rt; read_request(b"GET /a HTTP/2.0\r\n\r\n").is_none());
     Ok(())
 }
-

@@ -15,7 +15,10 @@ fn length_in_pieces(bytes: &[u8], cut: usize) -> Option<usize>
 
 /// Streams, and the length of their first message, or 0.
 const STREAMS: [(&[u8], usize); 9] = [
-    (b"GET /a HTTP/1.1\r\nHost: h\r\n\r\nGET /a HTTP/1.1\r\n\r\n", 28),
+    (
+        b"GET /a HTTP/1.1\r\nHost: h\r\n\r\nGET /a HTTP/1.1\r\n\r\n",
+        28,
+    ),
     (b"GET /a HTTP/1.1\r\nHost: h\r\n\r", 0),
     (b"GET\n\nGET", 5),
     (b"GET\n\r\nGET", 6),

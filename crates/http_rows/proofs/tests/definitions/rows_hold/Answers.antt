@@ -1,4 +1,4 @@
-use Rattle.http_rows.proofs.RowLemmas.{parts_are, texts_are, messages_are, answers_are, conditions_are}
+use Rattle.http_rows.proofs.RowLemmas.{parts_are, texts_are, messages_are, answers_are, conditions_are, streams_are}
 use Rattle.http_rows.proofs.tests.definitions.rows_hold.Goals as goal
 
 pub returns-clause-parts : goal.returns-clause-parts
@@ -15,3 +15,6 @@ returns-clause-messages c = messages_are
 
 pub returns-clause-conditions : goal.returns-clause-conditions
 returns-clause-conditions c = conditions_are
+
+pub returns-clause-streams : goal.returns-clause-streams
+returns-clause-streams c = streams_are
