@@ -1,5 +1,5 @@
 -- A reply's fields are plain lines, and they are read as what was written.
-use Rattle.std.proofs.Common.{◌≡◌, ℕ, ◌+◌, ◌-◌, ◌^◌, ◌<◌, ◌≤◌, Bool, true, false, List, [], ◌∷◌, ◌++◌, length, get_or, take, refl, subst, arith, append-nil, append_assoc, length-append, Option, Some, codes, Ok, reverse}
+use Rattle.std.proofs.Common.{◌≡◌, ℕ, ◌+◌, ◌-◌, ◌^◌, ◌<◌, ◌≤◌, Bool, true, false, List, [], ◌∷◌, ◌++◌, length, get_or, take, refl, subst, arith, append-nil, append_assoc, length-append, Option, Some, None, codes, Ok, reverse}
 use Rattle.std.specs.Prelude.{decimal}
 use Rattle.std.specs.List.{list_all}
 use Rattle.std.proofs.Math.Dec.{eqb}
@@ -17,7 +17,7 @@ use Rattle.http_range.specs.declared.reply.Reply.TheVariants.{R200, R206, R304, 
 use Rattle.http_range.specs.Reply.{content_range, content_length, file_fields, fields_of, IsSent}
 use Rattle.http_range.specs.ContentRange.{range_of}
 use Rattle.http_range.specs.Piece.{◌>>=◌}
-use Rattle.http_range.specs.Reading.{kept_tag, whole_piece, part_piece, reading_of}
+use Rattle.http_range.specs.Reading.{tag_by_rows, piece_by_rows, reading_of}
 use Rattle.http_range.proofs.LineLemmas.{IsPlain, ArePlain}
 use Rattle.http_range.proofs.ValueLemmas.{both, uri_value, skip_none, back_bare, decimal_pass, decimal_digits, number_64-decimal, tag_pass, tag_nonempty, tag_not_weak, before_at, after_at, digits_miss}
 
@@ -169,7 +169,7 @@ fields_plain (R416 l) sent = (unsatisfied_plain l sent, (length_plain 0 (omega a
 -- ---- what a client reads of the fields
 
 -- a kept tag is read as itself
-pub kept_read : (tag : List ℕ) → is_kept_tag tag ≡ true → kept_tag tag ≡ Ok tag
+pub kept_read : (tag : List ℕ) → is_kept_tag tag ≡ true → tag_by_rows (Some tag) ≡ Ok tag
 kept_read tag kept =
     let parts = both _ _ kept in rw (tag_not_weak tag parts.0, parts.0, parts.1)
 
@@ -179,7 +179,7 @@ pub reads_206 : (tag : List ℕ) (a b l : ℕ) (close : Bool) (rest : List ℕ) 
 reads_206 tag a b l close rest sent = by_closing close
   where
     part : (range : Option ContentRange) (m : Option ℕ) → range ≡ Some (record { first = a; last = b; complete = l }) → m ≡ Some (b - a + 1)
-        → (kept_tag tag >>= (λ t. part_piece t range m rest))
+        → (tag_by_rows (Some tag) >>= (λ t. piece_by_rows true t range m rest))
         ≡ Ok (record { tag = tag; whole = false; first = a; complete = l; body = take (b - a + 1) rest })
     part range m is long = rw (kept_read tag sent.0, is, long, eq-eqb (b - a + 1) (b - a + 1) refl)
 
@@ -199,7 +199,7 @@ pub reads_200 : (tag : List ℕ) (l : ℕ) (close : Bool) (rest : List ℕ) → 
 reads_200 tag l close rest sent = by_closing close
   where
     whole : (m : Option ℕ) → m ≡ Some l
-        → (kept_tag tag >>= (λ t. whole_piece t m rest))
+        → (tag_by_rows (Some tag) >>= (λ t. piece_by_rows false t None m rest))
         ≡ Ok (record { tag = tag; whole = true; first = 0; complete = l; body = take l rest })
     whole m long = rw (kept_read tag sent.0, long)
 

@@ -1,5 +1,5 @@
 -- How an answer is read: the rows of the table, each by itself, and the first that applies.
-use Rattle.std.specs.Prelude.{◌≡◌, ℕ, ◌+◌, ◌-◌, ◌&&◌, ◌||◌, ◌==◌, not, nat_le, Bool, true, false, if◌then◌else◌, List, length, take, codes, Option, Some, None, option_and_then, Result, Ok, Err}
+use Rattle.std.specs.Prelude.{◌≡◌, ℕ, ◌+◌, ◌-◌, ◌&&◌, ◌||◌, ◌==◌, not, nat_le, Bool, true, false, if◌then◌else◌, List, [], length, take, codes, Option, Some, None, is_none, unwrap_or, option_and_then, Result, Ok, Err}
 use Rattle.http_range.specs.declared.reading.Why.{Why}
 use Rattle.http_range.specs.declared.reading.Why.TheVariants.{Cut, Status, NoTag, WeakTag, TagTooLong, NoRange, NoLength, Coding}
 use Rattle.http_range.specs.declared.reading.ContentRange.{ContentRange}
@@ -8,9 +8,10 @@ use Rattle.http_range.specs.declared.reply.Reply.TheVariants.{R200, R206, R304, 
 use Rattle.http_range.specs.Reply.{head_text}
 use Rattle.http_range.specs.Fields.{values_of, only, is_there}
 use Rattle.http_range.specs.Digits.{number_64}
-use Rattle.http_range.specs.Tag.{is_entity_tag, is_weak_tag, is_kept_tag}
+use Rattle.http_range.specs.Tag.{is_entity_tag, is_weak_tag}
+use Rattle.http_range.specs.declared.limits.TheConstants.{TAG_LIMIT}
 use Rattle.http_range.specs.Head.{SeenHead, FindsHead}
-use Rattle.http_range.specs.Piece.{SeenPiece, ◌>>=◌}
+use Rattle.http_range.specs.Piece.{SeenPiece, piece_by, ◌>>=◌}
 use Rattle.http_range.specs.ContentRange.{range_of}
 
 -- ---- what stands in the head
@@ -22,6 +23,11 @@ value_of name head = only (values_of name head.fields)
 -- there is such a field
 abbrev pub has_field : List ℕ → SeenHead → Bool
 has_field name head = is_there (values_of name head.fields)
+
+-- a test of a value that may be missing
+abbrev pub holds : {A : Type 0} → Option A → (A → Bool) → Bool
+holds None test = false
+holds (Some x) test = test x
 
 -- the value of its only ETag field, which may be no entity tag
 abbrev pub etag : SeenHead → Option (List ℕ)
@@ -45,43 +51,51 @@ has_other_status head = not (head.status == 200) && not (head.status == 206)
 abbrev pub is_coded : SeenHead → Bool
 is_coded head = has_field (codes "Transfer-Encoding") head || has_field (codes "Content-Encoding") head
 
--- no tag, weak tag, long tag: a value that is no entity tag, a weak one, or one of more than 64 bytes
-abbrev pub kept_tag : List ℕ → Result (List ℕ) Why
-kept_tag text =
-    if not (is_entity_tag text) then Err NoTag
-    else if is_weak_tag text then Err WeakTag
-    else if is_kept_tag text then Ok text
-    else Err TagTooLong
+-- no tag: not exactly one ETag field, or it isn't an entity tag
+abbrev pub lacks_tag : Option (List ℕ) → Bool
+lacks_tag value = not (holds value is_entity_tag)
 
--- the same of a head, where not exactly one ETag field is no tag either
-abbrev pub only_tag : Option (List ℕ) → Result (List ℕ) Why
-only_tag None = Err NoTag
-only_tag (Some text) = kept_tag text
+-- weak tag: the tag is weak
+abbrev pub has_weak_tag : Option (List ℕ) → Bool
+has_weak_tag value = holds value is_weak_tag
+
+-- long tag: the tag's text has more than 64 bytes
+abbrev pub has_long_tag : Option (List ℕ) → Bool
+has_long_tag value = holds value (λ text. not (nat_le (length text) TAG_LIMIT))
+
+-- the first of these three that applies, or the tag
+abbrev pub tag_by_rows : Option (List ℕ) → Result (List ℕ) Why
+tag_by_rows value =
+    if lacks_tag value then Err NoTag
+    else if has_weak_tag value then Err WeakTag
+    else if has_long_tag value then Err TagTooLong
+    else Ok (unwrap_or value [])
 
 -- the rows from *coding* to *long tag*
 abbrev pub tag_in : SeenHead → Result (List ℕ) Why
-tag_in head = if is_coded head then Err Coding else only_tag (etag head)
+tag_in head = if is_coded head then Err Coding else tag_by_rows (etag head)
 
--- of a 200 the whole file; no length: not exactly one Content-Length of digits and 64 bits
-abbrev pub whole_piece : List ℕ → Option ℕ → List ℕ → Result SeenPiece Why
-whole_piece tag None rest = Err NoLength
-whole_piece tag (Some n) rest =
-    Ok (record { tag = tag; whole = true; first = 0; complete = n; body = take n rest })
+-- no range: a part without exactly one Content-Range `bytes a-b/l`
+abbrev pub lacks_range : Bool → Option ContentRange → Bool
+lacks_range partial range = partial && is_none range
 
--- of a 206 the part; no range: not exactly one Content-Range `bytes a-b/l`; no length: as for a 200, or not b - a + 1
-abbrev pub part_piece : List ℕ → Option ContentRange → Option ℕ → List ℕ → Result SeenPiece Why
-part_piece tag None length rest = Err NoRange
-part_piece tag (Some range) None rest = Err NoLength
-part_piece tag (Some range) (Some n) rest =
-    if range.last - range.first + 1 == n
-    then Ok (record { tag = tag; whole = false; first = range.first; complete = range.complete; body = take n rest })
-    else Err NoLength
+-- no length: not exactly one Content-Length of digits and 64 bits, or for a part not b - a + 1
+abbrev pub lacks_length : Bool → Option ContentRange → Option ℕ → Bool
+lacks_length partial range length =
+    is_none length || (partial && not (holds range (λ r. holds length (λ n. r.last - r.first + 1 == n))))
 
--- the rows from *no range* on; the body is what follows the head, at most Content-Length bytes of it
+-- the first of these two that applies, or the piece: of the whole file, or of the part that the range names; the body is
+-- what follows the head, at most Content-Length bytes of it
+abbrev pub piece_by_rows : Bool → List ℕ → Option ContentRange → Option ℕ → List ℕ → Result SeenPiece Why
+piece_by_rows partial tag range length rest =
+    if lacks_range partial range then Err NoRange
+    else if lacks_length partial range length then Err NoLength
+    else Ok (piece_by tag (if partial then range else None) (unwrap_or length 0) rest)
+
+-- the rows from *no range* on; a 206 is a part
 abbrev pub piece_in : SeenHead → List ℕ → Result SeenPiece Why
 piece_in head tag =
-    if head.status == 206 then part_piece tag (range_named head) (length_named head) head.rest
-    else whole_piece tag (length_named head) head.rest
+    piece_by_rows (head.status == 206) tag (range_named head) (length_named head) head.rest
 
 -- the first row that applies to a whole head
 abbrev pub reading_of : SeenHead → Result SeenPiece Why

@@ -1,8 +1,8 @@
 //! The head of an answer (RFC 9112, section 4).
-ghost use Rattle.std.specs.Prelude.{◌≡◌, ◌≤◌, length, option_copied};
+ghost use Rattle.std.specs.Prelude.{◌≡◌, ◌≤◌, Some, length, option_copied};
 ghost use Rattle.http_range.specs.Head.{front_of, FindsHead};
 ghost use Rattle.http_range.specs.AnswerHead.{head_seen, found_seen};
-ghost use Rattle.http_range.specs.Reading.{is_coded, kept_tag, only_tag, tag_in};
+ghost use Rattle.http_range.specs.Reading.{is_coded, tag_by_rows, tag_in};
 
 use crate::bytes::after;
 use crate::fields::Fields;
@@ -70,12 +70,12 @@ impl<'b> AnswerHead<'b> {
         if self.is_coded() {
             return Err(Why::Coding);
         }
-        only_tag(self.fields.only(b"ETag"))
+        tag_of(self.fields.only(b"ETag"))
     }
 }
 
-fn only_tag(value: Option<&[u8]>) -> Result<Tag, Why>
-    ensures { result ≡ only_tag (option_copied value.entry) }
+fn tag_of(value: Option<&[u8]>) -> Result<Tag, Why>
+    ensures { result ≡ tag_by_rows (option_copied value.entry) }
 {
     match value {
         None => Err(Why::NoTag),
@@ -84,7 +84,7 @@ fn only_tag(value: Option<&[u8]>) -> Result<Tag, Why>
 }
 
 fn kept_tag(text: &[u8]) -> Result<Tag, Why>
-    ensures { result ≡ kept_tag text.now }
+    ensures { result ≡ tag_by_rows (Some text.now) }
 {
     if is_weak_tag(text) {
         return Err(Why::WeakTag);

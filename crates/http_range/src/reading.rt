@@ -1,9 +1,9 @@
 //! A client's reading of answers.
-ghost use Rattle.std.specs.Prelude.{◌≡◌, option_copied};
+ghost use Rattle.std.specs.Prelude.{◌≡◌, true, false, None, option_copied};
 ghost use Rattle.http_range.specs.AnswerHead.{head_seen};
 ghost use Rattle.http_range.specs.Piece.{piece_seen, reading_seen, result_seen, number_of_why};
 ghost use Rattle.http_range.specs.ContentRange.{range_of, range_by, IsRange};
-ghost use Rattle.http_range.specs.Reading.{has_other_status, range_named, length_named, whole_piece, part_piece, piece_in, reading_of, ReadsAnswer};
+ghost use Rattle.http_range.specs.Reading.{has_other_status, range_named, length_named, piece_by_rows, piece_in, reading_of, ReadsAnswer};
 
 use crate::answer_head::{AnswerHead, head_of};
 use crate::bytes::{after, split_first, up_to};
@@ -130,7 +130,7 @@ fn length_named(head: &AnswerHead) -> Option<u64>
 }
 
 fn whole_piece<'b>(tag: Tag, length: Option<u64>, rest: &'b [u8]) -> Result<Piece<'b>, Why>
-    ensures { result_seen result ≡ whole_piece tag length rest.now }
+    ensures { result_seen result ≡ piece_by_rows false tag None length rest.now }
 {
     match length {
         None => Err(Why::NoLength),
@@ -151,7 +151,7 @@ fn part_piece<'b>(
     rest: &'b [u8],
 ) -> Result<Piece<'b>, Why>
     requires { IsRange range }
-    ensures { result_seen result ≡ part_piece tag range length rest.now }
+    ensures { result_seen result ≡ piece_by_rows true tag range length rest.now }
 {
     match (range, length) {
         (None, _) => Err(Why::NoRange),
