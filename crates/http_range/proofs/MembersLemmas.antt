@@ -1,9 +1,16 @@
 -- The members of a list, part by part.
-use Rattle.std.proofs.Common.{◌≡◌, ℕ, suc, ◌+◌, ◌<◌, ◌≤◌, Bool, true, false, cond, not, ◌&&◌, List, [], ◌∷◌, length, get_or, map, take, drop, refl, ap, arith}
+use Rattle.std.proofs.Common.{◌≡◌, ℕ, suc, ◌+◌, ◌<◌, ◌≤◌, Bool, true, false, cond, not, ◌&&◌, List, [], ◌∷◌, length, length-take, inl, inr, get_or, map, take, drop, refl, ap, arith}
 use Rattle.std.proofs.Math.Dec.{eqb}
+use Rattle.std.proofs.lemmas.Bool.{cases_lt}
 use Rattle.std.proofs.lemmas.List.{drop_more}
 use Rattle.httparse.specs.Grammar.{trim_ows}
-use Rattle.http_range.specs.Members.{before_parts, is_open, parts_from, part_end, members}
+use Rattle.http_range.specs.Members.{before_parts, is_open, parts_from, first_part, members}
+
+-- where the first part ends
+abbrev pub part_end : Bool → Bool → List ℕ → ℕ
+part_end quotes open_before [] = 0
+part_end quotes open_before (b ∷ bytes) =
+    cond (eqb b 44 && not open_before) 0 (suc (part_end quotes (is_open quotes open_before b) bytes))
 
 -- the first part ends at a comma
 parts_at : (quotes open_before : Bool) (xs : List ℕ) → part_end quotes open_before xs < length xs
@@ -58,6 +65,21 @@ module _ (quotes quoted : Bool) (xs : List ℕ) (i : ℕ) (inside : i < length x
   pub end_here : (eqb (get_or xs i 0) 44 && not quoted) ≡ true → part_end quotes quoted (drop i xs) ≡ 0
   end_here is = rw (drop_more xs i 0 inside, is)
 
-  pub end_later : (eqb (get_or xs i 0) 44 && not quoted) ≡ false
-      → part_end quotes quoted (drop i xs) ≡ suc (part_end quotes (is_open quotes quoted (get_or xs i 0)) (drop (i + 1) xs))
-  end_later other = rw (drop_more xs i 0 inside, other)
+-- ---- the first part
+
+pub end-le : (quotes open_before : Bool) (xs : List ℕ) → part_end quotes open_before xs ≤ length xs
+end-le quotes open_before [] = omega arith
+end-le quotes open_before (b ∷ bytes) = by_test (eqb b 44 && not open_before) (end-le quotes (is_open quotes open_before b) bytes)
+  where
+    by_test : (t : Bool) → part_end quotes (is_open quotes open_before b) bytes ≤ length bytes
+        → cond t 0 (suc (part_end quotes (is_open quotes open_before b) bytes)) ≤ suc (length bytes)
+    by_test true later = omega arith
+    by_test false later = omega arith
+
+pub length-first_part : (quotes : Bool) (xs : List ℕ) → length (first_part quotes xs) ≡ part_end quotes false xs
+length-first_part quotes xs = elim (cases_lt (part_end quotes false xs) (length xs)) [
+  | inl inside ↦
+      let long = end-le quotes false xs in
+      rw (parts_at quotes false xs inside) (omega (arith, length-take (part_end quotes false xs) xs))
+  | inr past ↦ let long = end-le quotes false xs in rw (parts_whole quotes false xs past) (omega arith)
+]

@@ -1,5 +1,5 @@
 -- Lists in the value of a field (RFC 9110, sections 5.6.1 and 5.6.4).
-use Rattle.std.specs.Prelude.{ℕ, suc, Bool, false, ◌&&◌, ◌==◌, not, if◌then◌else◌, List, [], ◌∷◌, map, Option, Some, None}
+use Rattle.std.specs.Prelude.{ℕ, Bool, false, ◌&&◌, ◌==◌, not, if◌then◌else◌, List, [], ◌∷◌, map, slice_get, unwrap_or, Option, Some, None}
 use Rattle.std.specs.List.{list_any}
 use Rattle.std.specs.Str.{bytes_eq, str_to_ascii_lowercase}
 use Rattle.std.specs.Borrow.{Bor}
@@ -32,6 +32,10 @@ abbrev pub has_member : List ℕ → List ℕ → Bool
 has_member word value =
     list_any (λ member. bytes_eq (str_to_ascii_lowercase member) (str_to_ascii_lowercase word)) (members false value)
 
+-- the bytes before the first comma that cuts, or all
+abbrev pub first_part : Bool → List ℕ → List ℕ
+first_part quotes value = unwrap_or (slice_get (parts_from quotes false value) 0) []
+
 -- ---- how the code walks through them
 
 abbrev pub members_of_rest : Bool → Option (Bor (List ℕ)) → List (List ℕ)
@@ -41,9 +45,3 @@ members_of_rest quotes (Some rest) = members quotes rest.now
 -- the members that are still to come
 abbrev pub members_left : Members → List (List ℕ)
 members_left m = members_of_rest m.quotes m.rest
-
--- where the first part ends: at a comma, or with the list
-abbrev pub part_end : Bool → Bool → List ℕ → ℕ
-part_end quotes open_before [] = 0
-part_end quotes open_before (b ∷ bytes) =
-    if b == 44 && not open_before then 0 else suc (part_end quotes (is_open quotes open_before b) bytes)

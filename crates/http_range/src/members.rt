@@ -1,8 +1,8 @@
 //! Lists in the value of a field (RFC 9110, section 5.6.1).
-ghost use Rattle.std.specs.Prelude.{◌≡◌, false, reverse};
+ghost use Rattle.std.specs.Prelude.{◌≡◌, false, length, reverse};
 ghost use Rattle.std.specs.Iterator.{YieldsFirstRef, item_count};
 ghost use Rattle.httparse.specs.Grammar.{skip_ows, trim_ows};
-ghost use Rattle.http_range.specs.Members.{members, members_left, has_member, part_end};
+ghost use Rattle.http_range.specs.Members.{members, members_left, has_member, first_part};
 
 use crate::bytes::after;
 use httparse::is_space_or_tab;
@@ -48,7 +48,7 @@ impl<'b> Iterator for Members<'b> {
 
 /// Where the first part ends: at a comma, or with the list.
 fn part_end(list: &[u8], quotes: bool) -> usize
-    ensures { result ≡ part_end quotes false list.now }
+    ensures { result ≡ length (first_part quotes list.now) }
 {
     let mut quoted = false;
     for (i, b) in list.iter().enumerate() {

@@ -1,5 +1,5 @@
 use Rattle.std.proofs.Common.{◌≡◌, ◌+◌, false, drop}
-use Rattle.http_range.specs.Members.{part_end}
+use Rattle.http_range.proofs.MembersLemmas.{part_end}
 use Rattle.http_range.proofs.members.part_end.Given as goal
 
 abbrev pub invariant-loop-i : goal.invariant-loop-i

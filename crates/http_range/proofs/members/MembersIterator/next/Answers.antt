@@ -1,19 +1,23 @@
-use Rattle.std.proofs.Common.{◌≡◌, [], ◌∷◌, length, ap, ◌∙◌, arith}
+use Rattle.std.proofs.Common.{◌≡◌, [], ◌∷◌, length, false, ap, ◌∙◌, arith}
 use Rattle.http_range.specs.Members.{members, members_of_rest, members_left}
-use Rattle.http_range.proofs.MembersLemmas.{members_at, members_whole}
+use Rattle.http_range.proofs.MembersLemmas.{part_end, members_at, members_whole, length-first_part}
 use Rattle.http_range.proofs.members.MembersIterator.next.Goals.{After-trim, After-trim-else-end-list}
 use Rattle.http_range.proofs.members.MembersIterator.next.Goals as goal
 
 -- the member ends at a comma
 at_comma : (c : After-trim) → members_left c.args.self.now ≡ c.trim.result.now ∷ members c.args.self.now.quotes c.after.result.now
 at_comma c =
-    let inside = rw c.part_end-end.ensures at c.if-end-list.true in
-    rw (c.trim.ensures, c.after.ensures, c.part_end-end.ensures)
+    let e : c.part_end-end.result ≡ part_end c.args.self.now.quotes false c.in_ok-list.list.now =
+    c.part_end-end.ensures ∙ length-first_part c.args.self.now.quotes c.in_ok-list.list.now in
+    let inside = rw e at c.if-end-list.true in
+    rw (c.trim.ensures, c.after.ensures, e)
     (ap (members_of_rest c.args.self.now.quotes) c.in_ok-list.was ∙ members_at c.args.self.now.quotes c.in_ok-list.list.now inside)
 
 at_end : (c : After-trim-else-end-list) → members_left c.args.self.now ≡ c.trim-else-end-list.result.now ∷ []
 at_end c =
-    let past = rw c.part_end-end.ensures at c.if-end-list.false in
+    let e : c.part_end-end.result ≡ part_end c.args.self.now.quotes false c.in_ok-list.list.now =
+    c.part_end-end.ensures ∙ length-first_part c.args.self.now.quotes c.in_ok-list.list.now in
+    let past = rw e at c.if-end-list.false in
     rw c.trim-else-end-list.ensures
     (ap (members_of_rest c.args.self.now.quotes) c.in_ok-list.was ∙ members_whole c.args.self.now.quotes c.in_ok-list.list.now past)
 
