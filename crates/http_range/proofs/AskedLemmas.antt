@@ -1,6 +1,6 @@
 -- What a server answers to a client's request.
-use Rattle.std.proofs.Common.{◌≡◌, ℕ, ◌-◌, ◌^◌, ◌<◌, ◌≤◌, min, Bool, true, false, cond, ◌||◌, List, ◌++◌, length, refl, sym, ap, ◌∙◌, Option, Some, None, [], subst, append-nil}
-use Rattle.std.specs.Prelude.{◌↔◌, option_and_then}
+use Rattle.std.proofs.Common.{◌≡◌, ℕ, ◌-◌, ◌^◌, ◌<◌, ◌≤◌, min, Bool, true, false, cond, ◌||◌, List, ◌++◌, length, refl, sym, ap, ◌∙◌, Option, Some, None}
+use Rattle.std.specs.Prelude.{option_and_then}
 use Rattle.http_range.specs.Members.{members}
 use Rattle.std.proofs.Math.Dec.{ltb}
 use Rattle.std.specs.Str.{bytes_eq}
@@ -11,8 +11,8 @@ use Rattle.http_range.specs.declared.reply.Reply.TheVariants.{R416}
 use Rattle.http_range.specs.Range.{range_spec, resolved_or}
 use Rattle.http_range.specs.Ask.{range_value, asked_request, request_text, CanCheck, checked_request, check_text}
 use Rattle.http_range.specs.Book.{Publication, Catalogue, published}
-use Rattle.http_range.specs.Response.{Response, refused, serve_tag, serve_head, serve_part, serve_file, answer_by, IsAnswer, response_to_client, response_to_check}
-use Rattle.http_range.specs.Laws.{ClientsAreAnswered, ClientsAreAnsweredAlone, ChecksAreAnswered}
+use Rattle.http_range.specs.Response.{Response, refused, serve_tag, serve_head, serve_part, serve_file, answer_by, response_to_client, response_to_check}
+use Rattle.http_range.specs.Laws.{ClientsAreAnswered, ChecksAreAnswered}
 use Rattle.http_range.proofs.RangeLemmas.{range_spec-range_value}
 use Rattle.http_range.proofs.RequestLemmas.{asked_read, asked_has, checked_read, checked_has}
 use Rattle.http_range.proofs.MatchLemmas.{matches_itself}
@@ -61,14 +61,6 @@ clients_answered catalogue host name more first last tag response can ordered =
       λ is. is.2 ∙ ap (answer_by catalogue) (asked_read host name first last tag more can text refl is.0 is.1) ∙ answer,
       λ is. (Some (asked_request host name first last tag), asked_has host name first last tag more can text refl, is ∙ sym answer),
     )
-
-pub clients_answered_alone : ClientsAreAnsweredAlone
-clients_answered_alone catalogue host name first last tag response can ordered =
-    subst
-    (λ (message : List ℕ). IsAnswer catalogue message response
-    ↔ (response ≡ response_to_client (published name catalogue) first last tag))
-    (append-nil (request_text host name first last tag))
-    (clients_answered catalogue host name [] first last tag response can ordered)
 
 -- ---- the check
 

@@ -34,7 +34,7 @@ abbrev pub IsHonest : List ℕ → List ℕ → Book → Type 0
 IsHonest text name book =
     ((p : Publication) × In p book × (p.name ≡ name) × IsHonestFor text p) ⊎ IsNamelessFront text
 
--- the piece is a piece of p, where it says that it is
+-- the piece has the tag and the length of p, and its body stands in the file of p at its first position
 pub record IsPieceOf (p : Publication) (piece : SeenPiece) : Type 0 where
   pub tag : piece.tag ≡ p.tag
   pub complete : piece.complete ≡ length p.file

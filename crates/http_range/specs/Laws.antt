@@ -77,14 +77,6 @@ ClientsAreAnswered =
     → IsAnswer catalogue (request_text host name first last tag ++ more) response
     ↔ (response ≡ response_to_client (published name catalogue) first last tag)
 
--- the same where nothing follows it
-abbrev pub ClientsAreAnsweredAlone : Type 0
-ClientsAreAnsweredAlone =
-    (catalogue : Catalogue) (host name : List ℕ) (first last : ℕ) (tag : Option (List ℕ)) (response : Response)
-    → CanAsk host name first last tag → first ≤ last
-    → IsAnswer catalogue (request_text host name first last tag) response
-    ↔ (response ≡ response_to_client (published name catalogue) first last tag)
-
 -- what is answered to a client's check, whatever follows it: the tag alone exactly where the file still has it
 abbrev pub ChecksAreAnswered : Type 0
 ChecksAreAnswered =

@@ -1,5 +1,5 @@
 //! Laws of the definitions, for the crates above. Each function does nothing: its contract is the law.
-ghost use Rattle.http_range.specs.Laws.{LimitsAre, FrontsAreRead, ChecksAreRead, HonestyIsKept, TagsAreQuoted, ContentRangesAreForms, TagsTellPublications, PublicationTagsAreKept, AnswersAreUnique, StreamsAreAnsweredOnce, MessagesStay, HeadsStay, ClientsAreAnswered, ClientsAreAnsweredAlone, ChecksAreAnswered, PublishReplaces, PublishedIsNamed};
+ghost use Rattle.http_range.specs.Laws.{LimitsAre, FrontsAreRead, ChecksAreRead, HonestyIsKept, TagsAreQuoted, ContentRangesAreForms, TagsTellPublications, PublicationTagsAreKept, AnswersAreUnique, StreamsAreAnsweredOnce, MessagesStay, HeadsStay, ClientsAreAnswered, ChecksAreAnswered, PublishReplaces, PublishedIsNamed};
 
 /// The limits that the definitions name.
 pub fn limits_are()
@@ -27,11 +27,10 @@ pub fn answers_are_unique()
 /// What a server answers to the text of a client's request, and of its check.
 pub fn clients_are_answered()
     ensures followed { ClientsAreAnswered }
-    ensures alone { ClientsAreAnsweredAlone }
     ensures checks { ChecksAreAnswered }
 {}
 
-/// What `publish` and `published` say of each other.
+/// What stands under a name after a publication, and that it has that name.
 pub fn publications_replace()
     ensures replaces { PublishReplaces }
     ensures named { PublishedIsNamed }

@@ -1,6 +1,7 @@
 //! Byte ranges, entity tags and heads of HTTP/1.1 (RFC 9110, RFC 9112), for files that are read by single ranges.
 //!
-//! Only `write_request`, `write_check` and `write_head` take memory. Positions and lengths are in bytes, and positions count from 0.
+//! Only `write_request`, `write_check` and `write_head` take memory. Positions and lengths are in bytes, and positions count
+//! from 0.
 #![tactic(auto)]
 
 mod answer_head;

@@ -29,7 +29,8 @@ fn padded_digit(text: &[u8], n: usize, i: usize) -> u64
     requires digits { IsTrue (all_ascii_digits text.now) }
     requires room { length text.now ≤ n }
     requires inside { i < n }
-    ensures value { result ≡ (if nat_lt i (n - length text.now) then 0 else digit_value (slice_index text.now (i - (n - length text.now)))) }
+    ensures value { result ≡ (if nat_lt i (n - length text.now) then 0
+        else digit_value (slice_index text.now (i - (n - length text.now)))) }
     ensures small { result < 10 }
 {
     let skip = n - text.len();

@@ -2,7 +2,7 @@
 ghost use Rattle.std.specs.Prelude.{◌≡◌, true, false, None, option_copied};
 ghost use Rattle.http_range.specs.AnswerHead.{head_seen};
 ghost use Rattle.http_range.specs.Piece.{piece_seen, reading_seen, result_seen, number_of_why};
-ghost use Rattle.http_range.specs.ContentRange.{range_of, range_by, IsRange};
+ghost use Rattle.http_range.specs.ContentRange.{range_of, range_of_numbers, IsRange};
 ghost use Rattle.http_range.specs.Reading.{has_other_status, range_named, length_named, piece_by_rows, piece_in, reading_of, ReadsAnswer};
 
 use crate::answer_head::{AnswerHead, head_of};
@@ -85,11 +85,15 @@ fn range_of(text: &[u8]) -> Option<ContentRange>
     }
     let (first, ends) = split_first(after(text, 6), b'-');
     let (last, complete) = split_first(ends, b'/');
-    range_by(number_64(first), number_64(last), number_64(complete))
+    range_of_numbers(number_64(first), number_64(last), number_64(complete))
 }
 
-fn range_by(first: Option<u64>, last: Option<u64>, complete: Option<u64>) -> Option<ContentRange>
-    ensures value { result ≡ range_by first last complete }
+fn range_of_numbers(
+    first: Option<u64>,
+    last: Option<u64>,
+    complete: Option<u64>,
+) -> Option<ContentRange>
+    ensures value { result ≡ range_of_numbers first last complete }
     ensures fits { IsRange result }
 {
     match (first, last, complete) {
