@@ -13,8 +13,8 @@ use Rattle.std.proofs.lemmas.List.Folds.{list_all-append}
 use Rattle.std.proofs.lemmas.Slice.Eq.{bytes_eq-Decides}
 use Rattle.httparse.proofs.GrammarLemmas.{cons-append}
 use Rattle.http_range.specs.Tag.{is_tag_byte, is_opaque_tag, is_kept_tag}
-use Rattle.http_range.specs.Book.{Publication, IsPublication, Catalogue, IsCatalogue, published, publish, version_tag}
-use Rattle.http_range.specs.Laws.{TagsTellVersions, VersionTagsAreKept, PublishReplaces, PublishedIsNamed}
+use Rattle.http_range.specs.Book.{Publication, IsPublication, Catalogue, IsCatalogue, published, publish, publication_tag}
+use Rattle.http_range.specs.Laws.{TagsTellPublications, PublicationTagsAreKept, PublishReplaces, PublishedIsNamed}
 use Rattle.http_range.proofs.ValueLemmas.{both, digit_range, decimal_digits, digits_miss, before_at, after_at}
 use Rattle.http_range.proofs.ReplyLemmas.{length_20}
 
@@ -108,8 +108,8 @@ record HasNumbers (tag x y : List ℕ) : Type 0 where
   epoch : before_first (λ b. eqb b 45) (drop 1 tag) ≡ x
   number : before_first (λ b. eqb b 34) (after_first (λ b. eqb b 45) (drop 1 tag)) ≡ y
 
-tag_numbers : (e n : ℕ) → e < 2 ^ 64 → n < 2 ^ 64 → HasNumbers (version_tag e n) (decimal e) (decimal n)
-unfolding version_tag
+tag_numbers : (e n : ℕ) → e < 2 ^ 64 → n < 2 ^ 64 → HasNumbers (publication_tag e n) (decimal e) (decimal n)
+unfolding publication_tag
 tag_numbers e n se sn =
     let x = decimal e in
     let y = decimal n in
@@ -123,8 +123,8 @@ tag_numbers e n se sn =
           ∙ before_at (λ b. eqb b 34) y 34 [] quote refl;
     })
 
-pub tags_tell_versions : TagsTellVersions
-tags_tell_versions e n f m se sn sf sm same =
+pub tags_tell_publications : TagsTellPublications
+tags_tell_publications e n f m se sn sf sm same =
     let a = tag_numbers e n se sn in
     let b = tag_numbers f m sf sm in (
       decimal_injective e f se sf
@@ -174,8 +174,8 @@ kept_by x y px py sx sy =
     and_true (is_opaque_tag (34 ∷ (m ++ 34 ∷ []))) _ (opaque_of m (middle_tag x y px py)) (le-leb (length (34 ∷ (m ++ 34 ∷ []))) 64 small) in
     subst (λ (t : List ℕ). is_kept_tag t ≡ true) (sym grouped) kept
 
-pub version_tags_kept : VersionTagsAreKept
-unfolding version_tag
-version_tags_kept e n se sn =
+pub publication_tags_kept : PublicationTagsAreKept
+unfolding publication_tag
+publication_tags_kept e n se sn =
     kept_by (decimal e) (decimal n) (digits_tag (decimal e) (decimal_digits e se)) (digits_tag (decimal n) (decimal_digits n sn)) (length_20 e se)
     (length_20 n sn)

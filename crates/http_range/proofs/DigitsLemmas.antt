@@ -3,10 +3,11 @@ use Rattle.std.proofs.Common.{◌≡◌, ℕ, ◌+◌, ◌-◌, ◌*◌, ◌^◌
 use Rattle.std.proofs.lemmas.List.{drop_more, drop_all}
 use Rattle.std.proofs.Math.Dec.{eqb}
 use Rattle.std.specs.Char.{is_ascii_digit, digit_value}
+use Rattle.std.specs.Prelude.{option_and_then}
 use Rattle.std.specs.Str.{all_ascii_digits}
-use Rattle.std.specs.Str.Parse.{digits_value_after}
+use Rattle.std.specs.Str.Parse.{digits_value, digits_value_after}
 use Rattle.std.proofs.lemmas.Bool.{lt-ltb, le-ltb}
-use Rattle.http_range.specs.Digits.{number_64}
+use Rattle.http_range.specs.Digits.{with_64_bits, number_64}
 
 -- what the digits write behind those of n
 abbrev pub number_from : ℕ → List ℕ → Option ℕ
@@ -42,7 +43,13 @@ number_none (c ∷ cs) empty = absurd (omega arith)
 
 pub number_some : (cs : List ℕ) → 0 < length cs → number_64 cs ≡ number_from 0 cs
 unfolding number_64 number_by
-number_some cs some = rw (lt-ltb 0 (length cs) some) (sym (number_from_is 0 cs))
+number_some cs some = rw (lt-ltb 0 (length cs) some) (by_test (all_ascii_digits cs) ∙ sym (number_from_is 0 cs))
+  where
+    by_test : (t : Bool)
+        → option_and_then with_64_bits (cond t (Some (digits_value 10 cs)) None)
+        ≡ cond (t && nat_lt (digits_value_after 10 0 cs) (2 ^ 64)) (Some (digits_value_after 10 0 cs)) None
+    by_test true = refl
+    by_test false = refl
 
 pub number_step : (text : List ℕ) (n i b : ℕ) → i < length text → b ≡ get_or text i b → is_ascii_digit b ≡ true
     → number_from n (drop i text) ≡ number_from (n * 10 + digit_value b) (drop (i + 1) text)

@@ -1,6 +1,6 @@
 -- Tags and Content-Range values, computed, have the forms of the standard.
 use Rattle.std.proofs.Common.{◌≡◌, ℕ, suc, ◌+◌, ◌-◌, ◌^◌, ◌<◌, ◌≤◌, Bool, true, false, cond, ◌&&◌, List, [], ◌∷◌, ◌++◌, length, get_or, take, drop, refl, sym, ap, ◌∙◌, subst, arith, append_assoc, take-append-drop, codes, Option, Some, None}
-use Rattle.std.specs.Prelude.{nat_eq}
+use Rattle.std.specs.Prelude.{nat_eq, option_and_then}
 use Rattle.std.specs.List.{AllPass, before_first, after_first, position_or_len, starts_with}
 use Rattle.std.specs.Str.{all_ascii_digits}
 use Rattle.std.specs.Str.Parse.{digits_value}
@@ -10,9 +10,9 @@ use Rattle.std.proofs.lemmas.Bool.{lt-ltb, le-leb, ltb-true, ltb-false, leb-true
 use Rattle.std.proofs.lemmas.List.{drop_all}
 use Rattle.std.proofs.lemmas.List.Sums.{list_all-from_AllPass, split_at_first, passes_at_first}
 use Rattle.http_range.specs.declared.reading.ContentRange.{ContentRange}
-use Rattle.http_range.specs.Digits.{number_64}
+use Rattle.http_range.specs.Digits.{with_64_bits, number_64}
 use Rattle.http_range.specs.Tag.{is_tag_byte, is_opaque_tag, is_weak_tag}
-use Rattle.http_range.specs.ContentRange.{IsContentRange, range_by, range_of}
+use Rattle.http_range.specs.ContentRange.{IsContentRange, range_of_numbers, range_of}
 use Rattle.http_range.specs.Laws.{TagsAreQuoted, ContentRangesAreForms}
 use Rattle.http_range.proofs.ValueLemmas.{both, quoted_parts, before_at, after_at, digits_miss}
 use Rattle.http_range.proofs.BookLemmas.{same_bytes, opaque_of}
@@ -25,7 +25,7 @@ last_apart xs some last =
     let none : drop (suc j) xs ≡ [] = drop_all (suc j) xs (omega arith) in
     split_at xs j 0 (omega arith) ∙ rw (last, none)
 
-opaque_parts : (text : List ℕ) → is_opaque_tag text ≡ true
+pub opaque_parts : (text : List ℕ) → is_opaque_tag text ≡ true
     → (inner : List ℕ) × (text ≡ 34 ∷ (inner ++ 34 ∷ [])) × AllPass is_tag_byte inner
 opaque_parts [] h = absurd (let long = (quoted_parts [] h).long in omega arith)
 opaque_parts (x ∷ xs) h =
@@ -84,7 +84,7 @@ number_64_parts text n is =
     by_test (ltb 0 (length text)) (all_ascii_digits text) (ltb (digits_value 10 text) (2 ^ 64)) refl refl is
   where
     by_test : (a b c : Bool) → ltb 0 (length text) ≡ a → all_ascii_digits text ≡ b
-        → cond (a && b && c) (Some (digits_value 10 text)) None ≡ Some n → IsNumber64 text
+        → option_and_then with_64_bits (cond (a && b) (Some (digits_value 10 text)) None) ≡ Some n → IsNumber64 text
     by_test true true c some digits is = record { some = ltb-true _ _ some; digits = digits }
     by_test true false c some digits is = absurd (cc)
     by_test false b c some digits is = absurd (cc)
@@ -120,8 +120,8 @@ record IsRangeBy (x y z : Option ℕ) (range : ContentRange) : Type 0 where
   ascending : range.first ≤ range.last
   inside : range.last < range.complete
 
-range_by_parts : (x y z : Option ℕ) (range : ContentRange) → range_by x y z ≡ Some range → IsRangeBy x y z range
-range_by_parts (Some a) (Some b) (Some l) range is = by_test (leb a b) (ltb b l) refl refl is
+range_of_numbers_parts : (x y z : Option ℕ) (range : ContentRange) → range_of_numbers x y z ≡ Some range → IsRangeBy x y z range
+range_of_numbers_parts (Some a) (Some b) (Some l) range is = by_test (leb a b) (ltb b l) refl refl is
   where
     by_test : (s t : Bool) → leb a b ≡ s → ltb b l ≡ t
         → cond (s && t) (Some (record { first = a; last = b; complete = l })) None ≡ Some range
@@ -132,18 +132,18 @@ range_by_parts (Some a) (Some b) (Some l) range is = by_test (leb a b) (ltb b l)
         (record { first = refl; last = refl; complete = refl; ascending = leb-true _ _ ab; inside = ltb-true _ _ bl })
     by_test true false ab bl is = absurd (cc)
     by_test false t ab bl is = absurd (cc)
-range_by_parts (Some a) (Some b) None range is = absurd (cc)
-range_by_parts (Some a) None l range is = absurd (cc)
-range_by_parts None b l range is = absurd (cc)
+range_of_numbers_parts (Some a) (Some b) None range is = absurd (cc)
+range_of_numbers_parts (Some a) None l range is = absurd (cc)
+range_of_numbers_parts None b l range is = absurd (cc)
 
 span_form : (text span : List ℕ) (range : ContentRange) → text ≡ codes "bytes " ++ span
-    → range_by (number_64 (before_first (λ b. eqb b 45) span))
+    → range_of_numbers (number_64 (before_first (λ b. eqb b 45) span))
     (number_64 (before_first (λ b. eqb b 47) (after_first (λ b. eqb b 45) span)))
     (number_64 (after_first (λ b. eqb b 47) (after_first (λ b. eqb b 45) span))) ≡ Some range
     → IsContentRange text range
 span_form text span range is found =
     let ends = after_first (λ b. eqb b 45) span in
-    let r = range_by_parts _ _ _ range found in
+    let r = range_of_numbers_parts _ _ _ range found in
     let slash : ends ≡ before_first (λ b. eqb b 47) ends ++ 47 ∷ after_first (λ b. eqb b 47) ends =
     split_there 47 ends (nonempty _ range.complete r.complete) in
     let dash : span ≡ before_first (λ b. eqb b 45) span ++ 45 ∷ ends =
@@ -165,7 +165,7 @@ unfolding range_of
 range_form text range is = by_test (starts_with nat_eq text (codes "bytes ")) refl is
   where
     by_test : (t : Bool) → starts_with nat_eq text (codes "bytes ") ≡ t
-        → cond t (range_by (number_64 (before_first (λ b. eqb b 45) (drop 6 text)))
+        → cond t (range_of_numbers (number_64 (before_first (λ b. eqb b 45) (drop 6 text)))
         (number_64 (before_first (λ b. eqb b 47) (after_first (λ b. eqb b 45) (drop 6 text))))
         (number_64 (after_first (λ b. eqb b 47) (after_first (λ b. eqb b 45) (drop 6 text))))) None ≡ Some range
         → IsContentRange text range

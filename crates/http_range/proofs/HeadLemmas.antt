@@ -6,6 +6,7 @@ use Rattle.httparse.specs.declared.spans.ResponseSpans.{ResponseSpans}
 use Rattle.httparse.specs.declared.spans.RequestSpans.{RequestSpans}
 use Rattle.httparse.specs.Grammar.{Field, RequestHead, ResponseHead, HasNoResponse, MayBecomeResponse}
 use Rattle.httparse.specs.Spans.{header_bytes, name_and_value, span_bytes, IsResponseOf, IsRequestOf, AreFieldsAt}
+use Rattle.http_range.specs.Text.{FieldLine}
 use Rattle.http_range.specs.Fields.{fields_at}
 use Rattle.http_range.specs.Seen.{SeenRequest, IsRequestFront, seen_request}
 use Rattle.http_range.specs.Head.{SeenHead, front_of, IsHeadOf, seen_head, IsCut}
@@ -15,15 +16,16 @@ room_of : (front : List ℕ) (spans : List HeaderSpan) (n : ℕ) (fields : List 
 room_of front spans n fields long same =
     omega (arith, ap length same, length-map (take n spans) (header_bytes front), length-map fields name_and_value, length-take n spans)
 
-pub head_found : (bytes front rest : List ℕ) (spans : List HeaderSpan) (r : ResponseSpans) → front ≡ front_of bytes
+pub head_found : (bytes front rest : List ℕ) (spans : List HeaderSpan) (r : ResponseSpans) (fields : List FieldLine)
+    → fields ≡ fields_at front (take r.headers spans) → front ≡ front_of bytes
     → rest ≡ drop r.len bytes → length spans ≡ 32 → IsResponseOf front spans r
     → (h : ResponseHead) × IsHeadOf bytes h
-    × (◌≡◌ {A = SeenHead} (record { code = r.code; fields = fields_at front (take r.headers spans); rest = rest }) (seen_head bytes h))
-head_found bytes front rest spans r is after long of =
+    × (◌≡◌ {A = SeenHead} (record { status = r.code; fields = fields; rest = rest }) (seen_head bytes h))
+head_found bytes front rest spans r fields same is after long of =
     let at = of.1 in (
       of.0,
       record { rest = drop r.len front; reads = rw (← is) at.reads; room = room_of front spans r.headers of.0.fields long at.fields },
-      λ i. record { code = at.code i; fields = at.fields i; rest = (after ∙ ap (λ (n : ℕ). drop n bytes) at.len) i },
+      λ i. record { status = at.code i; fields = (same ∙ at.fields) i; rest = (after ∙ ap (λ (n : ℕ). drop n bytes) at.len) i },
     )
 
 pub head_cut : (bytes front : List ℕ) → front ≡ front_of bytes → front_of bytes ≡ bytes → length bytes < 4096
@@ -32,13 +34,14 @@ head_cut bytes front is all short none open_head =
     let same : front ≡ bytes = is ∙ all in
     record { short = short; none = subst HasNoResponse same none; unfinished = subst MayBecomeResponse same open_head }
 
-pub request_found : (bytes front method target : List ℕ) (spans : List HeaderSpan) (r : RequestSpans) → front ≡ take 8192 bytes
+pub request_found : (bytes front method target : List ℕ) (spans : List HeaderSpan) (r : RequestSpans) (fields : List FieldLine)
+    → fields ≡ fields_at front (take r.headers spans) → front ≡ take 8192 bytes
     → method ≡ span_bytes front r.method → target ≡ span_bytes front r.path → length spans ≡ 32 → IsRequestOf front spans r
     → (h : RequestHead) × IsRequestFront bytes h
-    × (◌≡◌ {A = SeenRequest} (record { method = method; target = target; minor = r.version; fields = fields_at front (take r.headers spans) }) (seen_request h))
-request_found bytes front method target spans r is m t long of =
+    × (◌≡◌ {A = SeenRequest} (record { method = method; target = target; minor = r.version; fields = fields }) (seen_request h))
+request_found bytes front method target spans r fields same is m t long of =
     let at = of.1 in (
       of.0,
       record { rest = drop r.len front; reads = rw (← is) at.reads; room = room_of front spans r.headers of.0.fields long at.fields },
-      λ i. record { method = (m ∙ at.method) i; target = (t ∙ at.path) i; minor = at.version i; fields = at.fields i },
+      λ i. record { method = (m ∙ at.method) i; target = (t ∙ at.path) i; minor = at.version i; fields = (same ∙ at.fields) i },
     )

@@ -1,6 +1,6 @@
 -- Numbers of any length, compared digit by digit, and ranges as 64 bits keep them.
-use Rattle.std.proofs.Common.{◌≡◌, ℕ, ◌+◌, ◌-◌, ◌*◌, ◌^◌, ◌<◌, ◌≤◌, ◌/◌, ◌⊎◌, not, Bool, true, false, ◌&&◌, List, [], ◌∷◌, length, get_or, take, min, refl, ap, ◌∙◌, arith, inl, inr, Option, Some, None, codes, ◌++◌, append_assoc, length-append}
-use Rattle.std.specs.Char.{is_ascii_digit}
+use Rattle.std.proofs.Common.{◌≡◌, ℕ, ◌+◌, ◌-◌, ◌*◌, ◌^◌, ◌<◌, ◌≤◌, ◌/◌, ◌⊎◌, not, Bool, true, false, cond, ◌&&◌, List, [], ◌∷◌, length, get_or, take, min, refl, ap, ◌∙◌, arith, inl, inr, Option, Some, None, codes, ◌++◌, append_assoc, length-append}
+use Rattle.std.specs.Char.{is_ascii_digit, digit_value}
 use Rattle.std.specs.Str.{all_ascii_digits}
 use Rattle.std.specs.Str.Parse.{digits_value}
 use Rattle.std.proofs.Math.Dec.{eqb, ltb, leb}
@@ -17,7 +17,7 @@ use Rattle.std.proofs.lemmas.Fmt.{decimal_nonempty}
 use Rattle.httparse.proofs.GrammarLemmas.{cons-append}
 use Rattle.http_range.specs.declared.range.RangeSpec.{RangeSpec}
 use Rattle.http_range.specs.declared.range.RangeSpec.TheVariants.{Between, From, Suffix}
-use Rattle.http_range.specs.Digits.{number, capped, padded_digit}
+use Rattle.http_range.specs.Digits.{number, capped}
 use Rattle.http_range.specs.Range.{capped_spec, resolved_or, spec_by, spec_behind, range_spec}
 use Rattle.http_range.specs.Ask.{range_value}
 use Rattle.http_range.proofs.ValueLemmas.{decimal_digits, decimal_value, digits_miss, place_at, before_at, after_at}
@@ -25,6 +25,10 @@ use Rattle.http_range.proofs.ValueLemmas.{decimal_digits, decimal_value, digits_
 -- the first i of n places of a text that is padded with zeros
 abbrev pub padded : List ℕ → ℕ → ℕ → ℕ
 padded text n i = digits_value 10 (take (i - (n - length text)) text)
+
+-- the digit at place i of such a text
+abbrev pub padded_digit : List ℕ → ℕ → ℕ → ℕ
+padded_digit text n i = cond (ltb i (n - length text)) 0 (digit_value (get_or text (i - (n - length text)) 0))
 
 -- the flags say how x and y compare
 pub record Compares (x y : ℕ) (below above : Bool) : Type 0 where

@@ -1,5 +1,5 @@
 -- A reply's fields are plain lines, and they are read as what was written.
-use Rattle.std.proofs.Common.{◌≡◌, ℕ, ◌+◌, ◌-◌, ◌^◌, ◌<◌, ◌≤◌, Bool, true, false, List, [], ◌∷◌, ◌++◌, length, get_or, take, refl, ap, subst, arith, append-nil, append_assoc, length-append, Option, Some, None, codes, Ok, reverse}
+use Rattle.std.proofs.Common.{◌≡◌, ℕ, ◌+◌, ◌-◌, ◌^◌, ◌<◌, ◌≤◌, Bool, true, false, List, [], ◌∷◌, ◌++◌, length, get_or, take, refl, subst, arith, append-nil, append_assoc, length-append, Option, Some, None, codes, Ok, reverse}
 use Rattle.std.specs.Prelude.{decimal}
 use Rattle.std.specs.List.{list_all}
 use Rattle.std.proofs.Math.Dec.{eqb}
@@ -10,15 +10,14 @@ use Rattle.std.proofs.lemmas.Fmt.{decimal_nonempty, length-decimal-le}
 use Rattle.httparse.specs.Grammar.{AllPass, IsToken, is_token, is_token_byte, is_uri_byte, is_value_byte, skip_ows}
 use Rattle.httparse.proofs.GrammarLemmas.{cons-append}
 use Rattle.http_range.specs.declared.reading.ContentRange.{ContentRange}
-use Rattle.http_range.specs.Text.{NamedValue, closing}
+use Rattle.http_range.specs.Text.{FieldLine, closing}
 use Rattle.http_range.specs.Tag.{is_kept_tag}
 use Rattle.http_range.specs.declared.reply.Reply.{Reply}
-use Rattle.http_range.specs.declared.reply.Reply.TheVariants.{R200, R206, R400, R404, R405, R416}
+use Rattle.http_range.specs.declared.reply.Reply.TheVariants.{R200, R206, R304, R400, R404, R405, R412, R416}
 use Rattle.http_range.specs.Reply.{content_range, content_length, file_fields, fields_of, IsSent}
-use Rattle.http_range.specs.Digits.{number_64}
 use Rattle.http_range.specs.ContentRange.{range_of}
-use Rattle.http_range.specs.Piece.{piece_by}
-use Rattle.http_range.specs.Steps.{whole_by, uncoded, tag_in, tag_of, range_in, range_or, length_in, length_or, fits_range, answer_of}
+use Rattle.http_range.specs.Piece.{◌>>=◌}
+use Rattle.http_range.specs.Reading.{tag_by_rows, piece_by_rows, reading_of}
 use Rattle.http_range.proofs.LineLemmas.{IsPlain, ArePlain}
 use Rattle.http_range.proofs.ValueLemmas.{both, uri_value, skip_none, back_bare, decimal_pass, decimal_digits, number_64-decimal, tag_pass, tag_nonempty, tag_not_weak, before_at, after_at, digits_miss}
 
@@ -81,7 +80,7 @@ unfolding is_token_byte
 closing_plain true = (plain_literal (codes "Connection") (codes "close") refl refl refl refl (omega arith), tt)
 closing_plain false = tt
 
-pub plain-append : (xs ys : List NamedValue) → ArePlain xs → ArePlain ys → ArePlain (xs ++ ys)
+pub plain-append : (xs ys : List FieldLine) → ArePlain xs → ArePlain ys → ArePlain (xs ++ ys)
 plain-append [] ys a b = b
 plain-append (x ∷ xs) ys a b = (a.0, plain-append xs ys a.1 b)
 
@@ -159,53 +158,53 @@ fields_plain (R206 tag a b l) sent =
     let ab = sent.1 in let bl = sent.2 in let small = sent.3 in
     plain-append (file_fields tag) ((codes "Content-Range", content_range a b l) ∷ content_length (b - a + 1) ∷ []) (file_plain tag sent.0)
     (range_plain a b l (omega arith) (omega arith) small, (length_plain (b - a + 1) (omega arith), tt))
+fields_plain (R304 tag) sent = (tag_plain (codes "ETag") tag refl (omega arith) sent, tt)
 fields_plain R400 sent = (length_plain 0 (omega arith), tt)
 fields_plain R404 sent = (length_plain 0 (omega arith), tt)
 fields_plain R405 sent =
     (plain_literal (codes "Allow") (codes "GET, HEAD") refl refl refl refl (omega arith), (length_plain 0 (omega arith), tt))
+fields_plain R412 sent = (length_plain 0 (omega arith), tt)
 fields_plain (R416 l) sent = (unsatisfied_plain l sent, (length_plain 0 (omega arith), tt))
 
 -- ---- what a client reads of the fields
 
-answer_by : (code : ℕ) (fields : List NamedValue) (rest : List ℕ) (w : Bool) (tag : List ℕ) (range : Option ContentRange) (n : ℕ)
-    → whole_by code ≡ Ok w → uncoded fields ≡ Ok tt → tag_in fields ≡ Ok tag → range_in w fields ≡ Ok range
-    → length_in range fields ≡ Ok n
-    → answer_of (record { code = code; fields = fields; rest = rest }) ≡ Ok (piece_by tag range n rest)
-unfolding answer_of
-answer_by code fields rest w tag range n whole clear tagged ranged long = rw (whole, clear, tagged, ranged, long)
-
-tag_of-kept : (tag : List ℕ) → is_kept_tag tag ≡ true → tag_of (Some tag) ≡ Ok tag
-tag_of-kept tag kept =
+-- a kept tag is read as itself
+pub kept_read : (tag : List ℕ) → is_kept_tag tag ≡ true → tag_by_rows (Some tag) ≡ Ok tag
+kept_read tag kept =
     let parts = both _ _ kept in rw (tag_not_weak tag parts.0, parts.0, parts.1)
 
-length_or-number_64 : (range : Option ContentRange) (n : ℕ) → n < 2 ^ 64 → fits_range range n ≡ true
-    → length_or range (number_64 (decimal n)) ≡ Ok n
-length_or-number_64 range n small fits = rw (number_64-decimal n small) (rw fits)
-
 pub reads_206 : (tag : List ℕ) (a b l : ℕ) (close : Bool) (rest : List ℕ) → IsSent (R206 tag a b l)
-    → answer_of (record { code = 206; fields = fields_of (R206 tag a b l) ++ closing close; rest = rest })
+    → reading_of (record { status = 206; fields = fields_of (R206 tag a b l) ++ closing close; rest = rest })
     ≡ Ok (record { tag = tag; whole = false; first = a; complete = l; body = take (b - a + 1) rest })
-reads_206 tag a b l true rest sent =
-    let n = b - a + 1 in
-    let range : ContentRange = record { first = a; last = b; complete = l } in
-    let fits : fits_range (Some range) n ≡ true = eq-eqb n n refl in
-    let ab = sent.1 in let bl = sent.2 in let small = sent.3 in
-    answer_by 206 (fields_of (R206 tag a b l) ++ closing true) rest false tag (Some range) n refl refl (tag_of-kept tag sent.0)
-    (ap range_or (range_of-content_range a b l sent.1 sent.2 sent.3)) (length_or-number_64 (Some range) n (omega arith) fits)
-reads_206 tag a b l false rest sent =
-    let n = b - a + 1 in
-    let range : ContentRange = record { first = a; last = b; complete = l } in
-    let fits : fits_range (Some range) n ≡ true = eq-eqb n n refl in
-    let ab = sent.1 in let bl = sent.2 in let small = sent.3 in
-    answer_by 206 (fields_of (R206 tag a b l) ++ closing false) rest false tag (Some range) n refl refl (tag_of-kept tag sent.0)
-    (ap range_or (range_of-content_range a b l sent.1 sent.2 sent.3)) (length_or-number_64 (Some range) n (omega arith) fits)
+reads_206 tag a b l close rest sent = by_closing close
+  where
+    part : (range : Option ContentRange) (m : Option ℕ) → range ≡ Some (record { first = a; last = b; complete = l }) → m ≡ Some (b - a + 1)
+        → (tag_by_rows (Some tag) >>= (λ t. piece_by_rows true t range m rest))
+        ≡ Ok (record { tag = tag; whole = false; first = a; complete = l; body = take (b - a + 1) rest })
+    part range m is long = rw (kept_read tag sent.0, is, long, eq-eqb (b - a + 1) (b - a + 1) refl)
+
+    by_closing : (close : Bool)
+        → reading_of (record { status = 206; fields = fields_of (R206 tag a b l) ++ closing close; rest = rest })
+        ≡ Ok (record { tag = tag; whole = false; first = a; complete = l; body = take (b - a + 1) rest })
+    by_closing true =
+        let ab = sent.1 in let bl = sent.2 in let small = sent.3 in
+        part _ _ (range_of-content_range a b l sent.1 sent.2 sent.3) (number_64-decimal (b - a + 1) (omega arith))
+    by_closing false =
+        let ab = sent.1 in let bl = sent.2 in let small = sent.3 in
+        part _ _ (range_of-content_range a b l sent.1 sent.2 sent.3) (number_64-decimal (b - a + 1) (omega arith))
 
 pub reads_200 : (tag : List ℕ) (l : ℕ) (close : Bool) (rest : List ℕ) → IsSent (R200 tag l)
-    → answer_of (record { code = 200; fields = fields_of (R200 tag l) ++ closing close; rest = rest })
+    → reading_of (record { status = 200; fields = fields_of (R200 tag l) ++ closing close; rest = rest })
     ≡ Ok (record { tag = tag; whole = true; first = 0; complete = l; body = take l rest })
-reads_200 tag l true rest sent =
-    answer_by 200 (fields_of (R200 tag l) ++ closing true) rest true tag None l refl refl (tag_of-kept tag sent.0) refl
-    (length_or-number_64 None l sent.1 refl)
-reads_200 tag l false rest sent =
-    answer_by 200 (fields_of (R200 tag l) ++ closing false) rest true tag None l refl refl (tag_of-kept tag sent.0) refl
-    (length_or-number_64 None l sent.1 refl)
+reads_200 tag l close rest sent = by_closing close
+  where
+    whole : (m : Option ℕ) → m ≡ Some l
+        → (tag_by_rows (Some tag) >>= (λ t. piece_by_rows false t None m rest))
+        ≡ Ok (record { tag = tag; whole = true; first = 0; complete = l; body = take l rest })
+    whole m long = rw (kept_read tag sent.0, long)
+
+    by_closing : (close : Bool)
+        → reading_of (record { status = 200; fields = fields_of (R200 tag l) ++ closing close; rest = rest })
+        ≡ Ok (record { tag = tag; whole = true; first = 0; complete = l; body = take l rest })
+    by_closing true = whole _ (number_64-decimal l sent.1)
+    by_closing false = whole _ (number_64-decimal l sent.1)

@@ -10,21 +10,21 @@ use Rattle.std.proofs.lemmas.Fmt.{decimal_nonempty}
 use Rattle.std.proofs.lemmas.Str.{IsUtf8-from_ascii}
 use Rattle.std.proofs.lemmas.Str.Ascii.{IsAscii-cons, IsAscii-nil}
 use Rattle.std.specs.Str.{IsAscii}
-use Rattle.httparse.specs.Grammar.{AllPass, is_token_byte, is_uri_byte, is_value_byte, crlf, RequestHead, IsRequestHead, print_request}
+use Rattle.httparse.specs.Grammar.{AllPass, is_token, is_token_byte, is_uri_byte, is_value_byte, crlf, RequestHead, IsRequestHead, print_request}
 use Rattle.httparse.proofs.GrammarLemmas.{request_unique, print_request-append}
 use Rattle.http_range.specs.Tag.{is_kept_tag}
-use Rattle.http_range.specs.Text.{NamedValue, line, message, closing}
+use Rattle.http_range.specs.Text.{FieldLine, line, head_with, closing}
 use Rattle.http_range.specs.Names.{is_name, is_name_byte, is_host, is_host_byte}
-use Rattle.http_range.specs.Ask.{CanAsk, request_line, range_value, if_range, request_fields, request_text, asked_request}
+use Rattle.http_range.specs.Ask.{CanAsk, request_line, range_value, if_range, request_fields, request_text, asked_request, CanCheck, check_fields, check_text, checked_request}
 use Rattle.http_range.specs.Seen.{SeenRequest, IsRequestFront, seen_request, HasRequest}
 use Rattle.http_range.proofs.ValueLemmas.{both, back_bare, decimal_pass}
-use Rattle.http_range.proofs.LineLemmas.{IsPlain, ArePlain, field_of, lines-are, fields-are, seen-are, length-fields, length-message}
+use Rattle.http_range.proofs.LineLemmas.{IsPlain, ArePlain, field_of, lines-are, fields-are, seen-are, length-fields, length-head_with}
 use Rattle.http_range.proofs.ReplyLemmas.{token_of, plain_visible, closing_plain, plain-append, pass_value, value_literal, length_20, tag_plain}
 
-abbrev head_by : List ℕ → List NamedValue → RequestHead
-head_by name ls = record {
+abbrev head_by : List ℕ → List ℕ → List FieldLine → RequestHead
+head_by method name ls = record {
   blank = [];
-  method = codes "GET";
+  method = method;
   target = 47 ∷ name;
   minor = 1;
   line_end = crlf;
@@ -32,20 +32,21 @@ head_by name ls = record {
   last = crlf;
 }
 
-regroup : (g n v e f c r : List ℕ)
-    → (g ++ n ++ v ++ e ++ f ++ c) ++ r ≡ g ++ (n ++ (v ++ (e ++ ((f ++ c) ++ r))))
-regroup g n v e f c r = simp append_assoc
+regroup : (m s n v e f c r : List ℕ)
+    → (m ++ s ++ n ++ v ++ e ++ f ++ c) ++ r ≡ m ++ (s ++ (n ++ (v ++ (e ++ ((f ++ c) ++ r)))))
+regroup m s n v e f c r = simp append_assoc
 
-request-append : (name : List ℕ) (ls : List NamedValue) (rest : List ℕ)
-    → message (request_line name) ls ++ rest ≡ print_request (head_by name ls) ++ rest
-request-append name ls rest =
-    regroup (codes "GET /") name (codes " HTTP/1.1") (codes "\r\n") (flat_map line ls) (codes "\r\n") rest
-    ∙ ap (λ (t : List ℕ). codes "GET /" ++ (name ++ (codes " HTTP/1.1" ++ (codes "\r\n" ++ ((t ++ codes "\r\n") ++ rest)))))
+request-append : (method name : List ℕ) (ls : List FieldLine) (rest : List ℕ)
+    → head_with (request_line method name) ls ++ rest ≡ print_request (head_by method name ls) ++ rest
+request-append method name ls rest =
+    regroup method (codes " /") name (codes " HTTP/1.1") (codes "\r\n") (flat_map line ls) (codes "\r\n") rest
+    ∙ ap (λ (t : List ℕ). method ++ (codes " /" ++ (name ++ (codes " HTTP/1.1" ++ (codes "\r\n" ++ ((t ++ codes "\r\n") ++ rest))))))
     (sym (lines-are ls))
-    ∙ sym (print_request-append (head_by name ls) rest)
+    ∙ sym (print_request-append (head_by method name ls) rest)
 
-request-is : (name : List ℕ) (ls : List NamedValue) → message (request_line name) ls ≡ print_request (head_by name ls)
-request-is name ls = sym (append-nil _) ∙ request-append name ls [] ∙ append-nil _
+request-is : (method name : List ℕ) (ls : List FieldLine)
+    → head_with (request_line method name) ls ≡ print_request (head_by method name ls)
+request-is method name ls = sym (append-nil _) ∙ request-append method name ls [] ∙ append-nil _
 
 -- ---- names and hosts
 
@@ -114,75 +115,113 @@ if_range_few : (tag : Option (List ℕ)) → length (if_range tag) ≤ 1
 if_range_few None = omega arith
 if_range_few (Some tag) = omega arith
 
-module _ (host name : List ℕ) (first last : ℕ) (tag : Option (List ℕ)) (can : CanAsk host name first last tag) where
-  abbrev lines : List NamedValue
-  lines = request_fields host first last tag
+-- a request whose parts are plain
+record IsPlainRequest (method name : List ℕ) (ls : List FieldLine) : Type 0 where
+  token : is_token method ≡ true
+  brief : length method ≤ 20
+  named : is_name name ≡ true
+  plain : ArePlain ls
+  few : length ls ≤ 20
 
+module _ (method name : List ℕ) (ls : List FieldLine) (is : IsPlainRequest method name ls) where
   abbrev head : RequestHead
-  head = head_by name lines
+  head = head_by method name ls
 
-  plain : ArePlain lines
-  plain = (
-    host_plain host can.to_host,
-    (range_plain first last can.from_first can.to_last, plain-append (if_range tag) (closing true) (if_range_plain tag can.kept) (closing_plain true)),
-  )
+  abbrev text : List ℕ
+  text = head_with (request_line method name) ls
 
-  few : length lines ≤ 20
-  few = omega (arith, length-append (if_range tag) (closing true), if_range_few tag)
+  abbrev seen : SeenRequest
+  seen = record { method = method; target = codes "/" ++ name; minor = 1; fields = ls }
 
   valid : IsRequestHead head
   unfolding is_token_byte
   valid =
-      let passes = (name_parts name can.of_name).2 in record {
-        method = token_of (codes "GET") refl;
+      let passes = (name_parts name is.named).2 in record {
+        method = token_of method is.token;
         target = (omega arith, All-cons (λ b. is_uri_byte b ≡ true) 47 name refl (pass_uri is_name_byte name_uri name passes));
         target_text = IsUtf8-from_ascii (47 ∷ name) (IsAscii-cons 47 name (omega arith) (ascii_name name passes));
         minor = omega arith;
-        fields = fields-are lines plain;
+        fields = fields-are ls is.plain;
       }
 
-  line_short : length (request_line name) ≤ 300
+  line_short : length (request_line method name) ≤ 300
   line_short =
-      let small = (name_parts name can.of_name).1 in
+      let small = (name_parts name is.named).1 in
+      let brief = is.brief in
       simp length-append (omega arith)
 
-  whole : (bytes more : List ℕ) → bytes ≡ request_text host name first last tag ++ more → IsRequestFront bytes head
-  whole bytes more is =
-      let text = request_text host name first last tag in
-      let small = length-message (request_line name) lines plain line_short few in
+  whole : (bytes more : List ℕ) → bytes ≡ text ++ more → IsRequestFront bytes head
+  whole bytes more parts =
+      let small = length-head_with (request_line method name) ls is.plain line_short is.few in
       let m = 8192 - length text in
       let e : 8192 ≡ length text + m = omega arith in
-      let n = few in record {
+      let n = is.few in record {
         rest = take m more;
         reads = (
           valid,
-          ap (take 8192) is ∙ ap (λ (k : ℕ). take k (text ++ more)) e ∙ take-append-add text more m
-              ∙ ap (λ (t : List ℕ). t ++ take m more) (request-is name lines),
+          ap (take 8192) parts ∙ ap (λ (k : ℕ). take k (text ++ more)) e ∙ take-append-add text more m
+              ∙ ap (λ (t : List ℕ). t ++ take m more) (request-is method name ls),
         );
-        room = omega (arith, length-fields lines);
+        room = omega (arith, length-fields ls);
       }
 
-  seen_is : seen_request head ≡ asked_request host name first last tag
-  seen_is = λ i. record { method = codes "GET"; target = 47 ∷ name; minor = 1; fields = seen-are lines plain i }
+  seen_is : seen_request head ≡ seen
+  seen_is = λ i. record { method = method; target = 47 ∷ name; minor = 1; fields = seen-are ls is.plain i }
 
-  finds : (bytes : List ℕ) → IsRequestFront bytes head → (r : Option SeenRequest) → HasRequest bytes r
-      → r ≡ Some (asked_request host name first last tag)
-  finds bytes is None none = absurd (none head is)
-  finds bytes is (Some q) found =
-      let same = request_unique (take 8192 bytes) found.0 head _ _ found.1.reads is.reads in
+  plain_read : (bytes more : List ℕ) → bytes ≡ text ++ more → (r : Option SeenRequest) → HasRequest bytes r → r ≡ Some seen
+  plain_read bytes more parts None none = absurd (none head (whole bytes more parts))
+  plain_read bytes more parts (Some q) found =
+      let same = request_unique (take 8192 bytes) found.0 head _ _ found.1.reads (whole bytes more parts).reads in
       ap Some (found.2 ∙ ap seen_request same.0 ∙ seen_is)
+
+  plain_has : (bytes more : List ℕ) → bytes ≡ text ++ more → HasRequest bytes (Some seen)
+  plain_has bytes more parts = (head, whole bytes more parts, sym seen_is)
+
+-- ---- the client's requests
+
+asked_plain : (host name : List ℕ) (first last : ℕ) (tag : Option (List ℕ)) → CanAsk host name first last tag
+    → IsPlainRequest (codes "GET") name (request_fields host first last tag)
+unfolding is_token_byte
+asked_plain host name first last tag can = record {
+  token = refl;
+  brief = omega arith;
+  named = can.of_name;
+  plain = (
+    host_plain host can.to_host,
+    (range_plain first last can.from_first can.to_last, plain-append (if_range tag) (closing true) (if_range_plain tag can.kept) (closing_plain true)),
+  );
+  few = omega (arith, length-append (if_range tag) (closing true), if_range_few tag);
+}
 
 pub asked_read : (host name : List ℕ) (first last : ℕ) (tag : Option (List ℕ)) (more : List ℕ) → CanAsk host name first last tag
     → (bytes : List ℕ) → bytes ≡ request_text host name first last tag ++ more → (r : Option SeenRequest) → HasRequest bytes r
     → r ≡ Some (asked_request host name first last tag)
 asked_read host name first last tag more can bytes is r found =
-    finds host name first last tag can bytes (whole host name first last tag can bytes more is) r found
+    plain_read (codes "GET") name (request_fields host first last tag) (asked_plain host name first last tag can) bytes more is r found
 
 pub asked_has : (host name : List ℕ) (first last : ℕ) (tag : Option (List ℕ)) (more : List ℕ) → CanAsk host name first last tag
     → (bytes : List ℕ) → bytes ≡ request_text host name first last tag ++ more
     → HasRequest bytes (Some (asked_request host name first last tag))
-asked_has host name first last tag more can bytes is = (
-  head host name first last tag can,
-  whole host name first last tag can bytes more is,
-  sym (seen_is host name first last tag can),
-)
+asked_has host name first last tag more can bytes is =
+    plain_has (codes "GET") name (request_fields host first last tag) (asked_plain host name first last tag can) bytes more is
+
+checked_plain : (host name tag : List ℕ) → CanCheck host name tag → IsPlainRequest (codes "HEAD") name (check_fields host tag)
+unfolding is_token_byte
+checked_plain host name tag can = record {
+  token = refl;
+  brief = omega arith;
+  named = can.of_name;
+  plain = (host_plain host can.to_host, (tag_plain (codes "If-None-Match") tag refl (omega arith) can.kept, closing_plain true));
+  few = omega arith;
+}
+
+pub checked_read : (host name tag more : List ℕ) → CanCheck host name tag → (bytes : List ℕ)
+    → bytes ≡ check_text host name tag ++ more → (r : Option SeenRequest) → HasRequest bytes r
+    → r ≡ Some (checked_request host name tag)
+checked_read host name tag more can bytes is r found =
+    plain_read (codes "HEAD") name (check_fields host tag) (checked_plain host name tag can) bytes more is r found
+
+pub checked_has : (host name tag more : List ℕ) → CanCheck host name tag → (bytes : List ℕ)
+    → bytes ≡ check_text host name tag ++ more → HasRequest bytes (Some (checked_request host name tag))
+checked_has host name tag more can bytes is =
+    plain_has (codes "HEAD") name (check_fields host tag) (checked_plain host name tag can) bytes more is

@@ -12,31 +12,34 @@ use Rattle.httparse.specs.Grammar.{is_value_byte, ResponseHead, IsResponseHead, 
 use Rattle.http_range.specs.declared.reading.Why.{Why}
 use Rattle.http_range.specs.declared.reading.Why.TheVariants.{Cut}
 use Rattle.http_range.specs.declared.reply.Reply.{Reply}
-use Rattle.http_range.specs.declared.reply.Reply.TheVariants.{R200, R206, R400, R404, R405, R416}
-use Rattle.http_range.specs.Text.{NamedValue, message, closing}
+use Rattle.http_range.specs.declared.reply.Reply.TheVariants.{R200, R206, R304, R400, R404, R405, R412, R416}
+use Rattle.http_range.specs.Text.{FieldLine, head_with, closing}
 use Rattle.http_range.specs.Reply.{IsSent, status_of, status_line, fields_of, head_text}
 use Rattle.http_range.specs.Head.{SeenHead, seen_head, FindsHead}
 use Rattle.http_range.specs.Piece.{SeenPiece, ◌>>=◌}
-use Rattle.http_range.specs.Reading.{reply_seen, front_seen}
-use Rattle.http_range.specs.Steps.{answer_of, FoundAnswer}
-use Rattle.http_range.proofs.LineLemmas.{ArePlain, head_by, status_by, message-is, head_is, length-fields, length-message, seen-are}
+use Rattle.http_range.specs.Reading.{reading_of, reply_seen, front_seen, tag_of, tag_seen, front_tag, ReadsAnswer, ReadsCheck}
+use Rattle.http_range.proofs.LineLemmas.{ArePlain, head_by, status_by, head_with-is, head_is, length-fields, length-head_with, seen-are}
 use Rattle.http_range.proofs.FrontLemmas.{found_whole, found_cut, whole_head, seen_whole}
-use Rattle.http_range.proofs.ReplyLemmas.{fields_plain, closing_plain, plain-append, reads_200, reads_206}
+use Rattle.http_range.proofs.ReplyLemmas.{fields_plain, closing_plain, plain-append, kept_read, reads_200, reads_206}
 
 abbrev digits_of : Reply → List ℕ
 digits_of (R200 tag l) = codes "200"
 digits_of (R206 tag a b l) = codes "206"
+digits_of (R304 tag) = codes "304"
 digits_of R400 = codes "400"
 digits_of R404 = codes "404"
 digits_of R405 = codes "405"
+digits_of R412 = codes "412"
 digits_of (R416 l) = codes "416"
 
 abbrev phrase_of : Reply → List ℕ
 phrase_of (R200 tag l) = codes "OK"
 phrase_of (R206 tag a b l) = codes "Partial Content"
+phrase_of (R304 tag) = codes "Not Modified"
 phrase_of R400 = codes "Bad Request"
 phrase_of R404 = codes "Not Found"
 phrase_of R405 = codes "Method Not Allowed"
+phrase_of R412 = codes "Precondition Failed"
 phrase_of (R416 l) = codes "Range Not Satisfiable"
 
 -- what holds of a status line, by computing
@@ -52,9 +55,11 @@ record IsStatus (reply : Reply) : Type 0 where
 status : (reply : Reply) → IsStatus reply
 status (R200 tag l) = record { line = refl; three = refl; digits = refl; value = refl; code = refl; short = omega arith; few = omega arith }
 status (R206 tag a b l) = record { line = refl; three = refl; digits = refl; value = refl; code = refl; short = omega arith; few = omega arith }
+status (R304 tag) = record { line = refl; three = refl; digits = refl; value = refl; code = refl; short = omega arith; few = omega arith }
 status R400 = record { line = refl; three = refl; digits = refl; value = refl; code = refl; short = omega arith; few = omega arith }
 status R404 = record { line = refl; three = refl; digits = refl; value = refl; code = refl; short = omega arith; few = omega arith }
 status R405 = record { line = refl; three = refl; digits = refl; value = refl; code = refl; short = omega arith; few = omega arith }
+status R412 = record { line = refl; three = refl; digits = refl; value = refl; code = refl; short = omega arith; few = omega arith }
 status (R416 l) = record { line = refl; three = refl; digits = refl; value = refl; code = refl; short = omega arith; few = omega arith }
 
 closing_few : (close : Bool) → length (closing close) ≤ 1
@@ -62,7 +67,7 @@ closing_few true = omega arith
 closing_few false = omega arith
 
 module _ (reply : Reply) (close : Bool) (sent : IsSent reply) where
-  abbrev lines : List NamedValue
+  abbrev lines : List FieldLine
   lines = fields_of reply ++ closing close
 
   abbrev head : ResponseHead
@@ -82,24 +87,24 @@ module _ (reply : Reply) (close : Bool) (sent : IsSent reply) where
 
   printed : head_text reply close ≡ print_response head
   printed =
-      ap (λ (t : List ℕ). message t lines) (status reply).line ∙ message-is (digits_of reply) (phrase_of reply) lines
+      ap (λ (t : List ℕ). head_with t lines) (status reply).line ∙ head_with-is (digits_of reply) (phrase_of reply) lines
 
   small : length (head_text reply close) ≤ 4096
   small =
-      let short = (status reply).short in length-message (status_line reply) lines plain (omega arith) few
+      let short = (status reply).short in length-head_with (status_line reply) lines plain (omega arith) few
 
   room : length head.fields ≤ 32
   room = let n = few in omega (arith, length-fields lines)
 
   -- what is seen of the head and of what follows it
   seen_is : (bytes rest : List ℕ) → bytes ≡ head_text reply close ++ rest
-      → seen_head bytes head ≡ record { code = status_of reply; fields = lines; rest = rest }
+      → seen_head bytes head ≡ record { status = status_of reply; fields = lines; rest = rest }
   seen_is bytes rest parts =
       let behind = seen_whole head bytes rest (parts ∙ ap (λ (t : List ℕ). t ++ rest) printed) in
-      λ i. record { code = (status reply).code i; fields = seen-are lines plain i; rest = behind i }
+      λ i. record { status = (status reply).code i; fields = seen-are lines plain i; rest = behind i }
 
   found_there : (bytes rest : List ℕ) → bytes ≡ head_text reply close ++ rest → (found : Result SeenHead Why)
-      → FindsHead bytes found → found ≡ Ok (record { code = status_of reply; fields = lines; rest = rest })
+      → FindsHead bytes found → found ≡ Ok (record { status = status_of reply; fields = lines; rest = rest })
   found_there bytes rest parts found finds =
       let fits : length (print_response head) ≤ 4096 = subst (λ (t : List ℕ). length t ≤ 4096) printed small in
       found_whole bytes head found
@@ -114,35 +119,87 @@ module _ (reply : Reply) (close : Bool) (sent : IsSent reply) where
 
 -- what the fields of a reply say
 reads_reply : (reply : Reply) (close : Bool) (rest : List ℕ) → IsSent reply
-    → answer_of (record { code = status_of reply; fields = fields_of reply ++ closing close; rest = rest }) ≡ reply_seen reply rest
-unfolding answer_of
+    → reading_of (record { status = status_of reply; fields = fields_of reply ++ closing close; rest = rest }) ≡ reply_seen reply rest
 reads_reply (R200 tag l) close rest sent = reads_200 tag l close rest sent
 reads_reply (R206 tag a b l) close rest sent = reads_206 tag a b l close rest sent
+reads_reply (R304 tag) close rest sent = refl
 reads_reply R400 close rest sent = refl
 reads_reply R404 close rest sent = refl
 reads_reply R405 close rest sent = refl
+reads_reply R412 close rest sent = refl
 reads_reply (R416 l) close rest sent = refl
 
-pub front_read : (reply : Reply) (close : Bool) (body : List ℕ) (k : ℕ) → IsSent reply → (bytes : List ℕ)
-    → bytes ≡ take k (head_text reply close ++ body) → (r : Result SeenPiece Why) → FoundAnswer bytes r
-    → r ≡ front_seen reply close body k
-front_read reply close body k sent bytes is r reads =
+-- what a check reads of them
+reads_tag : (reply : Reply) (close : Bool) (rest : List ℕ) → IsSent reply
+    → tag_of (record { status = status_of reply; fields = fields_of reply ++ closing close; rest = rest }) ≡ tag_seen reply
+reads_tag (R200 tag l) true rest sent = kept_read tag sent.0
+reads_tag (R200 tag l) false rest sent = kept_read tag sent.0
+reads_tag (R206 tag a b l) true rest sent = kept_read tag sent.0
+reads_tag (R206 tag a b l) false rest sent = kept_read tag sent.0
+reads_tag (R304 tag) true rest sent = kept_read tag sent
+reads_tag (R304 tag) false rest sent = kept_read tag sent
+reads_tag R400 close rest sent = refl
+reads_tag R404 close rest sent = refl
+reads_tag R405 close rest sent = refl
+reads_tag R412 close rest sent = refl
+reads_tag (R416 l) close rest sent = refl
+
+-- the first k bytes of a reply and a body have its whole head, or are cut
+record IsFoundHead (reply : Reply) (close : Bool) (body : List ℕ) (k : ℕ) (found : Result SeenHead Why) : Type 0 where
+  whole : length (head_text reply close) ≤ k
+      → found ≡ Ok (record {
+        status = status_of reply;
+        fields = fields_of reply ++ closing close;
+        rest = take (k - length (head_text reply close)) body;
+      })
+  short : k < length (head_text reply close) → found ≡ Err Cut
+
+front_found : (reply : Reply) (close : Bool) (body : List ℕ) (k : ℕ) → IsSent reply → (bytes : List ℕ)
+    → bytes ≡ take k (head_text reply close ++ body) → (found : Result SeenHead Why) → FindsHead bytes found
+    → IsFoundHead reply close body k found
+front_found reply close body k sent bytes is found finds =
     let text = head_text reply close in
-    let n = length text in
-    elim (cases_lt k n) [
-      | inl below ↦
-          let front : bytes ≡ take k text = is ∙ take-append-le k text body (omega arith) in
-          let parts : bytes ++ drop k text ≡ text = ap (λ (t : List ℕ). t ++ drop k text) front ∙ take-append-drop k text in
-          let some : 0 < length (drop k text) = omega (arith, length-drop k text) in
-          let cut = found_short reply close sent bytes (drop k text) some parts reads.0 reads.1 in
-          let test : leb n k ≡ false = lt-leb n k below in
-          reads.2 ∙ ap (λ (f : Result SeenHead Why). f >>= answer_of) cut ∙ rw test
-      | inr above ↦
+    let n = length text in record {
+      whole = λ above.
           let e : k ≡ n + (k - n) = omega arith in
           let parts : bytes ≡ text ++ take (k - n) body =
           is ∙ ap (λ (m : ℕ). take m (text ++ body)) e ∙ take-append-add text body (k - n) in
-          let found = found_there reply close sent bytes (take (k - n) body) parts reads.0 reads.1 in
+          found_there reply close sent bytes (take (k - n) body) parts found finds;
+      short = λ below.
+          let front : bytes ≡ take k text = is ∙ take-append-le k text body (omega arith) in
+          let parts : bytes ++ drop k text ≡ text = ap (λ (t : List ℕ). t ++ drop k text) front ∙ take-append-drop k text in
+          let some : 0 < length (drop k text) = omega (arith, length-drop k text) in
+          found_short reply close sent bytes (drop k text) some parts found finds;
+    }
+
+pub front_read : (reply : Reply) (close : Bool) (body : List ℕ) (k : ℕ) → IsSent reply → (bytes : List ℕ)
+    → bytes ≡ take k (head_text reply close ++ body) → (r : Result SeenPiece Why) → ReadsAnswer bytes r
+    → r ≡ front_seen reply close body k
+front_read reply close body k sent bytes is r reads =
+    let n = length (head_text reply close) in
+    let found = front_found reply close body k sent bytes is reads.0 reads.1 in
+    elim (cases_lt k n) [
+      | inl below ↦
+          let test : leb n k ≡ false = lt-leb n k below in
+          reads.2 ∙ ap (λ (f : Result SeenHead Why). f >>= reading_of) (found.short below) ∙ rw test
+      | inr above ↦
           let test : leb n k ≡ true = le-leb n k above in
-          reads.2 ∙ ap (λ (f : Result SeenHead Why). f >>= answer_of) found
+          reads.2 ∙ ap (λ (f : Result SeenHead Why). f >>= reading_of) (found.whole above)
           ∙ reads_reply reply close (take (k - n) body) sent ∙ rw test
+    ]
+
+pub front_checked : (reply : Reply) (close : Bool) (body : List ℕ) (k : ℕ) → IsSent reply → (bytes : List ℕ)
+    → bytes ≡ take k (head_text reply close ++ body) → (r : Result (List ℕ) Why) → ReadsCheck bytes r
+    → r ≡ front_tag reply close k
+front_checked reply close body k sent bytes is r reads =
+    let n = length (head_text reply close) in
+    let found = front_found reply close body k sent bytes is reads.0 reads.1 in
+    elim (cases_lt k n) [
+      | inl below ↦
+          let test : leb n k ≡ false = lt-leb n k below in
+          reads.2 ∙ ap (λ (f : Result SeenHead Why). f >>= tag_of) (found.short below) ∙ rw test
+      | inr above ↦
+          let test : leb n k ≡ true = le-leb n k above in
+          reads.2 ∙ ap (λ (f : Result SeenHead Why). f >>= tag_of) (found.whole above)
+          ∙ reads_tag reply close (take (k - n) body) sent ∙ rw test
     ]

@@ -31,11 +31,6 @@ In p (q ∷ book) = (p ≡ q) ⊎ In p book
 abbrev pub Includes : Book → Book → Type 0
 Includes later book = (p : Publication) → In p book → In p later
 
--- each publication is lawful
-abbrev pub IsBook : Book → Type 0
-IsBook [] = ⊤
-IsBook (p ∷ book) = IsPublication p × IsBook book
-
 -- a tag tells one publication from all others, of whatever name
 abbrev pub HasDistinctTags : Book → Type 0
 HasDistinctTags book = (p q : Publication) → In p book → In q book → p.tag ≡ q.tag → p ≡ q
@@ -67,5 +62,5 @@ publish p (q ∷ catalogue) = if bytes_eq q.name p.name then p ∷ catalogue els
 -- ---- tags
 
 -- `"E-N"`: the epoch, and the number of the publication in it
-unfoldable pub version_tag : ℕ → ℕ → List ℕ
-version_tag epoch n = codes "\"" ++ decimal epoch ++ codes "-" ++ decimal n ++ codes "\""
+unfoldable pub publication_tag : ℕ → ℕ → List ℕ
+publication_tag epoch n = codes "\"" ++ decimal epoch ++ codes "-" ++ decimal n ++ codes "\""

@@ -24,12 +24,12 @@ IsRange (Some r) = (r.first ≤ r.last) × (r.last < r.complete)
 -- ---- the same, computed
 
 -- three numbers, where the first isn't above the second, and the second is below the third
-abbrev pub range_by : Option ℕ → Option ℕ → Option ℕ → Option ContentRange
-range_by (Some a) (Some b) (Some l) =
+abbrev pub range_of_numbers : Option ℕ → Option ℕ → Option ℕ → Option ContentRange
+range_of_numbers (Some a) (Some b) (Some l) =
     if nat_le a b && nat_lt b l then Some (record { first = a; last = b; complete = l }) else None
-range_by (Some a) (Some b) None = None
-range_by (Some a) None l = None
-range_by None b l = None
+range_of_numbers (Some a) (Some b) None = None
+range_of_numbers (Some a) None l = None
+range_of_numbers None b l = None
 
 -- the range that the value of a Content-Range field names
 unfoldable pub range_of : List ℕ → Option ContentRange
@@ -37,6 +37,6 @@ range_of text =
     let span = drop 6 text in
     let ends = after_first (λ b. b == 45) span in
     if starts_with nat_eq text (codes "bytes ")
-    then range_by (number_64 (before_first (λ b. b == 45) span))
+    then range_of_numbers (number_64 (before_first (λ b. b == 45) span))
     (number_64 (before_first (λ b. b == 47) ends)) (number_64 (after_first (λ b. b == 47) ends))
     else None

@@ -3,14 +3,14 @@ use Rattle.std.specs.Prelude.{ℕ, Bool, true, false, List, [], ◌∷◌, lengt
 use Rattle.std.specs.Str.{bytes_eq, str_to_ascii_lowercase}
 use Rattle.httparse.specs.declared.spans.HeaderSpan.{HeaderSpan}
 use Rattle.httparse.specs.Spans.{header_bytes, IsHeaderWithin}
-use Rattle.http_range.specs.Text.{NamedValue}
+use Rattle.http_range.specs.Text.{FieldLine}
 
 -- the field has this name; case is ignored
-abbrev pub is_named : List ℕ → NamedValue → Bool
+abbrev pub is_named : List ℕ → FieldLine → Bool
 is_named name field = bytes_eq (str_to_ascii_lowercase field.0) (str_to_ascii_lowercase name)
 
 -- the values under a name, in order
-abbrev pub values_of : List ℕ → List NamedValue → List (List ℕ)
+abbrev pub values_of : List ℕ → List FieldLine → List (List ℕ)
 values_of name fields = map (λ field. field.1) (filter (is_named name) fields)
 
 -- the element of a list of one
@@ -24,13 +24,8 @@ abbrev pub is_there : {A : Type 0} → List A → Bool
 is_there [] = false
 is_there (x ∷ xs) = true
 
--- what f finds of a value, where it is there
-abbrev pub then_by : {A B : Type 0} → Option A → (A → Option B) → Option B
-then_by None f = None
-then_by (Some x) f = f x
-
 -- the names and values that the spans cover
-abbrev pub fields_at : List ℕ → List HeaderSpan → List NamedValue
+abbrev pub fields_at : List ℕ → List HeaderSpan → List FieldLine
 fields_at bytes spans = map (header_bytes bytes) spans
 
 -- the spans lie in the bytes

@@ -2,43 +2,44 @@
 use Rattle.std.specs.Prelude.{◌≡◌, ℕ, ◌<◌, ◌≤◌, ◌⊎◌, List, length, take, drop, map, Result, Ok, Err}
 use Rattle.httparse.specs.Grammar.{ResponseHead, ReadsResponse, print_response, status_code, HasNoResponse, MayBecomeResponse}
 use Rattle.httparse.specs.Spans.{name_and_value, ResponseOverflows}
+use Rattle.http_range.specs.declared.limits.TheConstants.{FIELD_LIMIT, HEAD_LIMIT}
 use Rattle.http_range.specs.declared.reading.Why.{Why}
 use Rattle.http_range.specs.declared.reading.Why.TheVariants.{Cut, Head, Status, NoTag, WeakTag, TagTooLong, NoRange, NoLength, Coding}
-use Rattle.http_range.specs.Text.{NamedValue}
+use Rattle.http_range.specs.Text.{FieldLine}
 
 -- what is read of a head, and the bytes after it
 pub record SeenHead : Type 0 where
-  pub code : ℕ
-  pub fields : List NamedValue
+  pub status : ℕ
+  pub fields : List FieldLine
   pub rest : List ℕ
 
 -- the bytes where a head is looked for
 abbrev pub front_of : List ℕ → List ℕ
-front_of bytes = take 4096 bytes
+front_of bytes = take HEAD_LIMIT bytes
 
 -- h stands at the front of bytes, whole in the first 4,096, with at most 32 fields
 pub record IsHeadOf (bytes : List ℕ) (h : ResponseHead) : Type 0 where
   pub rest : List ℕ
   pub reads : ReadsResponse (front_of bytes) h rest
-  pub room : length h.fields ≤ 32
+  pub room : length h.fields ≤ FIELD_LIMIT
 
 abbrev pub seen_head : List ℕ → ResponseHead → SeenHead
 seen_head bytes h = record {
-  code = status_code h;
+  status = status_code h;
   fields = map name_and_value h.fields;
   rest = drop (length (print_response h)) bytes;
 }
 
 -- a front of a head, and too short to be refused
 pub record IsCut (bytes : List ℕ) : Type 0 where
-  pub short : length bytes < 4096
+  pub short : length bytes < HEAD_LIMIT
   pub none : HasNoResponse bytes
   pub unfinished : MayBecomeResponse bytes
 
 -- no head ends in the first 4,096 bytes, or none of at most 32 fields begins there, whatever follows
 abbrev pub IsRefused : List ℕ → Type 0
 IsRefused bytes =
-    ((4096 ≤ length bytes) × HasNoResponse (front_of bytes)) ⊎ ResponseOverflows 32 (front_of bytes)
+    ((HEAD_LIMIT ≤ length bytes) × HasNoResponse (front_of bytes)) ⊎ ResponseOverflows FIELD_LIMIT (front_of bytes)
 
 -- what is answered of the head of bytes: its parts, or one of the cases *cut* and *refused head*
 abbrev pub FindsHead : List ℕ → Result SeenHead Why → Type 0

@@ -2,7 +2,7 @@
 use Rattle.std.specs.Prelude.{◌≡◌, ◌≤◌, ◌⊎◌, ℕ, ◌+◌, IsTrue, List, ◌++◌, length, drop, Some, None}
 use Rattle.http_range.specs.Piece.{SeenPiece}
 use Rattle.http_range.specs.Book.{Publication, Book, In, Catalogue, IsCatalogue, published}
-use Rattle.http_range.specs.Served.{Served, text_of, IsAnswer}
+use Rattle.http_range.specs.Response.{Response, text_of, IsAnswer}
 
 -- front is where whole begins
 abbrev pub IsFront : List ℕ → List ℕ → Type 0
@@ -12,29 +12,29 @@ IsFront front whole = (rest : List ℕ) × (front ++ rest ≡ whole)
 pub record IsHonestFor (text : List ℕ) (p : Publication) : Type 0 where
   pub catalogue : Catalogue
   pub message : List ℕ
-  pub served : Served
+  pub response : Response
   pub lawful : IsCatalogue catalogue
-  pub answers : IsAnswer catalogue message served
+  pub answers : IsAnswer catalogue message response
   pub has : published p.name catalogue ≡ Some p
-  pub named : (served.name ≡ Some p.name) ⊎ (served.name ≡ None)
-  pub front : IsFront text (text_of served)
+  pub named : (response.name ≡ Some p.name) ⊎ (response.name ≡ None)
+  pub front : IsFront text (text_of response)
 
 -- text is a front of an answer that carries no tag
 pub record IsNamelessFront (text : List ℕ) : Type 0 where
   pub catalogue : Catalogue
   pub message : List ℕ
-  pub served : Served
+  pub response : Response
   pub lawful : IsCatalogue catalogue
-  pub answers : IsAnswer catalogue message served
-  pub nameless : served.name ≡ None
-  pub front : IsFront text (text_of served)
+  pub answers : IsAnswer catalogue message response
+  pub nameless : response.name ≡ None
+  pub front : IsFront text (text_of response)
 
 -- it is so for a publication of that name in the book, or the answer carries no tag
 abbrev pub IsHonest : List ℕ → List ℕ → Book → Type 0
 IsHonest text name book =
     ((p : Publication) × In p book × (p.name ≡ name) × IsHonestFor text p) ⊎ IsNamelessFront text
 
--- the piece is a piece of p, where it says that it is
+-- the piece has the tag and the length of p, and its body stands in the file of p at its first position
 pub record IsPieceOf (p : Publication) (piece : SeenPiece) : Type 0 where
   pub tag : piece.tag ≡ p.tag
   pub complete : piece.complete ≡ length p.file

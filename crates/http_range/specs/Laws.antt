@@ -1,52 +1,88 @@
 -- Laws of the definitions, each the contract of a function of `laws`.
-use Rattle.std.specs.Prelude.{◌≡◌, ◌≢◌, ◌<◌, ◌≤◌, ◌^◌, ◌↔◌, ◌⊎◌, ℕ, IsTrue, List, [], ◌∷◌, ◌++◌, codes, Option, Some, None}
+use Rattle.std.specs.Prelude.{◌≡◌, ◌≢◌, ◌<◌, ◌≤◌, ◌^◌, ◌↔◌, ◌⊎◌, ℕ, Bool, IsTrue, IsErr, IfOk, List, [], ◌∷◌, ◌++◌, length, take, drop, codes, Option, Some, None, Result}
 use Rattle.std.specs.List.{AllPass}
-use Rattle.http_range.specs.Ask.{CanAsk, request_text}
-use Rattle.http_range.specs.Book.{Publication, IsPublication, Book, Includes, Covers, Catalogue, IsCatalogue, published, publish, version_tag}
-use Rattle.http_range.specs.Served.{Served, text_of, IsAnswer, served_to_client}
-use Rattle.http_range.specs.Stream.{AreAnswers}
-use Rattle.http_range.specs.Honest.{IsFront, IsHonestFor, IsHonest}
+use Rattle.http_range.specs.Ask.{CanAsk, request_text, CanCheck, check_text}
+use Rattle.http_range.specs.Book.{Publication, IsPublication, Book, Includes, Covers, Catalogue, IsCatalogue, published, publish, publication_tag}
+use Rattle.http_range.specs.Response.{Response, text_of, IsAnswer, response_to_client, response_to_check}
+use Rattle.http_range.specs.declared.limits.TheConstants.{FIELD_LIMIT, TAG_LIMIT, HEAD_LIMIT, MESSAGE_LIMIT, ANSWERS_LIMIT}
+use Rattle.http_range.specs.Seen.{SeenRequest, HasRequest}
+use Rattle.http_range.specs.Stream.{AreAnswers, HasNoMessage, IsFirstMessage, IsUnfinished}
+use Rattle.http_range.specs.Honest.{IsFront, IsHonestFor, IsNamelessFront, IsHonest, IsPieceOf, IsPieceOfBook}
+use Rattle.http_range.specs.declared.reading.Why.{Why}
+use Rattle.http_range.specs.declared.reply.Reply.{Reply}
+use Rattle.http_range.specs.Reply.{IsSent, head_text}
+use Rattle.http_range.specs.Piece.{SeenPiece}
+use Rattle.http_range.specs.Reading.{front_seen, front_tag, ReadsAnswer, ReadsCheck}
 use Rattle.http_range.specs.ContentRange.{IsContentRange, range_of}
 use Rattle.http_range.specs.declared.reading.ContentRange.{ContentRange}
 use Rattle.http_range.specs.Tag.{is_tag_byte, is_opaque_tag, is_weak_tag, is_kept_tag}
 
+-- the limits, in numbers
+pub record LimitsAre : Type 0 where
+  pub fields : FIELD_LIMIT ≡ 32
+  pub tag : TAG_LIMIT ≡ 64
+  pub head : HEAD_LIMIT ≡ 4096
+  pub message : MESSAGE_LIMIT ≡ 8192
+  pub answers : ANSWERS_LIMIT ≡ 100
+
 -- the tags of two publications of one server are different
-abbrev pub TagsTellVersions : Type 0
-TagsTellVersions =
+abbrev pub TagsTellPublications : Type 0
+TagsTellPublications =
     (e n f m : ℕ) → e < 2 ^ 64 → n < 2 ^ 64 → f < 2 ^ 64 → m < 2 ^ 64
-    → version_tag e n ≡ version_tag f m → (e ≡ f) × (n ≡ m)
+    → publication_tag e n ≡ publication_tag f m → (e ≡ f) × (n ≡ m)
 
 -- such a tag is kept
-abbrev pub VersionTagsAreKept : Type 0
-VersionTagsAreKept = (e n : ℕ) → e < 2 ^ 64 → n < 2 ^ 64 → IsTrue (is_kept_tag (version_tag e n))
+abbrev pub PublicationTagsAreKept : Type 0
+PublicationTagsAreKept = (e n : ℕ) → e < 2 ^ 64 → n < 2 ^ 64 → IsTrue (is_kept_tag (publication_tag e n))
 
 -- a message has one answer
 abbrev pub AnswersAreUnique : Type 0
 AnswersAreUnique =
-    (catalogue : Catalogue) (message : List ℕ) (s t : Served)
+    (catalogue : Catalogue) (message : List ℕ) (s t : Response)
     → IsAnswer catalogue message s → IsAnswer catalogue message t → s ≡ t
 
--- so has a stream
+-- a stream has one list of answers
 abbrev pub StreamsAreAnsweredOnce : Type 0
 StreamsAreAnsweredOnce =
-    (catalogue : Catalogue) (n : ℕ) (stream text other : List ℕ)
-    → AreAnswers catalogue n stream text → AreAnswers catalogue n stream other → text ≡ other
+    (catalogue : Catalogue) (n : ℕ) (stream : List ℕ) (rs others : List Response)
+    → AreAnswers catalogue n stream rs → AreAnswers catalogue n stream others → rs ≡ others
+
+-- what a message of a stream is to its server
+pub record MessagesStay : Type 0 where
+  -- a message that was found stays the first one when bytes follow
+  pub found : (stream message more : List ℕ) → IsFirstMessage stream message → IsFirstMessage (stream ++ more) message
+  -- it has 1 to 8,192 bytes, and the rest of the stream stands behind it
+  pub short : (stream message : List ℕ) → IsFirstMessage stream message
+      → (1 ≤ length message) × (length message ≤ MESSAGE_LIMIT) × (message ++ drop (length message) stream ≡ stream)
+  -- there is no other
+  pub one : (stream message other : List ℕ) → IsFirstMessage stream message → IsFirstMessage stream other → message ≡ other
+  -- an unfinished stream is shorter than a message may be, and what was gone through need not be gone through again
+  pub unfinished : (stream more : List ℕ) → IsUnfinished stream
+      → (length stream < MESSAGE_LIMIT) × HasNoMessage (stream ++ more) (length stream)
+  -- nothing is no message
+  pub none : (stream : List ℕ) → HasNoMessage stream 0
+  -- an unfinished stream has no message
+  pub apart : (stream message : List ℕ) → IsUnfinished stream → ¬ (IsFirstMessage stream message)
+
+-- a head that was found in a message is the same when bytes follow
+abbrev pub HeadsStay : Type 0
+HeadsStay =
+    (bytes more : List ℕ) (seen : SeenRequest) → HasRequest bytes (Some seen) → HasRequest (bytes ++ more) (Some seen)
 
 -- what is answered to a client's request, whatever follows it in the stream
 abbrev pub ClientsAreAnswered : Type 0
 ClientsAreAnswered =
-    (catalogue : Catalogue) (host name more : List ℕ) (first last : ℕ) (tag : Option (List ℕ)) (served : Served)
+    (catalogue : Catalogue) (host name more : List ℕ) (first last : ℕ) (tag : Option (List ℕ)) (response : Response)
     → CanAsk host name first last tag → first ≤ last
-    → IsAnswer catalogue (request_text host name first last tag ++ more) served
-    ↔ (served ≡ served_to_client (published name catalogue) first last tag)
+    → IsAnswer catalogue (request_text host name first last tag ++ more) response
+    ↔ (response ≡ response_to_client (published name catalogue) first last tag)
 
--- the same where nothing follows it
-abbrev pub ClientsAreAnsweredAlone : Type 0
-ClientsAreAnsweredAlone =
-    (catalogue : Catalogue) (host name : List ℕ) (first last : ℕ) (tag : Option (List ℕ)) (served : Served)
-    → CanAsk host name first last tag → first ≤ last
-    → IsAnswer catalogue (request_text host name first last tag) served
-    ↔ (served ≡ served_to_client (published name catalogue) first last tag)
+-- what is answered to a client's check, whatever follows it: the tag alone exactly where the file still has it
+abbrev pub ChecksAreAnswered : Type 0
+ChecksAreAnswered =
+    (catalogue : Catalogue) (host name tag more : List ℕ) (response : Response) → CanCheck host name tag
+    → IsAnswer catalogue (check_text host name tag ++ more) response
+    ↔ (response ≡ response_to_check (published name catalogue) tag)
 
 -- a publication stands under its name, and changes no other name
 pub record PublishReplaces : Type 0 where
@@ -66,7 +102,7 @@ pub record PublishedIsNamed : Type 0 where
 pub record HonestyIsKept : Type 0 where
   -- an answer of a server whose files stand in the book is honest for the name that it carries, and one without a tag for
   -- every name
-  pub served : (catalogue : Catalogue) (book : Book) (message : List ℕ) (s : Served) (name : List ℕ) → IsCatalogue catalogue
+  pub answered : (catalogue : Catalogue) (book : Book) (message : List ℕ) (s : Response) (name : List ℕ) → IsCatalogue catalogue
       → Covers book catalogue → IsAnswer catalogue message s → (s.name ≡ Some name) ⊎ (s.name ≡ None)
       → IsHonest (text_of s) name book
   -- so is each front of it
@@ -75,6 +111,39 @@ pub record HonestyIsKept : Type 0 where
   pub later : (text name : List ℕ) (book later : Book) → Includes later book → IsHonest text name book → IsHonest text name later
   -- what it is honest for is a lawful publication
   pub lawful : (text : List ℕ) (p : Publication) → IsHonestFor text p → IsPublication p
+
+-- what is read of an answer, or of a front of it
+pub record FrontsAreRead : Type 0 where
+  -- the first k bytes of a reply and its body are read as that reply, or as cut in its head
+  pub reply : (reply : Reply) (close : Bool) (body bytes : List ℕ) (k : ℕ) (r : Result SeenPiece Why) → IsSent reply
+      → bytes ≡ take k (head_text reply close ++ body) → ReadsAnswer bytes r → r ≡ front_seen reply close body k
+  -- so are those of a server's answer
+  pub answer : (catalogue : Catalogue) (message bytes : List ℕ) (s : Response) (k : ℕ) (r : Result SeenPiece Why)
+      → IsCatalogue catalogue → IsAnswer catalogue message s → bytes ≡ take k (text_of s) → ReadsAnswer bytes r
+      → r ≡ front_seen s.reply s.close s.body k
+  -- a piece that is read of an honest answer for a publication is a piece of that file
+  pub honest : (text : List ℕ) (p : Publication) (r : Result SeenPiece Why) → IsHonestFor text p → ReadsAnswer text r
+      → IfOk r (IsPieceOf p)
+  -- a piece that is read of an honest answer for a name is a piece of a file of that name in the book
+  pub book : (text name : List ℕ) (book : Book) (r : Result SeenPiece Why) → IsHonest text name book → ReadsAnswer text r
+      → IfOk r (IsPieceOfBook name book)
+  -- an answer without a tag gives no piece
+  pub nameless : (text : List ℕ) (r : Result SeenPiece Why) → IsNamelessFront text → ReadsAnswer text r → IsErr r
+
+-- what a client's check reads of an answer, or of a front of it
+pub record ChecksAreRead : Type 0 where
+  -- the first k bytes of a reply and its body say the reply's tag, or are cut in its head
+  pub reply : (reply : Reply) (close : Bool) (body bytes : List ℕ) (k : ℕ) (r : Result (List ℕ) Why) → IsSent reply
+      → bytes ≡ take k (head_text reply close ++ body) → ReadsCheck bytes r → r ≡ front_tag reply close k
+  -- so do those of a server's answer
+  pub answer : (catalogue : Catalogue) (message bytes : List ℕ) (s : Response) (k : ℕ) (r : Result (List ℕ) Why)
+      → IsCatalogue catalogue → IsAnswer catalogue message s → bytes ≡ take k (text_of s) → ReadsCheck bytes r
+      → r ≡ front_tag s.reply s.close k
+  -- a tag that is read of an honest answer for a publication, which stands in that answer's catalogue, is its tag
+  pub honest : (text : List ℕ) (p : Publication) (r : Result (List ℕ) Why) → IsHonestFor text p → ReadsCheck text r
+      → IfOk r (λ tag. tag ≡ p.tag)
+  -- an answer without a tag says none
+  pub nameless : (text : List ℕ) (r : Result (List ℕ) Why) → IsNamelessFront text → ReadsCheck text r → IsErr r
 
 -- the texts between quotes are the entity tags, and those behind `W/` the weak ones
 pub record TagsAreQuoted : Type 0 where

@@ -3,6 +3,9 @@ pub mod Names
 pub mod Text
 pub mod Digits
 pub mod Fields
+pub mod FieldLines
+pub mod Members
+pub mod Conditional
 pub mod Reply
 pub mod Ask
 pub mod Seen
@@ -12,11 +15,9 @@ pub mod Head
 pub mod AnswerHead
 pub mod Piece
 pub mod ContentRange
-pub mod Steps
 pub mod Reading
 pub mod Book
-pub mod Served
+pub mod Response
 pub mod Stream
 pub mod Honest
 pub mod Laws
-pub mod Examples

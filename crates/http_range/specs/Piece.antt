@@ -1,11 +1,13 @@
 -- What an answer says to a client: a piece of a file, or why it is not used.
 use Rattle.std.specs.Prelude.{ℕ, Bool, true, false, List, take, Option, Some, None, Result, Ok, Err}
+use Rattle.http_range.specs.declared.reading.ContentRange.{ContentRange}
 use Rattle.http_range.specs.declared.reading.Why.{Why}
 use Rattle.http_range.specs.declared.reading.Why.TheVariants.{Cut, Head, Status, NoTag, WeakTag, TagTooLong, NoRange, NoLength, Coding}
-use Rattle.http_range.specs.declared.reading.ContentRange.{ContentRange}
 use Rattle.http_range.specs.declared.reading.Piece.{Piece}
 use Rattle.http_range.specs.declared.reading.Reading.{Reading}
 use Rattle.http_range.specs.declared.reading.Reading.TheVariants.{Piece as APiece, NotUsed}
+use Rattle.http_range.specs.declared.check.CheckReading.{CheckReading}
+use Rattle.http_range.specs.declared.check.CheckReading.TheVariants.{Seen, NotUsed as Unused}
 
 -- a piece without where it lies in memory
 pub record SeenPiece : Type 0 where
@@ -32,6 +34,11 @@ piece_by tag None n rest =
     record { tag = tag; whole = true; first = 0; complete = n; body = take n rest }
 piece_by tag (Some range) n rest =
     record { tag = tag; whole = false; first = range.first; complete = range.complete; body = take n rest }
+
+-- the tag that the answer to a check says
+abbrev pub check_seen : CheckReading → Result (List ℕ) Why
+check_seen (Seen tag) = Ok tag
+check_seen (Unused why) = Err why
 
 -- the numbers under which refusals are told
 abbrev pub number_of_why : Why → ℕ

@@ -2,20 +2,21 @@
 use Rattle.std.specs.Prelude.{◌≡◌, ℕ, ◌≤◌, List, length, take, map, Option, Some, None}
 use Rattle.httparse.specs.Grammar.{RequestHead, ReadsRequest}
 use Rattle.httparse.specs.Spans.{name_and_value}
-use Rattle.http_range.specs.Text.{NamedValue}
+use Rattle.http_range.specs.declared.limits.TheConstants.{FIELD_LIMIT, MESSAGE_LIMIT}
+use Rattle.http_range.specs.Text.{FieldLine}
 
 -- the parts of a request's head; white space round a value is dropped
 pub record SeenRequest : Type 0 where
   pub method : List ℕ
   pub target : List ℕ
   pub minor : ℕ
-  pub fields : List NamedValue
+  pub fields : List FieldLine
 
 -- h stands at the front of bytes, whole in the first 8,192, with at most 32 fields
 pub record IsRequestFront (bytes : List ℕ) (h : RequestHead) : Type 0 where
   pub rest : List ℕ
-  pub reads : ReadsRequest (take 8192 bytes) h rest
-  pub room : length h.fields ≤ 32
+  pub reads : ReadsRequest (take MESSAGE_LIMIT bytes) h rest
+  pub room : length h.fields ≤ FIELD_LIMIT
 
 abbrev pub seen_request : RequestHead → SeenRequest
 seen_request h =

@@ -1,6 +1,7 @@
 -- Entity tags (RFC 9110, section 8.8.3).
 use Rattle.std.specs.Prelude.{ℕ, ◌-◌, Bool, ◌&&◌, ◌||◌, ◌==◌, nat_lt, nat_le, List, length, drop, slice_index, slice_range}
 use Rattle.std.specs.List.{list_all}
+use Rattle.http_range.specs.declared.limits.TheConstants.{TAG_LIMIT}
 
 -- etagc: a byte inside the quotes, visible but no quote, or past ASCII
 abbrev pub is_tag_byte : ℕ → Bool
@@ -18,6 +19,10 @@ is_weak_tag text =
     nat_lt 2 (length text) && slice_index text 0 == 0x57 && slice_index text 1 == 0x2F
     && is_opaque_tag (drop 2 text)
 
+-- an entity tag, strong or weak
+abbrev pub is_entity_tag : List ℕ → Bool
+is_entity_tag text = is_opaque_tag text || is_weak_tag text
+
 -- a tag that is kept: strong, and of 64 bytes at most
 abbrev pub is_kept_tag : List ℕ → Bool
-is_kept_tag text = is_opaque_tag text && nat_le (length text) 64
+is_kept_tag text = is_opaque_tag text && nat_le (length text) TAG_LIMIT

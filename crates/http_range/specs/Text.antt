@@ -3,17 +3,17 @@ use Rattle.std.specs.Prelude.{List, [], ◌∷◌, ◌++◌, ℕ, Bool, if◌the
 use Rattle.std.specs.List.{flat_map}
 
 -- a field's name and value
-abbrev pub NamedValue : Type 0
-NamedValue = List ℕ × List ℕ
+abbrev pub FieldLine : Type 0
+FieldLine = List ℕ × List ℕ
 
 -- the line of a field: its name, a colon, one space, and its value
-unfoldable pub line : NamedValue → List ℕ
+unfoldable pub line : FieldLine → List ℕ
 line field = field.0 ++ codes ": " ++ field.1 ++ codes "\r\n"
 
 -- a first line, the fields' lines, and an empty line
-abbrev pub message : List ℕ → List NamedValue → List ℕ
-message first fields = first ++ codes "\r\n" ++ flat_map line fields ++ codes "\r\n"
+abbrev pub head_with : List ℕ → List FieldLine → List ℕ
+head_with first fields = first ++ codes "\r\n" ++ flat_map line fields ++ codes "\r\n"
 
 -- the field that ends the connection (RFC 9112, section 9.6)
-abbrev pub closing : Bool → List NamedValue
+abbrev pub closing : Bool → List FieldLine
 closing close = if close then (codes "Connection", codes "close") ∷ [] else []

@@ -1,37 +1,99 @@
 //! The head of an answer (RFC 9112, section 4).
-ghost use Rattle.std.specs.Prelude.{◌≡◌, ◌≤◌, take, option_copied};
-ghost use Rattle.http_range.specs.Fields.{AreWithin};
+ghost use Rattle.std.specs.Prelude.{◌≡◌, ◌≤◌, Some, length, option_copied};
+ghost use Rattle.http_range.specs.Head.{front_of, FindsHead};
+ghost use Rattle.http_range.specs.AnswerHead.{head_seen, found_seen};
+ghost use Rattle.http_range.specs.Reading.{is_coded, tag_by_rows, tag_in};
 
-use crate::fields::{nth_value, only_value};
-use httparse::spans::HeaderSpan;
+use crate::bytes::after;
+use crate::fields::Fields;
+use crate::limits::{FIELD_LIMIT, HEAD_LIMIT};
+use crate::reading::Why;
+use crate::tag::{Tag, is_opaque_tag, is_weak_tag};
+use httparse::Status;
+use httparse::spans::{EMPTY_HEADER_SPAN, parse_response};
 
 /// What stands in a head, and the bytes after it.
 #[derive(Drop)]
 pub(crate) struct AnswerHead<'b> {
-    pub(crate) code: u16,
-    pub(crate) front: &'b [u8],
-    pub(crate) spans: [HeaderSpan; 32],
-    pub(crate) count: usize,
+    pub(crate) status: u16,
+    pub(crate) fields: Fields<'b>,
     pub(crate) rest: &'b [u8],
-    ghost in_room: { count ≤ 32 },
-    ghost within: { AreWithin front.now (take count spans) },
+}
+
+/// The bytes where a head is looked for.
+fn front_of(bytes: &[u8]) -> &[u8]
+    ensures front { result.now ≡ front_of bytes.now }
+    ensures short { length result.now ≤ HEAD_LIMIT }
+    ensures within { length result.now ≤ length bytes.now }
+{
+    if bytes.len() < HEAD_LIMIT {
+        bytes
+    } else {
+        &bytes[..HEAD_LIMIT]
+    }
+}
+
+/// The head at the front of an answer.
+pub(crate) fn head_of(bytes: &[u8]) -> Result<AnswerHead<'_>, Why>
+    ensures { FindsHead bytes.now (found_seen result) }
+{
+    let front = front_of(bytes);
+    let mut spans = [EMPTY_HEADER_SPAN; FIELD_LIMIT];
+    match parse_response(front, &mut spans) {
+        Ok(Status::Complete(head)) => Ok(AnswerHead {
+            status: head.code,
+            fields: Fields::new(front, spans, head.headers),
+            rest: after(bytes, head.len),
+        }),
+        Ok(Status::Partial) => {
+            if bytes.len() < HEAD_LIMIT {
+                Err(Why::Cut)
+            } else {
+                Err(Why::Head)
+            }
+        }
+        Err(_) => Err(Why::Head),
+    }
 }
 
 impl<'b> AnswerHead<'b> {
-    ghost use Rattle.http_range.specs.AnswerHead.{head_seen};
-    ghost use Rattle.http_range.specs.Fields.{values_of, only, is_there};
-
-    /// The value of the only field under a name.
-    pub(crate) fn only_value(&self, name: &[u8]) -> Option<&'b [u8]>
-        ensures { option_copied result ≡ only (values_of name.now (head_seen self.now).fields) }
+    fn is_coded(&self) -> bool
+        ensures { result ≡ is_coded (head_seen self.now) }
     {
-        only_value(self.front, &self.spans[..self.count], name)
+        self.fields.has(b"Transfer-Encoding") || self.fields.has(b"Content-Encoding")
     }
 
-    /// Whether a field has this name.
-    pub(crate) fn has(&self, name: &[u8]) -> bool
-        ensures { result ≡ is_there (values_of name.now (head_seen self.now).fields) }
+    /// Its strong tag of at most 64 bytes, where no coding is named.
+    pub(crate) fn tag(&self) -> Result<Tag, Why>
+        ensures { result ≡ tag_in (head_seen self.now) }
     {
-        nth_value(self.front, &self.spans[..self.count], name, 0).is_some()
+        if self.is_coded() {
+            return Err(Why::Coding);
+        }
+        tag_of(self.fields.only(b"ETag"))
+    }
+}
+
+fn tag_of(value: Option<&[u8]>) -> Result<Tag, Why>
+    ensures { result ≡ tag_by_rows (option_copied value.entry) }
+{
+    match value {
+        None => Err(Why::NoTag),
+        Some(text) => kept_tag(text),
+    }
+}
+
+fn kept_tag(text: &[u8]) -> Result<Tag, Why>
+    ensures { result ≡ tag_by_rows (Some text.now) }
+{
+    if is_weak_tag(text) {
+        return Err(Why::WeakTag);
+    }
+    if !is_opaque_tag(text) {
+        return Err(Why::NoTag);
+    }
+    match Tag::new(text) {
+        Some(tag) => Ok(tag),
+        None => Err(Why::TagTooLong),
     }
 }

@@ -2,7 +2,7 @@
 ghost use Rattle.std.specs.Prelude.{◌≡◌, ◌++◌, IfOk, OnOk, codes, option_map};
 ghost use Rattle.std.specs.List.{flat_map};
 ghost use Rattle.http_range.specs.Text.{line};
-ghost use Rattle.http_range.specs.Ask.{request_text, request_line, range_value, if_range};
+ghost use Rattle.http_range.specs.Ask.{request_text, request_line, range_value, if_range, check_text};
 
 use crate::line::{push_closing, push_decimal, push_line};
 use crate::tag::Tag;
@@ -21,7 +21,7 @@ pub fn write_request(
         ≡ request_text host.now name.now span.first span.last (option_map (λ t. t.now) tag.entry)) }
 {
     let mut text = Vec::new(alloc);
-    push_request_line(&mut text, name)?;
+    push_request_line(&mut text, b"GET", name)?;
     text.extend_from_slice(b"\r\n")?;
     push_line(&mut text, b"Host", host)?;
     push_range(&mut text, span.first, span.last)?;
@@ -31,10 +31,25 @@ pub fn write_request(
     Ok(text)
 }
 
-fn push_request_line(out: &mut Vec<u8>, name: &[u8]) -> Result<(), AllocError>
-    ensures { OnOk result (out.new.items ≡ out.old.items ++ request_line name.now) }
+/// The check whether the file under a name still has the tag.
+pub fn write_check(alloc: Global, host: &[u8], name: &[u8], tag: &Tag) -> Result<Vec<u8>, Memory>
+    ensures { IfOk result (λ text. text.items ≡ check_text host.now name.now tag.now) }
 {
-    out.extend_from_slice(b"GET /")?;
+    let mut text = Vec::new(alloc);
+    push_request_line(&mut text, b"HEAD", name)?;
+    text.extend_from_slice(b"\r\n")?;
+    push_line(&mut text, b"Host", host)?;
+    push_if_none_match(&mut text, tag)?;
+    push_closing(&mut text, true)?;
+    text.extend_from_slice(b"\r\n")?;
+    Ok(text)
+}
+
+fn push_request_line(out: &mut Vec<u8>, method: &[u8], name: &[u8]) -> Result<(), AllocError>
+    ensures { OnOk result (out.new.items ≡ out.old.items ++ request_line method.now name.now) }
+{
+    out.extend_from_slice(method)?;
+    out.extend_from_slice(b" /")?;
     out.extend_from_slice(name)?;
     out.extend_from_slice(b" HTTP/1.1")?;
     Ok(())
@@ -63,4 +78,11 @@ fn push_if_range(out: &mut Vec<u8>, tag: Option<&Tag>) -> Result<(), AllocError>
             Ok(())
         }
     }
+}
+
+fn push_if_none_match(out: &mut Vec<u8>, tag: &Tag) -> Result<(), AllocError>
+    ensures { OnOk result (out.new.items ≡ out.old.items ++ line (codes "If-None-Match", tag.now)) }
+{
+    push_line(out, b"If-None-Match", tag.as_bytes())?;
+    Ok(())
 }

@@ -1,25 +1,36 @@
 //! Laws of the definitions, for the crates above. Each function does nothing: its contract is the law.
-ghost use Rattle.http_range.specs.Laws.{HonestyIsKept, TagsAreQuoted, ContentRangesAreForms, TagsTellVersions, VersionTagsAreKept, AnswersAreUnique, StreamsAreAnsweredOnce, ClientsAreAnswered, ClientsAreAnsweredAlone, PublishReplaces, PublishedIsNamed};
+ghost use Rattle.http_range.specs.Laws.{LimitsAre, FrontsAreRead, ChecksAreRead, HonestyIsKept, TagsAreQuoted, ContentRangesAreForms, TagsTellPublications, PublicationTagsAreKept, AnswersAreUnique, StreamsAreAnsweredOnce, MessagesStay, HeadsStay, ClientsAreAnswered, ChecksAreAnswered, PublishReplaces, PublishedIsNamed};
 
-/// Different epochs or numbers give different tags, and each is a tag that is kept.
-pub fn tags_tell_versions()
-    ensures apart { TagsTellVersions }
-    ensures kept { VersionTagsAreKept }
+/// The limits that the definitions name.
+pub fn limits_are()
+    ensures { LimitsAre }
 {}
 
-/// A message has one answer of a catalogue, and a stream one text of answers.
+/// Different epochs or numbers give different tags, and each is a tag that is kept.
+pub fn tags_tell_publications()
+    ensures apart { TagsTellPublications }
+    ensures kept { PublicationTagsAreKept }
+{}
+
+/// What was found of a message or of its head stays so when bytes follow.
+pub fn messages_stay()
+    ensures messages { MessagesStay }
+    ensures heads { HeadsStay }
+{}
+
+/// A message has one answer of a catalogue, and a stream one list of answers.
 pub fn answers_are_unique()
     ensures message { AnswersAreUnique }
     ensures stream { StreamsAreAnsweredOnce }
 {}
 
-/// What a server answers to the text of a client's request.
+/// What a server answers to the text of a client's request, and of its check.
 pub fn clients_are_answered()
     ensures followed { ClientsAreAnswered }
-    ensures alone { ClientsAreAnsweredAlone }
+    ensures checks { ChecksAreAnswered }
 {}
 
-/// What `publish` and `published` say of each other.
+/// What stands under a name after a publication, and that it has that name.
 pub fn publications_replace()
     ensures replaces { PublishReplaces }
     ensures named { PublishedIsNamed }
@@ -28,6 +39,12 @@ pub fn publications_replace()
 /// An answer of a server is honest, and stays so where it is cut and where the book grows.
 pub fn honesty_is_kept()
     ensures { HonestyIsKept }
+{}
+
+/// What is read of a server's answer, whole or cut.
+pub fn fronts_are_read()
+    ensures answers { FrontsAreRead }
+    ensures checks { ChecksAreRead }
 {}
 
 /// The tests and functions that read tags and Content-Range are the forms of the standard.

@@ -1,21 +1,19 @@
 //! Numbers of any length as digits, kept in 64 bits.
-ghost use Rattle.std.specs.Prelude.{◌≡◌, ◌≤◌, ◌<◌, IsTrue, length, nat_le, option_map, is_some, Some};
+ghost use Rattle.std.specs.Prelude.{◌≡◌, ◌≤◌, ◌<◌, ◌-◌, IsTrue, length, slice_index, nat_lt, nat_le, if◌then◌else◌, option_map, is_some, Some};
 ghost use Rattle.std.specs.Str.{all_ascii_digits};
-ghost use Rattle.std.specs.List.{list_all};
 ghost use Rattle.std.specs.Char.{is_ascii_digit, digit_value};
 ghost use Rattle.std.specs.Str.Parse.{digits_value};
-ghost use Rattle.http_range.specs.Digits.{number, capped, padded_digit};
-
-fn all_pass(text: &[u8]) -> bool
-    ensures { result ≡ list_all is_ascii_digit text.now }
-{
-    text.iter().all(|b| b.is_ascii_digit())
-}
+ghost use Rattle.http_range.specs.Digits.{number, capped};
 
 fn are_digits(text: &[u8]) -> bool
     ensures { result ≡ all_ascii_digits text.now }
 {
-    all_pass(text)
+    for b in text {
+        if !b.is_ascii_digit() {
+            return false;
+        }
+    }
+    true
 }
 
 fn digit_of(b: u8) -> u64
@@ -31,7 +29,8 @@ fn padded_digit(text: &[u8], n: usize, i: usize) -> u64
     requires digits { IsTrue (all_ascii_digits text.now) }
     requires room { length text.now ≤ n }
     requires inside { i < n }
-    ensures value { result ≡ padded_digit text.now n i }
+    ensures value { result ≡ (if nat_lt i (n - length text.now) then 0
+        else digit_value (slice_index text.now (i - (n - length text.now)))) }
     ensures small { result < 10 }
 {
     let skip = n - text.len();

@@ -16,9 +16,13 @@ pub enum Reply {
     R200(Tag, u64),
     /// The bytes from a first to a last position of a file of this length.
     R206(Tag, u64, u64, u64),
+    /// The client has the file with this tag already.
+    R304(Tag),
     R400,
     R404,
     R405,
+    /// The file has none of the tags that the client named.
+    R412,
     /// No byte of a file of this length was asked for.
     R416(u64),
 }
@@ -41,9 +45,11 @@ fn status_line(reply: &Reply) -> &'static [u8]
     match reply {
         Reply::R200(_, _) => b"HTTP/1.1 200 OK",
         Reply::R206(_, _, _, _) => b"HTTP/1.1 206 Partial Content",
+        Reply::R304(_) => b"HTTP/1.1 304 Not Modified",
         Reply::R400 => b"HTTP/1.1 400 Bad Request",
         Reply::R404 => b"HTTP/1.1 404 Not Found",
         Reply::R405 => b"HTTP/1.1 405 Method Not Allowed",
+        Reply::R412 => b"HTTP/1.1 412 Precondition Failed",
         Reply::R416(_) => b"HTTP/1.1 416 Range Not Satisfiable",
     }
 }
@@ -54,9 +60,11 @@ fn push_fields(out: &mut Vec<u8>, reply: &Reply) -> Result<(), AllocError>
     match reply {
         Reply::R200(tag, length) => push_200(out, tag, *length),
         Reply::R206(tag, first, last, length) => push_206(out, tag, *first, *last, *length),
+        Reply::R304(tag) => push_tag(out, tag),
         Reply::R400 => push_empty(out),
         Reply::R404 => push_empty(out),
         Reply::R405 => push_405(out),
+        Reply::R412 => push_empty(out),
         Reply::R416(length) => push_416(out, *length),
     }
 }
@@ -112,6 +120,13 @@ fn push_416(out: &mut Vec<u8>, length: u64) -> Result<(), AllocError>
 {
     push_unsatisfied(out, length)?;
     push_number_line(out, b"Content-Length", 0)?;
+    Ok(())
+}
+
+fn push_tag(out: &mut Vec<u8>, tag: &Tag) -> Result<(), AllocError>
+    ensures { OnOk result (out.new.items ≡ out.old.items ++ flat_map line (fields_of (Reply.R304 tag.now))) }
+{
+    push_line(out, b"ETag", tag.as_bytes())?;
     Ok(())
 }
 

@@ -1,13 +1,18 @@
 //! The head of a request that came (RFC 9112, section 3).
 ghost use Rattle.std.specs.Prelude.{◌≡◌, ℕ, List, Option, ◌++◌, slice_get, option_copied, IsSomeAnd, Some};
-ghost use Rattle.http_range.specs.Fields.{values_of};
+ghost use Rattle.std.specs.List.{list_any};
+ghost use Rattle.http_range.specs.Fields.{values_of, only, is_there};
+ghost use Rattle.http_range.specs.Members.{has_member};
+ghost use Rattle.http_range.specs.Conditional.{one_matches};
 ghost use Rattle.http_range.specs.Seen.{HasRequest};
 ghost use Rattle.http_range.specs.Ask.{CanAsk, request_text, asked_request};
 
 use crate::bytes::up_to;
-use crate::fields::nth_value;
+use crate::fields::Fields;
+use crate::limits::{FIELD_LIMIT, MESSAGE_LIMIT};
+use crate::tag::Tag;
 use httparse::Status;
-use httparse::spans::{EMPTY_HEADER_SPAN, HeaderSpan, parse_request};
+use httparse::spans::{EMPTY_HEADER_SPAN, parse_request};
 use std::marker::Model;
 
 /// A request's head. It lends its parts from the message, and is seen as them.
@@ -16,9 +21,7 @@ pub struct Request<'b> {
     method: &'b [u8],
     target: &'b [u8],
     minor: u8,
-    front: &'b [u8],
-    spans: [HeaderSpan; 32],
-    count: usize,
+    fields: Fields<'b>,
 }
 
 impl<'b> Model for Request<'b> {
@@ -26,11 +29,9 @@ impl<'b> Model for Request<'b> {
 
     ghost Value = { SeenRequest };
 
-    ghost use Rattle.http_range.specs.Request.{request_view, IsRequestInside};
+    ghost use Rattle.http_range.specs.Request.{request_view};
 
     ghost view = { request_view };
-
-    ghost invariant = { IsRequestInside };
 }
 
 impl<'b> Request<'b> {
@@ -59,7 +60,35 @@ impl<'b> Request<'b> {
     pub fn field(&self, name: &[u8], i: usize) -> Option<&'b [u8]>
         ensures { option_copied result ≡ slice_get (values_of name.now self.now.fields) i }
     {
-        nth_value(self.front, &self.spans[..self.count], name, i)
+        self.fields.nth(name, i)
+    }
+
+    /// The value of the only field under a name.
+    pub fn only(&self, name: &[u8]) -> Option<&'b [u8]>
+        ensures { option_copied result ≡ only (values_of name.now self.now.fields) }
+    {
+        self.fields.only(name)
+    }
+
+    /// Whether a field has this name.
+    pub fn has(&self, name: &[u8]) -> bool
+        ensures { result ≡ is_there (values_of name.now self.now.fields) }
+    {
+        self.fields.has(name)
+    }
+
+    /// Whether a field under a name has this word among its members. Case is ignored.
+    pub fn has_member(&self, name: &[u8], word: &[u8]) -> bool
+        ensures { result ≡ list_any (has_member word.now) (values_of name.now self.now.fields) }
+    {
+        self.fields.has_member(name, word)
+    }
+
+    /// Whether a field under a name matches the tag, as `any_match` says of its value.
+    pub fn one_matches(&self, name: &[u8], tag: &Tag, strong: bool) -> bool
+        ensures { result ≡ one_matches (values_of name.now self.now.fields) tag.now strong }
+    {
+        self.fields.one_matches(name, tag, strong)
     }
 }
 
@@ -79,16 +108,14 @@ pub fn read_request(bytes: &[u8]) -> Option<Request<'_>>
 fn find(bytes: &[u8]) -> Option<Request<'_>>
     ensures { HasRequest bytes.now result }
 {
-    let front = up_to(bytes, 8192);
-    let mut spans = [EMPTY_HEADER_SPAN; 32];
+    let front = up_to(bytes, MESSAGE_LIMIT as u64);
+    let mut spans = [EMPTY_HEADER_SPAN; FIELD_LIMIT];
     match parse_request(front, &mut spans) {
         Ok(Status::Complete(head)) => Some(Request {
             method: head.method.of(front),
             target: head.path.of(front),
             minor: head.version,
-            front,
-            spans,
-            count: head.headers,
+            fields: Fields::new(front, spans, head.headers),
         }),
         _ => None,
     }

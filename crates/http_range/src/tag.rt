@@ -3,13 +3,14 @@ ghost use Rattle.std.specs.Prelude.{◌≡◌, ◌==◌, ℕ, List, IsTrue, IfSo
 ghost use Rattle.std.specs.List.{list_all};
 ghost use Rattle.http_range.specs.Tag.{is_tag_byte, is_opaque_tag, is_weak_tag, is_kept_tag};
 
+use crate::limits::TAG_LIMIT;
 use arrayvec::ArrayVec;
 use std::marker::Model;
 
 /// A strong entity tag of at most 64 bytes, its quotes among them. It is seen as the list of its bytes.
 #[derive(Debug, Drop)]
 pub struct Tag {
-    text: ArrayVec<u8, 64>,
+    text: ArrayVec<u8, TAG_LIMIT>,
 }
 
 impl Model for Tag {
@@ -86,7 +87,7 @@ impl Tag {
         ensures some { IfSome result (λ t. (t ≡ text.now) × IsTrue (is_kept_tag text.now)) }
         ensures none { IfNone result (is_kept_tag text.now ≡ false) }
     {
-        if !is_opaque_tag(text) || text.len() > 64 {
+        if !is_opaque_tag(text) || text.len() > TAG_LIMIT {
             return None;
         }
         let mut kept = ArrayVec::new();

@@ -12,12 +12,12 @@ use Rattle.tiff_dir.specs.declared.query.Query.{Query}
 use Rattle.tiff_dir.specs.Faulty.{IsWindow}
 use Rattle.http_range.specs.Names.{is_name}
 use Rattle.http_range.specs.Ask.{CanAsk, request_text}
-use Rattle.http_range.specs.Book.{Publication, IsPublication, Book, In, Includes, HasDistinctTags, Catalogue, IsCatalogue, published, Covers, publish, version_tag}
+use Rattle.http_range.specs.Book.{Publication, IsPublication, Book, In, Includes, HasDistinctTags, Catalogue, IsCatalogue, published, Covers, publish, publication_tag}
 use Rattle.http_range.specs.declared.range.Resolved.TheVariants.{Part}
 use Rattle.http_range.specs.declared.reply.Reply.TheVariants.{R416}
-use Rattle.http_range.specs.Served.{Served, IsAnswer, text_of, served_to_client, serve_part, refused}
+use Rattle.http_range.specs.Response.{Response, IsAnswer, text_of, response_to_client, serve_part, refused}
 use Rattle.http_range.specs.Honest.{IsHonest}
-use Rattle.http_range.specs.Laws.{TagsTellVersions, VersionTagsAreKept, ClientsAreAnswered, PublishReplaces, PublishedIsNamed, HonestyIsKept}
+use Rattle.http_range.specs.Laws.{TagsTellPublications, PublicationTagsAreKept, ClientsAreAnswered, PublishReplaces, PublishedIsNamed, HonestyIsKept}
 use Rattle.world.specs.declared.server.Refusal.{Refusal}
 use Rattle.world.specs.declared.client.Client.{Client}
 use Rattle.world.specs.declared.client.ClientError.{ClientError}
@@ -36,8 +36,8 @@ use Rattle.world.proofs.ShelfLemmas.{map-set}
 
 -- what the lower crates' contracts say
 pub record LowerLaws : Type 0 where
-  pub apart : TagsTellVersions
-  pub kept : VersionTagsAreKept
+  pub apart : TagsTellPublications
+  pub kept : PublicationTagsAreKept
   pub answered : ClientsAreAnswered
   pub replaces : PublishReplaces
   pub named : PublishedIsNamed
@@ -56,7 +56,7 @@ pub record IsOlder (w : World) (p : Publication) : Type 0 where
   pub number : ℕ
   pub epoch_small : epoch < 2 ^ 32
   pub number_small : number < 2 ^ 32
-  pub tag : p.tag ≡ version_tag epoch number
+  pub tag : p.tag ≡ publication_tag epoch number
   pub used : (epoch < w.epoch) ⊎ ((epoch ≡ w.epoch) × (number ≤ w.count))
 
 pub record Good (w : World) (cs : List Client) : Type 0 where
@@ -111,7 +111,7 @@ accepted catalogue count name file e =
 
 module _ (laws : LowerLaws) where
   -- no publication has the next tag
-  unused : (w : World) (cs : List Client) (q : Publication) → Good w cs → w.count + 1 < 2 ^ 32 → In q w.book → q.tag ≡ version_tag w.epoch (w.count + 1) → ⊥
+  unused : (w : World) (cs : List Client) (q : Publication) → Good w cs → w.count + 1 < 2 ^ 32 → In q w.book → q.tag ≡ publication_tag w.epoch (w.count + 1) → ⊥
   unused w cs q g room i e =
       let old = g.older q i in
       let small = g.epoch_small in
@@ -323,7 +323,7 @@ asked_text : (b : Bool) (text request : List ℕ) → Some request ≡ (if b the
 asked_text true text request e = same_Some _ _ e
 asked_text false text request e = absurd (none-some request (sym e))
 
-served_name : (laws : LowerLaws) (name : List ℕ) (catalogue : Catalogue) (o : Option Publication) → published name catalogue ≡ o → ((served_to_client o 0 65535 None).name ≡ Some name) ⊎ ((served_to_client o 0 65535 None).name ≡ None)
+served_name : (laws : LowerLaws) (name : List ℕ) (catalogue : Catalogue) (o : Option Publication) → published name catalogue ≡ o → ((response_to_client o 0 65535 None).name ≡ Some name) ⊎ ((response_to_client o 0 65535 None).name ≡ None)
 served_name laws name catalogue None e = inr refl
 served_name laws name catalogue (Some p) e =
     let named : p.name ≡ name = laws.named.named name catalogue p e in by_length (nat_lt 0 (length p.file)) named
@@ -336,15 +336,15 @@ served_name laws name catalogue (Some p) e =
 
 module _ (laws : LowerLaws) where
   -- the answer to a client's own request is honest for it
-  honest_own : (w : World) (cs : List Client) (c : Client) (request : List ℕ) (served : Served) (later : Book) → Good w cs → request ≡ request_text (host_of c) (name_of c) 0 65535 None
-      → IsAnswer w.catalogue request served → Includes later w.book → IsHonest (text_of served) (name_of c) later
-  honest_own w cs c request served later g is answered inc =
+  honest_own : (w : World) (cs : List Client) (c : Client) (request : List ℕ) (response : Response) (later : Book) → Good w cs → request ≡ request_text (host_of c) (name_of c) 0 65535 None
+      → IsAnswer w.catalogue request response → Includes later w.book → IsHonest (text_of response) (name_of c) later
+  honest_own w cs c request response later g is answered inc =
       let can : CanAsk (host_of c) (name_of c) 0 65535 None = record { to_host = c.hosted; of_name = c.named; from_first = omega arith; to_last = omega arith; kept = tt } in
       let text : request ≡ request_text (host_of c) (name_of c) 0 65535 None ++ [] = is ∙ sym (append-nil _) in
-      let P : List ℕ → Type 0 = λ m. IsAnswer w.catalogue m served in
-      let same = (laws.answered w.catalogue (host_of c) (name_of c) [] 0 65535 None served can (omega arith)).0 (subst P text answered) in
-      let Q : Served → Type 0 = λ s. (s.name ≡ Some (name_of c)) ⊎ (s.name ≡ None) in
-      laws.honest.served w.catalogue later request served (name_of c) g.lawful (λ name p found. inc p (g.covers name p found)) answered
+      let P : List ℕ → Type 0 = λ m. IsAnswer w.catalogue m response in
+      let same = (laws.answered w.catalogue (host_of c) (name_of c) [] 0 65535 None response can (omega arith)).0 (subst P text answered) in
+      let Q : Response → Type 0 = λ s. (s.name ≡ Some (name_of c)) ⊎ (s.name ≡ None) in
+      laws.honest.answered w.catalogue later request response (name_of c) g.lawful (λ name p found. inc p (g.covers name p found)) answered
       (subst Q (sym same) (served_name laws (name_of c) w.catalogue (published (name_of c) w.catalogue) refl))
 
   exchanged_kept : (w : World) (cs : List Client) (i : ℕ) (o : Option (List ℕ)) (effect : Effect) (c mid next : Client) → Good w cs → Requests c o mid → IsExchanged w.catalogue w.sent i o effect mid next → AgreesLater c w.book → IsKept c next w.book
@@ -357,7 +357,7 @@ module _ (laws : LowerLaws) where
       own ∙ ap (λ (x : List ℕ). request_text x (name_of c) 0 65535 None) (sym r.same.host) ∙ ap (λ (x : List ℕ). request_text (host_of mid) x 0 65535 None) (sym r.same.name) in
       record {
         same = seen_same c next (h.delivers.same.name ∙ r.same.name) (h.delivers.query ∙ r.query);
-        agrees = λ later inc d. h.delivers.agrees later d (r.agrees later (agrees later inc d)) (honest_own w cs mid request h.served later g mine h.answered inc);
+        agrees = λ later inc d. h.delivers.agrees later d (r.agrees later (agrees later inc d)) (honest_own w cs mid request h.response later g mine h.answered inc);
       }
 
   sound_exchange : (o : Option Client) (w : World) (cs new : List Client) (i : ℕ) (n : Entry) → slice_get cs i ≡ o → Good w cs → AtClient o (ExchangesWith w.catalogue w.sent i n.effect) i n cs new → IsSound (with_sent w (sent_after n.effect w.sent)) new (Some i) (told_of n)

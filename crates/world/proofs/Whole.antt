@@ -7,7 +7,7 @@ use Rattle.std.proofs.lemmas.Option.{same_Some}
 use Rattle.tiff_dir.specs.declared.query.Query.{Query}
 use Rattle.tiff_dir.specs.Level.{Layout, level_layout}
 use Rattle.tiff_dir.specs.Query.{Rectangle}
-use Rattle.http_range.specs.Book.{Publication, Book, Catalogue, In, Includes, HasDistinctTags, version_tag}
+use Rattle.http_range.specs.Book.{Publication, Book, Catalogue, In, Includes, HasDistinctTags, publication_tag}
 use Rattle.tiff_dir.specs.declared.memory.Memory.{Memory}
 use Rattle.world.specs.declared.server.Refusal.{Refusal}
 use Rattle.world.specs.declared.server.Server.{Server}
@@ -179,12 +179,12 @@ published_at w p (Some refusal) s sent same at = record { server_at = at; sent_i
 pub does_publish : (w : World) (old new : Server) (sent : ℕ) (cs : List Client) (name file : Vec ℕ Global) (n : Entry) → Publishes name.items file.items n old new → IsState w old sent → Does w cs (Publish name file) n cs new sent
 does_publish w old new sent cs name file n h s =
     let at = s.server_at in
-    let P : ℕ → Type 0 = λ e. IsAtAfter (refusal_of (catalogue_of old) (count_of old) name.items file.items) e (count_of old) (catalogue_of old) (record { name = name.items; tag = version_tag e (count_of old + 1); file = file.items }) new in
-    let Q : ℕ → Type 0 = λ c. IsAtAfter (refusal_of (catalogue_of old) c name.items file.items) w.epoch c (catalogue_of old) (record { name = name.items; tag = version_tag w.epoch (c + 1); file = file.items }) new in
-    let R : Catalogue → Type 0 = λ k. IsAtAfter (refusal_of k w.count name.items file.items) w.epoch w.count k (record { name = name.items; tag = version_tag w.epoch (w.count + 1); file = file.items }) new in
+    let P : ℕ → Type 0 = λ e. IsAtAfter (refusal_of (catalogue_of old) (count_of old) name.items file.items) e (count_of old) (catalogue_of old) (record { name = name.items; tag = publication_tag e (count_of old + 1); file = file.items }) new in
+    let Q : ℕ → Type 0 = λ c. IsAtAfter (refusal_of (catalogue_of old) c name.items file.items) w.epoch c (catalogue_of old) (record { name = name.items; tag = publication_tag w.epoch (c + 1); file = file.items }) new in
+    let R : Catalogue → Type 0 = λ k. IsAtAfter (refusal_of k w.count name.items file.items) w.epoch w.count k (record { name = name.items; tag = publication_tag w.epoch (w.count + 1); file = file.items }) new in
     record {
       step = record {
-        done = h.done ∙ (λ i. publish_effect (version_tag (at.epoch_is i) (at.count_is i + 1)) (refusal_of (at.files i) (at.count_is i) name.items file.items));
+        done = h.done ∙ (λ i. publish_effect (publication_tag (at.epoch_is i) (at.count_is i + 1)) (refusal_of (at.files i) (at.count_is i) name.items file.items));
         report = h.report;
         same = refl;
       };

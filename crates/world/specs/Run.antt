@@ -3,8 +3,8 @@ use Rattle.std.specs.Prelude.{◌≡◌, ℕ, ◌+◌, ◌^◌, ◌<◌, ◌≤�
 use Rattle.std.specs.Option.{option_map}
 use Rattle.std.specs.Bool.{MatchBool}
 use Rattle.tiff_dir.specs.declared.query.Query.{Query}
-use Rattle.http_range.specs.Book.{Publication, Catalogue, publish, version_tag}
-use Rattle.http_range.specs.Served.{Served, text_of, IsAnswer}
+use Rattle.http_range.specs.Book.{Publication, Catalogue, publish, publication_tag}
+use Rattle.http_range.specs.Response.{Response, text_of, IsAnswer}
 use Rattle.world.specs.declared.server.Refusal.{Refusal}
 use Rattle.world.specs.declared.server.Server.{Server}
 use Rattle.world.specs.declared.client.Client.{Client}
@@ -66,10 +66,10 @@ IsAtAfter None epoch count catalogue p s = IsAt s epoch (count + 1) (publish p c
 IsAtAfter (Some refusal) epoch count catalogue p s = IsAt s epoch count catalogue
 
 pub record Publishes (name file : List ℕ) (n : Entry) (old new : Server) : Type 0 where
-  pub done : n.effect ≡ publish_effect (version_tag (epoch_of old) (count_of old + 1)) (refusal_of (catalogue_of old) (count_of old) name file)
+  pub done : n.effect ≡ publish_effect (publication_tag (epoch_of old) (count_of old + 1)) (refusal_of (catalogue_of old) (count_of old) name file)
   pub report : told_of n ≡ None
   pub server_at : IsAtAfter (refusal_of (catalogue_of old) (count_of old) name file) (epoch_of old) (count_of old) (catalogue_of old)
-      (record { name = name; tag = version_tag (epoch_of old) (count_of old + 1); file = file }) new
+      (record { name = name; tag = publication_tag (epoch_of old) (count_of old + 1); file = file }) new
 
 pub record Restarts (epoch : ℕ) (n : Entry) (old new : Server) : Type 0 where
   pub done : n.effect ≡ (if nat_lt (epoch_of old) epoch then effects.Epoch epoch else effects.Skipped)
@@ -104,10 +104,10 @@ pub record IsExchange (catalogue : Catalogue) (sent i : ℕ) (request : List ℕ
   pub span : asked_of mid ≡ Some logged.span
   pub tag : logged.tag ≡ option_map (λ v. v.tag) (revision_of mid)
   pub request_is : logged.request.items ≡ request
-  pub served : Served
-  pub answered : IsAnswer catalogue request served
-  pub shown : ShowsAnswer logged.answer served
-  pub delivers : Delivers mid (text_of served) logged.delivered next
+  pub response : Response
+  pub answered : IsAnswer catalogue request response
+  pub shown : ShowsAnswer logged.answer response
+  pub delivers : Delivers mid (text_of response) logged.delivered next
 
 abbrev pub IsExchanged : Catalogue → ℕ → ℕ → Option (List ℕ) → Effect → Client → Client → Type 0
 IsExchanged catalogue sent i None effect mid next = (effect ≡ effects.Nothing i) × (next ≡ mid)

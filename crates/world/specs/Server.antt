@@ -4,7 +4,7 @@ use Rattle.std.specs.Option.{option_map}
 use Rattle.http_range.specs.Names.{is_name}
 use Rattle.http_range.specs.Reply.{status_of}
 use Rattle.http_range.specs.Book.{Publication, Catalogue, published}
-use Rattle.http_range.specs.Served.{Served, text_of}
+use Rattle.http_range.specs.Response.{Response, text_of}
 use Rattle.world.specs.declared.server.Refusal.{Refusal}
 use Rattle.world.specs.declared.server.Refusal.TheVariants.{Name, Empty, TooLarge, TooManyNames, Exhausted}
 use Rattle.world.specs.declared.server.PublishError.{PublishError}
@@ -46,7 +46,7 @@ IsRefusal refusal (Refused r) = refusal ≡ Some r
 IsRefusal refusal Memory = ⊤
 
 -- the answer that is sent is the one that is to be sent
-pub record ShowsAnswer (a : Answer) (s : Served) : Type 0 where
+pub record ShowsAnswer (a : Answer) (s : Response) : Type 0 where
   pub text : a.text.items ≡ text_of s
   pub close : a.close ≡ s.close
   pub name : option_map (λ n. n.items) a.name ≡ s.name

@@ -3,7 +3,7 @@
 use Rattle.std.specs.Prelude.{◌≡◌, ℕ, zero, suc, ◌+◌, Bool, nat_lt, if◌then◌else◌, List, [], ◌∷◌, ◌++◌, codes, Option, Some, None, IfSome, slice_get, ◌⊎◌}
 use Rattle.std.specs.Option.{option_map}
 use Rattle.tiff_dir.specs.declared.query.Query.{Query}
-use Rattle.http_range.specs.Book.{Publication, Book, Catalogue, publish, version_tag}
+use Rattle.http_range.specs.Book.{Publication, Book, Catalogue, publish, publication_tag}
 use Rattle.world.specs.declared.server.Refusal.{Refusal}
 use Rattle.world.specs.declared.event.Event.{Event}
 use Rattle.world.specs.declared.event.Event.TheVariants.{Publish, Epoch, NewClient, Open, Exchange}
@@ -38,7 +38,7 @@ host = codes "cog.test"
 
 -- what an accepted publication is: its tag has the epoch, and its number among the epoch's publications
 abbrev pub next_of : World → List ℕ → List ℕ → Publication
-next_of w name file = record { name = name; tag = version_tag w.epoch (w.count + 1); file = file }
+next_of w name file = record { name = name; tag = publication_tag w.epoch (w.count + 1); file = file }
 
 abbrev pub publish_by : World → Publication → Option Refusal → World
 publish_by w p None = record { epoch = w.epoch; count = w.count + 1; catalogue = publish p w.catalogue; book = p ∷ w.book; sent = w.sent; clients = w.clients }

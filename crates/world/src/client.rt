@@ -5,10 +5,11 @@ ghost use Rattle.std.specs.Option.{ForSome};
 ghost use Rattle.http_range.specs.Names.{is_host, is_name};
 
 use crate::event::{Delivered, Ignored};
-use crate::names::{is_host, is_name};
 use crate::outcome::{Outcome, Report};
 use crate::pieces::{blocks_in, outcome_of};
-use http_range::{Memory, Reading, Span, Tag, read_answer, write_request};
+use http_range::{
+    Memory, Reading, Span, Tag, fronts_are_read, is_host, is_name, read_answer, write_request,
+};
 use std::alloc::Global;
 use tiff_dir::Query;
 
@@ -155,6 +156,7 @@ impl Client {
         ensures ok { IfOk result (λ what. Delivers self.old answer.now what self.new) }
         ensures err { OnErr result (self.new ≡ self.old) }
     {
+        fronts_are_read();
         let piece = match read_answer(answer) {
             Reading::NotUsed(why) => return Ok(Delivered::Ignored(Ignored::NotUsed(why))),
             Reading::Piece(piece) => piece,

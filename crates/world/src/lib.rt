@@ -5,7 +5,6 @@
 mod calls;
 mod client;
 mod event;
-mod names;
 mod outcome;
 mod pieces;
 mod read;

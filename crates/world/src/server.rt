@@ -3,9 +3,8 @@
 ghost use Rattle.std.specs.Prelude.{◌≤◌, length, IsTrue};
 ghost use Rattle.http_range.specs.Names.{is_name};
 
-use crate::names::is_name;
 use crate::shelf::{answer_nothing, answer_part, find_file, is_crowded, name_asked, place_of, put};
-use http_range::{Memory, Tag};
+use http_range::{Memory, Tag, is_name};
 use std::alloc::Global;
 
 /// Why a file isn't published.
@@ -81,8 +80,8 @@ pub struct Server {
 impl Server {
     ghost use Rattle.std.specs.Prelude.{◌≡◌, ◌+◌, ◌<◌, ℕ, List, [], Some, None, IfOk, OnOk, IfErr, OnErr};
     ghost use Rattle.http_range.specs.Ask.{CanAsk, request_text};
-    ghost use Rattle.http_range.specs.Book.{publish, published, version_tag};
-    ghost use Rattle.http_range.specs.Served.{served_to_client};
+    ghost use Rattle.http_range.specs.Book.{publish, published, publication_tag};
+    ghost use Rattle.http_range.specs.Response.{response_to_client};
     ghost use Rattle.world.specs.Server.{catalogue_of, count_of, epoch_of, publication, refusal_of, IsAt, IsRefusal, ShowsAnswer};
 
     /// A server without files.
@@ -106,7 +105,7 @@ impl Server {
     /// Publishes a file under a name. A refusal changes nothing.
     pub fn publish(&mut self, name: &[u8], file: Vec<u8>) -> Result<Tag, PublishError>
         ensures accepted { OnOk result (refusal_of (catalogue_of self.old) (count_of self.old) name.now file.items ≡ None) }
-        ensures tag { IfOk result (λ tag. tag ≡ version_tag (epoch_of self.old) (count_of self.old + 1)) }
+        ensures tag { IfOk result (λ tag. tag ≡ publication_tag (epoch_of self.old) (count_of self.old + 1)) }
         ensures ok { IfOk result (λ tag. IsAt self.new (epoch_of self.old) (count_of self.old + 1)
             (publish (record { name = name.now; tag = tag; file = file.items }) (catalogue_of self.old))) }
         ensures refused { IfErr result (IsRefusal (refusal_of (catalogue_of self.old) (count_of self.old) name.now file.items)) }
@@ -116,7 +115,7 @@ impl Server {
             return Err(PublishError::Refused(refusal));
         }
         let place = place_of(&self.files, name);
-        let tag = Tag::of_version(self.epoch, self.count + 1);
+        let tag = Tag::of_publication(self.epoch, self.count + 1);
         let Ok(name) = Vec::from_slice(self.alloc, name) else {
             return Err(PublishError::Memory);
         };
@@ -152,7 +151,7 @@ impl Server {
     /// The answer to the request of a client that asks for the first 65,536 bytes.
     pub fn answer(&self, message: &[u8]) -> Result<Answer, Memory>
         ensures { (host name : List ℕ) → CanAsk host name 0 65535 None → message.now ≡ request_text host name 0 65535 None
-            → IfOk result (λ a. ShowsAnswer a (served_to_client (published name (catalogue_of self.now)) 0 65535 None)) }
+            → IfOk result (λ a. ShowsAnswer a (response_to_client (published name (catalogue_of self.now)) 0 65535 None)) }
     {
         match find_file(&self.files, name_asked(message)) {
             Some(file) => answer_part(self.alloc, file),

@@ -5,7 +5,7 @@ ghost use Rattle.std.specs.List.{find, position};
 ghost use Rattle.std.specs.Str.{bytes_eq};
 ghost use Rattle.http_range.specs.Ask.{CanAsk, request_text};
 ghost use Rattle.http_range.specs.Book.{published};
-ghost use Rattle.http_range.specs.Served.{served_to_client};
+ghost use Rattle.http_range.specs.Response.{response_to_client};
 ghost use Rattle.world.specs.Server.{publication, put_at, ShowsAnswer};
 
 use crate::server::{Answer, PublishError, Published};
@@ -79,7 +79,7 @@ fn after_slash(target: &[u8]) -> &[u8]
 
 /// 404, without a body.
 pub fn answer_nothing(alloc: Global) -> Result<Answer, Memory>
-    ensures { IfOk result (λ a. ShowsAnswer a (served_to_client None 0 65535 None)) }
+    ensures { IfOk result (λ a. ShowsAnswer a (response_to_client None 0 65535 None)) }
 {
     let text = write_head(alloc, &Reply::R404, true)?;
     Ok(Answer {
@@ -93,7 +93,7 @@ pub fn answer_nothing(alloc: Global) -> Result<Answer, Memory>
 
 /// 206, with the first 65,536 bytes or all of fewer.
 pub fn answer_part(alloc: Global, file: &Published) -> Result<Answer, Memory>
-    ensures { IfOk result (λ a. ShowsAnswer a (served_to_client (Some (publication file.now)) 0 65535 None)) }
+    ensures { IfOk result (λ a. ShowsAnswer a (response_to_client (Some (publication file.now)) 0 65535 None)) }
 {
     let length = file.file.len();
     let count = length.min(65536);

@@ -8,7 +8,7 @@ use crate::client::Client;
 use crate::event::{Entry, Event, Log};
 use crate::server::Server;
 use http_range::{
-    Memory, clients_are_answered, honesty_is_kept, publications_replace, tags_tell_versions,
+    Memory, clients_are_answered, honesty_is_kept, publications_replace, tags_tell_publications,
 };
 use std::alloc::Global;
 use tiff_dir::one_window;
@@ -31,7 +31,7 @@ pub fn run(alloc: Global, events: &[Event], log: &mut Log) -> Result<(), Memory>
     // After want of memory all this holds of the events before.
     ensures memory { OnErr result (IsBeginning events.now log.new.entries.items) }
 {
-    tags_tell_versions();
+    tags_tell_publications();
     publications_replace();
     clients_are_answered();
     honesty_is_kept();

@@ -1,4 +1,4 @@
-use Rattle.http_range.proofs.ServedLemmas.{answers_unique}
+use Rattle.http_range.proofs.ResponseLemmas.{answers_unique}
 use Rattle.http_range.proofs.StreamLemmas.{streams_answered_once}
 use Rattle.http_range.proofs.laws.answers_are_unique.Goals as goal
 

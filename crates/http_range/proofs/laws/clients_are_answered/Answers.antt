@@ -1,8 +1,8 @@
-use Rattle.http_range.proofs.AskedLemmas.{clients_answered, clients_answered_alone}
+use Rattle.http_range.proofs.AskedLemmas.{clients_answered, checks_answered}
 use Rattle.http_range.proofs.laws.clients_are_answered.Goals as goal
 
 pub returns-clause-followed : goal.returns-clause-followed
 returns-clause-followed c = clients_answered
 
-pub returns-clause-alone : goal.returns-clause-alone
-returns-clause-alone c = clients_answered_alone
+pub returns-clause-checks : goal.returns-clause-checks
+returns-clause-checks c = checks_answered

@@ -10,7 +10,7 @@ returns-clause-value c =
     let begins : starts_with nat_eq c.args.text.now (codes "bytes ") ≡ true = sym c.starts_with.ensures.value ∙ c.if-not-starts_with.false in
     rw (
       begins,
-      c.range_by.ensures.value,
+      c.range_of_numbers.ensures.value,
       c.number_64.ensures,
       c.number_64-2.ensures,
       c.number_64-3.ensures,

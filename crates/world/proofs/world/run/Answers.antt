@@ -22,8 +22,8 @@ returns-clause-logged c =
 pub returns-clause-true_reports : goal.returns-clause-true_reports
 returns-clause-true_reports c =
     let laws : LowerLaws = record {
-      apart = c.tags_tell_versions.ensures.apart;
-      kept = c.tags_tell_versions.ensures.kept;
+      apart = c.tags_tell_publications.ensures.apart;
+      kept = c.tags_tell_publications.ensures.kept;
       answered = c.clients_are_answered.ensures.followed;
       replaces = c.publications_replace.ensures.replaces;
       named = c.publications_replace.ensures.named;
@@ -36,8 +36,8 @@ returns-clause-true_reports c =
 pub returns-clause-alike : goal.returns-clause-alike
 returns-clause-alike c =
     let laws : LowerLaws = record {
-      apart = c.tags_tell_versions.ensures.apart;
-      kept = c.tags_tell_versions.ensures.kept;
+      apart = c.tags_tell_publications.ensures.apart;
+      kept = c.tags_tell_publications.ensures.kept;
       answered = c.clients_are_answered.ensures.followed;
       replaces = c.publications_replace.ensures.replaces;
       named = c.publications_replace.ensures.named;
@@ -50,8 +50,8 @@ returns-clause-alike c =
 pub returns-in_err-entry-clause-memory : goal.returns-in_err-entry-clause-memory
 returns-in_err-entry-clause-memory c =
     let laws : LowerLaws = record {
-      apart = c.tags_tell_versions.ensures.apart;
-      kept = c.tags_tell_versions.ensures.kept;
+      apart = c.tags_tell_publications.ensures.apart;
+      kept = c.tags_tell_publications.ensures.kept;
       answered = c.clients_are_answered.ensures.followed;
       replaces = c.publications_replace.ensures.replaces;
       named = c.publications_replace.ensures.named;
@@ -63,8 +63,8 @@ returns-in_err-entry-clause-memory c =
 pub returns-in_err-push-clause-memory : goal.returns-in_err-push-clause-memory
 returns-in_err-push-clause-memory c =
     let laws : LowerLaws = record {
-      apart = c.tags_tell_versions.ensures.apart;
-      kept = c.tags_tell_versions.ensures.kept;
+      apart = c.tags_tell_publications.ensures.apart;
+      kept = c.tags_tell_publications.ensures.kept;
       answered = c.clients_are_answered.ensures.followed;
       replaces = c.publications_replace.ensures.replaces;
       named = c.publications_replace.ensures.named;

@@ -1,8 +1,0 @@
-use Rattle.http_range.proofs.BookLemmas.{tags_tell_versions, version_tags_kept}
-use Rattle.http_range.proofs.laws.tags_tell_versions.Goals as goal
-
-pub returns-clause-apart : goal.returns-clause-apart
-returns-clause-apart c = tags_tell_versions
-
-pub returns-clause-kept : goal.returns-clause-kept
-returns-clause-kept c = version_tags_kept

@@ -1,0 +1,160 @@
+-- What a server answers to a message (RFC 9110, sections 7.2, 9, 13.1, 14.2 and 15; RFC 9112, sections 3, 6 and 9.6).
+use Rattle.std.specs.Prelude.{◌≡◌, ℕ, ◌+◌, ◌-◌, ◌&&◌, ◌||◌, ◌==◌, min, not, nat_eq, nat_lt, Bool, true, false, if◌then◌else◌, List, [], ◌∷◌, ◌++◌, length, take, drop, codes, Option, Some, None, option_and_then}
+use Rattle.std.specs.List.{list_any, starts_with}
+use Rattle.std.specs.Str.{bytes_eq}
+use Rattle.http_range.specs.declared.range.Resolved.{Resolved}
+use Rattle.http_range.specs.declared.range.Resolved.TheVariants.{Whole, Part, Unsatisfiable}
+use Rattle.http_range.specs.declared.reply.Reply.{Reply}
+use Rattle.http_range.specs.declared.reply.Reply.TheVariants.{R200, R206, R304, R400, R404, R405, R412, R416}
+use Rattle.http_range.specs.Fields.{values_of, only, is_there}
+use Rattle.http_range.specs.Members.{has_member}
+use Rattle.http_range.specs.Conditional.{one_matches}
+use Rattle.http_range.specs.Range.{range_spec, resolved_or}
+use Rattle.http_range.specs.Reply.{head_text}
+use Rattle.http_range.specs.Seen.{SeenRequest, HasRequest}
+use Rattle.http_range.specs.Book.{Publication, Catalogue, published}
+
+-- an answer: the reply, whether the connection ends with it, the name of the file whose tag it carries, and its body
+pub record Response : Type 0 where
+  pub reply : Reply
+  pub close : Bool
+  pub name : Option (List ℕ)
+  pub body : List ℕ
+
+-- the bytes that are sent
+abbrev pub text_of : Response → List ℕ
+text_of s = head_text s.reply s.close ++ s.body
+
+-- ---- what a request says
+
+-- a Connection field of the request has `close` among its members
+abbrev pub asks_close : SeenRequest → Bool
+asks_close r = list_any (has_member (codes "close")) (values_of (codes "Connection") r.fields)
+
+abbrev pub is_method : List ℕ → SeenRequest → Bool
+is_method method r = bytes_eq r.method method
+
+-- the values of If-Range let a range be served: there is none, or one that is the tag byte for byte
+abbrev pub lets_range : List (List ℕ) → List ℕ → Bool
+lets_range [] tag = true
+lets_range (value ∷ []) tag = bytes_eq value tag
+lets_range (value ∷ other ∷ values) tag = false
+
+-- the value of the only Range field, where If-Range lets it be served
+abbrev pub range_to_serve : SeenRequest → List ℕ → Option (List ℕ)
+range_to_serve r tag =
+    if lets_range (values_of (codes "If-Range") r.fields) tag then only (values_of (codes "Range") r.fields) else None
+
+-- the part of a file of this length that the request names, or the whole
+abbrev pub part_to_serve : SeenRequest → List ℕ → ℕ → Resolved
+part_to_serve r tag length = resolved_or (option_and_then range_spec (range_to_serve r tag)) length
+
+-- ---- the rows
+
+-- version: another one than HTTP/1.1
+abbrev pub has_other_version : SeenRequest → Bool
+has_other_version r = not (r.minor == 1)
+
+-- host: not exactly one Host field
+abbrev pub lacks_host : SeenRequest → Bool
+lacks_host r = not (length (values_of (codes "Host") r.fields) == 1)
+
+-- body announced: a Content-Length or Transfer-Encoding field
+abbrev pub announces_body : SeenRequest → Bool
+announces_body r =
+    is_there (values_of (codes "Content-Length") r.fields) || is_there (values_of (codes "Transfer-Encoding") r.fields)
+
+-- method: neither GET nor HEAD
+abbrev pub has_other_method : SeenRequest → Bool
+has_other_method r = not (is_method (codes "GET") r) && not (is_method (codes "HEAD") r)
+
+-- target form: it isn't the origin-form, which begins with `/`
+abbrev pub lacks_origin_form : SeenRequest → Bool
+lacks_origin_form r = not (starts_with nat_eq r.target (codes "/"))
+
+-- the name behind the `/`
+abbrev pub target_name : SeenRequest → List ℕ
+target_name r = drop 1 r.target
+
+-- precondition: an If-Match field is there and none matches strongly
+abbrev pub fails_precondition : SeenRequest → List ℕ → Bool
+fails_precondition r tag =
+    let values = values_of (codes "If-Match") r.fields in
+    is_there values && not (one_matches values tag true)
+
+-- not modified: an If-None-Match field is there and one matches weakly
+abbrev pub is_unmodified : SeenRequest → List ℕ → Bool
+is_unmodified r tag = one_matches (values_of (codes "If-None-Match") r.fields) tag false
+
+-- ---- the answers
+
+-- an answer without a body and without a tag
+abbrev pub refused : Reply → Bool → Response
+refused reply close = record { reply = reply; close = close; name = None; body = [] }
+
+-- not modified: the tag alone
+abbrev pub serve_tag : Publication → Bool → Response
+serve_tag p close = record { reply = R304 p.tag; close = close; name = Some p.name; body = [] }
+
+-- head: the head of the whole file
+abbrev pub serve_head : Publication → Bool → Response
+serve_head p close =
+    record { reply = R200 p.tag (length p.file); close = close; name = Some p.name; body = [] }
+
+-- part, unsatisfiable, whole
+abbrev pub serve_part : Resolved → Publication → Bool → Response
+serve_part (Part a b) p close = record {
+  reply = R206 p.tag a b (length p.file);
+  close = close;
+  name = Some p.name;
+  body = take (b - a + 1) (drop a p.file);
+}
+serve_part Unsatisfiable p close = refused (R416 (length p.file)) close
+serve_part Whole p close =
+    record { reply = R200 p.tag (length p.file); close = close; name = Some p.name; body = p.file }
+
+-- the rows from *unknown name* on
+abbrev pub serve_file : Option Publication → SeenRequest → Response
+serve_file None r = refused R404 (asks_close r)
+serve_file (Some p) r =
+    if fails_precondition r p.tag then refused R412 (asks_close r)
+    else if is_unmodified r p.tag then serve_tag p (asks_close r)
+    else if is_method (codes "HEAD") r then serve_head p (asks_close r)
+    else serve_part (part_to_serve r p.tag (length p.file)) p (asks_close r)
+
+-- the first row that applies; None is a message without a head
+abbrev pub answer_by : Catalogue → Option SeenRequest → Response
+answer_by catalogue None = refused R400 true
+answer_by catalogue (Some r) =
+    if has_other_version r then refused R400 true
+    else if lacks_host r then refused R400 true
+    else if announces_body r then refused R400 true
+    else if has_other_method r then refused R405 (asks_close r)
+    else if lacks_origin_form r then refused R400 true
+    else serve_file (published (target_name r) catalogue) r
+
+-- the server's answer to the head at the front of a message
+abbrev pub IsAnswer : Catalogue → List ℕ → Response → Type 0
+IsAnswer catalogue message response =
+    (seen : Option SeenRequest) × HasRequest message seen × (response ≡ answer_by catalogue seen)
+
+-- ---- the answers to a client's own requests
+
+-- the client has no revision, or that of the tag
+abbrev pub is_current : Option (List ℕ) → List ℕ → Bool
+is_current None tag = true
+is_current (Some known) tag = bytes_eq known tag
+
+-- what is answered to a client that asks for the bytes first to last of the file that the server has, or doesn't have
+abbrev pub response_to_client : Option Publication → ℕ → ℕ → Option (List ℕ) → Response
+response_to_client None first last known = refused R404 true
+response_to_client (Some p) first last known =
+    if is_current known p.tag
+    then (if nat_lt first (length p.file) then serve_part (Part first (min last (length p.file - 1))) p true
+    else refused (R416 (length p.file)) true)
+    else serve_part Whole p true
+
+-- what is answered to a client that checks whether the file has this tag
+abbrev pub response_to_check : Option Publication → List ℕ → Response
+response_to_check None tag = refused R404 true
+response_to_check (Some p) tag = if bytes_eq tag p.tag then serve_tag p true else serve_head p true

@@ -1,0 +1,42 @@
+//! A client's check whether a file is still the one that it knows (RFC 9110, section 13.1.2).
+ghost use Rattle.std.specs.Prelude.{◌≡◌};
+ghost use Rattle.http_range.specs.AnswerHead.{head_seen};
+ghost use Rattle.http_range.specs.Piece.{check_seen};
+ghost use Rattle.http_range.specs.Reading.{tag_of, ReadsCheck};
+
+use crate::answer_head::{AnswerHead, head_of};
+use crate::reading::{Why, has_other_status};
+use crate::tag::Tag;
+
+/// What the answer to a check says: the tag under which the server has the file, or why it is not used.
+#[derive(Debug, Drop)]
+pub enum CheckReading {
+    Seen(Tag),
+    NotUsed(Why),
+}
+
+fn tag_of(head: &AnswerHead) -> Result<Tag, Why>
+    ensures { result ≡ tag_of (head_seen head.now) }
+{
+    if has_other_status(head) && head.status != 304 {
+        return Err(Why::Status(head.status));
+    }
+    head.tag()
+}
+
+fn read(bytes: &[u8]) -> Result<Tag, Why>
+    ensures { ReadsCheck bytes.now result }
+{
+    let head = head_of(bytes)?;
+    tag_of(&head)
+}
+
+/// What the answer to a check, or a front of it, says.
+pub fn read_check(bytes: &[u8]) -> CheckReading
+    ensures { ReadsCheck bytes.now (check_seen result) }
+{
+    match read(bytes) {
+        Ok(tag) => CheckReading::Seen(tag),
+        Err(why) => CheckReading::NotUsed(why),
+    }
+}

@@ -1,0 +1,41 @@
+//! The tags of publications.
+ghost use Rattle.std.specs.Prelude.{◌≡◌, ◌≤◌, ◌+◌, ◌++◌, length};
+ghost use Rattle.arrayvec.specs.ArrayVec.{array_vec_len};
+ghost use Rattle.http_range.specs.Book.{publication_tag};
+
+use crate::limits::TAG_LIMIT;
+use crate::tag::Tag;
+use arrayvec::ArrayVec;
+use itoa::Buffer;
+
+impl Tag {
+    /// The tag `"E-N"` of publication `number` of an epoch. It takes no memory.
+    pub fn of_publication(epoch: u32, number: u32) -> Tag
+        ensures { result ≡ publication_tag epoch number }
+    {
+        let text = publication_text(epoch, number);
+        Tag::new(text.as_slice()).unwrap()
+    }
+}
+
+#[tactic(auto, unfolding(crate::specs::Book::publication_tag))]
+fn publication_text(epoch: u32, number: u32) -> ArrayVec<u8, TAG_LIMIT>
+    ensures { result.items ≡ publication_tag epoch number }
+{
+    let mut text = ArrayVec::new();
+    let mut buffer = Buffer::new();
+    append(&mut text, b"\"");
+    append(&mut text, buffer.format(epoch).as_bytes());
+    append(&mut text, b"-");
+    append(&mut text, buffer.format(number).as_bytes());
+    append(&mut text, b"\"");
+    text
+}
+
+fn append(text: &mut ArrayVec<u8, TAG_LIMIT>, bytes: &[u8])
+    requires { array_vec_len text.old + length bytes.now ≤ TAG_LIMIT }
+    ensures { text.new.items ≡ text.old.items ++ bytes.now }
+{
+    let added = text.try_extend_from_slice(bytes);
+    added.unwrap();
+}
