@@ -2,7 +2,7 @@ use Rattle.std.proofs.Common.{◌≡◌, ℕ, ◌+◌, ◌-◌, ◌<◌, ◌≤�
 use Rattle.std.proofs.lemmas.List.{take_all, take_rest, length-take-le}
 use Rattle.tiff_dir.specs.Packets.{Packs}
 use Rattle.packbits.specs.Unpacking.{IsFirst, HasNoFirst}
-use Rattle.packbits.proofs.Packing.{HasRoom, room_left, room_next, packs_next, fits_in, not_packed, not_filled}
+use Rattle.packbits.proofs.PacketLemmas.{HasRoom, room_left, room_next, packs_next, fits_in, not_packed, not_filled}
 use Rattle.packbits.proofs.unpacking.unpack.Goals as goal
 
 pub returns-in_default-clause-refused : goal.returns-in_default-clause-refused

@@ -1,6 +1,6 @@
 use Rattle.std.proofs.Common.{◌-◌, ◌≤◌, take, length}
 use Rattle.tiff_dir.specs.Packets.{Packs}
-use Rattle.packbits.proofs.Packing.{HasRoom}
+use Rattle.packbits.proofs.PacketLemmas.{HasRoom}
 use Rattle.packbits.proofs.unpacking.unpack.Given as goal
 
 abbrev pub invariant-loop-at : goal.invariant-loop-at

@@ -7,6 +7,7 @@ use borrow.Rule.Slice.PartMut.{put_mid}
 use Rattle.std.proofs.lemmas.Nat.{mod-mul-add}
 use Rattle.std.specs.List.{flat_map, AllByRecursion}
 use Rattle.tiff_dir.specs.Packets.{Packet, Copied, Repeated, Passed, IsPacket, written, output, KeepRows, Packs, PacketsAreApart, TextsAreUnique}
+use Rattle.packbits.specs.Adding.{Adds}
 use Rattle.packbits.specs.Unpacking.{IsFirst, HasNoFirst, IsNotPacked}
 
 -- a place of the output with so much room in its row
@@ -150,3 +151,16 @@ packs_next row seg out new at len done room k count packs has within few fits fi
 pub fits_in : (out new : List ℕ) (done k count : ℕ) → done ≤ length out → count ≤ length new → done + count ≤ length (put_mid done k out new)
 fits_in out new done k count within few =
     omega (arith, length-take-le done out within, few, length-append (take done out) (new ++ drop k (drop done out)), length-append new (drop k (drop done out)))
+
+-- a packet of the rest of one row is appended
+pub packs_added : (row packed new : List ℕ) (at len : ℕ) → Packs (length row) packed (take at row) → at < length row → Adds packed new (drop at row) len → Packs (length row) new (take (at + len) row)
+packs_added row packed new at len packs below adds =
+    let n = length row in
+    let size : length (take at row) ≡ at = length-take-le at row (omega arith) in
+    let sum : at ≡ 0 * n + at = omega arith in
+    let place : length (take at row) % n ≡ at = ap (λ k. k % n) (size ∙ sum) ∙ mod-mul-add 0 n at below in
+    let text : length (output adds.packet) ≡ len = ap length (sym adds.text_is) ∙ length-take-le len (drop at row) adds.within in
+    let fits : length (take at row) % n + length (output adds.packet) ≤ n = omega (arith, place, text, adds.within, length-drop at row) in
+    let whole : take (at + len) row ≡ take at row ++ output adds.packet = take-add at len row ∙ ap (λ l. take at row ++ l) adds.text_is in
+    subst (λ b. Packs n b (take (at + len) row)) (sym adds.added)
+    (subst (Packs n (packed ++ written adds.packet)) (sym whole) (packs_push n packed (take at row) adds.packet packs adds.lawful fits))
