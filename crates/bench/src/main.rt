@@ -10,9 +10,12 @@ use std::alloc::Global;
 use std::env;
 use std::rt::{Clock, Env};
 use std::time::Instant;
+use tile_plan::swap_pairs;
 use tiles::{Kind, ROW, TILE, packed, plain};
 
-/// How often each is done: some 256 MB.
+const MEBIBYTE: usize = 1048576;
+
+/// How often each is done.
 const REPEATS: u32 = 4096;
 
 /// GB a second of that many tiles.
@@ -29,6 +32,10 @@ fn check(rt: &impl Print, alloc: Global) -> Result<()> {
         let same = out.as_slice() == plain(alloc, kind)?.as_slice();
         println!(rt; "unpack {}: {}", kind.name(), fault.is_none() && same)?;
     }
+    let mut pairs = *b"0123456789abcdefghijklmnopqrstuvwxyz";
+    swap_pairs(&mut pairs);
+    let same = pairs.as_slice() == b"1032547698badcfehgjilknmporqtsvuxwzy".as_slice();
+    println!(rt; "swap_pairs: {same}")?;
     Ok(())
 }
 
@@ -38,6 +45,12 @@ fn unpack_often(seg: &[u8], out: &mut [u8]) -> bool {
         good = good && unpack(seg, ROW, out).is_ok();
     }
     good
+}
+
+fn swap_often(bytes: &mut [u8]) {
+    for _ in 0..REPEATS {
+        swap_pairs(bytes);
+    }
 }
 
 fn copy_often(from: &[u8], out: &mut [u8]) -> bool {
@@ -60,12 +73,22 @@ fn measure(rt: &(impl Print + Clock), alloc: Global) -> Result<()> {
         ensure!(good, "unpack");
         println!(rt; "unpack {}: {:.2} GB/s", kind.name(), rate(seconds))?;
     }
-    let from = plain(alloc, Kind::Noise)?;
+    measure_mebibyte(rt, alloc)
+}
+
+/// The exchange of pairs in 1 MiB, and a copy of it.
+fn measure_mebibyte(rt: &(impl Print + Clock), alloc: Global) -> Result<()> {
+    let mut out = vec![in alloc; 1u8; MEBIBYTE]?;
+    let start = Instant::now(rt)?;
+    swap_often(&mut out);
+    let seconds = start.elapsed(rt)?.as_secs_f64();
+    println!(rt; "swap_pairs: {:.2} GB/s", 16.0 * rate(seconds))?;
+    let from = vec![in alloc; 2u8; MEBIBYTE]?;
     let start = Instant::now(rt)?;
     let good = copy_often(&from, &mut out);
     let seconds = start.elapsed(rt)?.as_secs_f64();
     ensure!(good, "copy");
-    println!(rt; "copy: {:.2} GB/s", rate(seconds))?;
+    println!(rt; "copy: {:.2} GB/s", 16.0 * rate(seconds))?;
     Ok(())
 }
 

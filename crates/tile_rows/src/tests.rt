@@ -1,2 +1,3 @@
 mod packets;
+mod pairs;
 mod values;
