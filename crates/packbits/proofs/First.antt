@@ -1,7 +1,7 @@
 -- The first packet of some bytes.
-use Rattle.std.proofs.Common.{◌≡◌, ℕ, suc, ◌+◌, ◌-◌, ◌<◌, ◌≤◌, List, [], ◌∷◌, ◌++◌, length, take, drop, get_or, replicate, refl, sym, ap, ◌∙◌, subst, arith, add-one}
+use Rattle.std.proofs.Common.{◌≡◌, ℕ, suc, ◌+◌, ◌-◌, ◌<◌, ◌≤◌, List, [], ◌∷◌, ◌++◌, length, take, drop, get_or, replicate, refl, sym, ap, ◌∙◌, arith}
 use Rattle.std.proofs.lemmas.List.{take-append-drop, length-take-le}
-use Rattle.tiff_dir.specs.Packets.{Packet, Copied, Repeated}
+use Rattle.tiff_dir.specs.Packets.{Copied, Repeated}
 use Rattle.packbits.specs.Unpacking.{IsFirst}
 
 pub copied_first : (bytes text : List ℕ) (head : ℕ) → get_or bytes 0 0 ≡ head → head < 128 → head + 1 < length bytes → text ≡ take (head + 1) (drop 1 bytes) →

@@ -1,5 +1,5 @@
 -- One packet after another (TIFF 6.0, section 9).
-use Rattle.std.specs.Prelude.{◌≡◌, ℕ, ◌+◌, ◌≤◌, List, ◌++◌, length, drop}
+use Rattle.std.specs.Prelude.{◌≡◌, ℕ, ◌≤◌, List, ◌++◌, length, drop}
 use Rattle.tiff_dir.specs.Packets.{Packet, IsPacket, written, output, Packs}
 
 -- The bytes begin with a packet of len bytes that stands for this text.

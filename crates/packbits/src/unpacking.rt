@@ -25,7 +25,8 @@ fn repeat(byte: u8, times: usize, out: &mut [u8])
 #[inline(always)]
 fn unpack_first(bytes: &[u8], room: usize, out: &mut [u8]) -> Option<(usize, usize)>
     requires { 0 < length bytes.now }
-    ensures first { IfSome result (λ n. (n.0 ≤ length bytes.now) × (n.1 ≤ room) × (n.1 ≤ length out.old) × IsFirst bytes.now n.0 (take n.1 out.new)) }
+    ensures first { IfSome result (λ n. (n.0 ≤ length bytes.now) × (n.1 ≤ room) × (n.1 ≤ length out.old)
+        × IsFirst bytes.now n.0 (take n.1 out.new)) }
     ensures none { IfNone result (HasNoFirst bytes.now (min room (length out.old))) }
 {
     let head = usize::from(bytes[0]);

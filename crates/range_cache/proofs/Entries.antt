@@ -1,6 +1,5 @@
 -- What looking up, promoting and putting make of the pairs that are kept, seen as blocks.
-use Rattle.std.proofs.Common.{◌≡◌, ◌||◌, ℕ, ◌-◌, Bool, true, false, cond, List, [], ◌∷◌, ◌++◌, take, map, Option, Some, None, is_some, refl, sym, ap, ◌∙◌, nat_eq}
-use Rattle.std.proofs.lemmas.Bool.{eqb-true}
+use Rattle.std.proofs.Common.{◌≡◌, ◌||◌, ℕ, ◌-◌, Bool, true, false, cond, List, [], ◌∷◌, take, Option, Some, None, is_some, refl, sym, ap, ◌∙◌, nat_eq}
 use Rattle.std.proofs.lemmas.List.{take-map}
 use Rattle.std.specs.Global.{Vec}
 use Rattle.std.specs.Map.{keys_of, lookup, lookup_entry, remove_entry}

@@ -1,18 +1,18 @@
 -- Bringing blocks to the front.
-use Rattle.std.proofs.Common.{◌≡◌, ◌||◌, ◌&&◌, ℕ, zero, suc, ◌+◌, ◌-◌, ◌<◌, ◌≤◌, Bool, true, false, cond, not, List, [], ◌∷◌, ◌++◌, length, take, map, reverse, Option, Some, None, is_some, refl, sym, ap, ◌∙◌, subst, arith, nat_eq, inl, inr, ◌⊎◌, append-nil}
-use Rattle.std.proofs.lemmas.Bool.{eqb-true, eqb-false}
+use Rattle.std.proofs.Common.{◌≡◌, ◌||◌, ◌&&◌, ℕ, zero, suc, ◌+◌, ◌<◌, ◌≤◌, Bool, true, false, cond, not, List, [], ◌∷◌, ◌++◌, length, take, reverse, Option, Some, None, is_some, refl, sym, ap, ◌∙◌, subst, arith, nat_eq, inl, inr, ◌⊎◌, append-nil}
+use Rattle.std.proofs.lemmas.Bool.{eqb-true}
 use Rattle.std.proofs.lemmas.Bool.Decides.{eqb_tells}
-use Rattle.std.proofs.lemmas.List.{reverse-append, length-reverse, map-append, take-append-le}
+use Rattle.std.proofs.lemmas.List.{reverse-append, length-reverse, map-append}
 use Rattle.std.proofs.lemmas.List.Folds.{list_any-append}
 use Rattle.std.proofs.lemmas.List.Elements.{filter_map-append, All-nil, All-cons, All-head, All-tail, All-push, All-same, All-append, All-filter}
 use Rattle.std.proofs.Math.Seq.{take-append_seam}
-use Rattle.std.specs.List.{All, filter, filter_map, cons_option, range_with_len, AllByRecursion, IsDistinct}
+use Rattle.std.specs.List.{All, filter, cons_option, range_with_len, AllByRecursion, IsDistinct}
 use Rattle.std.specs.Map.{lookup_entry, remove_entry}
 use Rattle.std.specs.Option.{option_map_or}
 use Rattle.lru.specs.LruCache.{promoted}
-use Rattle.range_cache.specs.Numbers.{has, missing, AreThere, IsLed}
+use Rattle.range_cache.specs.Numbers.{has, missing, IsLed}
 use Rattle.range_cache.specs.Cache.{Block, numbers, present, brought}
-use Rattle.range_cache.proofs.Entries.{is_some-lookup_entry, number_of_entry, lookup_entry-none}
+use Rattle.range_cache.proofs.Entries.{is_some-lookup_entry, number_of_entry}
 
 -- ranges of numbers
 

@@ -1,13 +1,13 @@
 -- The blocks that a piece brings.
-use Rattle.std.proofs.Common.{◌≡◌, ◌&&◌, ◌||◌, ◌⊎◌, ℕ, zero, suc, ◌+◌, ◌-◌, ◌*◌, ◌/◌, ◌^◌, ◌<◌, ◌≤◌, Bool, true, false, cond, not, List, [], ◌∷◌, ◌++◌, length, take, drop, map, min, max, refl, sym, ap, ◌∙◌, arith, inl, inr, length-drop}
-use Rattle.std.proofs.lemmas.Bool.{lt-ltb, ltb-true, le-leb, leb-true, and_parts, and_from, false_from_ne_true, cases_Bool, cases_lt}
-use Rattle.std.proofs.lemmas.List.{take_min, length-map}
+use Rattle.std.proofs.Common.{◌≡◌, ◌⊎◌, ℕ, zero, suc, ◌+◌, ◌-◌, ◌*◌, ◌/◌, ◌<◌, ◌≤◌, Bool, true, false, cond, List, [], ◌∷◌, length, take, drop, map, min, max, refl, sym, ap, ◌∙◌, arith, inl, inr, length-drop}
+use Rattle.std.proofs.lemmas.Bool.{lt-ltb, ltb-true, le-leb, leb-true, and_parts, and_from, cases_Bool, cases_lt}
+use Rattle.std.proofs.lemmas.List.{take_min}
 use Rattle.std.proofs.lemmas.List.Elements.{All-nil, All-cons}
 use Rattle.std.proofs.lemmas.Bool.Decides.{eqb_tells}
 use Rattle.std.specs.Int.{div_ceil}
 use Rattle.std.specs.List.{All, filter, range_with_len, slice_range}
 use Rattle.tiff_dir.specs.declared.span.Span.{Span}
-use Rattle.range_cache.specs.Block.{block_size, block_of, block_count, end_of, is_whole}
+use Rattle.range_cache.specs.Block.{block_count, end_of, is_whole}
 use Rattle.range_cache.specs.Cache.{Block}
 use Rattle.range_cache.specs.Piece.{block_in, is_brought, whole_blocks, IsPieceOf}
 use Rattle.range_cache.proofs.Bytes.{slice_of_slice, IsOf}

@@ -12,7 +12,8 @@ HaveSame ns ms = (k : ℕ) → has k ns ≡ has k ms
 
 -- where the same blocks are there, the first gap is the same
 abbrev pub GapsAreUnique : Type 0
-GapsAreUnique = (ns ms : List ℕ) (n count from to begin end : ℕ) → HaveSame ns ms → IsGap ns n count from to → IsGap ms n count begin end → (from ≡ begin) × (to ≡ end)
+GapsAreUnique = (ns ms : List ℕ) (n count from to begin end : ℕ) →
+    HaveSame ns ms → IsGap ns n count from to → IsGap ms n count begin end → (from ≡ begin) × (to ≡ end)
 
 -- where the same blocks are there, as many are missing
 abbrev pub MissingIsSame : Type 0
@@ -28,7 +29,8 @@ StoresAreFew = (capacity : ℕ) (new bs : List Block) → stores capacity new bs
 
 -- where one of them isn't there, one is stored at least
 abbrev pub StoresAreSome : Type 0
-StoresAreSome = (capacity : ℕ) (new bs : List Block) (n : ℕ) → has n (numbers new) ≡ true → has n (numbers bs) ≡ false → 1 ≤ stores capacity new bs
+StoresAreSome = (capacity : ℕ) (new bs : List Block) (n : ℕ) →
+    has n (numbers new) ≡ true → has n (numbers bs) ≡ false → 1 ≤ stores capacity new bs
 
 -- which blocks a piece brings
 abbrev pub WholeAreBrought : Type 0

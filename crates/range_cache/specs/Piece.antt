@@ -18,7 +18,8 @@ is_brought complete first len wanted n =
 -- The blocks that a piece brings, in ascending order.
 unfoldable pub whole_blocks : ℕ → ℕ → List ℕ → Span → List Block
 whole_blocks complete first bytes wanted =
-    map (block_in complete first bytes) (filter (is_brought complete first (length bytes) wanted) (range_with_len 0 (block_count complete)))
+    map (block_in complete first bytes)
+    (filter (is_brought complete first (length bytes) wanted) (range_with_len 0 (block_count complete)))
 
 -- the bytes are f's from first on
 abbrev pub IsPieceOf : List ℕ → ℕ → List ℕ → Type 0

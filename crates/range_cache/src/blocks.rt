@@ -119,7 +119,8 @@ fn store_one(blocks: &mut LruCache<u64, Vec<u8>>, number: u64, bytes: &[u8]) -> 
 /// Which blocks a piece of so many bytes brings: those from the first number up to the second.
 pub fn whole_run(complete: u64, first: u64, len: u64, wanted: Span) -> (u64, u64)
     requires { first + len ≤ complete }
-    ensures run { filter (is_brought complete first len wanted) (range_with_len 0 (block_count complete)) ≡ range_with_len result.0 (result.1 - result.0) }
+    ensures run { filter (is_brought complete first len wanted) (range_with_len 0 (block_count complete))
+        ≡ range_with_len result.0 (result.1 - result.0) }
     ensures starts { first ≤ result.0 * block_size }
     ensures inside { result.1 * block_size < complete + block_size }
     ensures ends { result.0 < result.1 → end_of complete (result.1 - 1) ≤ first + len }
@@ -146,13 +147,15 @@ pub fn store(
     requires starts { first ≤ from * block_size }
     requires inside { to * block_size < complete + block_size }
     requires ends { from < to → end_of complete (to - 1) ≤ first + length bytes.now }
-    requires counted { stores blocks.old.cap (map (block_in complete first bytes.now) (range_with_len from (to - from))) (blocks_in blocks.old.entries) < 2 ^ 32 }
+    requires counted { stores blocks.old.cap (map (block_in complete first bytes.now) (range_with_len from (to - from)))
+        (blocks_in blocks.old.entries) < 2 ^ 32 }
     ensures capacity { blocks.new.cap ≡ blocks.old.cap }
     ensures ok { IfOk result (λ count. let new = map (block_in complete first bytes.now) (range_with_len from (to - from)) in
         (blocks_in blocks.new.entries ≡ stored blocks.old.cap new (blocks_in blocks.old.entries))
         × (count ≡ stores blocks.old.cap new (blocks_in blocks.old.entries))) }
     ensures err { OnErr result ((k : ℕ) × (k < to - from)
-        × (blocks_in blocks.new.entries ≡ stored blocks.old.cap (map (block_in complete first bytes.now) (range_with_len from k)) (blocks_in blocks.old.entries))) }
+        × (blocks_in blocks.new.entries ≡ stored blocks.old.cap (map (block_in complete first bytes.now) (range_with_len from k))
+        (blocks_in blocks.old.entries))) }
 {
     let mut count = 0;
     for number in from..to {

@@ -76,7 +76,9 @@ impl Cache {
         requires some { 0 < length out.old }
         requires within { first + length out.old ≤ complete }
         ensures sound { IsSound self.old }
-        ensures entries { self.new ≡ record self.old { entries = brought (range_with_len (first_block first) (blocks first (length out.old))) self.old.entries } }
+        ensures entries { self.new ≡ record self.old {
+          entries = brought (range_with_len (first_block first) (blocks first (length out.old))) self.old.entries;
+        } }
         ensures exact { MatchResult result
             (λ _. AreThere (numbers self.old.entries) (first_block first) (blocks first (length out.old)))
             (λ m. Lacks self.old complete first (length out.old) m) }
@@ -127,7 +129,8 @@ impl Cache {
             (self.new ≡ record self.old { entries = stored self.old.capacity new self.old.entries })
             × (count ≡ stores self.old.capacity new self.old.entries)) }
         ensures err { OnErr result (let new = whole_blocks complete first bytes.now wanted in
-            (k : ℕ) × (k < length new) × (self.new ≡ record self.old { entries = stored self.old.capacity (take k new) self.old.entries })) }
+            (k : ℕ) × (k < length new)
+            × (self.new ≡ record self.old { entries = stored self.old.capacity (take k new) self.old.entries })) }
 
         // What follows of the entries: each is still the file's, and no block of a range that leads leaves.
         ensures holds { (f : List ℕ) → complete ≡ length f → IsPieceOf f first bytes.now → Holds f self.old → Holds f self.new }

@@ -1,4 +1,4 @@
-use Rattle.std.proofs.Common.{◌≡◌, ◌+◌, ◌-◌, ◌≤◌, List, ℕ, length, drop, take, arith, subst, length-drop, ap}
+use Rattle.std.proofs.Common.{drop, arith, subst, length-drop}
 use Rattle.std.proofs.lemmas.List.{take_rest}
 use Rattle.packbits.specs.Adding.{Adds}
 use Rattle.packbits.proofs.PacketLemmas.{packs_added}

@@ -1,4 +1,4 @@
-use Rattle.std.proofs.Common.{◌≡◌, ◌≤◌, take, replicate}
+use Rattle.std.proofs.Common.{◌≡◌, take, replicate}
 use Rattle.packbits.proofs.packing.run_len.Given as goal
 
 abbrev pub invariant-loop-i : goal.invariant-loop-i

@@ -1,4 +1,4 @@
-use Rattle.std.proofs.Common.{◌≡◌, ℕ, ◌+◌, ◌-◌, ◌<◌, ◌≤◌, List, ◌++◌, length, take, drop, get_or, replicate, sym, ap, ◌∙◌, arith}
+use Rattle.std.proofs.Common.{◌≡◌, ◌+◌, ◌-◌, ◌≤◌, length, take, drop, sym, ap, ◌∙◌, arith}
 use Rattle.std.proofs.lemmas.List.{take_at, length-take-le}
 use Rattle.packbits.proofs.First.{copied_first, repeated_first}
 use Rattle.packbits.proofs.unpacking.unpack_first.Goals as goal

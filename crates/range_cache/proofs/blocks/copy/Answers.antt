@@ -1,6 +1,5 @@
-use Rattle.std.proofs.Common.{◌≡◌, ℕ, List, ◌+◌, ◌-◌, ◌*◌, ◌/◌, ◌<◌, ◌≤◌, ◌++◌, take, drop, length, min, max, ap, sym, ◌∙◌, arith, length-take, length-drop}
+use Rattle.std.proofs.Common.{◌≡◌, ◌+◌, ◌-◌, ◌*◌, take, drop, length, min, max, ap, ◌∙◌, arith, length-take, length-drop}
 use Rattle.std.specs.List.{slice_range}
-use Rattle.range_cache.specs.Block.{block_size}
 use Rattle.range_cache.proofs.Bytes.{copied_more, blocks-some}
 use Rattle.range_cache.proofs.blocks.copy.Goals as goal
 

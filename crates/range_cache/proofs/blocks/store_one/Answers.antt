@@ -1,4 +1,4 @@
-use Rattle.std.proofs.Common.{◌≡◌, cond, refl, sym, ap, ◌∙◌, ℕ, ◌∷◌, ◌-◌, take}
+use Rattle.std.proofs.Common.{cond, refl, sym, ap, ◌∙◌, ℕ}
 use Rattle.range_cache.specs.Cache.{blocks_in, put_one}
 use Rattle.range_cache.proofs.Entries.{told, blocks_in-put}
 use Rattle.range_cache.proofs.blocks.store_one.Goals as goal

@@ -1,7 +1,7 @@
-use Rattle.std.proofs.Common.{◌≡◌, ◌+◌, ◌-◌, ◌*◌, ◌≤◌, ◌++◌, ℕ, length, take, drop, ap, sym, ◌∙◌, arith, length-drop}
+use Rattle.std.proofs.Common.{◌≡◌, ◌+◌, ◌-◌, ◌≤◌, ◌++◌, ℕ, length, take, drop, ap, ◌∙◌, arith, length-drop}
 use Rattle.std.proofs.lemmas.List.{length-take-le}
 use Rattle.tile_plan.specs.Pairs.{exchanged}
-use Rattle.tile_plan.proofs.PairLemmas.{exchanged_more, exchanged_all, exchanged_rest, fits_in, length-exchanged}
+use Rattle.tile_plan.proofs.PairLemmas.{exchanged_more, exchanged_rest, fits_in, length-exchanged}
 use Rattle.tile_plan.proofs.swap.swap_pairs.Goals as goal
 
 pub loop-bytes-preserved : goal.loop-bytes-preserved

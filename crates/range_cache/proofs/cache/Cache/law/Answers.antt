@@ -1,7 +1,7 @@
-use Rattle.std.proofs.Common.{◌≡◌, ℕ, ◌≤◌, List, length, sym, ap, ◌∙◌, subst, arith, nat_eq}
+use Rattle.std.proofs.Common.{sym, subst, arith, nat_eq}
 use Rattle.std.proofs.lemmas.List.{length-map}
 use Rattle.std.specs.List.{IsDistinct}
-use Rattle.range_cache.specs.Cache.{Blocks, kept_blocks, IsSound}
+use Rattle.range_cache.specs.Cache.{IsSound}
 use Rattle.range_cache.proofs.Entries.{numbers-blocks_in, block}
 use Rattle.range_cache.proofs.cache.Cache.law.Goals as goal
 

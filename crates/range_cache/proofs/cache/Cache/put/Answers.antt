@@ -1,5 +1,4 @@
-use Rattle.std.proofs.Common.{◌≡◌, ℕ, ◌-◌, ◌<◌, ◌^◌, map, length, ap, sym, ◌∙◌, arith, subst}
-use Rattle.std.specs.List.{range_with_len}
+use Rattle.std.proofs.Common.{◌-◌, ◌<◌, ◌^◌, map, ap, arith, subst}
 use Rattle.range_cache.specs.Cache.{Blocks, kept_blocks, stores, Holds}
 use Rattle.range_cache.specs.Piece.{block_in, whole_blocks}
 use Rattle.range_cache.proofs.Whole.{all_whole, all_in_range}

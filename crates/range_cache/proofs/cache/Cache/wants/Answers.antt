@@ -1,6 +1,5 @@
-use Rattle.std.proofs.Common.{◌≡◌, ◌&&◌, ◌+◌, ◌*◌, false, true, not, ap, sym, ◌∙◌, arith, refl}
+use Rattle.std.proofs.Common.{◌&&◌, ◌+◌, not, ap, sym, ◌∙◌, arith}
 use Rattle.std.proofs.lemmas.Bool.{false_from_ne_true, and_left, lt-leb}
-use Rattle.range_cache.specs.Block.{is_whole}
 use Rattle.range_cache.specs.Numbers.{has}
 use Rattle.range_cache.specs.Cache.{Blocks, numbers}
 use Rattle.range_cache.specs.Piece.{is_wanted}
