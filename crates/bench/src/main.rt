@@ -1,0 +1,106 @@
+//! How fast the loops over bytes go. Without a word it checks what they give; with the word `measure` it prints how many
+//! GB a second each writes on hot tiles.
+#![tactic(auto)]
+
+mod tiles;
+
+use anyhow::{Result, ensure};
+use packbits::unpack;
+use std::alloc::Global;
+use std::env;
+use std::rt::{Clock, Env};
+use std::time::Instant;
+use tile_plan::swap_pairs;
+use tiles::{Kind, ROW, TILE, packed, plain};
+
+const MEBIBYTE: usize = 1048576;
+
+/// How often each is done.
+const REPEATS: u32 = 4096;
+
+/// GB a second of that many tiles.
+fn rate(seconds: f64) -> f64 {
+    f64::from(REPEATS) * 65536.0 / seconds / 1e9
+}
+
+/// Unpacks a tile of each kind, and compares it with what it was made of.
+fn check(rt: &impl Print, alloc: Global) -> Result<()> {
+    for kind in Kind::ALL {
+        let mut out = vec![in alloc; 0u8; TILE]?;
+        let seg = packed(alloc, kind)?;
+        let fault = unpack(&seg, ROW, &mut out).err();
+        let same = out.as_slice() == plain(alloc, kind)?.as_slice();
+        println!(rt; "unpack {}: {}", kind.name(), fault.is_none() && same)?;
+    }
+    let mut pairs = *b"0123456789abcdefghijklmnopqrstuvwxyz";
+    swap_pairs(&mut pairs);
+    let same = pairs.as_slice() == b"1032547698badcfehgjilknmporqtsvuxwzy".as_slice();
+    println!(rt; "swap_pairs: {same}")?;
+    Ok(())
+}
+
+fn unpack_often(seg: &[u8], out: &mut [u8]) -> bool {
+    let mut good = true;
+    for _ in 0..REPEATS {
+        good = good && unpack(seg, ROW, out).is_ok();
+    }
+    good
+}
+
+fn swap_often(bytes: &mut [u8]) {
+    for _ in 0..REPEATS {
+        swap_pairs(bytes);
+    }
+}
+
+fn copy_often(from: &[u8], out: &mut [u8]) -> bool {
+    if from.len() != out.len() {
+        return false;
+    }
+    for _ in 0..REPEATS {
+        out.copy_from_slice(from);
+    }
+    true
+}
+
+fn measure(rt: &(impl Print + Clock), alloc: Global) -> Result<()> {
+    let mut out = vec![in alloc; 0u8; TILE]?;
+    for kind in Kind::ALL {
+        let seg = packed(alloc, kind)?;
+        let start = Instant::now(rt)?;
+        let good = unpack_often(&seg, &mut out);
+        let seconds = start.elapsed(rt)?.as_secs_f64();
+        ensure!(good, "unpack");
+        println!(rt; "unpack {}: {:.2} GB/s", kind.name(), rate(seconds))?;
+    }
+    measure_mebibyte(rt, alloc)
+}
+
+/// The exchange of pairs in 1 MiB, and a copy of it.
+fn measure_mebibyte(rt: &(impl Print + Clock), alloc: Global) -> Result<()> {
+    let mut out = vec![in alloc; 1u8; MEBIBYTE]?;
+    let start = Instant::now(rt)?;
+    swap_often(&mut out);
+    let seconds = start.elapsed(rt)?.as_secs_f64();
+    println!(rt; "swap_pairs: {:.2} GB/s", 16.0 * rate(seconds))?;
+    let from = vec![in alloc; 2u8; MEBIBYTE]?;
+    let start = Instant::now(rt)?;
+    let good = copy_often(&from, &mut out);
+    let seconds = start.elapsed(rt)?.as_secs_f64();
+    ensure!(good, "copy");
+    println!(rt; "copy: {:.2} GB/s", 16.0 * rate(seconds))?;
+    Ok(())
+}
+
+fn main(rt: HostRuntime) -> Result<()> {
+    let alloc = rt.alloc();
+    let mut measures = false;
+    for word in env::args(&rt)?.skip(1) {
+        measures = measures || word.as_str() == "measure";
+    }
+    if measures {
+        measure(&rt, alloc)
+    } else {
+        check(&rt, alloc)
+    }
+}

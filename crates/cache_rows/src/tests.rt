@@ -1,0 +1,4 @@
+mod model;
+mod piece;
+mod random_run;
+mod values;

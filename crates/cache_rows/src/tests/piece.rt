@@ -1,0 +1,39 @@
+//! A file of which each byte is known, and pieces of it.
+ghost use Rattle.std.specs.Prelude.{◌≡◌, ◌+◌, ◌<◌, ◌≤◌, ◌^◌, IfOk, vec_len, length};
+
+use range_cache::{Cache, pieces_bring_blocks, stores_are_counted};
+use std::alloc::{AllocError, Global};
+use tiff_dir::{Memory, Span};
+
+/// The byte at a place: neighbours differ, and so do the same places of neighbouring blocks.
+fn byte_at(place: u64) -> u8 {
+    (place % 251) as u8 ^ (place / 16384 % 256) as u8
+}
+
+/// The bytes from a place on.
+pub fn piece(alloc: Global, first: u64, len: usize) -> Result<Vec<u8>, AllocError>
+    requires { first + len < 2 ^ 63 }
+    ensures { IfOk result (λ v. vec_len v ≡ len) }
+{
+    let mut bytes = Vec::with_capacity(alloc, len)?;
+    for i in 0..len {
+        bytes.push(byte_at(first + i as u64))?;
+    }
+    Ok(bytes)
+}
+
+/// Puts a piece, of which no more than some 2^26 blocks can be wanted.
+pub fn put(
+    cache: &mut Cache,
+    complete: u64,
+    first: u64,
+    bytes: &[u8],
+    wanted: Span,
+) -> Result<u32, Memory>
+    requires within { first + length bytes.now ≤ complete }
+    requires near { wanted.last < 2 ^ 40 }
+{
+    stores_are_counted();
+    pieces_bring_blocks();
+    cache.put(complete, first, bytes, wanted)
+}

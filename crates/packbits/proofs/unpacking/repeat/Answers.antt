@@ -1,0 +1,12 @@
+use Rattle.std.proofs.Common.{◌≡◌, ◌≤◌, length, take, drop, ap, ◌∙◌, arith}
+use Rattle.std.proofs.lemmas.List.{take-append-le, take-replicate, length-take-le}
+use Rattle.packbits.proofs.unpacking.repeat.Goals as goal
+
+pub returns-then-out-ge-AT_ONCE : goal.returns-then-out-ge-AT_ONCE
+returns-then-out-ge-AT_ONCE c =
+    let new = c.copy_from_slice.new.self in
+    let size : length new ≡ 16 = c.copy_from_slice.ensures.len ∙ length-take-le 16 c.args.out.now c.if-out-ge-AT_ONCE.true in
+    let few : c.args.times ≤ length new = omega (arith, size, c.if-times-le-AT_ONCE.true) in
+    take-append-le c.args.times new (drop 16 c.args.out.now) few
+    ∙ ap (take c.args.times) c.copy_from_slice.ensures.after
+    ∙ take-replicate c.args.times 16 c.args.byte c.if-times-le-AT_ONCE.true

@@ -1,0 +1,73 @@
+ghost use Rattle.std.specs.Prelude.{◌≡◌, ◌<◌, ◌≤◌, IfOk, length, take, replicate, slice_index};
+ghost use Rattle.tiff_dir.specs.Packets.{Packs};
+ghost use Rattle.packbits.specs.Adding.{Adds};
+
+use std::alloc::Global;
+use tiff_dir::Memory;
+
+/// The most bytes that a packet stands for.
+const MOST: usize = 128;
+
+/// How many equal bytes the row begins with, up to 128.
+fn run_len(bytes: &[u8]) -> usize
+    requires { 0 < length bytes.now }
+    ensures some { 1 ≤ result }
+    ensures few { result ≤ 128 }
+    ensures within { result ≤ length bytes.now }
+    ensures equal { take result bytes.now ≡ replicate result (slice_index bytes.now 0) }
+{
+    let first = bytes[0];
+    let most = bytes.len().min(MOST);
+    for i in 1..most {
+        if bytes[i] != first {
+            return i;
+        }
+    }
+    most
+}
+
+/// How many bytes come before a run, up to 128, and one at least.
+fn copy_len(bytes: &[u8]) -> usize
+    requires { 0 < length bytes.now }
+    ensures some { 1 ≤ result }
+    ensures few { result ≤ 128 }
+    ensures within { result ≤ length bytes.now }
+{
+    let most = bytes.len().min(MOST);
+    for i in 1..most {
+        if i + 1 < bytes.len() && bytes[i] == bytes[i + 1] {
+            return i;
+        }
+    }
+    most
+}
+
+/// Appends the first packet of the bytes, and says how many it stands for.
+fn push_packet(packed: &mut Vec<u8>, bytes: &[u8]) -> Result<usize, Memory>
+    requires { 0 < length bytes.now }
+    ensures { IfOk result (λ len. Adds packed.old.items packed.new.items bytes.now len) }
+{
+    let run = run_len(bytes);
+    if run > 1 {
+        packed.push((257 - run) as u8)?;
+        packed.push(bytes[0])?;
+        return Ok(run);
+    }
+    let len = copy_len(bytes);
+    packed.push((len - 1) as u8)?;
+    packed.extend_from_slice(&bytes[..len])?;
+    Ok(len)
+}
+
+/// Packets that stand for a row, which isn't empty: equal bytes as runs, others as they are.
+pub fn pack_row(alloc: Global, row: &[u8]) -> Result<Vec<u8>, Memory>
+    requires { 0 < length row.now }
+    ensures { IfOk result (λ packed. Packs (length row.now) packed.items row.now) }
+{
+    let mut packed = Vec::new(alloc);
+    let mut at = 0;
+    while at < row.len() {
+        at += push_packet(&mut packed, &row[at..])?;
+    }
+    Ok(packed)
+}

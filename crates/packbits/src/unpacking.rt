@@ -1,0 +1,76 @@
+ghost use Rattle.std.specs.Prelude.{◌≡◌, ◌<◌, ◌≤◌, IfSome, IfNone, OnOk, IfErr, length, take, min, replicate};
+ghost use Rattle.tiff_dir.specs.Packets.{Packs};
+ghost use Rattle.packbits.specs.Unpacking.{IsFirst, HasNoFirst, IsNotPacked};
+
+use tiff_dir::{FileFault, one_text};
+
+/// How many bytes are written at once where there is room: a short run costs no call.
+const AT_ONCE: usize = 16;
+
+/// Writes a byte so many times. What follows in `out` may be overwritten.
+#[inline(always)]
+fn repeat(byte: u8, times: usize, out: &mut [u8])
+    requires { times ≤ length out.old }
+    ensures { take times out.new ≡ replicate times byte }
+{
+    if times <= AT_ONCE && AT_ONCE <= out.len() {
+        out[..AT_ONCE].copy_from_slice(&[byte; AT_ONCE]);
+    } else {
+        out[..times].fill(byte);
+    }
+}
+
+/// Writes what the first packet stands for, where it has room in its row and in `out`: how many bytes the packet has,
+/// and how many it stands for.
+#[inline(always)]
+fn unpack_first(bytes: &[u8], room: usize, out: &mut [u8]) -> Option<(usize, usize)>
+    requires { 0 < length bytes.now }
+    ensures first { IfSome result (λ n. (n.0 ≤ length bytes.now) × (n.1 ≤ room) × (n.1 ≤ length out.old)
+        × IsFirst bytes.now n.0 (take n.1 out.new)) }
+    ensures none { IfNone result (HasNoFirst bytes.now (min room (length out.old))) }
+{
+    let head = usize::from(bytes[0]);
+    let room = room.min(out.len());
+    if head < 128 {
+        let len = head + 1;
+        if len > room || len >= bytes.len() {
+            return None;
+        }
+        out[..len].copy_from_slice(&bytes[1..len + 1]);
+        Some((len + 1, len))
+    } else if head > 128 {
+        let times = 257 - head;
+        if times > room || bytes.len() < 2 {
+            return None;
+        }
+        repeat(bytes[1], times, out);
+        Some((2, times))
+    } else {
+        Some((1, 0))
+    }
+}
+
+/// Unpacks the packed bytes of whole rows of `row` bytes each into `out`, packet by packet. A packet that crosses the
+/// end of its row is refused, and so are bytes that fill less or more than `out`. After a refusal `out` may hold anything.
+pub fn unpack(seg: &[u8], row: usize, out: &mut [u8]) -> Result<(), FileFault>
+    requires { 0 < row }
+    ensures ok { OnOk result (Packs row seg.now out.new) }
+    ensures refused { IfErr result (λ fault. (fault ≡ FileFault.Packet) × IsNotPacked row seg.now (length out.old)) }
+{
+    one_text();
+    let mut at = 0;
+    let mut done = 0;
+    let mut room = row;
+    while at < seg.len() {
+        let Some((len, count)) = unpack_first(&seg[at..], room, &mut out[done..]) else {
+            return Err(FileFault::Packet);
+        };
+        at += len;
+        done += count;
+        room = if count < room { room - count } else { row };
+    }
+    if done < out.len() {
+        return Err(FileFault::Packet);
+    }
+    Ok(())
+}

@@ -1,0 +1,117 @@
+-- The laws of the definitions.
+use Rattle.std.proofs.Common.{◌≡◌, ◌||◌, ℕ, zero, suc, ◌+◌, ◌-◌, ◌*◌, ◌/◌, ◌<◌, ◌≤◌, Bool, true, false, cond, List, [], ◌∷◌, length, map, take, max, refl, sym, ap, ◌∙◌, arith, inl, inr, nat_eq}
+use Rattle.std.proofs.lemmas.Bool.{cases_lt, cases_Bool, and_parts}
+use Rattle.std.proofs.lemmas.Bool.Decides.{eqb_tells}
+use Rattle.std.proofs.lemmas.List.{length-map}
+use Rattle.std.specs.List.{filter, range_with_len}
+use Rattle.tiff_dir.specs.declared.span.Span.{Span}
+use Rattle.range_cache.specs.Block.{block_count}
+use Rattle.range_cache.specs.Numbers.{has, missing, IsGap}
+use Rattle.range_cache.specs.Cache.{Block, numbers, put_one, stores}
+use Rattle.range_cache.specs.Piece.{block_in, is_brought, whole_blocks}
+use Rattle.range_cache.specs.Laws.{HaveSame}
+use Rattle.range_cache.proofs.Stored.{missing-none, missing-next}
+use Rattle.range_cache.proofs.Whole.{lies_in}
+
+both : (b : Bool) → b ≡ true → b ≡ false → ⊥
+both b t f = let e : true ≡ false = sym t ∙ f in cc
+
+not_before : (ns ms : List ℕ) (n count from to begin end : ℕ) → HaveSame ns ms → IsGap ns n count from to → IsGap ms n count begin end → begin ≤ from
+not_before ns ms n count from to begin end same gap other = elim (cases_lt from begin) [
+  | inl lt ↦ absurd (both (has from ns) (same from ∙ other.before from gap.begins lt) (gap.gone from (omega arith) gap.some))
+  | inr le ↦ le
+]
+
+not_past : (ns ms : List ℕ) (n count from to begin end : ℕ) → HaveSame ns ms → IsGap ns n count from to → IsGap ms n count begin end → begin ≤ from → end ≤ to
+not_past ns ms n count from to begin end same gap other low = elim (cases_lt to end) [
+  | inl lt ↦ absurd (both (has to ns) (gap.ends (omega (arith, lt, other.within))) (same to ∙ other.gone to (omega (arith, low, gap.some)) lt))
+  | inr le ↦ le
+]
+
+pub one_gap : (ns ms : List ℕ) (n count from to begin end : ℕ) → HaveSame ns ms → IsGap ns n count from to → IsGap ms n count begin end → (from ≡ begin) × (to ≡ end)
+one_gap ns ms n count from to begin end same gap other =
+    let swap : HaveSame ms ns = λ k. sym (same k) in
+    let a = not_before ns ms n count from to begin end same gap other in
+    let b = not_before ms ns n count begin end from to swap other gap in
+    let c = not_past ns ms n count from to begin end same gap other a in
+    let d = not_past ms ns n count begin end from to swap other gap b in
+    (omega (arith, a, b), omega (arith, c, d))
+
+at_most_one : (t : Bool) → cond t 0 1 ≤ 1
+at_most_one true = omega arith
+at_most_one false = omega arith
+
+pub missing-few : (ns : List ℕ) (n count : ℕ) → missing ns n count ≤ count
+missing-few ns n zero = omega (arith, missing-none ns n)
+missing-few ns n (suc count) = omega (arith, missing-next ns n count, at_most_one (has n ns), missing-few ns (n + 1) count)
+
+pub stores-few : (capacity : ℕ) (new bs : List Block) → stores capacity new bs ≤ length new
+unfolding stores
+stores-few capacity [] bs = omega arith
+stores-few capacity (b ∷ new) bs = omega (arith, at_most_one (has b.0 (numbers bs)), stores-few capacity new (put_one capacity bs b))
+
+pub stores-some : (capacity : ℕ) (new bs : List Block) (n : ℕ) → has n (numbers new) ≡ true → has n (numbers bs) ≡ false → 1 ≤ stores capacity new bs
+unfolding stores
+stores-some capacity [] bs n among gone = absurd (both false among refl)
+stores-some capacity (b ∷ new) bs n among gone = elim (cases_Bool (has b.0 (numbers bs))) [
+  | inl t ↦
+      let kept : put_one capacity bs b ≡ bs = ap (λ u. cond u bs (b ∷ take (capacity - 1) bs)) t in
+      let other : nat_eq n b.0 ≡ false = elim (eqb_tells n b.0) [
+        | inl e ↦ absurd (both (has n (numbers bs)) (ap (λ k. has k (numbers bs)) e.1 ∙ t) gone)
+        | inr e ↦ e.0
+      ] in
+      let rest : has n (numbers new) ≡ true = sym (ap (λ u. u || has n (numbers new)) other) ∙ among in
+      let some = stores-some capacity new bs n rest gone in
+      let same = ap (stores capacity new) kept in
+      omega (arith, some, same)
+  | inr f ↦
+      let one : cond (has b.0 (numbers bs)) 0 1 ≡ 1 = ap {B = ℕ} (λ u. cond u 0 1) f in
+      omega (arith, one)
+]
+
+has-filter : (p : ℕ → Bool) (block : ℕ → Block) (n a count : ℕ) → ((k : ℕ) → (block k).0 ≡ k) → p n ≡ true → a ≤ n → n < a + count →
+    has n (numbers (map block (filter p (range_with_len a count)))) ≡ true
+has-filter p block n a zero named t low high = absurd (omega arith)
+has-filter p block n a (suc count) named t low high =
+    let rest : List ℕ = filter p (range_with_len (a + 1) count) in
+    elim (eqb_tells n a) [
+      | inl e ↦ let here : p a ≡ true = ap p (sym e.1) ∙ t in
+          ap (λ u. has n (numbers (map block (cond u (a ∷ rest) rest)))) here ∙ ap (λ k. nat_eq n k || has n (numbers (map block rest))) (named a) ∙ ap (λ u. u || has n (numbers (map block rest))) e.0
+      | inr e ↦
+          let other = e.1 in
+          let later = has-filter p block n (a + 1) count named t (omega arith) (omega arith) in
+          elim (p a) as (λ u. has n (numbers (map block (cond u (a ∷ rest) rest))) ≡ true) [
+            | true ↦ ap (λ k. nat_eq n k || has n (numbers (map block rest))) (named a) ∙ ap (λ u. u || has n (numbers (map block rest))) e.0 ∙ later
+            | false ↦ later
+          ]
+    ]
+
+pub whole-brought : (complete first : ℕ) (bytes : List ℕ) (wanted : Span) (n : ℕ) →
+    is_brought complete first (length bytes) wanted n ≡ true → has n (numbers (whole_blocks complete first bytes wanted)) ≡ true
+unfolding whole_blocks
+whole-brought complete first bytes wanted n t =
+    let lies = lies_in complete first (first + length bytes) n (and_parts _ _ t).0 in
+    has-filter (is_brought complete first (length bytes) wanted) (block_in complete first bytes) n 0 (block_count complete) (λ k. refl) t (omega arith) (omega (arith, lies.there))
+
+length-filter-between : (p : ℕ → Bool) (lo hi a count : ℕ) → ((k : ℕ) → a ≤ k → p k ≡ true → (lo ≤ k) × (k < hi)) → length (filter p (range_with_len a count)) ≤ hi - max lo a
+length-filter-between p lo hi a zero only = omega arith
+length-filter-between p lo hi a (suc count) only =
+    let rest : List ℕ = filter p (range_with_len (a + 1) count) in
+    let later = length-filter-between p lo hi (a + 1) count (λ k above t. only k (omega arith) t) in
+    (elim (p a) as (λ u. p a ≡ u → length (cond u (a ∷ rest) rest) ≤ hi - max lo a) [
+      | true ↦ λ t. let here = only a (omega arith) t in omega (arith, here.0, here.1, later)
+      | false ↦ λ _. omega (arith, later)
+    ]) refl
+
+pub whole-few : (complete first : ℕ) (bytes : List ℕ) (wanted : Span) (n : ℕ) → wanted.last < wanted.first + n * 16384 → length (whole_blocks complete first bytes wanted) ≤ n
+unfolding whole_blocks
+whole-few complete first bytes wanted n short =
+    let p : ℕ → Bool = is_brought complete first (length bytes) wanted in
+    let lo : ℕ = (wanted.first + 16383) / 16384 in
+    let hi : ℕ = wanted.last / 16384 + 1 in
+    let inside : (k : ℕ) → 0 ≤ k → p k ≡ true → (lo ≤ k) × (k < hi) = λ k _ t.
+    let lies = lies_in complete wanted.first (wanted.last + 1) k (and_parts _ _ t).1 in
+    (omega (arith, lies.begins), omega (arith, lies.there, lies.ends)) in
+    let few = length-filter-between p lo hi 0 (block_count complete) inside in
+    let same = length-map (filter p (range_with_len 0 (block_count complete))) (block_in complete first bytes) in
+    omega (arith, few, same, short)

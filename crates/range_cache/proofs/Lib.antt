@@ -1,0 +1,7 @@
+pub mod Entries
+pub mod Fronts
+pub mod Stored
+pub mod Whole
+pub mod Bytes
+pub mod Putting
+pub mod LawLemmas

@@ -1,0 +1,30 @@
+use Rattle.std.proofs.Common.{◌≡◌, ◌+◌, ◌*◌, ap, sym, ◌∙◌, arith, length, inl, inr}
+use Rattle.std.specs.List.{slice_range}
+use Rattle.std.specs.Option.{option_copied}
+use Rattle.range_cache.specs.Block.{block_size}
+use Rattle.range_cache.proofs.Bytes.{found_of, not_there, length-block, part_of_block}
+use Rattle.range_cache.proofs.blocks.copy_part.Goals as goal
+
+pub returns-in_default : goal.returns-in_default
+returns-in_default c = λ f held there few within. not_there c.args.number c.args.blocks.now.entries (sym (ap option_copied c.in_default.is) ∙ c.peek.ensures) there
+
+pub returns-in_default-get : goal.returns-in_default-get
+returns-in_default-get c = λ f held there few within.
+    let n = c.args.number in
+    let len = length c.args.out.now in
+    let is = found_of f n c.args.blocks.now.entries c.in-Some.block.now held c.in-Some.ensures in
+    let long = length-block f n (c.args.skip + len) few (omega arith) in
+    let same = ap length (c.deref.ensures.value ∙ is) in
+    absurd (elim c.in_default-get.ensures.lookup.0 [ inl l ↦ omega (arith, l) | inr r ↦ omega (arith, r, same, long) ])
+
+pub returns : goal.returns
+returns c = λ f held there few within.
+    let n = c.args.number in
+    let len = length c.args.out.now in
+    let skip = c.args.skip in
+    let is = found_of f n c.args.blocks.now.entries c.in-Some.block.now held c.in-Some.ensures in
+    let place : n * 16384 + (skip + len) ≡ n * 16384 + skip + len = omega arith in
+    c.copy_from_slice.ensures.after ∙ c.in-Some-get.ensures.lookup.0.2
+    ∙ ap (λ bytes. slice_range bytes skip (skip + len)) (c.deref.ensures.value ∙ is)
+    ∙ part_of_block f n skip (skip + len) (omega arith) few
+    ∙ ap (slice_range f (n * block_size + skip)) place

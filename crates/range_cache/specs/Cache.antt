@@ -1,0 +1,58 @@
+-- What a contract sees of a cache: its blocks, the most recently used first, and how many it may have.
+use Rattle.std.specs.Prelude.{◌≡◌, ℕ, ◌+◌, ◌-◌, ◌≤◌, not, ◌==◌, nat_eq, if◌then◌else◌, List, [], ◌∷◌, ◌++◌, length, take, map, reverse}
+use Rattle.std.specs.List.{All, filter, filter_map, fold, IsDistinct}
+use Rattle.std.specs.Map.{lookup_entry}
+use Rattle.std.specs.Global.{Vec}
+use Rattle.lru.specs.LruCache.{LruCache}
+use Rattle.range_cache.specs.Block.{block_of}
+use Rattle.range_cache.specs.Numbers.{has}
+
+-- a block's number and its bytes
+abbrev pub Block : Type 0
+Block = ℕ × List ℕ
+
+pub record Blocks : Type 0 where
+  pub entries : List Block
+  pub capacity : ℕ
+
+-- the pairs that are kept, as blocks
+abbrev pub blocks_in : List (ℕ × Vec ℕ) → List Block
+blocks_in es = map (λ e. (e.0, e.1.items)) es
+
+abbrev pub kept_blocks : LruCache ℕ (Vec ℕ) → Blocks
+kept_blocks c = record { entries = blocks_in c.entries; capacity = c.cap }
+
+abbrev pub numbers : List Block → List ℕ
+numbers bs = map (λ b. b.0) bs
+
+-- no block twice, no more than there may be, and 66 to 4,096 may be there
+pub record IsSound (c : Blocks) : Type 0 where
+  pub distinct : IsDistinct ◌==◌ (numbers c.entries)
+  pub room : length c.entries ≤ c.capacity
+  pub least : 66 ≤ c.capacity
+  pub most : c.capacity ≤ 4096
+
+-- each block is f's at its place
+unfoldable pub Holds : List ℕ → Blocks → Type 0
+Holds f c = All (λ b. b.1 ≡ block_of f b.0) c.entries
+
+-- those of the blocks ns that are there, in their order
+abbrev pub present : List ℕ → List Block → List Block
+present ns bs = filter_map (λ n. lookup_entry (nat_eq n) bs) ns
+
+-- The blocks ns that are there, brought to the front one after another, before the others in their order.
+unfoldable pub brought : List ℕ → List Block → List Block
+brought ns bs = reverse (present ns bs) ++ filter (λ b. not (has b.0 ns)) bs
+
+-- a block put at the front, where it isn't there; the least recently used one leaves a full cache
+abbrev pub put_one : ℕ → List Block → Block → List Block
+put_one capacity bs b = if has b.0 (numbers bs) then bs else b ∷ take (capacity - 1) bs
+
+-- blocks put one after another
+unfoldable pub stored : ℕ → List Block → List Block → List Block
+stored capacity new bs = fold (put_one capacity) bs new
+
+-- how many of them were not there at their turn
+unfoldable pub stores : ℕ → List Block → List Block → ℕ
+stores capacity [] bs = 0
+stores capacity (b ∷ new) bs = (if has b.0 (numbers bs) then 0 else 1) + stores capacity new (put_one capacity bs b)

@@ -1,0 +1,43 @@
+-- Laws of these definitions, for the crates above.
+use Rattle.std.specs.Prelude.{◌≡◌, ℕ, ◌+◌, ◌*◌, ◌<◌, ◌≤◌, true, false, List, length}
+use Rattle.tiff_dir.specs.declared.span.Span.{Span}
+use Rattle.range_cache.specs.Block.{block_size}
+use Rattle.range_cache.specs.Numbers.{has, missing, IsGap}
+use Rattle.range_cache.specs.Cache.{Block, numbers, stores}
+use Rattle.range_cache.specs.Piece.{is_brought, whole_blocks}
+
+-- the same blocks are there
+abbrev pub HaveSame : List ℕ → List ℕ → Type 0
+HaveSame ns ms = (k : ℕ) → has k ns ≡ has k ms
+
+-- where the same blocks are there, the first gap is the same
+abbrev pub GapsAreUnique : Type 0
+GapsAreUnique = (ns ms : List ℕ) (n count from to begin end : ℕ) →
+    HaveSame ns ms → IsGap ns n count from to → IsGap ms n count begin end → (from ≡ begin) × (to ≡ end)
+
+-- where the same blocks are there, as many are missing
+abbrev pub MissingIsSame : Type 0
+MissingIsSame = (ns ms : List ℕ) (n count : ℕ) → HaveSame ns ms → missing ns n count ≡ missing ms n count
+
+-- of some blocks no more are missing than there are
+abbrev pub MissingIsFew : Type 0
+MissingIsFew = (ns : List ℕ) (n count : ℕ) → missing ns n count ≤ count
+
+-- of some blocks no more are stored than there are
+abbrev pub StoresAreFew : Type 0
+StoresAreFew = (capacity : ℕ) (new bs : List Block) → stores capacity new bs ≤ length new
+
+-- where one of them isn't there, one is stored at least
+abbrev pub StoresAreSome : Type 0
+StoresAreSome = (capacity : ℕ) (new bs : List Block) (n : ℕ) →
+    has n (numbers new) ≡ true → has n (numbers bs) ≡ false → 1 ≤ stores capacity new bs
+
+-- which blocks a piece brings
+abbrev pub WholeAreBrought : Type 0
+WholeAreBrought = (complete first : ℕ) (bytes : List ℕ) (wanted : Span) (n : ℕ) →
+    is_brought complete first (length bytes) wanted n ≡ true → has n (numbers (whole_blocks complete first bytes wanted)) ≡ true
+
+-- what is wanted is no longer than n blocks: a piece brings n at most
+abbrev pub WholeAreFew : Type 0
+WholeAreFew = (complete first : ℕ) (bytes : List ℕ) (wanted : Span) (n : ℕ) →
+    wanted.last < wanted.first + n * block_size → length (whole_blocks complete first bytes wanted) ≤ n

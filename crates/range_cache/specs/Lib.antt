@@ -1,0 +1,6 @@
+pub mod Block
+pub mod Numbers
+pub mod Cache
+pub mod Piece
+pub mod Missing
+pub mod Laws

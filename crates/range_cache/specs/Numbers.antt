@@ -1,0 +1,36 @@
+-- What a cache has and lacks of count blocks from n, said of its block numbers, the most recently used first.
+use Rattle.std.specs.Prelude.{◌≡◌, ℕ, ◌+◌, ◌<◌, ◌≤◌, Bool, true, false, not, ◌==◌, List, length, take}
+use Rattle.std.specs.List.{filter, list_any, range_with_len}
+
+-- whether block n is there
+abbrev pub has : ℕ → List ℕ → Bool
+has n ns = list_any (λ m. n == m) ns
+
+-- how many of count blocks from n are missing
+unfoldable pub missing : List ℕ → ℕ → ℕ → ℕ
+missing ns n count = length (filter (λ k. not (has k ns)) (range_with_len n count))
+
+-- each of count blocks from n is there
+abbrev pub AreThere : List ℕ → ℕ → ℕ → Type 0
+AreThere ns n count = (k : ℕ) → n ≤ k → k < n + count → has k ns ≡ true
+
+-- Of count blocks from n, from is the first missing one, and to the end of the unbroken run of missing ones.
+pub record IsGap (ns : List ℕ) (n count from to : ℕ) : Type 0 where
+  pub begins : n ≤ from
+  pub some : from < to
+  pub within : to ≤ n + count
+  pub before : (k : ℕ) → n ≤ k → k < from → has k ns ≡ true
+  pub gone : (k : ℕ) → from ≤ k → k < to → has k ns ≡ false
+  pub ends : to < n + count → has to ns ≡ true
+
+-- Those of count blocks from n that are there are among the first ones, and these are no more than they.
+pub record IsLed (ns : List ℕ) (n count : ℕ) : Type 0 where
+  pub front : ℕ
+  pub few : front + missing ns n count ≤ count
+  pub there : (k : ℕ) → n ≤ k → k < n + count → has k ns ≡ true → has k (take front ns) ≡ true
+
+-- None of count blocks from n has left, those that are there are still among the first ones, and so many came.
+pub record Stays (old new : List ℕ) (n count came : ℕ) : Type 0 where
+  pub kept : (k : ℕ) → n ≤ k → k < n + count → has k old ≡ true → has k new ≡ true
+  pub led : IsLed new n count
+  pub fewer : missing new n count + came ≤ missing old n count

@@ -1,0 +1,167 @@
+//! Work on the blocks of a cache, by their numbers.
+ghost use Rattle.std.specs.Prelude.{◌≡◌, true, false, ℕ, List, ◌+◌, ◌-◌, ◌*◌, ◌<◌, ◌≤◌, ◌^◌, ◌==◌, IfOk, OnErr, MatchOption, length, take, map, if◌then◌else◌};
+ghost use Rattle.std.specs.List.{All, IsDistinct, filter, range_with_len, slice_range};
+ghost use Rattle.range_cache.specs.Block.{block_size, block_of, first_block, blocks as touched, block_count, end_of};
+ghost use Rattle.range_cache.specs.Numbers.{has, AreThere, IsGap};
+ghost use Rattle.range_cache.specs.Cache.{blocks_in, numbers, brought, put_one, stored, stores};
+ghost use Rattle.range_cache.specs.Piece.{block_in, is_brought};
+
+use crate::cache::BLOCK;
+use lru::LruCache;
+use tiff_dir::{Memory, Span};
+
+/// The last place of a block of a file of this length.
+pub fn last_of(number: u64, complete: u64) -> u64
+    requires { number * block_size < complete }
+    ensures { result + 1 ≡ end_of complete number }
+{
+    (number * BLOCK + (BLOCK - 1)).min(complete - 1)
+}
+
+/// Brings the blocks from one number up to another that are there to the front, in ascending order.
+pub fn bring(blocks: &mut LruCache<u64, Vec<u8>>, from: u64, to: u64)
+    requires ordered { from ≤ to }
+    requires distinct { IsDistinct ◌==◌ (numbers (blocks_in blocks.old.entries)) }
+    ensures entries { blocks_in blocks.new.entries ≡ brought (range_with_len from (to - from)) (blocks_in blocks.old.entries) }
+    ensures capacity { blocks.new.cap ≡ blocks.old.cap }
+{
+    for number in from..to {
+        blocks.promote(&number);
+    }
+}
+
+/// Where the run of missing blocks ends that goes on here.
+fn end_of_run(blocks: &LruCache<u64, Vec<u8>>, from: u64, to: u64) -> u64
+    requires { from ≤ to }
+    ensures within { (from ≤ result) × (result ≤ to) }
+    ensures gone { (k : ℕ) → from ≤ k → k < result → has k (numbers (blocks_in blocks.now.entries)) ≡ false }
+    ensures ends { result < to → has result (numbers (blocks_in blocks.now.entries)) ≡ true }
+{
+    for number in from..to {
+        if blocks.contains(&number) {
+            return number;
+        }
+    }
+    to
+}
+
+/// The first run of missing blocks from one number up to another: its first block, and its end.
+pub fn first_gap(blocks: &LruCache<u64, Vec<u8>>, from: u64, to: u64) -> Option<(u64, u64)>
+    requires { from ≤ to }
+    ensures { MatchOption result
+        (AreThere (numbers (blocks_in blocks.now.entries)) from (to - from))
+        (λ run. IsGap (numbers (blocks_in blocks.now.entries)) from (to - from) run.0 run.1) }
+{
+    for number in from..to {
+        if !blocks.contains(&number) {
+            let end = end_of_run(blocks, number + 1, to);
+            return Some((number, end));
+        }
+    }
+    None
+}
+
+/// Copies a part of a block, from a place in it on.
+fn copy_part(blocks: &LruCache<u64, Vec<u8>>, number: u64, skip: usize, out: &mut [u8])
+    requires { skip + length out.old < 2 ^ 64 }
+    ensures { (f : List ℕ) → All (λ b. b.1 ≡ block_of f b.0) (blocks_in blocks.now.entries) →
+        has number (numbers (blocks_in blocks.now.entries)) ≡ true →
+        skip + length out.old ≤ block_size → number * block_size + skip + length out.old ≤ length f →
+        out.new ≡ slice_range f (number * block_size + skip) (number * block_size + skip + length out.old) }
+{
+    let Some(block) = blocks.peek(&number) else {
+        return;
+    };
+    let Some(part) = block.get(skip..skip + out.len()) else {
+        return;
+    };
+    out.copy_from_slice(part);
+}
+
+/// Copies a range out of blocks that are all there, a part of each.
+pub fn copy(blocks: &LruCache<u64, Vec<u8>>, first: u64, out: &mut [u8])
+    requires some { 0 < length out.old }
+    requires within { first + length out.old < 2 ^ 64 }
+    ensures { (f : List ℕ) → first + length out.old ≤ length f →
+        All (λ b. b.1 ≡ block_of f b.0) (blocks_in blocks.now.entries) →
+        AreThere (numbers (blocks_in blocks.now.entries)) (first_block first) (touched first (length out.old)) →
+        out.new ≡ slice_range f first (first + length out.old) }
+{
+    let end = first + out.len() as u64;
+    for number in first / BLOCK..(end - 1) / BLOCK + 1 {
+        let start = first.max(number * BLOCK);
+        let stop = last_of(number, end) + 1;
+        copy_part(
+            blocks,
+            number,
+            (start - number * BLOCK) as usize,
+            &mut out[(start - first) as usize..(stop - first) as usize],
+        );
+    }
+}
+
+/// Stores a block where it isn't there, and says how many were stored.
+fn store_one(blocks: &mut LruCache<u64, Vec<u8>>, number: u64, bytes: &[u8]) -> Result<u32, Memory>
+    ensures capacity { blocks.new.cap ≡ blocks.old.cap }
+    ensures ok { IfOk result (λ count.
+        (blocks_in blocks.new.entries ≡ put_one blocks.old.cap (blocks_in blocks.old.entries) (number, bytes.now))
+        × (count ≡ (if has number (numbers (blocks_in blocks.old.entries)) then 0 else 1))) }
+    ensures err { OnErr result (blocks_in blocks.new.entries ≡ blocks_in blocks.old.entries) }
+{
+    if blocks.contains(&number) {
+        return Ok(0);
+    }
+    let block = Vec::from_slice(*blocks.allocator(), bytes)?;
+    blocks.put(number, block)?;
+    Ok(1)
+}
+
+/// Which blocks a piece of so many bytes brings: those from the first number up to the second.
+pub fn whole_run(complete: u64, first: u64, len: u64, wanted: Span) -> (u64, u64)
+    requires { first + len ≤ complete }
+    ensures run { filter (is_brought complete first len wanted) (range_with_len 0 (block_count complete))
+        ≡ range_with_len result.0 (result.1 - result.0) }
+    ensures starts { first ≤ result.0 * block_size }
+    ensures inside { result.1 * block_size < complete + block_size }
+    ensures ends { result.0 < result.1 → end_of complete (result.1 - 1) ≤ first + len }
+{
+    let end = (first + len).min(wanted.last.saturating_add(1));
+    let from = first.max(wanted.first).div_ceil(BLOCK);
+    let to = if end < complete {
+        end / BLOCK
+    } else {
+        complete.div_ceil(BLOCK)
+    };
+    (from, to)
+}
+
+/// Stores those of the blocks that aren't there, from the bytes of a piece, and says how many.
+pub fn store(
+    blocks: &mut LruCache<u64, Vec<u8>>,
+    complete: u64,
+    first: u64,
+    bytes: &[u8],
+    from: u64,
+    to: u64,
+) -> Result<u32, Memory>
+    requires starts { first ≤ from * block_size }
+    requires inside { to * block_size < complete + block_size }
+    requires ends { from < to → end_of complete (to - 1) ≤ first + length bytes.now }
+    requires counted { stores blocks.old.cap (map (block_in complete first bytes.now) (range_with_len from (to - from)))
+        (blocks_in blocks.old.entries) < 2 ^ 32 }
+    ensures capacity { blocks.new.cap ≡ blocks.old.cap }
+    ensures ok { IfOk result (λ count. let new = map (block_in complete first bytes.now) (range_with_len from (to - from)) in
+        (blocks_in blocks.new.entries ≡ stored blocks.old.cap new (blocks_in blocks.old.entries))
+        × (count ≡ stores blocks.old.cap new (blocks_in blocks.old.entries))) }
+    ensures err { OnErr result ((k : ℕ) × (k < to - from)
+        × (blocks_in blocks.new.entries ≡ stored blocks.old.cap (map (block_in complete first bytes.now) (range_with_len from k))
+        (blocks_in blocks.old.entries))) }
+{
+    let mut count = 0;
+    for number in from..to {
+        let start = number * BLOCK - first;
+        let end = last_of(number, complete) + 1 - first;
+        count += store_one(blocks, number, &bytes[start as usize..end as usize])?;
+    }
+    Ok(count)
+}

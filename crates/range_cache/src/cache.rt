@@ -1,0 +1,172 @@
+//! The cache and its calls.
+ghost use Rattle.std.specs.Prelude.{◌≡◌, ◌+◌, ◌-◌, ◌*◌, ◌<◌, ◌≤◌, ◌^◌, ℕ, List, [], IfOk, OnOk, OnErr, IsErrOf, MatchResult, length, take};
+ghost use Rattle.std.specs.List.{range_with_len, slice_range};
+ghost use Rattle.range_cache.specs.Block.{block_size, first_block, blocks};
+ghost use Rattle.range_cache.specs.Numbers.{has, AreThere, IsLed, Stays};
+ghost use Rattle.range_cache.specs.Cache.{Blocks, numbers, Holds, IsSound, brought, stored, stores};
+ghost use Rattle.range_cache.specs.Piece.{whole_blocks, IsPieceOf, is_wanted};
+ghost use Rattle.range_cache.specs.Missing.{Lacks};
+
+use crate::blocks::{bring, copy, first_gap, last_of, store, whole_run};
+use crate::missing::Missing;
+use lru::LruCache;
+use std::alloc::Global;
+use std::marker::Model;
+use std::num::NonZeroUsize;
+use tiff_dir::{Memory, Span};
+
+/// The bytes of a block.
+pub const BLOCK: u64 = 16384;
+
+/// The least and the most blocks of a cache.
+const LEAST: u32 = 66;
+
+const MOST: u32 = 4096;
+
+/// Why there is no cache.
+#[derive(Clone, Copy, Debug, PartialEq, Eq)]
+pub enum CacheError {
+    /// There are not 66 to 4,096 blocks.
+    Blocks = 1,
+    /// No memory was left.
+    Memory = 2,
+}
+
+/// Blocks of one file by their numbers. Where it is full, the least recently used one leaves for a new one.
+#[derive(Drop)]
+pub struct Cache {
+    blocks: LruCache<u64, Vec<u8>>,
+}
+
+impl Model for Cache {
+    ghost use Rattle.std.specs.Prelude.{◌≤◌};
+    ghost use Rattle.range_cache.specs.Cache.{Blocks, kept_blocks};
+
+    ghost Value = { Blocks };
+
+    ghost view = { λ c. kept_blocks c.blocks };
+
+    ghost invariant = { λ c. (66 ≤ c.blocks.cap) × (c.blocks.cap ≤ 4096) };
+}
+
+impl Cache {
+    /// An empty cache of at most so many blocks, 66 to 4,096.
+    pub fn new(alloc: Global, blocks: u32) -> Result<Cache, CacheError>
+        ensures made { IfOk result (λ c. c ≡ record { entries = []; capacity = blocks }) }
+        ensures fits { OnOk result ((66 ≤ blocks) × (blocks ≤ 4096)) }
+        ensures refused { IsErrOf result CacheError.Blocks → 66 ≤ blocks → 4096 < blocks }
+    {
+        if !(LEAST..=MOST).contains(&blocks) {
+            return Err(CacheError::Blocks);
+        }
+        let Some(capacity) = NonZeroUsize::new(blocks as usize) else {
+            return Err(CacheError::Blocks);
+        };
+        match LruCache::new(alloc, capacity) {
+            Ok(blocks) => Ok(Cache { blocks }),
+            Err(_) => Err(CacheError::Memory),
+        }
+    }
+
+    /// Reads the bytes from `first` on where all their blocks are there, and else says what is missing; `out` may then
+    /// hold anything. In both cases the blocks of the range that are there come to the front, in ascending order.
+    ///
+    /// `complete` is the length of the file, and the range lies in it.
+    pub fn read_into(&mut self, complete: u64, first: u64, out: &mut [u8]) -> Result<(), Missing>
+        requires some { 0 < length out.old }
+        requires within { first + length out.old ≤ complete }
+        ensures sound { IsSound self.old }
+        ensures entries { self.new ≡ record self.old {
+          entries = brought (range_with_len (first_block first) (blocks first (length out.old))) self.old.entries;
+        } }
+        ensures exact { MatchResult result
+            (λ _. AreThere (numbers self.old.entries) (first_block first) (blocks first (length out.old)))
+            (λ m. Lacks self.old complete first (length out.old) m) }
+        ensures slice { OnOk result ((f : List ℕ) → first + length out.old ≤ length f → Holds f self.old →
+            out.new ≡ slice_range f first (first + length out.old)) }
+
+        // What follows of the entries: the same blocks are there, each still the file's, and those of the range lead.
+        ensures same { (k : ℕ) → has k (numbers self.new.entries) ≡ has k (numbers self.old.entries) }
+        ensures holds { (f : List ℕ) → Holds f self.old → Holds f self.new }
+        ensures led { IsLed (numbers self.new.entries) (first_block first) (blocks first (length out.old)) }
+    {
+        self.law();
+        let from = first / BLOCK;
+        let to = (first + out.len() as u64 - 1) / BLOCK + 1;
+        match first_gap(&self.blocks, from, to) {
+            None => {
+                copy(&self.blocks, first, out);
+                bring(&mut self.blocks, from, to);
+                Ok(())
+            }
+            Some((start, end)) => {
+                bring(&mut self.blocks, from, to);
+                Err(Missing {
+                    first: start * BLOCK,
+                    last: last_of(end - 1, complete),
+                })
+            }
+        }
+    }
+
+    /// Stores the blocks that lie wholly in a piece of the file and wholly in what is wanted and that aren't there, in
+    /// ascending order, and says how many. After a refusal a beginning of them is stored.
+    ///
+    /// `complete` is the length of the file, and the piece, which begins at `first`, lies in it and may be empty.
+    pub fn put(
+        &mut self,
+        complete: u64,
+        first: u64,
+        bytes: &[u8],
+        wanted: Span,
+    ) -> Result<u32, Memory>
+        requires within { first + length bytes.now ≤ complete }
+
+        // Their number fits.
+        requires counted { stores self.old.capacity (whole_blocks complete first bytes.now wanted) self.old.entries < 2 ^ 32 }
+        ensures sound { IsSound self.old }
+        ensures ok { IfOk result (λ count. let new = whole_blocks complete first bytes.now wanted in
+            (self.new ≡ record self.old { entries = stored self.old.capacity new self.old.entries })
+            × (count ≡ stores self.old.capacity new self.old.entries)) }
+        ensures err { OnErr result (let new = whole_blocks complete first bytes.now wanted in
+            (k : ℕ) × (k < length new)
+            × (self.new ≡ record self.old { entries = stored self.old.capacity (take k new) self.old.entries })) }
+
+        // What follows of the entries: each is still the file's, and no block of a range that leads leaves.
+        ensures holds { (f : List ℕ) → complete ≡ length f → IsPieceOf f first bytes.now → Holds f self.old → Holds f self.new }
+        ensures stays { (n count : ℕ) → count < self.old.capacity → n * block_size ≤ wanted.first →
+            wanted.last < (n + count) * block_size → IsLed (numbers self.old.entries) n count →
+            MatchResult result (λ came. Stays (numbers self.old.entries) (numbers self.new.entries) n count came)
+            (λ _. Stays (numbers self.old.entries) (numbers self.new.entries) n count 0) }
+    {
+        self.law();
+        let (from, to) = whole_run(complete, first, bytes.len() as u64, wanted);
+        store(&mut self.blocks, complete, first, bytes, from, to)
+    }
+
+    // It does nothing: its contract is a law of the blocks that are kept.
+    fn law(&self)
+        ensures { IsSound self.now }
+    {
+        let _count = self.blocks.len();
+    }
+
+    /// Drops every block.
+    pub fn clear(&mut self)
+        ensures { self.new ≡ record self.old { entries = [] } }
+    {
+        self.blocks.clear();
+    }
+
+    /// Whether a block lies wholly in what is wanted and isn't there.
+    ///
+    /// `complete` is the length of the file. A block at its end is no block.
+    pub fn wants(&self, complete: u64, wanted: Span, block: u64) -> bool
+        ensures { result ≡ is_wanted self.now complete wanted block }
+    {
+        if block >= complete.div_ceil(BLOCK) || block * BLOCK < wanted.first {
+            return false;
+        }
+        last_of(block, complete) <= wanted.last && !self.blocks.contains(&block)
+    }
+}

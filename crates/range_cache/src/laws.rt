@@ -1,0 +1,21 @@
+//! Laws of the definitions, which upper crates rest on. Each function does nothing: its contract is the law.
+ghost use Rattle.range_cache.specs.Laws.{GapsAreUnique, MissingIsSame, MissingIsFew, StoresAreFew, StoresAreSome, WholeAreBrought, WholeAreFew};
+
+/// What is missing is said by which blocks are there alone.
+pub fn missing_is_exact()
+    ensures unique { GapsAreUnique }
+    ensures same { MissingIsSame }
+    ensures few { MissingIsFew }
+{}
+
+/// How many blocks are stored.
+pub fn stores_are_counted()
+    ensures few { StoresAreFew }
+    ensures some { StoresAreSome }
+{}
+
+/// Which blocks a piece brings, and at most how many.
+pub fn pieces_bring_blocks()
+    ensures brought { WholeAreBrought }
+    ensures few { WholeAreFew }
+{}

@@ -1,0 +1,11 @@
+//! A bounded cache of the blocks of one file.
+#![tactic(auto)]
+
+mod blocks;
+mod cache;
+mod laws;
+mod missing;
+
+pub use cache::{BLOCK, Cache, CacheError};
+pub use laws::{missing_is_exact, pieces_bring_blocks, stores_are_counted};
+pub use missing::Missing;
