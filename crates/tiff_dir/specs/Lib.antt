@@ -4,6 +4,7 @@ pub mod Profile
 pub mod Level
 pub mod Needs
 pub mod Fault
+pub mod Keys
 pub mod Geo
 pub mod FaultNumber
 pub mod Packets

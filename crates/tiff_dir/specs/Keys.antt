@@ -1,0 +1,58 @@
+-- The key directory (OGC 19-008, section 7.1.1): four numbers, then four for each key.
+use Rattle.std.specs.Prelude.{◌≡◌, ◌≢◌, ℕ, ◌+◌, ◌*◌, ◌<◌, ◌⊎◌, nat_lt, ◌==◌, if◌then◌else◌, Option, Some, None, IsSomeAnd}
+use Rattle.tiff_dir.specs.declared.fault.FileFault.{FileFault}
+use Rattle.tiff_dir.specs.declared.fault.FileFault.TheVariants.{KeyHead, KeyOrder, KeyPlace}
+use Rattle.tiff_dir.specs.File.{◌>>=◌}
+use Rattle.tiff_dir.specs.Fault.{IsMisfit}
+
+-- What keys are read from: the numbers of the directory (GeoKeyDirectory), how many there are, and how many items the fields
+-- 34736 (GeoDoubleParams) and 34737 (GeoAsciiParams) have. What can't be told of a file is None.
+pub record KeySource : Type 0 where
+  pub value : ℕ → Option ℕ
+  pub count : Option ℕ
+  pub items : ℕ → Option ℕ
+
+abbrev pub key_count : KeySource → Option ℕ
+key_count s = s.value 3
+
+-- number j of key i, of those that the head counts: KeyID, TIFFTagLocation, Count, Value_Offset
+unfoldable pub key_number : KeySource → ℕ → ℕ → Option ℕ
+key_number s i j = do
+  n ← key_count s
+  v ← s.value (4 + 4 * i + j)
+  if nat_lt i n then Some v else None
+
+-- the version or the revision isn't 1, or the field hasn't four values and four for each key
+abbrev pub IsBadKeyHead : KeySource → Type 0
+IsBadKeyHead s =
+    IsSomeAnd (s.value 0) (λ version. version ≢ 1)
+    ⊎ (IsSomeAnd (s.value 1) (λ revision. revision ≢ 1)
+    ⊎ (IsSomeAnd s.count (λ count. count < 4)
+    ⊎ IsMisfit (λ count n. count == 4 + 4 * n) s.count (key_count s)))
+
+-- a KeyID isn't greater than the one before
+abbrev pub IsKeyDisorder : KeySource → Type 0
+IsKeyDisorder s = (i : ℕ) × IsMisfit nat_lt (key_number s i 0) (key_number s (i + 1) 0)
+
+-- the items from an index on end past those of the field
+abbrev pub HasNoItems : KeySource → ℕ → ℕ → ℕ → Type 0
+HasNoItems s location count first = (0 < count) × IsSomeAnd (s.items location) (λ items. items < first + count)
+
+-- Location 0 has one value, the offset itself; the other two fields have the items that the key counts.
+abbrev pub IsMisplaced : KeySource → ℕ → ℕ → ℕ → Type 0
+IsMisplaced s location count first =
+    ((location ≡ 0) × (count ≢ 1))
+    ⊎ ((((location ≡ 34736) ⊎ (location ≡ 34737)) × HasNoItems s location count first)
+    ⊎ ((location ≢ 0) × (location ≢ 34736) × (location ≢ 34737)))
+
+-- a key's value is in no field, or past its end
+abbrev pub IsKeyMisplaced : KeySource → Type 0
+IsKeyMisplaced s = (i : ℕ) × IsSomeAnd (key_number s i 1) (λ location. IsSomeAnd (key_number s i 2) (λ count.
+    IsSomeAnd (key_number s i 3) (λ first. IsMisplaced s location count first)))
+
+-- What is wrong with the keys.
+abbrev pub IsFaultOfKeys : KeySource → FileFault → Type 0
+IsFaultOfKeys s KeyHead = IsBadKeyHead s
+IsFaultOfKeys s KeyOrder = IsKeyDisorder s
+IsFaultOfKeys s KeyPlace = IsKeyMisplaced s
+IsFaultOfKeys s _ = ⊥
