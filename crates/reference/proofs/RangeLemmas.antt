@@ -1,5 +1,5 @@
 -- Adding up lists of ranges.
-use Rattle.std.proofs.Common.{◌≡◌, ℕ, ◌+◌, ◌<◌, ◌≤◌, ◌^◌, ◌⊎◌, inr, subst, Bool, true, false, not, cond, List, [], ◌∷◌, ◌++◌, map, length, get_or, drop, Option, Some, None, Result, Ok, Err, refl, sym, ap, ◌∙◌, arith, append_assoc}
+use Rattle.std.proofs.Common.{◌≡◌, ℕ, ◌+◌, ◌<◌, ◌≤◌, ◌^◌, ◌⊎◌, inr, subst, Bool, true, false, not, cond, List, [], ◌∷◌, ◌++◌, map, length, get_or, drop, Option, Some, None, Result, Ok, Err, refl, sym, ap, ◌∙◌, arith}
 use Rattle.std.specs.List.{filter, sum_by}
 use Rattle.std.specs.Option.{option_map, option_to_list}
 use Rattle.std.proofs.lemmas.List.{drop_all, drop_more}
@@ -9,7 +9,7 @@ use Rattle.std.specs.Prelude.{MatchOption, IfSome, IfNone, OnOk}
 use Rattle.tiff_dir.specs.declared.query.Query.{Query}
 use Rattle.tiff_dir.specs.Query.{Group, joins, alone, with_tile, grouped_after, grouped, blocks, needs, cost}
 use Rattle.reference.specs.declared.needs.Range as listed
-use Rattle.reference.specs.Ranges.{blocks_inside, may_join, range_of, ranges_of, ranges_after, with_range}
+use Rattle.reference.specs.Ranges.{blocks_inside, range_of, ranges_of, ranges_after}
 
 -- ---- groups by their ranges alone
 

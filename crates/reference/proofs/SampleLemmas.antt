@@ -1,6 +1,5 @@
 -- A file has one sample at a place.
-use Rattle.std.proofs.Common.{◌≡◌, ℕ, Bool, true, false, List, length, Option, Some, None, IfSome, IfNone, if◌then◌else◌, refl, sym, ap, subst, ◌∙◌}
-use Rattle.std.specs.Option.{option_map}
+use Rattle.std.proofs.Common.{◌≡◌, ℕ, Bool, true, false, List, length, Option, Some, None, IfSome, IfNone, if◌then◌else◌, sym, ap, subst, ◌∙◌}
 use Rattle.tiff_dir.specs.declared.order.Order.{Order}
 use Rattle.tiff_dir.specs.declared.level.Compression.{Compression}
 use Rattle.tiff_dir.specs.declared.level.Compression.TheVariants.{Plain, PackBits}

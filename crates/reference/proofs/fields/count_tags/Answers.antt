@@ -1,5 +1,4 @@
-use Rattle.std.proofs.Common.{◌≡◌, ◌+◌, ◌*◌, ◌-◌, ◌∙◌, length, sym, arith}
-use Rattle.tiff_dir.specs.File.{fields_from}
+use Rattle.std.proofs.Common.{◌+◌, ◌*◌, ◌-◌, ◌∙◌, sym, arith}
 use Rattle.reference.proofs.EntryLemmas.{counted, not_counted, no_fields, seen_some}
 use Rattle.reference.proofs.fields.count_tags.Goals as goal
 use Rattle.reference.proofs.fields.count_tags.Goals.{then-is_some, else-is_some}

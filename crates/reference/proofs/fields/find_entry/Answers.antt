@@ -1,4 +1,4 @@
-use Rattle.std.proofs.Common.{◌≡◌, ◌+◌, ◌*◌, ◌-◌, ◌∙◌, sym, arith}
+use Rattle.std.proofs.Common.{◌+◌, ◌*◌, ◌-◌, ◌∙◌, sym, arith}
 use Rattle.reference.proofs.EntryLemmas.{passed, here, none_of, seen_tag}
 use Rattle.reference.proofs.fields.find_entry.Goals as goal
 
