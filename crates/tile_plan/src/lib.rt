@@ -1,8 +1,8 @@
 //! From the tiles of a window to its samples.
 #![tactic(auto)]
 
-mod rect;
+mod asked;
 mod swap;
 
-pub use rect::Rect;
+pub use asked::{Rectangle, rect};
 pub use swap::swap_pairs;
