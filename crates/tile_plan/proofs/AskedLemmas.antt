@@ -1,6 +1,6 @@
 -- What a window query asks for, by the levels that were read.
 use Rattle.std.proofs.Common.{◌≡◌, ℕ, zero, suc, ◌+◌, ◌-◌, ◌*◌, ◌/◌, ◌<◌, ◌≤◌, ◌⊎◌, inl, inr, Bool, true, false, List, [], ◌∷◌, length, Option, Some, None, refl, sym, subst, ap, ◌∙◌, arith}
-use Rattle.std.specs.Prelude.{◌&&◌, ◌||◌, not, ◌==◌, nat_lt, nat_le, if◌then◌else◌, unwrap_or, is_none, slice_get, map, IsTrue, IfSome}
+use Rattle.std.specs.Prelude.{◌&&◌, ◌||◌, not, ◌==◌, nat_lt, nat_le, if◌then◌else◌, unwrap_or, is_none, slice_get, map, IsTrue, IfSome, IfOk, IfErr, IsErrAnd, Result, Ok, Err}
 use Rattle.std.specs.Option.{option_map_or}
 use Rattle.std.specs.List.{filter, last_or, range_with_len}
 use Rattle.std.proofs.Math.Nat.{mul-le-mul_right}
@@ -12,6 +12,7 @@ use Rattle.tiff_dir.specs.declared.level.Level.{Level}
 use Rattle.tiff_dir.specs.declared.query.Query.{Query}
 use Rattle.tiff_dir.specs.declared.query.Query.TheVariants.{Window}
 use Rattle.tiff_dir.specs.declared.query.Pick.TheVariants as pick
+use Rattle.tiff_dir.specs.declared.fault.FileFault.{FileFault}
 use Rattle.tiff_dir.specs.declared.fault.FileFault.TheVariants.{Outside, TooLarge}
 use Rattle.tiff_dir.specs.File.{◌>>=◌, value}
 use Rattle.tiff_dir.specs.Level.{layouts, layout_at, level_directories, level_directory, level_value}
@@ -140,3 +141,86 @@ in_level ls q r l is inside few within there = record {
 too_large : (ls : List Level) (q : Query) (r : Rectangle) (l : Level) → slice_get ls r.level ≡ Some l → nat_lt max_window_samples (r.w * r.h * l.samples) ≡ true
     → ((f : List ℕ) → HasLevels f ls → rectangle f q ≡ Some (rectangle_of r)) → IsRefusedBy ls q TooLarge
 too_large ls q r l is many there f has = large_is f ls q (rectangle_of r) l has is (there f has) ∙ many
+
+pub asked_by : (ls : List Level) (q : Query) (r : Rectangle) (l : Level) (result : Result Rectangle FileFault) → slice_get ls r.level ≡ Some l → IsTrue (is_inside l r.x r.y r.w r.h)
+    → ((f : List ℕ) → HasLevels f ls → is_outside f q ≡ false) → ((f : List ℕ) → HasLevels f ls → rectangle f q ≡ Some (rectangle_of r))
+    → IfOk result (λ s. (s ≡ r) × (nat_lt max_window_samples (r.w * r.h * l.samples) ≡ false)) → IfOk result (IsAsked ls q)
+asked_by ls q r l (Ok s) is inside within there (same, few) = subst (IsAsked ls q) (sym same) (in_level ls q r l is inside few within there)
+asked_by ls q r l (Err e) is inside within there good = tt
+
+pub refused_by : (ls : List Level) (q : Query) (r : Rectangle) (l : Level) (result : Result Rectangle FileFault) → slice_get ls r.level ≡ Some l
+    → ((f : List ℕ) → HasLevels f ls → rectangle f q ≡ Some (rectangle_of r))
+    → IfErr result (λ fault. (fault ≡ TooLarge) × (nat_lt max_window_samples (r.w * r.h * l.samples) ≡ true)) → IfErr result (IsRefusedBy ls q)
+refused_by ls q r l (Ok s) is there bad = tt
+refused_by ls q r l (Err e) is there (same, many) = subst (IsRefusedBy ls q) (sym same) (too_large ls q r l is many there)
+
+-- ---- a window of a level
+
+pub level_within : (ls : List Level) (n x y w h : ℕ) (l : Level) → slice_get ls n ≡ Some l → IsTrue (is_inside l x y w h) → (f : List ℕ) → HasLevels f ls → is_outside f (Window x y w h (pick.Level n)) ≡ false
+unfolding is_outside
+level_within ls n x y w h l is inside f has = inside_level f ls n x y w h l has is inside
+
+pub level_outside : (ls : List Level) (n x y w h : ℕ) (fault : FileFault) → (fault ≡ Outside) × IfSome (slice_get ls n) (λ l. is_inside l x y w h ≡ false) → IsRefusedBy ls (Window x y w h (pick.Level n)) fault
+unfolding is_outside
+level_outside ls n x y w h fault (same, bad) = subst (IsRefusedBy ls (Window x y w h (pick.Level n))) (sym same) (λ f has. outside_all f ls n x y w h has bad)
+
+pub level_rectangle : (ls : List Level) (n x y w h : ℕ) (f : List ℕ) → HasLevels f ls → rectangle f (Window x y w h (pick.Level n)) ≡ Some (rectangle_of (record { level = n; x = x; y = y; w = w; h = h }))
+unfolding rectangle
+level_rectangle ls n x y w h f has = refl
+
+-- ---- a window by its columns
+
+filter_same : (p q : ℕ → Bool) (a n : ℕ) → ((k : ℕ) → a ≤ k → k < a + n → p k ≡ q k) → filter p (range_with_len a n) ≡ filter q (range_with_len a n)
+filter_same p q a zero same = refl
+filter_same p q a (suc n) same =
+    let here : p a ≡ q a = same a (omega arith) (omega arith) in
+    let rest = filter_same p q (a + 1) n (λ k more less. same k (omega (arith, more)) (omega (arith, less))) in
+    rw (here, rest) refl
+
+columns_same : (f : List ℕ) (ls : List Level) (columns w k : ℕ) (first : Level) → HasLevels f ls → slice_get ls 0 ≡ Some first → k < length ls
+    → asked.has_columns f columns w k ≡ option_map_or (has_columns columns w first.width) (slice_get ls k) false
+columns_same f ls columns w k first has is less = elim (slice_get_cases ls k).1 [
+  | inl some ↦ rw ((has.each k some.0 some.2).width, (has.each 0 first is).width, some.2) refl
+  | inr past ↦ absurd (omega (arith, past.0, less))
+]
+
+smallest_is : (f : List ℕ) (ls : List Level) (columns w : ℕ) (first : Level) → HasLevels f ls → slice_get ls 0 ≡ Some first → smallest_level f columns w ≡ last_with_columns ls columns w first.width (length ls)
+unfolding smallest_level
+smallest_is f ls columns w first has is =
+    let p : ℕ → Bool = λ k. option_map_or (has_columns columns w first.width) (slice_get ls k) false in
+    ap (λ n. unwrap_or (last_or None (filter (asked.has_columns f columns w) (range_with_len 0 n))) 0) (sym (count_is f ls has))
+    ∙ ap (λ ks. unwrap_or (last_or None ks) 0) (filter_same (asked.has_columns f columns w) p 0 (length ls) (λ k more less. columns_same f ls columns w k first has is (omega (arith, less))))
+
+scaled_is : (f : List ℕ) (ls : List Level) (n x y w h : ℕ) (first l : Level) → HasLevels f ls → slice_get ls 0 ≡ Some first → slice_get ls n ≡ Some l → scaled f n x y w h ≡ Some (outwards n first l x y w h)
+unfolding scaled
+scaled_is f ls n x y w h first l has is there =
+    let a = has.each 0 first is in
+    let b = has.each n l there in
+    rw (a.width, a.length, b.width, b.length) refl
+
+pub columns_rectangle : (ls : List Level) (columns n x y w h : ℕ) (first l : Level) (r : Rectangle) → slice_get ls 0 ≡ Some first → n ≡ last_with_columns ls columns w first.width (length ls) → slice_get ls n ≡ Some l
+    → rectangle_of r ≡ outwards n first l x y w h → (f : List ℕ) → HasLevels f ls → rectangle f (Window x y w h (pick.Columns columns)) ≡ Some (rectangle_of r)
+unfolding rectangle
+columns_rectangle ls columns n x y w h first l r is smallest there same f has =
+    ap (λ k. scaled f k x y w h) (smallest_is f ls columns w first has is ∙ sym smallest) ∙ scaled_is f ls n x y w h first l has is there ∙ ap Some (sym same)
+
+pub columns_within : (ls : List Level) (columns x y w h : ℕ) (l : Level) → (columns == 0) ≡ false → slice_get ls 0 ≡ Some l → IsTrue (is_inside l x y w h) → (f : List ℕ) → HasLevels f ls → is_outside f (Window x y w h (pick.Columns columns)) ≡ false
+unfolding is_outside
+columns_within ls columns x y w h l some is inside f has = both_false (columns == 0) (is_outside_level f 0 x y w h) some (inside_level f ls 0 x y w h l has is inside)
+
+pub columns_outside : (ls : List Level) (columns x y w h : ℕ) (fault : FileFault) → (fault ≡ Outside) × IfSome (slice_get ls 0) (λ l. is_inside l x y w h ≡ false) → IsRefusedBy ls (Window x y w h (pick.Columns columns)) fault
+unfolding is_outside
+columns_outside ls columns x y w h fault (same, bad) = subst (IsRefusedBy ls (Window x y w h (pick.Columns columns))) (sym same) (λ f has. either (columns == 0) (is_outside_level f 0 x y w h) (outside_all f ls 0 x y w h has bad)) where
+  either : (a b : Bool) → b ≡ true → (a || b) ≡ true
+  either true b is = refl
+  either false b is = is
+
+pub no_columns : (ls : List Level) (columns x y w h : ℕ) → (columns == 0) ≡ true → IsRefusedBy ls (Window x y w h (pick.Columns columns)) Outside
+unfolding is_outside
+no_columns ls columns x y w h none f has = rw none refl
+
+-- ---- refusals that are passed on
+
+pub passed_on : (result : Result Rectangle FileFault) (fault : FileFault) (P : FileFault → Type 0) → IsErrAnd result (λ e. e ≡ fault) → P fault → IfErr result P
+passed_on (Ok r) fault P bad good = absurd bad
+passed_on (Err e) fault P is good = subst P (sym is) good
