@@ -42,8 +42,12 @@ inside_scaled first l x y w h right bottom inside is fits is_bottom fits_bottom 
     let rows = more_places l.length first.length y h l.sides.1 first.sides.1 (ltb-true 0 h tall) in
     let left = scaled_down l.width first.width x in
     let top = scaled_down l.length first.length y in
-    rw (lt-ltb 0 (right - left) (omega (arith, columns, is)), lt-ltb 0 (bottom - top) (omega (arith, rows, is_bottom)),
-    le-leb (left + (right - left)) l.width (omega (arith, columns, is, fits)), le-leb (top + (bottom - top)) l.length (omega (arith, rows, is_bottom, fits_bottom))) refl
+    rw (
+      lt-ltb 0 (right - left) (omega (arith, columns, is)),
+      lt-ltb 0 (bottom - top) (omega (arith, rows, is_bottom)),
+      le-leb (left + (right - left)) l.width (omega (arith, columns, is, fits)),
+      le-leb (top + (bottom - top)) l.length (omega (arith, rows, is_bottom, fits_bottom)),
+    ) refl
 
 -- the last number is one of them
 pub last_below : (p : ℕ → Bool) (n : ℕ) → 0 < n → unwrap_or (last_or None (filter p (range_with_len 0 n))) 0 < n

@@ -28,9 +28,9 @@ more_levels ls columns w first n l is =
     let last : last_or None (filter p (range_with_len 0 (suc n))) ≡ (if has_columns columns w first l then Some n else last_or None (filter p (range_with_len 0 n))) =
     last_more p None 0 n ∙ ap (λ k. if p k then Some k else last_or None (filter p (range_with_len 0 n))) here ∙ ap (λ b. if b then Some n else last_or None (filter p (range_with_len 0 n))) passes in
     ap (λ k. unwrap_or (last_or None (filter p (range_with_len 0 k))) 0) next ∙ ap (λ o. unwrap_or o 0) last ∙ chosen (has_columns columns w first l) n (last_or None (filter p (range_with_len 0 n))) where
-  chosen : (b : Bool) (n : ℕ) (o : Option ℕ) → unwrap_or (if b then Some n else o) 0 ≡ (if b then n else unwrap_or o 0)
-  chosen true n o = refl
-  chosen false n o = refl
+      chosen : (b : Bool) (n : ℕ) (o : Option ℕ) → unwrap_or (if b then Some n else o) 0 ≡ (if b then n else unwrap_or o 0)
+      chosen true n o = refl
+      chosen false n o = refl
 
 pub next_best : (ls : List Level) (columns w first n best next : ℕ) (l : Level) (b : Bool) → slice_get ls n ≡ Some l → b ≡ has_columns columns w first l
     → best ≡ last_with_columns ls columns w first n → next ≡ (if b then n else best) → next ≡ last_with_columns ls columns w first (n + 1)

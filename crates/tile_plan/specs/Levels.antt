@@ -36,7 +36,7 @@ last_with_columns ls columns w first n =
 abbrev pub outwards : ℕ → (first here : Level) → ℕ → ℕ → ℕ → ℕ → asked.Rectangle
 outwards n first here x y w h =
     let left = asked.scaled_down here.width first.width x in let top = asked.scaled_down here.length first.length y in
-        record { level = n; left = left; top = top; width = asked.scaled_up here.width first.width (x + w) - left; height = asked.scaled_up here.length first.length (y + h) - top }
+    record { level = n; left = left; top = top; width = asked.scaled_up here.width first.width (x + w) - left; height = asked.scaled_up here.length first.length (y + h) - top }
 
 -- the rectangle lies in its level
 abbrev pub IsInLevel : List Level → Rectangle → Type 0

@@ -99,14 +99,7 @@ fn scaled(first: &Level, n: usize, level: &Level, x: u32, y: u32, w: u32, h: u32
 }
 
 /// The level of a number, where the window lies in it.
-fn level_of(
-    levels: &[Level],
-    n: usize,
-    x: u32,
-    y: u32,
-    w: u32,
-    h: u32,
-) -> Result<&Level, FileFault>
+fn level_of(levels: &[Level], n: usize, x: u32, y: u32, w: u32, h: u32) -> Result<&Level, FileFault>
     ensures there { IfOk result (λ l. (slice_get levels.now n ≡ Some l.now) × IsTrue (is_inside l.now x y w h)) }
     ensures outside { IfErr result (λ fault. (fault ≡ FileFault.Outside)
         × IfSome (slice_get levels.now n) (λ l. is_inside l x y w h ≡ false)) }
@@ -152,7 +145,16 @@ fn rect_of_level(
 {
     let n = n as usize;
     let level = level_of(levels, n, x, y, w, h)?;
-    limited(Rectangle { level: n, x, y, w, h }, level)
+    limited(
+        Rectangle {
+            level: n,
+            x,
+            y,
+            w,
+            h,
+        },
+        level,
+    )
 }
 
 fn rect_by_columns(
