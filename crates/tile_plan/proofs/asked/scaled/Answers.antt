@@ -1,7 +1,3 @@
-use Rattle.std.proofs.Common.{◌≡◌, refl, sym, ap, subst, ◌-◌}
-use Rattle.std.specs.Prelude.{IsTrue}
-use Rattle.tiff_dir.specs.Query.{scaled_down}
-use Rattle.tile_plan.specs.Levels.{is_inside}
 use Rattle.tile_plan.proofs.AskedLemmas.{inside_scaled}
 use Rattle.tile_plan.proofs.asked.scaled.Goals as goal
 
