@@ -1,1 +1,3 @@
 pub mod PairLemmas
+pub mod RectLemmas
+pub mod AskedLemmas

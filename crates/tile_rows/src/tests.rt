@@ -1,3 +1,4 @@
 mod packets;
 mod pairs;
+mod rectangles;
 mod values;
