@@ -11,6 +11,8 @@ mod packets;
 mod query;
 mod samples;
 
+pub use levels::{Grid, Level, level_of};
+pub use needs::{Range, needs_of_directories};
 pub use numbers::{number, order_of};
 pub use packets::unpack;
 pub use samples::sample;

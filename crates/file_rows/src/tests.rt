@@ -1,0 +1,3 @@
+mod beside;
+mod changes;
+mod fronts;

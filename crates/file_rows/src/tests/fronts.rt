@@ -1,0 +1,31 @@
+//! The fixtures, whole and cut.
+use super::beside::compare;
+use fixtures::{f1, f1m, f2, f2b, f3};
+use std::process::Abort;
+use std::test::Fail;
+
+/// The file, and each front of it of up to 400 bytes.
+fn compare_fronts<R: Abort + AllocGlobal>(rt: &R, file: &[u8]) -> Result<(), Fail> {
+    assert!(rt; compare(rt, file)?, "a fixture is refused");
+    for len in 0..file.len().min(401) {
+        compare(rt, &file[..len])?;
+    }
+    Ok(())
+}
+
+#[test]
+fn one_tile(rt: HostRuntime) -> Result<(), Fail> {
+    compare_fronts(&rt, &f1(rt.alloc())?)?;
+    compare_fronts(&rt, &f1m(rt.alloc())?)
+}
+
+#[test]
+fn many_tiles(rt: HostRuntime) -> Result<(), Fail> {
+    compare_fronts(&rt, &f2(rt.alloc())?)?;
+    compare_fronts(&rt, &f2b(rt.alloc())?)
+}
+
+#[test]
+fn two_levels(rt: HostRuntime) -> Result<(), Fail> {
+    compare_fronts(&rt, &f3(rt.alloc())?)
+}
