@@ -1,0 +1,3 @@
+pub mod Doubles
+pub mod Keys
+pub mod Entry
