@@ -1,5 +1,5 @@
 -- No fault stands of keys that were read to their end.
-use Rattle.std.proofs.Common.{◌≡◌, ℕ, ◌+◌, ◌*◌, ◌<◌, ◌≤◌, true, false, cond, List, [], ◌∷◌, ◌++◌, length, zero, suc, ◌≢◌, ◌/◌, Option, Some, None, unwrap_or, refl, sym, ap, ◌∙◌, subst, arith, inl, inr, nat_lt, nat_eq}
+use Rattle.std.proofs.Common.{◌≡◌, ℕ, ◌+◌, ◌-◌, ◌*◌, ◌<◌, ◌≤◌, true, false, cond, List, [], ◌∷◌, ◌++◌, length, zero, suc, ◌≢◌, ◌/◌, Option, Some, None, unwrap_or, refl, sym, ap, ◌∙◌, subst, arith, inl, inr, nat_lt, nat_eq, below_more}
 use Rattle.std.proofs.lemmas.Bool.{cases_lt, lt-ltb, le-ltb, lt-leb, eq-eqb}
 use Rattle.std.specs.Option.{IsSomeAnd, IfSome}
 use Rattle.std.specs.List.{slice_get}
@@ -12,9 +12,11 @@ use Rattle.tiff_dir.specs.Keys.{KeySource, key_number, IsBadKeyHead, IsKeyDisord
 use Rattle.geokeys.specs.declared.entry.Head.{Head}
 use Rattle.geokeys.specs.declared.entry.Entry.{Entry}
 use Rattle.geokeys.specs.declared.geo.Geo.{Geo}
+use Rattle.geokeys.specs.declared.geo.GeoError.{GeoError}
+use Rattle.geokeys.specs.declared.geo.GeoError.TheVariants.{File, Memory}
 use Rattle.geokeys.specs.declared.geo.Key.{Key}
-use Rattle.geokeys.specs.Keys.{number_at, key_source, IsValue, IsKey, AreKeys}
-use Rattle.geokeys.specs.Entry.{IsHead, entry_at, only_items, IsPlaced}
+use Rattle.geokeys.specs.Keys.{number_at, key_source, IsValue, IsKey, AreKeys, IsKeyError}
+use Rattle.geokeys.specs.Entry.{IsHead, entry_at, only_items, IsPlaced, IsRefusal}
 use Rattle.geokeys.proofs.Head.{some_and, and_some, number_there, good_head}
 
 none_past : (o : Option ℕ) → (o >>= (λ (v : ℕ). cond false (Some v) None)) ≡ None
@@ -197,3 +199,33 @@ bad_place order d doubles ascii head k is lt bad =
         (some_and (key_number s k 2) e.count (λ count. IsSomeAnd (key_number s k 3) (λ first. IsMisplaced s e.location count first))
         (key_is order d doubles ascii head k 2 (8 * k + 12) is lt (omega arith) (omega arith))
         (some_and (key_number s k 3) e.first (λ first. IsMisplaced s e.location e.count first) (key_is order d doubles ascii head k 3 (8 * k + 14) is lt (omega arith) (omega arith)) bad)))
+
+-- the value of key k is refused
+pub value_refused : (order : Order) (d doubles ascii : List ℕ) (head : Head) (k : ℕ) (entry : Entry) (error : GeoError) → IsHead order d head → k < head.keys → entry ≡ entry_at order d k →
+    IsRefusal doubles ascii entry error → IsKeyError (key_source order d doubles ascii) error
+value_refused order d doubles ascii head k entry (File fault) is lt same bad =
+    let s = key_source order d doubles ascii in
+    let misplaced = bad_place order d doubles ascii head k is lt
+    (subst (λ (e : Entry). IsMisplaced (only_items doubles ascii) e.location e.count e.first) same bad.1) in
+    subst (λ (f : FileFault). IsFaultOfKeys s f) (sym bad.0) misplaced
+value_refused order d doubles ascii head k entry Memory is lt same bad = tt
+
+-- the head is refused
+pub head_refused : (order : Order) (d doubles ascii : List ℕ) (fault : FileFault) → (fault ≡ KeyHead) × IsBadKeyHead (key_source order d [] []) → IsFaultOfKeys (key_source order d doubles ascii) fault
+head_refused order d doubles ascii fault bad =
+    let here : IsFaultOfKeys (key_source order d doubles ascii) KeyHead = bad.1 in
+    subst (λ (f : FileFault). IsFaultOfKeys (key_source order d doubles ascii) f) (sym bad.0) here
+
+pub ascend_next : (order : Order) (d : List ℕ) (i : ℕ) → Ascend order d i → (0 < i → (entry_at order d (i - 1)).id < (entry_at order d i).id) → Ascend order d (i + 1)
+ascend_next order d i before here k lt = elim (cases_lt (k + 1) i) [
+  | inl less ↦ before k less
+  | inr le ↦
+      let now : i ≡ k + 1 = omega arith in
+      let last : i - 1 ≡ k = omega arith in
+      subst (λ n. (entry_at order d k).id < (entry_at order d n).id) now
+      (subst (λ n. (entry_at order d n).id < (entry_at order d i).id) last (here (omega arith)))
+]
+
+pub placed_next : (order : Order) (d doubles ascii : List ℕ) (i : ℕ) (entry : Entry) → ArePlaced order d doubles ascii i → entry ≡ entry_at order d i → IsPlaced doubles ascii entry →
+    ArePlaced order d doubles ascii (i + 1)
+placed_next order d doubles ascii i entry before same here = below_more (λ k. IsPlaced doubles ascii (entry_at order d k)) i before (subst (λ (e : Entry). IsPlaced doubles ascii e) same here)

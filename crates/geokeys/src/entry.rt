@@ -1,7 +1,7 @@
 // The numbers of the directory: its head, and four for each key.
 ghost use Rattle.std.specs.Prelude.{◌≡◌, ◌+◌, ◌*◌, ◌%◌, ◌<◌, ◌≤◌, [], MatchResult, length};
 ghost use Rattle.tiff_dir.specs.Number.{number_in};
-ghost use Rattle.tiff_dir.specs.Keys.{IsFaultOfKeys};
+ghost use Rattle.tiff_dir.specs.Keys.{IsBadKeyHead};
 ghost use Rattle.geokeys.specs.Keys.{key_source};
 ghost use Rattle.geokeys.specs.Entry.{IsHead, entry_at};
 
@@ -40,7 +40,9 @@ fn short_at(order: Order, bytes: &[u8], at: usize) -> u16
 pub fn head_of(order: Order, directory: &[u8]) -> Result<Head, FileFault>
     requires some { 0 < length directory.now }
     requires even { length directory.now % 2 ≡ 0 }
-    ensures { MatchResult result (IsHead order directory.now) (IsFaultOfKeys (key_source order directory.now [] [])) }
+    ensures { MatchResult result
+        (IsHead order directory.now)
+        (λ fault. (fault ≡ FileFault.KeyHead) × IsBadKeyHead (key_source order directory.now [] [])) }
 {
     if directory.len() < 8 {
         return Err(FileFault::KeyHead);
