@@ -1,3 +1,4 @@
 pub mod Doubles
 pub mod Keys
 pub mod Entry
+pub mod Same

@@ -8,7 +8,7 @@ use std::alloc::{AllocError, AllocFailed, Global};
 use tiff_dir::{FileFault, Order};
 
 /// The keys of a file, in ascending order of their numbers.
-#[derive(Debug, Drop)]
+#[derive(Debug, Drop, PartialEq, Eq)]
 pub struct Geo {
     /// The minor revision of the keys' meaning.
     pub minor: u16,
@@ -16,14 +16,14 @@ pub struct Geo {
 }
 
 /// A key and its value.
-#[derive(Debug, Drop)]
+#[derive(Debug, Drop, PartialEq, Eq)]
 pub struct Key {
     pub id: u16,
     pub value: KeyValue,
 }
 
 /// The value of a key.
-#[derive(Debug, Drop)]
+#[derive(Debug, Drop, PartialEq, Eq)]
 pub enum KeyValue {
     /// A number that stands in the directory.
     Short(u16),

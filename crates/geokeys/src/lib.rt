@@ -4,6 +4,8 @@
 mod entry;
 mod geo;
 mod items;
+mod laws;
 
 pub use geo::{Geo, GeoError, Key, KeyValue};
 pub use items::doubles;
+pub use laws::one_geo;

@@ -6,7 +6,7 @@ use super::{Value, is_wanted};
 use fixtures::f3;
 use geokeys::Geo;
 use std::test::Fail;
-use tiff_dir::{GeoPlaces, Place, Walk};
+use tiff_dir::{GeoPlaces, Order, Place, Walk};
 
 /// Gives the walk what it wants of the file, up to its end.
 fn drive(walk: &mut Walk, file: &[u8]) -> Result<(), Fail> {
@@ -38,11 +38,12 @@ fn field(file: &[u8], place: Option<Place>) -> Option<&[u8]> {
     file.get(first..first.checked_add(len)?)
 }
 
-fn places_of(walk: &Walk) -> Result<GeoPlaces, Fail> {
+/// The order of a file, and where its geo fields stand.
+fn places_of(walk: &Walk) -> Result<(Order, GeoPlaces), Fail> {
     if !has_ended(walk) {
         return Err(Fail::new("no end"));
     }
-    Ok(walk.geo_places().ok().ok_or("no places")?)
+    Ok((walk.order(), walk.geo_places().ok().ok_or("no places")?))
 }
 
 const KEYS: [(u16, Value<'static>); 3] = [
@@ -56,13 +57,12 @@ fn keys_of_two_levels(rt: HostRuntime) -> Result<(), Fail> {
     let file = f3(rt.alloc())?;
     let mut walk = Walk::new(rt.alloc());
     drive(&mut walk, &file)?;
-    let places = places_of(&walk)?;
+    let (order, places) = places_of(&walk)?;
     let directory = field(&file, places.directory).ok_or("no directory")?;
     let doubles = field(&file, places.doubles).ok_or("no doubles")?;
     let ascii = field(&file, places.ascii).ok_or("no text")?;
     assert_eq!(rt; (directory.len(), doubles.len(), ascii.len()), (32, 8, 8));
     assert!(rt; directory.len() == 32 && doubles.len() == 8);
-    let order = walk.order();
     let found = Geo::read(rt.alloc(), order, directory, doubles, ascii);
     assert!(rt; is_wanted(&found, Ok((0, &KEYS))), "{found:?}");
     Ok(())
