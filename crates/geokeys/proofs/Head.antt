@@ -48,7 +48,7 @@ good_head order d doubles ascii head is bad =
           | inl few ↦ let less : length d / 2 < 4 = and_some _ (length d / 2) (λ n. n < 4) count few in omega (arith, less, is.size)
           | inr misfit ↦
               let here : IsSomeAnd (number_at order d 3) (λ k. nat_eq (length d / 2) (4 + 4 * k) ≡ false) =
-                and_some _ (length d / 2) (λ n. IsSomeAnd (number_at order d 3) (λ k. nat_eq n (4 + 4 * k) ≡ false)) count misfit in
+              and_some _ (length d / 2) (λ n. IsSomeAnd (number_at order d 3) (λ k. nat_eq n (4 + 4 * k) ≡ false)) count misfit in
               let differs : nat_eq (length d / 2) (4 + 4 * head.keys) ≡ false = and_some (number_at order d 3) head.keys (λ k. nat_eq (length d / 2) (4 + 4 * k) ≡ false) is.keys here in
               let half : length d / 2 ≡ 4 + 4 * head.keys = omega (arith, is.size) in
               let same : nat_eq (length d / 2) (4 + 4 * head.keys) ≡ true = eq-eqb (length d / 2) (4 + 4 * head.keys) half in

@@ -1,3 +1,4 @@
 pub mod Head
 pub mod Sound
 pub mod Unique
+pub mod Chunks

@@ -185,20 +185,24 @@ pub bad_order : (order : Order) (d doubles ascii : List ℕ) (head : Head) (k : 
 bad_order order d doubles ascii head k is lt le =
     let s = key_source order d doubles ascii in
     let a = (entry_at order d k).id in
-    let b = (entry_at order d (k + 1)).id in
-    (k, some_and (key_number s k 0) a (λ m. IsSomeAnd (key_number s (k + 1) 0) (λ n. nat_lt m n ≡ false)) (key_is order d doubles ascii head k 0 (8 * k + 8) is (omega arith) (omega arith) (omega arith))
-        (some_and (key_number s (k + 1) 0) b (λ n. nat_lt a n ≡ false) (key_is order d doubles ascii head (k + 1) 0 (8 * (k + 1) + 8) is lt (omega arith) (omega arith)) (le-ltb a b le)))
+    let b = (entry_at order d (k + 1)).id in (
+      k,
+      some_and (key_number s k 0) a (λ m. IsSomeAnd (key_number s (k + 1) 0) (λ n. nat_lt m n ≡ false)) (key_is order d doubles ascii head k 0 (8 * k + 8) is (omega arith) (omega arith) (omega arith))
+          (some_and (key_number s (k + 1) 0) b (λ n. nat_lt a n ≡ false) (key_is order d doubles ascii head (k + 1) 0 (8 * (k + 1) + 8) is lt (omega arith) (omega arith)) (le-ltb a b le)),
+    )
 
 pub bad_place : (order : Order) (d doubles ascii : List ℕ) (head : Head) (k : ℕ) → IsHead order d head → k < head.keys →
     IsMisplaced (only_items doubles ascii) (entry_at order d k).location (entry_at order d k).count (entry_at order d k).first → IsKeyMisplaced (key_source order d doubles ascii)
 bad_place order d doubles ascii head k is lt bad =
     let s = key_source order d doubles ascii in
-    let e = entry_at order d k in
-    (k, some_and (key_number s k 1) e.location (λ location. IsSomeAnd (key_number s k 2) (λ count. IsSomeAnd (key_number s k 3) (λ first. IsMisplaced s location count first)))
-        (key_is order d doubles ascii head k 1 (8 * k + 10) is lt (omega arith) (omega arith))
-        (some_and (key_number s k 2) e.count (λ count. IsSomeAnd (key_number s k 3) (λ first. IsMisplaced s e.location count first))
-        (key_is order d doubles ascii head k 2 (8 * k + 12) is lt (omega arith) (omega arith))
-        (some_and (key_number s k 3) e.first (λ first. IsMisplaced s e.location e.count first) (key_is order d doubles ascii head k 3 (8 * k + 14) is lt (omega arith) (omega arith)) bad)))
+    let e = entry_at order d k in (
+      k,
+      some_and (key_number s k 1) e.location (λ location. IsSomeAnd (key_number s k 2) (λ count. IsSomeAnd (key_number s k 3) (λ first. IsMisplaced s location count first)))
+          (key_is order d doubles ascii head k 1 (8 * k + 10) is lt (omega arith) (omega arith))
+          (some_and (key_number s k 2) e.count (λ count. IsSomeAnd (key_number s k 3) (λ first. IsMisplaced s e.location count first))
+          (key_is order d doubles ascii head k 2 (8 * k + 12) is lt (omega arith) (omega arith))
+          (some_and (key_number s k 3) e.first (λ first. IsMisplaced s e.location e.count first) (key_is order d doubles ascii head k 3 (8 * k + 14) is lt (omega arith) (omega arith)) bad)),
+    )
 
 -- the value of key k is refused
 pub value_refused : (order : Order) (d doubles ascii : List ℕ) (head : Head) (k : ℕ) (entry : Entry) (error : GeoError) → IsHead order d head → k < head.keys → entry ≡ entry_at order d k →

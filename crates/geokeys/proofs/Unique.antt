@@ -50,6 +50,7 @@ one_list P (a ∷ xs) (b ∷ ys) same size each other =
 
 pub one_geo : (order : Order) (directory doubles ascii : List ℕ) (a b : Geo) → AreKeys order directory doubles ascii a → AreKeys order directory doubles ascii b →
     (a.minor ≡ b.minor) × (contents a.keys.items ≡ contents b.keys.items)
-one_geo order directory doubles ascii a b is other =
-    (is.minor_is ∙ sym other.minor_is,
-    one_list (IsKey order directory doubles ascii) a.keys.items b.keys.items (one_key order directory doubles ascii) (is.count_is ∙ sym other.count_is) is.each other.each)
+one_geo order directory doubles ascii a b is other = (
+  is.minor_is ∙ sym other.minor_is,
+  one_list (IsKey order directory doubles ascii) a.keys.items b.keys.items (one_key order directory doubles ascii) (is.count_is ∙ sym other.count_is) is.each other.each,
+)

@@ -38,10 +38,9 @@ pub fn doubles(alloc: Global, order: Order, bytes: &[u8]) -> Result<Vec<[u8; 8]>
     requires { length bytes.now % 8 ≡ 0 }
     ensures { IfOk result (λ items. items.items ≡ doubles_in order bytes.now) }
 {
-    let count = bytes.len() / 8;
-    let mut items = Vec::with_capacity(alloc, count)?;
-    for i in 0..count {
-        items.push(big_first(order, &bytes[8 * i..8 * i + 8]))?;
+    let mut items = Vec::with_capacity(alloc, bytes.len() / 8)?;
+    for item in bytes.chunks_exact(8) {
+        items.push(big_first(order, item))?;
     }
     Ok(items)
 }

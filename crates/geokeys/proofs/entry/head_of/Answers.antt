@@ -6,14 +6,16 @@ use Rattle.geokeys.proofs.entry.head_of.Goals.{then-version-ne1-via-then-version
 
 pub returns-then-version-ne1 : goal.returns-then-version-ne1
 returns-then-version-ne1 c =
-    let d = c.args.directory.now in
-    (refl, elim c.then-version-ne1.branch [
-      | then-version-ne1-via-then-version-ne1 w ↦ bad_version c.args.order d [] [] (omega arith) (λ e. w.if-version-ne1.true (c.short_at-version.ensures ∙ e))
-      | then-version-ne1-via-else-version-ne1+then-revision-ne1 w ↦ bad_revision c.args.order d [] [] (omega arith) (λ e. w.if-revision-ne1.true (c.short_at-revision.ensures ∙ e))
-      | then-version-ne1-via-else-version-ne1+else-revision-ne1+then-directory-from w ↦
-          bad_size c.args.order d [] [] (omega arith) c.requires.even
-          (λ e. w.if-directory-from.true (e ∙ ap (λ n. 8 + 8 * n) (sym (w.from.ensures ∙ c.short_at-keys.ensures))))
-    ])
+    let d = c.args.directory.now in (
+      refl,
+      elim c.then-version-ne1.branch [
+        | then-version-ne1-via-then-version-ne1 w ↦ bad_version c.args.order d [] [] (omega arith) (λ e. w.if-version-ne1.true (c.short_at-version.ensures ∙ e))
+        | then-version-ne1-via-else-version-ne1+then-revision-ne1 w ↦ bad_revision c.args.order d [] [] (omega arith) (λ e. w.if-revision-ne1.true (c.short_at-revision.ensures ∙ e))
+        | then-version-ne1-via-else-version-ne1+else-revision-ne1+then-directory-from w ↦
+            bad_size c.args.order d [] [] (omega arith) c.requires.even
+            (λ e. w.if-directory-from.true (e ∙ ap (λ n. 8 + 8 * n) (sym (w.from.ensures ∙ c.short_at-keys.ensures))))
+      ],
+    )
 
 pub returns : goal.returns
 returns c =
