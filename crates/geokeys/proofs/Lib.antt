@@ -1,4 +1,4 @@
 pub mod Head
-pub mod Sound
+pub mod Numbers
 pub mod Unique
 pub mod Chunks

@@ -3,13 +3,14 @@ use Rattle.std.proofs.Common.{◌≡◌, ℕ, suc, ◌+◌, ◌*◌, List, [], �
 use Rattle.std.specs.Option.{IfSome}
 use Rattle.std.specs.List.{slice_get, slice_range}
 use Rattle.tiff_dir.specs.declared.order.Order.{Order}
+use Rattle.tiff_dir.specs.Keys.{KeySource}
 use Rattle.geokeys.specs.declared.geo.Geo.{Geo}
 use Rattle.geokeys.specs.declared.geo.Key.{Key}
 use Rattle.geokeys.specs.declared.geo.KeyValue.{KeyValue}
 use Rattle.geokeys.specs.declared.geo.KeyValue.TheVariants.{Short, Doubles, Ascii}
 use Rattle.geokeys.specs.Doubles.{doubles_in}
 use Rattle.geokeys.specs.Keys.{IsValue, IsKey, AreKeys}
-use Rattle.geokeys.specs.Same.{Content, Number, Items, Text, content_of, key_content, contents}
+use Rattle.geokeys.specs.Same.{Number, Items, Text, content_of, key_content, contents}
 
 one_number : (o : Option ℕ) (a b : ℕ) → o ≡ Some a → o ≡ Some b → a ≡ b
 one_number o a b is other = let e : Some a ≡ Some b = sym is ∙ other in cc
@@ -28,9 +29,9 @@ one_value order doubles ascii l m c d f g (Doubles a) (Ascii b) ls cs fs is othe
 one_value order doubles ascii l m c d f g (Ascii a) (Short b) ls cs fs is other = absurd (omega (arith, is.0, other.0, ls))
 one_value order doubles ascii l m c d f g (Ascii a) (Doubles b) ls cs fs is other = absurd (omega (arith, is.0, other.0, ls))
 
-one_key : (order : Order) (directory doubles ascii : List ℕ) (i : ℕ) (a b : Key) → IsKey order directory doubles ascii i a → IsKey order directory doubles ascii i b →
+one_key : (s : KeySource) (order : Order) (doubles ascii : List ℕ) (i : ℕ) (a b : Key) → IsKey s order doubles ascii i a → IsKey s order doubles ascii i b →
     key_content a ≡ key_content b
-one_key order directory doubles ascii i a b is other =
+one_key s order doubles ascii i a b is other =
     let id : a.id ≡ b.id = one_number _ a.id b.id is.id_is other.id_is in
     let value : content_of a.value ≡ content_of b.value = one_value order doubles ascii is.location other.location is.count other.count is.first other.first a.value b.value
     (one_number _ is.location other.location is.location_is other.location_is) (one_number _ is.count other.count is.count_is other.count_is)
@@ -48,9 +49,9 @@ one_list P (a ∷ xs) (b ∷ ys) same size each other =
     let rest = one_list (λ i. P (suc i)) xs ys (λ i. same (suc i)) (omega (arith, size)) (λ i. each (suc i)) (λ i. other (suc i)) in
     λ i. head i ∷ rest i
 
-pub one_geo : (order : Order) (directory doubles ascii : List ℕ) (a b : Geo) → AreKeys order directory doubles ascii a → AreKeys order directory doubles ascii b →
+pub one_geo : (s : KeySource) (order : Order) (doubles ascii : List ℕ) (a b : Geo) → AreKeys s order doubles ascii a → AreKeys s order doubles ascii b →
     (a.minor ≡ b.minor) × (contents a.keys.items ≡ contents b.keys.items)
-one_geo order directory doubles ascii a b is other = (
+one_geo s order doubles ascii a b is other = (
   is.minor_is ∙ sym other.minor_is,
-  one_list (IsKey order directory doubles ascii) a.keys.items b.keys.items (one_key order directory doubles ascii) (is.count_is ∙ sym other.count_is) is.each other.each,
+  one_list (IsKey s order doubles ascii) a.keys.items b.keys.items (one_key s order doubles ascii) (is.count_is ∙ sym other.count_is) is.each other.each,
 )

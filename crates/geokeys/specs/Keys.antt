@@ -39,21 +39,21 @@ IsValue order doubles ascii location count first (Ascii bytes) =
     (location ≡ 34737) × (bytes.items ≡ slice_range ascii first (first + count))
 
 -- The key is what the four numbers of key i say.
-pub record IsKey (order : Order) (directory doubles ascii : List ℕ) (i : ℕ) (key : Key) : Type 0 where
+pub record IsKey (s : KeySource) (order : Order) (doubles ascii : List ℕ) (i : ℕ) (key : Key) : Type 0 where
   pub location : ℕ
   pub count : ℕ
   pub first : ℕ
-  pub id_is : key_number (key_source order directory doubles ascii) i 0 ≡ Some key.id
-  pub location_is : key_number (key_source order directory doubles ascii) i 1 ≡ Some location
-  pub count_is : key_number (key_source order directory doubles ascii) i 2 ≡ Some count
-  pub first_is : key_number (key_source order directory doubles ascii) i 3 ≡ Some first
+  pub id_is : key_number s i 0 ≡ Some key.id
+  pub location_is : key_number s i 1 ≡ Some location
+  pub count_is : key_number s i 2 ≡ Some count
+  pub first_is : key_number s i 3 ≡ Some first
   pub value_is : IsValue order doubles ascii location count first key.value
 
--- The keys of the directory, and its minor revision. Without a directory there are none, and it is 0.
-pub record AreKeys (order : Order) (directory doubles ascii : List ℕ) (geo : Geo) : Type 0 where
-  pub minor_is : geo.minor ≡ unwrap_or (number_at order directory 2) 0
-  pub count_is : length geo.keys.items ≡ unwrap_or (key_count (key_source order directory doubles ascii)) 0
-  pub each : (i : ℕ) → IfSome (slice_get geo.keys.items i) (IsKey order directory doubles ascii i)
+-- The keys that the source says, and its minor revision. Without a directory there are none, and it is 0.
+pub record AreKeys (s : KeySource) (order : Order) (doubles ascii : List ℕ) (geo : Geo) : Type 0 where
+  pub minor_is : geo.minor ≡ unwrap_or (s.value 2) 0
+  pub count_is : length geo.keys.items ≡ unwrap_or (key_count s) 0
+  pub each : (i : ℕ) → IfSome (slice_get geo.keys.items i) (IsKey s order doubles ascii i)
 
 -- the fault that is told stands
 abbrev pub IsKeyError : KeySource → GeoError → Type 0

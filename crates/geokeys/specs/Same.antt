@@ -1,6 +1,7 @@
 -- What keys say, wherever their values are kept in memory; and that bytes have one list of keys.
 use Rattle.std.specs.Prelude.{◌≡◌, ℕ, List, map}
 use Rattle.tiff_dir.specs.declared.order.Order.{Order}
+use Rattle.tiff_dir.specs.Keys.{KeySource}
 use Rattle.geokeys.specs.declared.geo.Geo.{Geo}
 use Rattle.geokeys.specs.declared.geo.Key.{Key}
 use Rattle.geokeys.specs.declared.geo.KeyValue.{KeyValue}
@@ -24,7 +25,8 @@ key_content key = (key.id, content_of key.value)
 abbrev pub contents : List Key → List (ℕ × Content)
 contents keys = map key_content keys
 
+-- what keys are read from says one minor revision and one list of keys
 abbrev pub KeysAreUnique : Type 0
-KeysAreUnique = (order : Order) (directory doubles ascii : List ℕ) (a b : Geo) →
-    AreKeys order directory doubles ascii a → AreKeys order directory doubles ascii b →
+KeysAreUnique = (s : KeySource) (order : Order) (doubles ascii : List ℕ) (a b : Geo) →
+    AreKeys s order doubles ascii a → AreKeys s order doubles ascii b →
     (a.minor ≡ b.minor) × (contents a.keys.items ≡ contents b.keys.items)

@@ -91,7 +91,7 @@ impl Geo {
     ) -> Result<Geo, GeoError>
         requires shorts { length directory.now % 2 ≡ 0 }
         requires doubles { length doubles.now % 8 ≡ 0 }
-        ensures keys { IfOk result (AreKeys order directory.now doubles.now ascii.now) }
+        ensures keys { IfOk result (AreKeys (key_source order directory.now doubles.now ascii.now) order doubles.now ascii.now) }
         ensures sound { IfOk result (λ _. (fault : Fault) → IsFaultOfKeys (key_source order directory.now doubles.now ascii.now) fault → ⊥) }
         ensures refused { IfErr result (IsKeyError (key_source order directory.now doubles.now ascii.now)) }
     {

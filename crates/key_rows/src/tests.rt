@@ -61,11 +61,8 @@ fn is_wanted(found: &Result<Geo, GeoError>, want: Want<'_>) -> bool {
         (Ok(geo), Ok((minor, keys))) => {
             geo.minor == minor
                 && geo.keys.len() == keys.len()
-                && geo
-                    .keys
-                    .iter()
-                    .zip(keys)
-                    .all(|(key, want)| key.id == want.0 && is_value(&key.value, want.1))
+                && geo.keys.iter().zip(keys).all(|(key, want)| key.id == want.0
+                    && is_value(&key.value, want.1))
         }
         (Err(GeoError::File(fault)), Err(want)) => *fault == want,
         _ => false,

@@ -53,7 +53,10 @@ fn places(rt: HostRuntime) -> Result<(), Fail> {
                     assert_eq!(rt; geo.keys.len(), 1);
                     for key in &geo.keys {
                         assert_eq!(rt; key.id, 1024);
-                        assert!(rt; super::is_value(&key.value, value), "{numbers:?}: {found:?}");
+                        assert!(rt;
+                            super::is_value(&key.value, value),
+                            "{numbers:?}: {found:?}"
+                        );
                     }
                 }
                 Err(_) => assert!(rt; false, "{numbers:?}: {found:?}"),
@@ -79,10 +82,7 @@ const HEADS: [(&[u16], Want<'static>); 17] = [
     (&[1, 1, 0, 1, 1024, 0, 1], Err(FileFault::KeyHead)),
     (&[1, 1, 0, 1, 1024, 0, 1, 7, 0], Err(FileFault::KeyHead)),
     (&[1, 1, 0, 65535, 1024, 0, 1, 7], Err(FileFault::KeyHead)),
-    (
-        &[1, 1, 3, 1, 0, 0, 1, 7],
-        Ok((3, &[(0, Value::Short(7))])),
-    ),
+    (&[1, 1, 3, 1, 0, 0, 1, 7], Ok((3, &[(0, Value::Short(7))]))),
     (
         &[1, 1, 0, 2, 65534, 0, 1, 7, 65535, 0, 1, 8],
         Ok((0, &[(65534, Value::Short(7)), (65535, Value::Short(8))])),

@@ -1,10 +1,10 @@
-use Rattle.std.proofs.Common.{◌≡◌, ℕ, ◌+◌, ◌-◌, ◌<◌, ◌≤◌, [], ◌∷◌, length, refl, sym, ap, ◌∙◌, subst, arith, length-append}
+use Rattle.std.proofs.Common.{◌≡◌, ◌+◌, ◌-◌, ◌<◌, [], ◌∷◌, length, refl, sym, ap, ◌∙◌, subst, arith, length-append}
 use Rattle.std.proofs.lemmas.Bool.{eqb-true}
 use Rattle.std.proofs.lemmas.Result.{err_from_is_err_and}
 use Rattle.geokeys.specs.declared.entry.Entry.{Entry}
 use Rattle.geokeys.specs.Entry.{entry_at}
 use Rattle.geokeys.specs.Keys.{IsValue}
-use Rattle.geokeys.proofs.Sound.{no_fault, no_fault_of_none, no_keys, keys_next, bad_order, value_refused, head_refused, ascend_next, placed_next, Ascend, ArePlaced}
+use Rattle.geokeys.proofs.Numbers.{no_fault, no_fault_of_none, no_keys, keys_next, keys_all, bad_order, value_refused, head_refused, ascend_next, placed_next, Ascend, ArePlaced}
 use Rattle.geokeys.proofs.geo.Geo.read.Goals as goal
 use Rattle.geokeys.proofs.geo.Geo.read.Goals.{else-i-gt0-via-then-i-gt0+else-entry-entry_at, else-i-gt0-via-else-i-gt0}
 
@@ -76,3 +76,9 @@ returns-clause-sound c =
     let kept = c.loop-i.invariant in
     let end : c.loop-i.i ≡ c.in_ok-head.head.keys = omega (arith, c.loop-i-test.false, c.loop-i.auto.i-end, c.from-count.ensures) in
     no_fault order d doubles ascii c.in_ok-head.head c.in_ok-head.ensures (subst (λ n. Ascend order d n) end kept.ascend) (subst (λ n. ArePlaced order d doubles ascii n) end kept.placed)
+
+pub returns-clause-keys : goal.returns-clause-keys
+returns-clause-keys c =
+    let kept = c.loop-i.invariant in
+    let end : c.loop-i.i ≡ c.in_ok-head.head.keys = omega (arith, c.loop-i-test.false, c.loop-i.auto.i-end, c.from-count.ensures) in
+    keys_all c.args.order c.args.directory.now c.args.doubles.now c.args.ascii.now c.in_ok-head.head _ c.in_ok-head.ensures refl (kept.size ∙ end) kept.each

@@ -1,4 +1,4 @@
--- No fault stands of keys that were read to their end.
+-- The keys of a directory: their numbers, when no fault stands of them, and when one does.
 use Rattle.std.proofs.Common.{◌≡◌, ℕ, ◌+◌, ◌-◌, ◌*◌, ◌<◌, ◌≤◌, true, false, cond, List, [], ◌∷◌, ◌++◌, length, zero, suc, ◌≢◌, ◌/◌, Option, Some, None, unwrap_or, refl, sym, ap, ◌∙◌, subst, arith, inl, inr, nat_lt, nat_eq, below_more}
 use Rattle.std.proofs.lemmas.Bool.{cases_lt, lt-ltb, le-ltb, lt-leb, eq-eqb}
 use Rattle.std.specs.Option.{IsSomeAnd, IfSome}
@@ -135,11 +135,11 @@ no_fault_of_none order d doubles ascii none KeyPlace bad =
     (no_number s bad.0 1 (none_there order d 3 none)) bad.1
 no_fault_of_none order d doubles ascii none _ bad = bad
 
-pub no_keys : (order : Order) (d doubles ascii : List ℕ) (geo : Geo) → length d ≡ 0 → geo.minor ≡ 0 → geo.keys.items ≡ [] → AreKeys order d doubles ascii geo
+pub no_keys : (order : Order) (d doubles ascii : List ℕ) (geo : Geo) → length d ≡ 0 → geo.minor ≡ 0 → geo.keys.items ≡ [] → AreKeys (key_source order d doubles ascii) order doubles ascii geo
 no_keys order d doubles ascii geo none minor keys = record {
   minor_is = minor ∙ sym (ap (λ (o : Option ℕ). unwrap_or o 0) (none_there order d 2 none));
   count_is = ap length keys ∙ sym (ap (λ (o : Option ℕ). unwrap_or o 0) (none_there order d 3 none));
-  each = λ i. subst (λ (ks : List Key). IfSome (slice_get ks i) (IsKey order d doubles ascii i)) (sym keys) tt;
+  each = λ i. subst (λ (ks : List Key). IfSome (slice_get ks i) (IsKey (key_source order d doubles ascii) order doubles ascii i)) (sym keys) tt;
 }
 
 -- ---- the keys
@@ -152,12 +152,12 @@ each_push P (k ∷ ks) key each here (suc i) = each_push (λ n. P (suc n)) ks ke
 
 -- one key more
 pub keys_next : (order : Order) (d doubles ascii : List ℕ) (head : Head) (ks ks' : List Key) (key : Key) (i : ℕ) → IsHead order d head → i < head.keys → length ks ≡ i →
-    ((k : ℕ) → IfSome (slice_get ks k) (IsKey order d doubles ascii k)) → ks' ≡ ks ++ key ∷ [] → key.id ≡ (entry_at order d i).id →
+    ((k : ℕ) → IfSome (slice_get ks k) (IsKey (key_source order d doubles ascii) order doubles ascii k)) → ks' ≡ ks ++ key ∷ [] → key.id ≡ (entry_at order d i).id →
     IsValue order doubles ascii (entry_at order d i).location (entry_at order d i).count (entry_at order d i).first key.value →
-    (k : ℕ) → IfSome (slice_get ks' k) (IsKey order d doubles ascii k)
+    (k : ℕ) → IfSome (slice_get ks' k) (IsKey (key_source order d doubles ascii) order doubles ascii k)
 keys_next order d doubles ascii head ks ks' key i is lt size each next id value k =
     let e = entry_at order d i in
-    let here : IsKey order d doubles ascii i key = record {
+    let here : IsKey (key_source order d doubles ascii) order doubles ascii i key = record {
       location = e.location;
       count = e.count;
       first = e.first;
@@ -167,11 +167,11 @@ keys_next order d doubles ascii head ks ks' key i is lt size each next id value 
       first_is = key_is order d doubles ascii head i 3 (8 * i + 14) is lt (omega arith) (omega arith);
       value_is = value;
     } in
-    subst (λ (l : List Key). IfSome (slice_get l k) (IsKey order d doubles ascii k)) (sym next)
-    (each_push (IsKey order d doubles ascii) ks key each (subst (λ n. IsKey order d doubles ascii n key) (sym size) here) k)
+    subst (λ (l : List Key). IfSome (slice_get l k) (IsKey (key_source order d doubles ascii) order doubles ascii k)) (sym next)
+    (each_push (IsKey (key_source order d doubles ascii) order doubles ascii) ks key each (subst (λ n. IsKey (key_source order d doubles ascii) order doubles ascii n key) (sym size) here) k)
 
 pub keys_all : (order : Order) (d doubles ascii : List ℕ) (head : Head) (geo : Geo) → IsHead order d head → geo.minor ≡ head.minor → length geo.keys.items ≡ head.keys →
-    ((k : ℕ) → IfSome (slice_get geo.keys.items k) (IsKey order d doubles ascii k)) → AreKeys order d doubles ascii geo
+    ((k : ℕ) → IfSome (slice_get geo.keys.items k) (IsKey (key_source order d doubles ascii) order doubles ascii k)) → AreKeys (key_source order d doubles ascii) order doubles ascii geo
 keys_all order d doubles ascii head geo is minor count each = record {
   minor_is = minor ∙ sym (ap (λ (o : Option ℕ). unwrap_or o 0) is.minor);
   count_is = count ∙ sym (ap (λ (o : Option ℕ). unwrap_or o 0) is.keys);
