@@ -1,0 +1,5 @@
+pub mod Head
+pub mod Numbers
+pub mod Unique
+pub mod Chunks
+pub mod Worked

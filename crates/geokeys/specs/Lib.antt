@@ -1,0 +1,4 @@
+pub mod Doubles
+pub mod Keys
+pub mod Entry
+pub mod Same

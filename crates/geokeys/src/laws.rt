@@ -1,0 +1,7 @@
+//! A law of the definitions, which upper crates rest on. The function does nothing: its contract is the law.
+ghost use Rattle.geokeys.specs.Same.{KeysAreUnique};
+
+/// What keys are read from has one minor revision and one list of keys.
+pub fn one_geo()
+    ensures keys { KeysAreUnique }
+{}
