@@ -1,4 +1,4 @@
-// The numbers of the directory: its head, and four for each key.
+//! The numbers of the directory: its head, and four for each key.
 ghost use Rattle.std.specs.Prelude.{◌≡◌, ◌+◌, ◌*◌, ◌%◌, ◌<◌, ◌≤◌, [], MatchResult, length};
 ghost use Rattle.tiff_dir.specs.Number.{number_in};
 ghost use Rattle.tiff_dir.specs.Keys.{IsBadKeyHead};

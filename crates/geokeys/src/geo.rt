@@ -1,4 +1,4 @@
-// The keys of a file.
+//! The keys of a file.
 ghost use Rattle.std.specs.Prelude.{◌≡◌};
 ghost use Rattle.geokeys.specs.declared.geo.GeoError.TheVariants.{File, Memory};
 

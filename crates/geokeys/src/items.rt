@@ -1,4 +1,4 @@
-// The values of keys: items of eight bytes or of one.
+//! The values of keys: items of eight bytes or of one.
 ghost use Rattle.std.specs.Prelude.{◌≡◌, ◌+◌, ◌*◌, ◌%◌, ◌<◌, ◌≤◌, IfOk, MatchOption, MatchResult, length};
 ghost use Rattle.std.specs.List.{slice_range};
 ghost use Rattle.geokeys.specs.Doubles.{big_first, doubles_in};

@@ -1,3 +1,4 @@
+//! Packets of a row.
 ghost use Rattle.std.specs.Prelude.{◌≡◌, ◌<◌, ◌≤◌, IfOk, length, take, replicate, slice_index};
 ghost use Rattle.tiff_dir.specs.Packets.{Packs};
 ghost use Rattle.packbits.specs.Adding.{Adds};

@@ -1,3 +1,4 @@
+//! What packets stand for.
 ghost use Rattle.std.specs.Prelude.{◌≡◌, ◌<◌, ◌≤◌, IfSome, IfNone, OnOk, IfErr, length, take, min, replicate};
 ghost use Rattle.tiff_dir.specs.Packets.{Packs};
 ghost use Rattle.packbits.specs.Unpacking.{IsFirst, HasNoFirst, IsNotPacked};
