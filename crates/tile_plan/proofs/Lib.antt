@@ -1,3 +1,6 @@
 pub mod PairLemmas
 pub mod RectLemmas
 pub mod AskedLemmas
+pub mod BlockLemmas
+pub mod GroupLemmas
+pub mod PlanLemmas

@@ -1,0 +1,141 @@
+-- Groups, one tile more, and what is true of all of them.
+use Rattle.std.proofs.Common.{◌≡◌, ℕ, zero, suc, ◌+◌, ◌-◌, ◌*◌, ◌<◌, ◌≤◌, inl, inr, Bool, true, false, List, [], ◌∷◌, ◌++◌, length, get_or, set, map, Option, Some, None, refl, sym, subst, ap, ◌∙◌, arith}
+use Rattle.std.specs.Prelude.{◌&&◌, nat_lt, nat_le, ◌==◌}
+use Rattle.std.specs.List.{AllByRecursion, IsAmong, list_any, range_with_len}
+use Rattle.std.proofs.lemmas.Bool.{and_parts, cases_Bool, eqb-true, leb-true, false≢true}
+use Rattle.std.proofs.lemmas.List.FromFn.{length-map-range_with_len, get_or-map-range_with_len}
+use Rattle.tiff_dir.specs.Needs.{Range}
+use Rattle.tiff_dir.specs.Query as asked
+use Rattle.tiff_dir.specs.Query.{joins, with_tile, alone, grouped_after, grouped}
+use Rattle.tile_plan.specs.declared.plan.Group.{Group}
+use Rattle.tile_plan.specs.Plan.{group_of, Adjoin, IsGroup}
+use Rattle.tile_plan.specs.Adding.{added}
+
+-- ---- in the list of groups
+
+-- the last group takes the tile
+pub added_join : (gs : List Group) (n : ℕ) (g new : Group) (t : ℕ) (r : Range) → suc n ≡ length gs → g ≡ get_or gs n g → joins (group_of g) r ≡ true
+    → group_of new ≡ with_tile (group_of g) t r → map group_of (set gs n new) ≡ added (map group_of gs) t r
+added_join [] n g new t r size is joined next = absurd (omega (arith, size))
+added_join (h ∷ []) zero g new t r size is joined next =
+    let here : joins (group_of h) r ≡ true = ap (λ k. joins (group_of k) r) (sym is) ∙ joined in
+    rw here (ap (λ k. k ∷ []) (next ∙ ap (λ k. with_tile (group_of k) t r) is))
+added_join (h ∷ []) (suc n) g new t r size is joined next = absurd (omega (arith, size))
+added_join (h ∷ i ∷ gs) zero g new t r size is joined next = absurd (omega (arith, size))
+added_join (h ∷ i ∷ gs) (suc n) g new t r size is joined next = front gs i n (added_join (i ∷ gs) n g new t r (omega (arith, size)) is joined next) where
+  front : (gs : List Group) (i : Group) (n : ℕ) → map group_of (set (i ∷ gs) n new) ≡ added (map group_of (i ∷ gs)) t r
+      → group_of h ∷ map group_of (set (i ∷ gs) n new) ≡ added (group_of h ∷ map group_of (i ∷ gs)) t r
+  front gs i n same = ap (λ l. group_of h ∷ l) same
+
+-- the tile is a group of its own, after the last group
+pub added_apart : (gs : List Group) (n : ℕ) (g new : Group) (t : ℕ) (r : Range) → suc n ≡ length gs → g ≡ get_or gs n g → joins (group_of g) r ≡ false
+    → group_of new ≡ alone t r → map group_of (gs ++ new ∷ []) ≡ added (map group_of gs) t r
+added_apart [] n g new t r size is apart next = absurd (omega (arith, size))
+added_apart (h ∷ []) zero g new t r size is apart next =
+    let here : joins (group_of h) r ≡ false = ap (λ k. joins (group_of k) r) (sym is) ∙ apart in
+    rw here (ap (λ k. group_of h ∷ k ∷ []) next)
+added_apart (h ∷ []) (suc n) g new t r size is apart next = absurd (omega (arith, size))
+added_apart (h ∷ i ∷ gs) zero g new t r size is apart next = absurd (omega (arith, size))
+added_apart (h ∷ i ∷ gs) (suc n) g new t r size is apart next = ap (λ l. group_of h ∷ l) (added_apart (i ∷ gs) n g new t r (omega (arith, size)) is apart next)
+
+-- or the first
+pub added_first : (gs : List Group) (new : Group) (t : ℕ) (r : Range) → length gs ≡ 0 → group_of new ≡ alone t r → map group_of (gs ++ new ∷ []) ≡ added (map group_of gs) t r
+added_first [] new t r none next = ap (λ k. k ∷ []) next
+added_first (h ∷ gs) new t r none next = absurd (omega (arith, none))
+
+-- ---- in the definition
+
+after : (ℕ → Range) → Option asked.Group → List ℕ → List asked.Group
+after range before ts = grouped_after before (map (λ t. (t, Some (range t))) ts)
+
+-- a group before is followed by a list that isn't empty
+some_after : (range : ℕ → Range) (g : asked.Group) (ts : List ℕ) → (h : asked.Group) × (hs : List asked.Group) × (after range (Some g) ts ≡ h ∷ hs)
+unfolding after grouped_after
+some_after range g [] = (g, [], refl)
+some_after range g (t ∷ ts) = elim (cases_Bool (joins g (range t))) [
+  | inl h ↦ (let rest = some_after range (with_tile g t (range t)) ts in (rest.0, rest.1, rw h rest.2))
+  | inr h ↦ (g, after range (Some (alone t (range t))) ts, rw h refl)
+]
+
+later : (g h : asked.Group) (zs hs : List asked.Group) (t : ℕ) (r : Range) → zs ≡ h ∷ hs → added (g ∷ zs) t r ≡ g ∷ added zs t r
+later g h zs hs t r is = rw is refl
+
+more_after : (range : ℕ → Range) (g : asked.Group) (ts : List ℕ) (t : ℕ) → after range (Some g) (ts ++ t ∷ []) ≡ added (after range (Some g) ts) t (range t)
+unfolding after grouped_after
+more_after range g [] t = elim (cases_Bool (joins g (range t))) [ inl h ↦ rw h refl | inr h ↦ rw h refl ]
+more_after range g (u ∷ ts) t = elim (cases_Bool (joins g (range u))) [
+  | inl h ↦ rw h (more_after range (with_tile g u (range u)) ts t)
+  | inr h ↦ (
+      let next = alone u (range u) in
+      let rest = some_after range next ts in
+      rw h (ap (λ l. g ∷ l) (more_after range next ts t) ∙ sym (later g rest.0 (after range (Some next) ts) rest.1 t (range t) rest.2))
+      )
+]
+
+-- the groups of one tile more
+pub grouped_more : (range : ℕ → Range) (ts : List ℕ) (t : ℕ) → grouped (λ t. Some (range t)) (ts ++ t ∷ []) ≡ added (grouped (λ t. Some (range t)) ts) t (range t)
+unfolding grouped after grouped_after
+grouped_more range [] t = refl
+grouped_more range (u ∷ ts) t = more_after range (alone u (range u)) ts t
+
+pub grouped_none : (range : ℕ → Option Range) → grouped range [] ≡ []
+unfolding grouped grouped_after
+grouped_none range = refl
+
+-- ---- each group
+
+-- a tile has few bytes, inside a file of so many
+pub record IsFit (range : ℕ → Range) (complete t : ℕ) : Type 0 where
+  pub few : (range t).len ≤ 1048576
+  pub inside : (range t).first + (range t).len ≤ complete
+
+adjoin_more : (range : ℕ → Range) (at : ℕ) (ts : List ℕ) (t end : ℕ) → Adjoin range at ts end → (range t).first ≡ end → Adjoin range at (ts ++ t ∷ []) (end + (range t).len)
+adjoin_more range at [] t end is first = (first ∙ sym is, ap (λ k. k + (range t).len) is)
+adjoin_more range at (u ∷ ts) t end (begin, rest) first = (begin, adjoin_more range (at + (range u).len) ts t end rest first)
+
+group_alone : (range : ℕ → Range) (complete t : ℕ) → IsFit range complete t → IsGroup range complete (alone t (range t))
+group_alone range complete t fit = record { adjoin = (refl, refl); few = fit.few; inside = fit.inside }
+
+group_more : (range : ℕ → Range) (complete : ℕ) (g : asked.Group) (t : ℕ) → IsGroup range complete g → IsFit range complete t → joins g (range t) ≡ true → IsGroup range complete (with_tile g t (range t))
+group_more range complete g t is fit joined =
+    let (next, few) = and_parts ((range t).first == g.range.first + g.range.len) (nat_le (g.range.len + (range t).len) 1048576) joined in
+    let first = eqb-true (range t).first (g.range.first + g.range.len) next in
+    let end : g.range.first + g.range.len + (range t).len ≡ g.range.first + (g.range.len + (range t).len) = omega arith in
+    record {
+      adjoin = subst (Adjoin range g.range.first (g.tiles ++ t ∷ [])) end (adjoin_more range g.range.first g.tiles t (g.range.first + g.range.len) is.adjoin first);
+      few = leb-true (g.range.len + (range t).len) 1048576 few;
+      inside = omega (arith, fit.inside, first);
+    }
+
+each_after : (range : ℕ → Range) (complete : ℕ) (g : asked.Group) (ts : List ℕ) → IsGroup range complete g → AllByRecursion (IsFit range complete) ts → AllByRecursion (IsGroup range complete) (after range (Some g) ts)
+unfolding after grouped_after
+each_after range complete g [] is all = (is, tt)
+each_after range complete g (t ∷ ts) is (fit, all) = elim (cases_Bool (joins g (range t))) [
+  | inl h ↦ rw h (each_after range complete (with_tile g t (range t)) ts (group_more range complete g t is fit h) all)
+  | inr h ↦ rw h (is, each_after range complete (alone t (range t)) ts (group_alone range complete t fit) all)
+]
+
+-- each group of fitting tiles is the bytes of its tiles
+pub each_group : (range : ℕ → Range) (complete : ℕ) (ts : List ℕ) → AllByRecursion (IsFit range complete) ts → AllByRecursion (IsGroup range complete) (grouped (λ t. Some (range t)) ts)
+unfolding grouped after grouped_after
+each_group range complete [] all = tt
+each_group range complete (t ∷ ts) (fit, all) = each_after range complete (alone t (range t)) ts (group_alone range complete t fit) all
+
+-- ---- numbers that are counted
+
+pub all_counted : (P : ℕ → Type 0) (e : ℕ → ℕ) (a n : ℕ) → ((k : ℕ) → a ≤ k → k < a + n → P (e k)) → AllByRecursion P (map e (range_with_len a n))
+all_counted P e a zero each = tt
+all_counted P e a (suc n) each = (each a (omega arith) (omega arith), all_counted P e (a + 1) n (λ k low high. each k (omega (arith, low)) (omega (arith, high))))
+
+pub among_counted : (e : ℕ → ℕ) (n : ℕ) (ts : List ℕ) (k : ℕ) → map e (range_with_len 0 n) ≡ ts → k < n → IsAmong ts (e k)
+among_counted e n ts k is less =
+    let size : length (map e (range_with_len 0 n)) ≡ n = length-map-range_with_len e 0 n in
+    let here : get_or (map e (range_with_len 0 n)) k (e k) ≡ e k = get_or-map-range_with_len e 0 n k k (e k) less (omega arith) in
+    subst (λ l. IsAmong l (e k)) is (k, (omega (arith, size, less), sym here))
+
+pub counted_among : (e : ℕ → ℕ) (n : ℕ) (ts : List ℕ) (t : ℕ) → map e (range_with_len 0 n) ≡ ts → IsAmong ts t → (k : ℕ) × (k < n) × (t ≡ e k)
+counted_among e n ts t is among =
+    let here = subst (λ l. IsAmong l t) (sym is) among in
+    let size : length (map e (range_with_len 0 n)) ≡ n = length-map-range_with_len e 0 n in
+    let less : here.0 < n = omega (arith, size, here.1.0) in
+    (here.0, less, here.1.1 ∙ get_or-map-range_with_len e 0 n here.0 here.0 t less (omega arith))

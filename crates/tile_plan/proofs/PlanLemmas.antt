@@ -1,0 +1,265 @@
+-- The groups of a window in a file.
+use Rattle.std.proofs.Common.{◌≡◌, ℕ, zero, suc, ◌+◌, ◌-◌, ◌*◌, ◌<◌, ◌≤◌, ◌⊎◌, inl, inr, Bool, true, false, List, [], ◌∷◌, ◌++◌, length, get_or, map, Option, Some, None, refl, sym, subst, ap, ◌∙◌, arith}
+use Rattle.std.specs.Prelude.{◌&&◌, ◌||◌, nat_lt, nat_le, ◌==◌, IsSomeAnd}
+use Rattle.std.specs.Option.{option_map_or, option_to_list}
+use Rattle.std.specs.List.{AllByRecursion, IsAmong, list_any, range_with_len}
+use Rattle.std.proofs.lemmas.Bool.{and_parts, cases_Bool, eqb-true, leb-true, lt-ltb, le-ltb, ltb-true, cases_lt, false≢true}
+use Rattle.std.proofs.lemmas.List.Folds.{list_any-append}
+use Rattle.std.proofs.lemmas.Option.{none-some}
+use Rattle.tiff_dir.specs.declared.order.Order.{Order}
+use Rattle.tiff_dir.specs.declared.level.Level.{Level}
+use Rattle.tiff_dir.specs.declared.level.Compression.TheVariants.{Plain}
+use Rattle.tiff_dir.specs.declared.query.Query.{Query}
+use Rattle.tiff_dir.specs.declared.query.Query.TheVariants.{Window, Info}
+use Rattle.tiff_dir.specs.declared.fault.FileFault.{FileFault}
+use Rattle.tiff_dir.specs.declared.fault.FileFault.TheVariants.{PastEnd, TileSize}
+use Rattle.tiff_dir.specs.File.{◌>>=◌, order_of}
+use Rattle.tiff_dir.specs.Level.{level_layout, level_value, level_grid, plain_size}
+use Rattle.tiff_dir.specs.Needs.{Range, ends_past}
+use Rattle.tiff_dir.specs.Described.{grid_of, layout_of}
+use Rattle.tiff_dir.specs.Walk.{IsArrayOf, IsDescribed}
+use Rattle.tiff_dir.specs.Faulty.{HasBadTile, IsTileOfWindow, IsNotPlainSize, IsFaultOfWindow, is_byte_count, level_plain_size}
+use Rattle.tiff_dir.specs.Query as asked
+use Rattle.tiff_dir.specs.Query.{joins, with_tile, alone, grouped_after, grouped, tile_range, tiles_in, window_tiles, rectangle, is_refused, array_ranges, needs_of_query}
+use Rattle.tile_plan.specs.declared.asked.Rectangle.{Rectangle}
+use Rattle.tile_plan.specs.declared.plan.Group.{Group}
+use Rattle.tile_plan.specs.Levels.{rectangle_of}
+use Rattle.tile_plan.specs.Plan.{range_in, tiles_of, group_of, IsRangeOf, IsWrongSize, IsTileFault, IsGroup, IsPlanned, AreNeeded, AreGroups, HasTileFault}
+use Rattle.tile_plan.proofs.GroupLemmas.{IsFit, each_group, all_counted, among_counted, counted_among}
+
+-- what the arrays say of a tile, in every file that has them
+abbrev pub IsValueOf : Order → Level → List ℕ → List ℕ → ℕ → Type 0
+IsValueOf order l offsets counts t =
+    (f : List ℕ) (n : ℕ) → order_of f ≡ Some order → level_layout f n ≡ Some (layout_of l) → IsArrayOf f l.offsets offsets → IsArrayOf f l.counts counts
+    → IsRangeOf f n t (range_in order l offsets counts t)
+
+-- a tile that was looked at, and has no fault
+pub record IsKnown (order : Order) (l : Level) (complete : ℕ) (offsets counts : List ℕ) (t : ℕ) : Type 0 where
+  pub sound : (fault : FileFault) → IsTileFault l complete (range_in order l offsets counts t) fault → ⊥
+  pub values : IsValueOf order l offsets counts t
+
+-- ---- a tile without a fault has few bytes, inside the file
+
+small : (n : ℕ) → (is_byte_count n ≡ false → ⊥) → n ≤ 1048576
+small n right = elim (cases_Bool (is_byte_count n)) [
+  | inl h ↦ leb-true n 1048576 (and_parts (nat_lt 0 n) (nat_le n 1048576) h).1
+  | inr h ↦ absurd (right h)
+]
+
+pub known_fit : (order : Order) (l : Level) (complete : ℕ) (offsets counts : List ℕ) (t : ℕ) → IsKnown order l complete offsets counts t → IsFit (range_in order l offsets counts) complete t
+known_fit order l complete offsets counts t known =
+    let r = range_in order l offsets counts t in
+    record {
+      few = small r.len (λ wrong. known.sound TileSize (inl wrong));
+      inside = elim (cases_lt complete (r.first + r.len)) [ inl past ↦ absurd (known.sound PastEnd (lt-ltb complete (r.first + r.len) past)) | inr fits ↦ fits ];
+    }
+
+-- ---- in the definitions of a file
+
+window_is : (f : List ℕ) (q : Query) (order : Order) (l : Level) (r : Rectangle) (complete : ℕ) (offsets counts : List ℕ) → IsPlanned f q order l r complete offsets counts → window_tiles f q ≡ tiles_of l r
+unfolding window_tiles
+window_is f q order l r complete offsets counts p = rw (p.good, p.rectangle_is, p.described.grid) refl
+
+groups_are : (f : List ℕ) (q : Query) (order : Order) (l : Level) (r : Rectangle) (complete : ℕ) (offsets counts : List ℕ) → IsPlanned f q order l r complete offsets counts
+    → asked.groups f q ≡ grouped (tile_range f r.level) (tiles_of l r)
+unfolding asked.groups
+groups_are f q order l r complete offsets counts p =
+    ap (λ o. option_map_or (λ (s : asked.Rectangle). grouped (tile_range f s.level) (window_tiles f q)) o []) p.rectangle_is
+    ∙ ap (grouped (tile_range f r.level)) (window_is f q order l r complete offsets counts p)
+
+range_is : (f : List ℕ) (n t : ℕ) (r : Range) → IsRangeOf f n t r → tile_range f n t ≡ Some r
+unfolding tile_range
+range_is f n t r is = rw (is.first, is.len) refl
+
+with_range : (ℕ → Option Range) → ℕ → ℕ × Option Range
+with_range range t = (t, range t)
+
+same_ranges : (a b : ℕ → Option Range) (ts : List ℕ) → AllByRecursion (λ t. a t ≡ b t) ts → map (with_range a) ts ≡ map (with_range b) ts
+unfolding with_range
+same_ranges a b [] same = refl
+same_ranges a b (t ∷ ts) (here, rest) =
+    let first : with_range a t ≡ with_range b t = ap (λ (o : Option Range). (t, o)) here in
+    ap (λ x. x ∷ map (with_range a) ts) first ∙ ap (λ l. with_range b t ∷ l) (same_ranges a b ts rest)
+
+grouped_same : (a b : ℕ → Option Range) (ts : List ℕ) → AllByRecursion (λ t. a t ≡ b t) ts → grouped a ts ≡ grouped b ts
+unfolding grouped with_range
+grouped_same a b ts same = ap (grouped_after None) (same_ranges a b ts same)
+
+-- ---- a tile past the end makes a group past the end
+
+abbrev past : ℕ → Range → Bool
+past complete r = nat_lt complete (r.first + r.len)
+
+abbrev range_of : asked.Group → Range
+range_of g = g.range
+
+-- one of the tiles ends past the file
+HasPast : ℕ → (ℕ → Option Range) → List ℕ → Type 0
+HasPast complete range [] = ⊥
+HasPast complete range (t ∷ ts) = (option_map_or (past complete) (range t) false ≡ true) ⊎ HasPast complete range ts
+
+among_past : (complete : ℕ) (range : ℕ → Option Range) (ts : List ℕ) (i t : ℕ) (r : Range) → i < length ts → t ≡ get_or ts i t → range t ≡ Some r → past complete r ≡ true → HasPast complete range ts
+unfolding HasPast
+among_past complete range [] i t r less at is far = absurd (omega (arith, less))
+among_past complete range (u ∷ ts) zero t r less at is far = inl (ap (λ k. option_map_or (past complete) (range k) false) (sym at) ∙ ap (λ o. option_map_or (past complete) o false) is ∙ far)
+among_past complete range (u ∷ ts) (suc i) t r less at is far = inr (among_past complete range ts i t r (omega (arith, less)) at is far)
+
+or_right : (a b : Bool) → b ≡ true → (a || b) ≡ true
+or_right true b is = refl
+or_right false b is = is
+
+or_left : (a b : Bool) → a ≡ true → (a || b) ≡ true
+or_left a b is = rw is refl
+
+far_group : (complete : ℕ) (g : asked.Group) (t : ℕ) (r : Range) → joins g r ≡ true → (past complete g.range ≡ true) ⊎ (past complete r ≡ true) → past complete (with_tile g t r).range ≡ true
+far_group complete g t r joined (inl far) =
+    let end = ltb-true complete (g.range.first + g.range.len) far in lt-ltb complete (g.range.first + (g.range.len + r.len)) (omega (arith, end))
+far_group complete g t r joined (inr far) =
+    let next = eqb-true r.first (g.range.first + g.range.len) (and_parts (r.first == g.range.first + g.range.len) (nat_le (g.range.len + r.len) 1048576) joined).0 in
+    let end = ltb-true complete (r.first + r.len) far in
+    lt-ltb complete (g.range.first + (g.range.len + r.len)) (omega (arith, end, next))
+
+-- the group before ends past the file, or one of the tiles does
+IsFar : ℕ → (ℕ → Option Range) → Option asked.Group → List ℕ → Type 0
+IsFar complete range before ts = (option_map_or (λ (g : asked.Group). past complete g.range) before false ≡ true) ⊎ HasPast complete range ts
+
+past_after : (complete : ℕ) (range : ℕ → Option Range) (before : Option asked.Group) (ts : List ℕ) → IsFar complete range before ts
+    → list_any (past complete) (map range_of (grouped_after before (map (with_range range) ts))) ≡ true
+unfolding grouped_after with_range HasPast IsFar
+past_after complete range None [] (inl far) = absurd (false≢true far)
+past_after complete range (Some g) [] (inl far) = or_left (past complete g.range) false far
+past_after complete range before [] (inr far) = absurd far
+past_after complete range before (t ∷ ts) far = at (λ b (far : IsFar complete range b ts). past_after complete range b ts far) before (range t) far where
+  at : ((b : Option asked.Group) → IsFar complete range b ts → list_any (past complete) (map range_of (grouped_after b (map (with_range range) ts))) ≡ true)
+      → (before : Option asked.Group) (o : Option Range) → (option_map_or (λ (g : asked.Group). past complete g.range) before false ≡ true) ⊎ ((option_map_or (past complete) o false ≡ true) ⊎ HasPast complete range ts)
+      → list_any (past complete) (map range_of (grouped_after before ((t, o) ∷ map (with_range range) ts))) ≡ true
+  at next None None (inl far) = absurd (false≢true far)
+  at next None None (inr (inl far)) = absurd (false≢true far)
+  at next None None (inr (inr far)) = next None (inr far)
+  at next (Some g) None (inl far) = or_left (past complete g.range) (list_any (past complete) (map range_of (grouped_after None (map (with_range range) ts)))) far
+  at next (Some g) None (inr (inl far)) = absurd (false≢true far)
+  at next (Some g) None (inr (inr far)) =
+      or_right (past complete g.range) (list_any (past complete) (map range_of (grouped_after None (map (with_range range) ts)))) (next None (inr far))
+  at next None (Some r) (inl far) = absurd (false≢true far)
+  at next None (Some r) (inr far) = next (Some (alone t r)) far
+  at next (Some g) (Some r) far = elim (cases_Bool (joins g r)) [
+    | inl h ↦ rw h (next (Some (with_tile g t r)) (joined g r h far))
+    | inr h ↦ rw h (apart g r far (next (Some (alone t r))))
+  ] where
+    joined : (g : asked.Group) (r : Range) → joins g r ≡ true → (past complete g.range ≡ true) ⊎ ((past complete r ≡ true) ⊎ HasPast complete range ts)
+        → (past complete (with_tile g t r).range ≡ true) ⊎ HasPast complete range ts
+    joined g r h (inl far) = inl (far_group complete g t r h (inl far))
+    joined g r h (inr (inl far)) = inl (far_group complete g t r h (inr far))
+    joined g r h (inr (inr far)) = inr far
+
+    apart : (g : asked.Group) (r : Range) → (past complete g.range ≡ true) ⊎ ((past complete r ≡ true) ⊎ HasPast complete range ts)
+        → (IsFar complete range (Some (alone t r)) ts → list_any (past complete) (map range_of (grouped_after (Some (alone t r)) (map (with_range range) ts))) ≡ true)
+        → (past complete g.range || list_any (past complete) (map range_of (grouped_after (Some (alone t r)) (map (with_range range) ts)))) ≡ true
+    apart g r (inl far) rest = or_left (past complete g.range) (list_any (past complete) (map range_of (grouped_after (Some (alone t r)) (map (with_range range) ts)))) far
+    apart g r (inr far) rest = or_right (past complete g.range) (list_any (past complete) (map range_of (grouped_after (Some (alone t r)) (map (with_range range) ts)))) (rest far)
+
+-- ---- a fault of a tile is one of the query
+
+needs_past : (f : List ℕ) (q : Query) (s : asked.Rectangle) → rectangle f q ≡ Some s → list_any (ends_past f) (map range_of (asked.groups f q)) ≡ true → list_any (ends_past f) (needs_of_query f q) ≡ true
+unfolding needs_of_query rectangle
+needs_past f Info s is far = absurd (none-some s is)
+needs_past f (Window x y w h p) s is far =
+    let q : Query = Window x y w h p in
+    list_any-append (ends_past f) (array_ranges f q) (map range_of (asked.groups f q))
+    ∙ or_right (list_any (ends_past f) (array_ranges f q)) (list_any (ends_past f) (map range_of (asked.groups f q))) far
+
+of_window : (f : List ℕ) (q : Query) (order : Order) (l : Level) (r : Rectangle) (complete : ℕ) (offsets counts : List ℕ) (t : ℕ) → IsPlanned f q order l r complete offsets counts → IsAmong (tiles_of l r) t
+    → IsTileOfWindow f q r.level t
+of_window f q order l r complete offsets counts t p among = record {
+  asked = rectangle_of r;
+  asked_is = p.rectangle_is;
+  level_is = refl;
+  among = subst (λ ts. IsAmong ts t) (sym (window_is f q order l r complete offsets counts p)) among;
+}
+
+not_plain : (f : List ℕ) (n count : ℕ) (l : Level) → IsDescribed f n l → l.compression ≡ Plain → (count == plain_size (layout_of l)) ≡ false → IsNotPlainSize f n count
+not_plain f n count l here plain is = (here.compression ∙ ap Some plain, size (level_plain_size f n) (plain_size (layout_of l)) here.plain_size is) where
+  size : (o : Option ℕ) (s : ℕ) → o ≡ Some s → (count == s) ≡ false → IsSomeAnd o (λ size. (count == size) ≡ false)
+  size None s is wrong = absurd (none-some s is)
+  size (Some k) s is wrong = (let same : k ≡ s = cc in ap (λ j. count == j) same ∙ wrong)
+
+pub stands : (f : List ℕ) (q : Query) (order : Order) (l : Level) (r : Rectangle) (complete : ℕ) (offsets counts : List ℕ) (t : ℕ) (fault : FileFault) → IsPlanned f q order l r complete offsets counts
+    → IsAmong (tiles_of l r) t → IsRangeOf f r.level t (range_in order l offsets counts t) → IsTileFault l complete (range_in order l offsets counts t) fault → IsFaultOfWindow f q fault
+unfolding with_range IsFar grouped
+stands f q order l r complete offsets counts t TileSize p among is wrong = record {
+  level = r.level;
+  tile = t;
+  of_window = of_window f q order l r complete offsets counts t p among;
+  wrong = rw is.len (elim wrong [ inl bad ↦ inl bad | inr (plain, bad) ↦ inr (not_plain f r.level (range_in order l offsets counts t).len l p.described plain bad) ]);
+}
+stands f q order l r complete offsets counts t PastEnd p among is wrong =
+    let range = tile_range f r.level in
+    let here = range_in order l offsets counts t in
+    let far : past (length f) here ≡ true = ap (λ n. past n here) p.size ∙ wrong in
+    let some = among_past (length f) range (tiles_of l r) among.0 t here among.1.0 among.1.1 (range_is f r.level t here is) far in
+    let all = past_after (length f) range None (tiles_of l r) (inr some) in
+    needs_past f q (rectangle_of r) p.rectangle_is (ap (λ gs. list_any (ends_past f) (map range_of gs)) (groups_are f q order l r complete offsets counts p) ∙ all)
+stands f q order l r complete offsets counts t _ p among is wrong = absurd wrong
+
+-- ---- the groups of a window
+
+pub planned : (order : Order) (l : Level) (r : Rectangle) (complete : ℕ) (offsets counts : List ℕ) (e : ℕ → ℕ) (n : ℕ) (gs : List Group)
+    → map e (range_with_len 0 n) ≡ tiles_of l r → ((k : ℕ) → k < n → IsKnown order l complete offsets counts (e k)) → map group_of gs ≡ grouped (λ t. Some (range_in order l offsets counts t)) (map e (range_with_len 0 n))
+    → AreGroups (range_in order l offsets counts) l r complete gs
+planned order l r complete offsets counts e n gs tiles known is =
+    let range = range_in order l offsets counts in
+    let same : map group_of gs ≡ grouped (λ t. Some (range t)) (tiles_of l r) = is ∙ ap (grouped (λ t. Some (range t))) tiles in
+    let fits = subst (AllByRecursion (IsFit range complete)) tiles (all_counted (IsFit range complete) e 0 n (λ k low less. known_fit order l complete offsets counts (e k) (known k (omega (arith, less))))) in
+    record {
+      groups = same;
+      each = subst (AllByRecursion (IsGroup range complete)) (sym same) (each_group range complete (tiles_of l r) fits);
+      sound = λ t among fault wrong. (let k = counted_among e n (tiles_of l r) t tiles among in (known k.0 k.1).sound fault (subst (λ t. IsTileFault l complete (range t) fault) k.2 wrong));
+    }
+
+all_inside : (f : List ℕ) (range : ℕ → Range) (complete : ℕ) (gs : List asked.Group) → length f ≡ complete → AllByRecursion (IsGroup range complete) gs → list_any (ends_past f) (map range_of gs) ≡ false
+all_inside f range complete [] size all = refl
+all_inside f range complete (g ∷ gs) size (is, all) =
+    let here : ends_past f g.range ≡ false = le-ltb (length f) (g.range.first + g.range.len) (omega (arith, is.inside, size)) in
+    rw here (all_inside f range complete gs size all)
+
+-- what is wrong with a tile of the window is wrong with its range
+wrong_size : (f : List ℕ) (n t : ℕ) (l : Level) (r : Range) → IsDescribed f n l → IsRangeOf f n t r → IsSomeAnd (level_value f n 325 t) (λ count. (is_byte_count count ≡ false) ⊎ IsNotPlainSize f n count) → IsWrongSize l r.len
+wrong_size f n t l r here is wrong = at (level_value f n 325 t) is.len wrong where
+  plain : (o : Option ℕ) (size : ℕ) → o ≡ Some size → IsSomeAnd o (λ size. (r.len == size) ≡ false) → (r.len == size) ≡ false
+  plain None size is wrong = absurd (none-some size is)
+  plain (Some s) size is wrong = (let same : s ≡ size = cc in ap (λ j. r.len == j) (sym same) ∙ wrong)
+
+  at : (o : Option ℕ) → o ≡ Some r.len → IsSomeAnd o (λ count. (is_byte_count count ≡ false) ⊎ IsNotPlainSize f n count) → IsWrongSize l r.len
+  at None is wrong = absurd (none-some r.len is)
+  at (Some count) is (inl bad) = (let same : count ≡ r.len = cc in inl (ap is_byte_count (sym same) ∙ bad))
+  at (Some count) is (inr (compressed, bad)) =
+      let same : count ≡ r.len = cc in
+      let is_plain : l.compression ≡ Plain = cc (here.compression, compressed) in
+      inr (is_plain, plain (level_plain_size f n) (plain_size (layout_of l)) here.plain_size (subst (λ k. IsSomeAnd (level_plain_size f n) (λ size. (k == size) ≡ false)) same bad))
+
+no_bad_tile : (f : List ℕ) (q : Query) (order : Order) (l : Level) (r : Rectangle) (complete : ℕ) (offsets counts : List ℕ) (e : ℕ → ℕ) (n : ℕ) → IsPlanned f q order l r complete offsets counts
+    → map e (range_with_len 0 n) ≡ tiles_of l r → ((k : ℕ) → k < n → IsKnown order l complete offsets counts (e k)) → HasBadTile f q → ⊥
+no_bad_tile f q order l r complete offsets counts e n p tiles known h =
+    let asked_same : h.of_window.asked ≡ rectangle_of r = cc (h.of_window.asked_is, p.rectangle_is) in
+    let level : h.level ≡ r.level = sym h.of_window.level_is ∙ ap (λ (s : asked.Rectangle). s.level) asked_same in
+    let among = subst (λ ts. IsAmong ts h.tile) (window_is f q order l r complete offsets counts p) h.of_window.among in
+    let k = counted_among e n (tiles_of l r) h.tile tiles among in
+    let here = (known k.0 k.1).values f r.level p.order_is p.layout_is p.offsets_are p.counts_are in
+    let wrong = subst (λ t. IsSomeAnd (level_value f r.level 325 t) (λ count. (is_byte_count count ≡ false) ⊎ IsNotPlainSize f r.level count)) k.2
+    (subst (λ m. IsSomeAnd (level_value f m 325 h.tile) (λ count. (is_byte_count count ≡ false) ⊎ IsNotPlainSize f m count)) level h.wrong) in
+    (known k.0 k.1).sound TileSize (wrong_size f r.level (e k.0) l (range_in order l offsets counts (e k.0)) p.described here wrong)
+
+pub needed : (f : List ℕ) (q : Query) (order : Order) (l : Level) (r : Rectangle) (complete : ℕ) (offsets counts : List ℕ) (e : ℕ → ℕ) (n : ℕ) (gs : List Group) → IsPlanned f q order l r complete offsets counts
+    → map e (range_with_len 0 n) ≡ tiles_of l r → ((k : ℕ) → k < n → IsKnown order l complete offsets counts (e k)) → AreGroups (range_in order l offsets counts) l r complete gs → AreNeeded f q gs
+needed f q order l r complete offsets counts e n gs p tiles known are =
+    let range = range_in order l offsets counts in
+    let Same : ℕ → Type 0 = λ t. tile_range f r.level t ≡ Some (range t) in
+    let same = subst (AllByRecursion Same) tiles
+    (all_counted Same e 0 n (λ k low less. range_is f r.level (e k) (range (e k)) ((known k (omega (arith, less))).values f r.level p.order_is p.layout_is p.offsets_are p.counts_are))) in
+    let groups : map group_of gs ≡ asked.groups f q =
+    are.groups ∙ sym (groups_are f q order l r complete offsets counts p ∙ grouped_same (tile_range f r.level) (λ t. Some (range t)) (tiles_of l r) same) in
+    record {
+      groups = groups;
+      inside = ap (λ gs. list_any (ends_past f) (map range_of gs)) (sym groups) ∙ all_inside f range complete (map group_of gs) p.size are.each;
+      right = no_bad_tile f q order l r complete offsets counts e n p tiles known;
+    }

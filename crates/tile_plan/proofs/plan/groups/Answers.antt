@@ -1,0 +1,82 @@
+use Rattle.std.proofs.Common.{◌≡◌, ℕ, ◌+◌, ◌*◌, ◌<◌, ◌++◌, ◌∷◌, [], Some, map, below_more, refl, sym, subst, ap, ◌∙◌, arith, Result, Ok, Err}
+use Rattle.std.specs.Prelude.{IfErr, IsErrAnd}
+use Rattle.std.specs.List.{range_with_len}
+use Rattle.tiff_dir.specs.Query.{grouped}
+use Rattle.tiff_dir.specs.Walk.{range_of_span}
+use Rattle.tile_plan.specs.declared.plan.PlanError.TheVariants.{File}
+use Rattle.tile_plan.specs.Block.{tile_of_block}
+use Rattle.tile_plan.specs.Plan.{range_in, group_of, tiles_of, IsRangeOf, IsTileFault, IsPlanError, IsErrorOf}
+use Rattle.tile_plan.specs.Adding.{added}
+use Rattle.tile_plan.proofs.BlockLemmas.{counted_all}
+use Rattle.tile_plan.proofs.GroupLemmas.{grouped_more, grouped_none, among_counted}
+use Rattle.tile_plan.proofs.PlanLemmas.{IsKnown, planned, needed, stands}
+use Rattle.tile_plan.proofs.plan.groups.Goals as goal
+
+passed_on : {A E : Type 0} (result : Result A E) (error : E) (P : E → Type 0) → IsErrAnd result (λ e. e ≡ error) → P error → IfErr result P
+passed_on (Ok a) error P bad good = absurd bad
+passed_on (Err e) error P is good = subst P (sym is) good
+
+pub loop-n-init : goal.loop-n-init
+loop-n-init c =
+    let range = range_in c.args.order c.args.level.now c.args.offsets.now c.args.counts.now in
+    record { groups = ap (map group_of) c.new-groups.ensures.items ∙ sym (grouped_none (λ t. Some (range t))); known = λ k less. absurd (omega arith) }
+
+pub returns-in_err-span-clause-refused : goal.returns-in_err-span-clause-refused
+returns-in_err-span-clause-refused c =
+    let b = c.of-block.result in
+    let l = c.args.level.now in
+    let range = range_in c.args.order l c.args.offsets.now c.args.counts.now in
+    let fault = c.in_err-span.field-0.0 in
+    let less : c.loop-n.n < b.columns * b.rows = omega (arith, c.loop-n-test.true, c.count-n-end.ensures, c.loop-n.auto.n-end) in
+    passed_on c.from_residual.result (File fault) (IsPlanError range l c.args.rect c.args.complete) c.from_residual.ensures.1 (record {
+      tile = tile_of_block b c.loop-n.n;
+      among = among_counted (tile_of_block b) (b.columns * b.rows) (tiles_of l c.args.rect) c.loop-n.n c.of-block.ensures.tiles less;
+      wrong = subst (λ t. IsTileFault l c.args.complete (range t) fault) c.tile-tile.ensures c.in_err-span.ensures.refused;
+    })
+
+pub returns-in_err-span-clause-stands : goal.returns-in_err-span-clause-stands
+returns-in_err-span-clause-stands c f q p =
+    let b = c.of-block.result in
+    let l = c.args.level.now in
+    let range = range_in c.args.order l c.args.offsets.now c.args.counts.now in
+    let fault = c.in_err-span.field-0.0 in
+    let less : c.loop-n.n < b.columns * b.rows = omega (arith, c.loop-n-test.true, c.count-n-end.ensures, c.loop-n.auto.n-end) in
+    let t = tile_of_block b c.loop-n.n in
+    let among = among_counted (tile_of_block b) (b.columns * b.rows) (tiles_of l c.args.rect) c.loop-n.n c.of-block.ensures.tiles less in
+    let wrong = subst (λ t. IsTileFault l c.args.complete (range t) fault) c.tile-tile.ensures c.in_err-span.ensures.refused in
+    passed_on c.from_residual.result (File fault) (IsErrorOf f q) c.from_residual.ensures.1
+    (stands f q c.args.order l c.args.rect c.args.complete c.args.offsets.now c.args.counts.now t fault p among
+    (subst (λ t. IsRangeOf f c.args.rect.level t (range t)) c.tile-tile.ensures (c.in_err-span.ensures.values f c.args.rect.level p.order_is p.layout_is p.offsets_are p.counts_are)) wrong)
+
+pub loop-n-preserved : goal.loop-n-preserved
+loop-n-preserved c =
+    let b = c.of-block.result in
+    let n = c.loop-n.n in
+    let l = c.args.level.now in
+    let range = range_in c.args.order l c.args.offsets.now c.args.counts.now in
+    let tile = c.tile-tile.result in
+    let before = map (tile_of_block b) (range_with_len 0 n) in
+    record {
+      groups = c.in_ok-add_tile.ensures ∙ ap (λ gs. added gs tile (range_of_span c.in_ok-span.span)) c.loop-n.invariant.groups
+          ∙ ap (added (grouped (λ t. Some (range t)) before) tile) c.in_ok-span.ensures.range ∙ sym (grouped_more range before tile)
+          ∙ ap (λ t. grouped (λ t. Some (range t)) (before ++ t ∷ [])) c.tile-tile.ensures ∙ ap (grouped (λ t. Some (range t))) (counted_all (tile_of_block b) n);
+      known = below_more (λ k. IsKnown c.args.order l c.args.complete c.args.offsets.now c.args.counts.now (tile_of_block b k)) n c.loop-n.invariant.known
+          (subst (IsKnown c.args.order l c.args.complete c.args.offsets.now c.args.counts.now) c.tile-tile.ensures (record { sound = c.in_ok-span.ensures.sound; values = c.in_ok-span.ensures.values }));
+    }
+
+pub returns-clause-groups : goal.returns-clause-groups
+returns-clause-groups c =
+    let b = c.of-block.result in
+    let l = c.args.level.now in
+    let all : c.loop-n.n ≡ b.columns * b.rows = omega (arith, c.loop-n-test.false, c.count-n-end.ensures, c.loop-n.auto.n-end) in
+    let tiles = ap (λ k. map (tile_of_block b) (range_with_len 0 k)) all ∙ c.of-block.ensures.tiles in
+    planned c.args.order l c.args.rect c.args.complete c.args.offsets.now c.args.counts.now (tile_of_block b) c.loop-n.n c.loop-n.groups.items tiles c.loop-n.invariant.known c.loop-n.invariant.groups
+
+pub returns-clause-needed : goal.returns-clause-needed
+returns-clause-needed c f q p =
+    let b = c.of-block.result in
+    let l = c.args.level.now in
+    let all : c.loop-n.n ≡ b.columns * b.rows = omega (arith, c.loop-n-test.false, c.count-n-end.ensures, c.loop-n.auto.n-end) in
+    let tiles = ap (λ k. map (tile_of_block b) (range_with_len 0 k)) all ∙ c.of-block.ensures.tiles in
+    needed f q c.args.order l c.args.rect c.args.complete c.args.offsets.now c.args.counts.now (tile_of_block b) c.loop-n.n c.loop-n.groups.items p tiles c.loop-n.invariant.known
+    (planned c.args.order l c.args.rect c.args.complete c.args.offsets.now c.args.counts.now (tile_of_block b) c.loop-n.n c.loop-n.groups.items tiles c.loop-n.invariant.known c.loop-n.invariant.groups)

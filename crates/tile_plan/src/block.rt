@@ -1,0 +1,89 @@
+//! The tiles that have a pixel of a rectangle.
+ghost use Rattle.std.specs.Prelude.{◌≡◌, ℕ, ◌<◌, ◌≤◌, ◌+◌, ◌-◌, ◌*◌, ◌/◌, ◌^◌, IsTrue, map};
+ghost use Rattle.tiff_dir.specs.Described.{grid_of};
+ghost use Rattle.tiff_dir.specs.Level.{tile_total};
+ghost use Rattle.tiff_dir.specs.Profile.{tiles_along};
+ghost use Rattle.std.specs.List.{range_with_len};
+ghost use Rattle.tile_plan.specs.Levels.{is_inside};
+ghost use Rattle.tile_plan.specs.Plan.{tiles_of};
+
+use crate::Rectangle;
+use tiff_dir::Level;
+
+/// Some columns and rows of the tiles of a level, which has `across` tiles side by side.
+#[derive(Clone, Copy)]
+pub struct Block {
+    across: u32,
+    left: u32,
+    top: u32,
+    columns: u32,
+    rows: u32,
+    ghost some: { (0 < columns) × (0 < rows) },
+    ghost side: { left + columns ≤ across },
+    ghost few: { (top + rows) * across ≤ 65536 },
+}
+
+/// How many tiles cover a side.
+fn tiles_along(side: u32, tile_side: u32) -> u32
+    requires some { 0 < tile_side }
+    requires few { tiles_along side tile_side ≤ 65536 }
+    ensures { result ≡ tiles_along side tile_side }
+{
+    ((u64::from(side) + u64::from(tile_side) - 1) / u64::from(tile_side)) as u32
+}
+
+/// The first tile along a side that has one of `len` pixels from `at`, and how many have.
+fn touched(at: u32, len: u32, tile_side: u32) -> (u32, u32)
+    requires some { 0 < len }
+    requires tile { 0 < tile_side }
+    requires fits { at + len < 2 ^ 32 }
+    ensures { (result.0 ≡ at / tile_side) × (result.1 ≡ (at + len - 1) / tile_side + 1 - at / tile_side) }
+{
+    let first = at / tile_side;
+    let last = (at + len - 1) / tile_side;
+    (first, last - first + 1)
+}
+
+impl Block {
+    ghost use Rattle.tile_plan.specs.Block.{tile_of_block};
+
+    /// The tiles of the level that have a pixel of the rectangle.
+    pub fn of(level: &Level, rect: Rectangle) -> Block
+        requires { IsTrue (is_inside level.now rect.x rect.y rect.w rect.h) }
+        ensures tiles { map (tile_of_block result) (range_with_len 0 (result.columns * result.rows)) ≡ tiles_of level.now rect }
+        ensures within { (n : ℕ) → n < result.columns * result.rows → tile_of_block result n < tile_total (grid_of level.now) }
+    {
+        let Level {
+            width,
+            length: _length,
+            tile_width,
+            tile_length,
+            ..
+        } = *level;
+        let across = tiles_along(width, tile_width);
+        let (left, columns) = touched(rect.x, rect.w, tile_width);
+        let (top, rows) = touched(rect.y, rect.h, tile_length);
+        Block {
+            across,
+            left,
+            top,
+            columns,
+            rows,
+        }
+    }
+
+    /// How many tiles they are.
+    pub fn count(self) -> u32
+        ensures { result ≡ self.columns * self.rows }
+    {
+        self.columns * self.rows
+    }
+
+    /// The number of one of them, row by row.
+    pub fn tile(self, n: u32) -> u32
+        requires { n < self.columns * self.rows }
+        ensures { result ≡ tile_of_block self n }
+    {
+        (self.top + n / self.columns) * self.across + self.left + n % self.columns
+    }
+}

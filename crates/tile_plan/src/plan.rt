@@ -1,0 +1,188 @@
+//! The groups of a window's tiles: those that stand one after the other in the file are read by one range.
+ghost use Rattle.std.specs.Prelude.{◌≡◌, ℕ, ◌*◌, ◌<◌, ◌≤◌, List, true, false, Some, IfOk, IfErr, OnOk, IsTrue, map, length};
+ghost use Rattle.tiff_dir.specs.declared.query.Query.{Query};
+ghost use Rattle.tiff_dir.specs.declared.fault.FileFault.{FileFault as Fault};
+ghost use Rattle.tiff_dir.specs.Described.{grid_of, layout_of};
+ghost use Rattle.tiff_dir.specs.Level.{level_layout, plain_size, tile_total};
+ghost use Rattle.tiff_dir.specs.Query.{joins, with_tile, alone};
+ghost use Rattle.tiff_dir.specs.File.{order_of};
+ghost use Rattle.tiff_dir.specs.Walk.{range_of_span, IsArrayOf};
+ghost use Rattle.tile_plan.specs.declared.plan.PlanError.TheVariants.{File, Memory};
+ghost use Rattle.tile_plan.specs.Levels.{is_inside};
+ghost use Rattle.tile_plan.specs.Plan.{range_in, group_of, IsRangeOf, IsWrongSize, IsTileFault, AreGroups, IsPlanError, IsPlanned, AreNeeded, IsErrorOf};
+ghost use Rattle.tile_plan.specs.Adding.{added};
+
+use crate::Rectangle;
+use crate::block::Block;
+use std::alloc::Global;
+use tiff_dir::{Compression, FileFault, Level, Order, Span, tile_of};
+
+/// The most bytes of a tile, and of a group.
+const MOST: u64 = 1048576;
+
+/// Tiles that stand one after the other in the file, in ascending number, and the bytes that they have together.
+#[derive(Debug, Drop, PartialEq, Eq)]
+pub struct Group {
+    pub tiles: Vec<u32>,
+    pub span: Span,
+}
+
+/// Why there are no groups.
+#[derive(Clone, Copy, Debug, PartialEq, Eq)]
+pub enum PlanError {
+    /// A tile of the window has this fault.
+    File(FileFault),
+    /// No memory was left.
+    Memory,
+}
+
+impl From<FileFault> for PlanError {
+    ghost from_gives = { λ fault e. e ≡ File fault };
+
+    fn from(fault: FileFault) -> PlanError {
+        PlanError::File(fault)
+    }
+}
+
+impl From<tiff_dir::Memory> for PlanError {
+    ghost from_gives = { λ _ e. e ≡ Memory };
+
+    fn from(_refused: tiff_dir::Memory) -> PlanError {
+        PlanError::Memory
+    }
+}
+
+impl Group {
+    fn alone(alloc: Global, tile: u32, span: Span) -> Result<Group, tiff_dir::Memory>
+        ensures { IfOk result (λ g. group_of g ≡ alone tile (range_of_span span)) }
+    {
+        let mut tiles = Vec::new(alloc);
+        tiles.push(tile)?;
+        Ok(Group { tiles, span })
+    }
+
+    /// Whether the span begins where the group ends, and the group with it isn't too long.
+    fn joins(&self, span: Span) -> bool
+        ensures { result ≡ joins (group_of self.now) (range_of_span span) }
+    {
+        span.first > self.span.last
+            && span.first - self.span.last == 1
+            && span.last - self.span.first < MOST
+    }
+
+    fn add(&mut self, tile: u32, span: Span) -> Result<(), tiff_dir::Memory>
+        requires { joins (group_of self.old) (range_of_span span) ≡ true }
+        ensures { OnOk result (group_of self.new ≡ with_tile (group_of self.old) tile (range_of_span span)) }
+    {
+        self.tiles.push(tile)?;
+        self.span = Span {
+            first: self.span.first,
+            last: span.last,
+        };
+        Ok(())
+    }
+}
+
+/// Adds a tile to the last group, or as a group of its own.
+fn add_tile(
+    alloc: Global,
+    groups: &mut Vec<Group>,
+    tile: u32,
+    span: Span,
+) -> Result<(), tiff_dir::Memory>
+    ensures { OnOk result (map group_of groups.new.items ≡ added (map group_of groups.old.items) tile (range_of_span span)) }
+{
+    match groups.last_mut() {
+        Some(group) if group.joins(span) => group.add(tile, span),
+        _ => {
+            groups.push(Group::alone(alloc, tile, span)?)?;
+            Ok(())
+        }
+    }
+}
+
+/// How many bytes a tile of the level has when it is unpacked.
+fn plain_size(level: &Level) -> u64
+    ensures { result ≡ plain_size (layout_of level.now) }
+{
+    u64::from(level.tile_width)
+        * u64::from(level.tile_length)
+        * u64::from(level.samples)
+        * u64::from(level.bits / 8)
+}
+
+/// Whether a tile of the level may have so many bytes.
+fn is_right_size(level: &Level, len: u64) -> bool
+    ensures right { IsTrue result → IsWrongSize level.now len → ⊥ }
+    ensures wrong { result ≡ false → IsWrongSize level.now len }
+{
+    let fits = match level.compression {
+        Compression::Plain => len == plain_size(level),
+        Compression::PackBits => true,
+    };
+    0 < len && len <= MOST && fits
+}
+
+/// Where a tile stands in a file of `complete` bytes.
+fn tile_span(
+    order: Order,
+    level: &Level,
+    tile: u32,
+    complete: u64,
+    offsets: &[u8],
+    counts: &[u8],
+) -> Result<Span, FileFault>
+    requires tile { tile < tile_total (grid_of level.now) }
+    requires offsets { length offsets.now ≡ level.now.offsets.len }
+    requires counts { length counts.now ≡ level.now.counts.len }
+    ensures range { IfOk result (λ s. range_of_span s ≡ range_in order level.now offsets.now counts.now tile) }
+    ensures sound { IfOk result (λ _. (fault : Fault) → IsTileFault level.now complete (range_in order level.now offsets.now counts.now tile) fault → ⊥) }
+    ensures refused { IfErr result (IsTileFault level.now complete (range_in order level.now offsets.now counts.now tile)) }
+    ensures values { (f : List ℕ) (n : ℕ) → order_of f ≡ Some order → level_layout f n ≡ Some (layout_of level.now) → IsArrayOf f level.now.offsets offsets.now
+        → IsArrayOf f level.now.counts counts.now → IsRangeOf f n tile (range_in order level.now offsets.now counts.now tile) }
+{
+    let (first, len) = tile_of(order, level, tile, offsets, counts);
+    let first = u64::from(first);
+    let len = u64::from(len);
+    if !is_right_size(level, len) {
+        return Err(FileFault::TileSize);
+    }
+    if first + len > complete {
+        return Err(FileFault::PastEnd);
+    }
+    Ok(Span {
+        first,
+        last: first + len - 1,
+    })
+}
+
+/// The groups of the tiles of a level that have a pixel of the rectangle, for a file of `complete` bytes: by the bytes of the
+/// level's arrays, in the file's order. Where a tile's byte count is wrong the fault is TileSize, where it ends past the file
+/// PastEnd. `rect` lies in the level, and the arrays have the lengths of their places.
+pub fn groups(
+    alloc: Global,
+    order: Order,
+    level: &Level,
+    rect: Rectangle,
+    complete: u64,
+    offsets: &[u8],
+    counts: &[u8],
+) -> Result<Vec<Group>, PlanError>
+    requires inside { IsTrue (is_inside level.now rect.x rect.y rect.w rect.h) }
+    requires offsets { length offsets.now ≡ level.now.offsets.len }
+    requires counts { length counts.now ≡ level.now.counts.len }
+    ensures groups { IfOk result (λ gs. AreGroups (range_in order level.now offsets.now counts.now) level.now rect complete gs.items) }
+    ensures refused { IfErr result (IsPlanError (range_in order level.now offsets.now counts.now) level.now rect complete) }
+    // Of a level of a file and the bytes of its arrays, the groups and the fault are the file's.
+    ensures needed { (f : List ℕ) (q : Query) → IsPlanned f q order level.now rect complete offsets.now counts.now → IfOk result (λ gs. AreNeeded f q gs.items) }
+    ensures stands { (f : List ℕ) (q : Query) → IsPlanned f q order level.now rect complete offsets.now counts.now → IfErr result (IsErrorOf f q) }
+{
+    let block = Block::of(level, rect);
+    let mut groups = Vec::new(alloc);
+    for n in 0..block.count() {
+        let tile = block.tile(n);
+        let span = tile_span(order, level, tile, complete, offsets, counts)?;
+        add_tile(alloc, &mut groups, tile, span)?;
+    }
+    Ok(groups)
+}
