@@ -4,3 +4,5 @@ pub mod AskedLemmas
 pub mod BlockLemmas
 pub mod GroupLemmas
 pub mod PlanLemmas
+pub mod RowLemmas
+pub mod BlitLemmas

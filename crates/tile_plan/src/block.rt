@@ -24,7 +24,7 @@ pub struct Block {
 }
 
 /// How many tiles cover a side.
-fn tiles_along(side: u32, tile_side: u32) -> u32
+pub fn tiles_along(side: u32, tile_side: u32) -> u32
     requires some { 0 < tile_side }
     requires few { tiles_along side tile_side ≤ 65536 }
     ensures { result ≡ tiles_along side tile_side }

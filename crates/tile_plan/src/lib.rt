@@ -3,9 +3,12 @@
 
 mod asked;
 mod block;
+mod canvas;
 mod plan;
+mod rows;
 mod swap;
 
 pub use asked::{Rectangle, rect};
+pub use canvas::Canvas;
 pub use plan::{Group, PlanError, groups};
 pub use swap::swap_pairs;

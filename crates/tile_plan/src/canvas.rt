@@ -1,0 +1,118 @@
+//! The samples of a window, put together from tiles.
+ghost use Rattle.std.specs.Prelude.{◌≡◌, ◌+◌, ◌*◌, ◌<◌, ◌≤◌, ◌^◌, IfOk, length, max, min, replicate};
+ghost use Rattle.tiff_dir.specs.Described.{grid_of, layout_of};
+ghost use Rattle.tiff_dir.specs.Level.{plain_size, tile_total};
+ghost use Rattle.tile_plan.specs.Canvas.{Picture, IsSmall, IsBlit, picture_size, pixel_bytes};
+
+use crate::Rectangle;
+use crate::block::tiles_along;
+use crate::rows::{Rows, copy_rows};
+use std::alloc::Global;
+use std::marker::Model;
+use std::ops::Range;
+use tiff_dir::{Level, Memory};
+
+/// The bytes of a rectangle of a level, row by row. Samples have the bytes of the tiles: those of 16 bits are in the file's
+/// order.
+#[derive(Drop)]
+pub struct Canvas {
+    level: Level,
+    rect: Rectangle,
+    bytes: Vec<u8>,
+}
+
+impl Model for Canvas {
+    ghost use Rattle.std.specs.Prelude.{◌≡◌, length};
+    ghost use Rattle.tile_plan.specs.Canvas.{Picture, IsSmall, picture_size};
+
+    ghost Value = { Picture };
+
+    ghost view = { λ c. record { level = c.level; rectangle = c.rect; bytes = c.bytes.items } };
+
+    ghost invariant = { λ c. IsSmall c.level c.rect × (length c.bytes.items ≡ picture_size c.level c.rect) };
+}
+
+/// The bytes of a pixel.
+fn pixel_bytes(level: &Level) -> usize
+    ensures size { result ≡ pixel_bytes level.now }
+    ensures few { result ≤ 6 }
+{
+    usize::from(level.samples) * usize::from(level.bits / 8)
+}
+
+/// The numbers that two stretches have in common, each given by its first number and its length.
+fn common(a: usize, a_len: u32, b: usize, b_len: u32) -> Range<usize>
+    requires { (a < 2 ^ 62) × (b < 2 ^ 62) }
+    ensures first { result.start ≡ max a b }
+    ensures end { result.end ≡ min (a + a_len) (b + b_len) }
+{
+    a.max(b)..(a + a_len as usize).min(b + b_len as usize)
+}
+
+impl Canvas {
+    /// A canvas for a rectangle of the level, all bytes 0. The rectangle lies in the level and has at most 4,194,304 samples.
+    pub fn new(alloc: Global, level: &Level, rect: Rectangle) -> Result<Canvas, Memory>
+        requires { IsSmall level.now rect }
+        ensures { IfOk result (λ c. c ≡ record { level = level.now; rectangle = rect; bytes = replicate (picture_size level.now rect) 0 }) }
+    {
+        let size = rect.w as usize * rect.h as usize * pixel_bytes(level);
+        let bytes = vec![in alloc; 0; size]?;
+        Ok(Canvas {
+            level: *level,
+            rect,
+            bytes,
+        })
+    }
+
+    /// Copies what of the tile of this number lies in the rectangle. `bytes` are the tile's, unpacked.
+    pub fn blit(&mut self, tile: u32, bytes: &[u8])
+        requires tile { tile < tile_total (grid_of self.old.level) }
+        requires size { length bytes.now ≡ plain_size (layout_of self.old.level) }
+        ensures { IsBlit tile bytes.now self.old self.new }
+    {
+        let Level {
+            width,
+            tile_width,
+            tile_length,
+            ..
+        } = self.level;
+        let rect = self.rect;
+        let across = tiles_along(width, tile_width);
+        let x = (tile % across) as usize * tile_width as usize;
+        let y = (tile / across) as usize * tile_length as usize;
+        let columns = common(rect.x as usize, rect.w, x, tile_width);
+        let rows = common(rect.y as usize, rect.h, y, tile_length);
+        if columns.end <= columns.start || rows.end <= rows.start {
+            return;
+        }
+        let pixel = pixel_bytes(&self.level);
+        let read = Rows::from_pixel(
+            tile_width as usize,
+            columns.start - x,
+            rows.start - y,
+            pixel,
+        );
+        let write = Rows::from_pixel(
+            rect.w as usize,
+            columns.start - rect.x as usize,
+            rows.start - rect.y as usize,
+            pixel,
+        );
+        let len = (columns.end - columns.start) * pixel;
+        copy_rows(
+            rows.end - rows.start,
+            len,
+            bytes,
+            read,
+            &mut self.bytes,
+            write,
+        );
+    }
+
+    /// The bytes as they stand.
+    pub fn into_data(self) -> Vec<u8>
+        ensures { result.items ≡ self.bytes }
+    {
+        self.bytes
+    }
+}
