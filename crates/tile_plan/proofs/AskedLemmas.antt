@@ -1,6 +1,6 @@
 -- What a window query asks for, by the levels that were read.
 use Rattle.std.proofs.Common.{◌≡◌, ℕ, zero, suc, ◌+◌, ◌-◌, ◌*◌, ◌/◌, ◌<◌, ◌≤◌, inl, inr, Bool, true, false, List, length, Option, Some, None, refl, sym, subst, ap, ◌∙◌, arith}
-use Rattle.std.specs.Prelude.{◌&&◌, ◌||◌, not, ◌==◌, nat_lt, nat_le, unwrap_or, is_none, slice_get, IsTrue, IfSome, IfOk, IfErr, IsErrAnd, Result, Ok, Err}
+use Rattle.std.specs.Prelude.{◌&&◌, ◌||◌, not, ◌==◌, nat_lt, nat_le, unwrap_or, is_none, slice_get, IsTrue, IsSomeAnd, IfSome, IfOk, IfErr, IsErrAnd, Result, Ok, Err}
 use Rattle.std.specs.Option.{option_map_or}
 use Rattle.std.specs.List.{filter, last_or, range_with_len}
 use Rattle.std.proofs.Math.Nat.{mul-le-mul_right}
@@ -20,7 +20,7 @@ use Rattle.tiff_dir.specs.Described.{described}
 use Rattle.tiff_dir.specs.Query as asked
 use Rattle.tiff_dir.specs.Query.{max_window_samples, scaled_down, scaled_up, scaled, rectangle, smallest_level, passes, is_outside_level, is_outside, is_too_large, is_refused}
 use Rattle.tile_plan.specs.declared.asked.Rectangle.{Rectangle}
-use Rattle.tile_plan.specs.Levels.{HasLevels, rectangle_of, is_inside, has_columns, last_with_columns, outwards, IsInLevel, IsAsked, IsRefusedBy}
+use Rattle.tile_plan.specs.Levels.{HasLevels, rectangle_of, is_inside, has_columns, last_with_columns, outwards, IsSmall, IsAsked, IsRefusedBy}
 use Rattle.tile_plan.proofs.RectLemmas.{last_more}
 
 -- ---- places along a side
@@ -137,10 +137,13 @@ in_level : (ls : List Level) (q : Query) (r : Rectangle) (l : Level) → slice_g
 in_level ls q r l is inside few within there = record {
   rectangle = there;
   good = λ f has. both_false (is_outside f q) (is_too_large f q) (within f has) (large_is f ls q (rectangle_of r) l has is (there f has) ∙ few);
-  inside = some_and ls r l is inside;
+  small = some_and ls r l is (record { inside = inside; few = within_few (r.w * r.h * l.samples) few });
 } where
-  some_and : (ls : List Level) (r : Rectangle) (l : Level) → slice_get ls r.level ≡ Some l → IsTrue (is_inside l r.x r.y r.w r.h) → IsInLevel ls r
-  some_and ls r l is inside = rw is inside
+  some_and : (ls : List Level) (r : Rectangle) (l : Level) → slice_get ls r.level ≡ Some l → IsSmall l r → IsSomeAnd (slice_get ls r.level) (λ l. IsSmall l r)
+  some_and ls r l is small = rw is small
+
+  within_few : (n : ℕ) → nat_lt max_window_samples n ≡ false → n ≤ max_window_samples
+  within_few n few = elim (cases_lt max_window_samples n) [ inl more ↦ absurd (false≢true (sym few ∙ lt-ltb max_window_samples n more)) | inr fits ↦ fits ]
 
 too_large : (ls : List Level) (q : Query) (r : Rectangle) (l : Level) → slice_get ls r.level ≡ Some l → nat_lt max_window_samples (r.w * r.h * l.samples) ≡ true
     → ((f : List ℕ) → HasLevels f ls → rectangle f q ≡ Some (rectangle_of r)) → IsRefusedBy ls q TooLarge
@@ -225,6 +228,6 @@ no_columns ls columns x y w h none f has = rw none refl
 
 -- ---- refusals that are passed on
 
-pub passed_on : (result : Result Rectangle FileFault) (fault : FileFault) (P : FileFault → Type 0) → IsErrAnd result (λ e. e ≡ fault) → P fault → IfErr result P
-passed_on (Ok r) fault P bad good = absurd bad
-passed_on (Err e) fault P is good = subst P (sym is) good
+pub passed_on : {A E : Type 0} (result : Result A E) (error : E) (P : E → Type 0) → IsErrAnd result (λ e. e ≡ error) → P error → IfErr result P
+passed_on (Ok a) error P bad good = absurd bad
+passed_on (Err e) error P is good = subst P (sym is) good

@@ -68,29 +68,32 @@ pub record Cut (W H X0 Y0 TW TL x y left right top bottom : ℕ) : Type 0 where
   pub top_is : top ≡ max Y0 y
   pub bottom_is : bottom ≡ min (Y0 + H) (y + TL)
 
+pub cut_of : (W H X0 Y0 TW TL : ℕ) {x y left right top bottom : ℕ} → left ≡ max X0 x → right ≡ min (X0 + W) (x + TW) → top ≡ max Y0 y → bottom ≡ min (Y0 + H) (y + TL) → Cut W H X0 Y0 TW TL x y left right top bottom
+cut_of W H X0 Y0 TW TL left_is right_is top_is bottom_is = record { left_is = left_is; right_is = right_is; top_is = top_is; bottom_is = bottom_is }
+
 -- the rows end in the tile, and in the picture
-pub rows_read : (W H X0 Y0 TW TL x y left right top bottom pixel n : ℕ) → Cut W H X0 Y0 TW TL x y left right top bottom → left < right → n < bottom - top
+pub rows_read : {W H X0 Y0 TW TL x y left right top bottom : ℕ} (pixel n : ℕ) → Cut W H X0 Y0 TW TL x y left right top bottom → left < right → n < bottom - top
     → ((top - y) * TW + (left - x)) * pixel + n * (TW * pixel) + (right - left) * pixel ≤ TW * TL * pixel
-rows_read W H X0 Y0 TW TL x y left right top bottom pixel n cut some less =
+rows_read {W} {H} {X0} {Y0} {TW} {TL} {x} {y} {left} {right} {top} {bottom} pixel n cut some less =
     let end = row_end (top - y + n) (right - x) TW TL pixel (omega (arith, cut.top_is, cut.bottom_is)) (omega (arith, cut.right_is)) in
     let across : left - x + (right - left) ≡ right - x = omega (arith, cut.left_is) in
     let place = moved (top - y) n TW (left - x) (right - left) pixel 0 ∙ ap (λ k. ((top - y + n) * TW + k) * pixel + 0) across in
     omega (arith, end, place)
 
-pub rows_written : (W H X0 Y0 TW TL x y left right top bottom pixel n : ℕ) → Cut W H X0 Y0 TW TL x y left right top bottom → left < right → n < bottom - top
+pub rows_written : {W H X0 Y0 TW TL x y left right top bottom : ℕ} (pixel n : ℕ) → Cut W H X0 Y0 TW TL x y left right top bottom → left < right → n < bottom - top
     → ((top - Y0) * W + (left - X0)) * pixel + n * (W * pixel) + (right - left) * pixel ≤ W * H * pixel
-rows_written W H X0 Y0 TW TL x y left right top bottom pixel n cut some less =
+rows_written {W} {H} {X0} {Y0} {TW} {TL} {x} {y} {left} {right} {top} {bottom} pixel n cut some less =
     let end = row_end (top - Y0 + n) (right - X0) W H pixel (omega (arith, cut.top_is, cut.bottom_is)) (omega (arith, cut.right_is)) in
     let across : left - X0 + (right - left) ≡ right - X0 = omega (arith, cut.left_is) in
     let place = moved (top - Y0) n W (left - X0) (right - left) pixel 0 ∙ ap (λ k. ((top - Y0 + n) * W + k) * pixel + 0) across in
     omega (arith, end, place)
 
 -- and the products of their places are small
-pub read_fits : (W H X0 Y0 TW TL x y left right top bottom pixel : ℕ) → Cut W H X0 Y0 TW TL x y left right top bottom → top < bottom → ((top - y) * TW + TW) * pixel ≤ TW * TL * pixel
-read_fits W H X0 Y0 TW TL x y left right top bottom pixel cut some = row_end (top - y) TW TW TL pixel (omega (arith, cut.top_is, cut.bottom_is)) (omega arith)
+pub read_fits : {W H X0 Y0 TW TL x y left right top bottom : ℕ} (pixel : ℕ) → Cut W H X0 Y0 TW TL x y left right top bottom → top < bottom → ((top - y) * TW + TW) * pixel ≤ TW * TL * pixel
+read_fits {W} {H} {X0} {Y0} {TW} {TL} {x} {y} {left} {right} {top} {bottom} pixel cut some = row_end (top - y) TW TW TL pixel (omega (arith, cut.top_is, cut.bottom_is)) (omega arith)
 
-pub written_fits : (W H X0 Y0 TW TL x y left right top bottom pixel : ℕ) → Cut W H X0 Y0 TW TL x y left right top bottom → top < bottom → ((top - Y0) * W + W) * pixel ≤ W * H * pixel
-written_fits W H X0 Y0 TW TL x y left right top bottom pixel cut some = row_end (top - Y0) W W H pixel (omega (arith, cut.top_is, cut.bottom_is)) (omega arith)
+pub written_fits : {W H X0 Y0 TW TL x y left right top bottom : ℕ} (pixel : ℕ) → Cut W H X0 Y0 TW TL x y left right top bottom → top < bottom → ((top - Y0) * W + W) * pixel ≤ W * H * pixel
+written_fits {W} {H} {X0} {Y0} {TW} {TL} {x} {y} {left} {right} {top} {bottom} pixel cut some = row_end (top - Y0) W W H pixel (omega (arith, cut.top_is, cut.bottom_is)) (omega arith)
 
 -- the bytes of a tile
 pub tile_size : (l : Level) (pixel : ℕ) → pixel ≡ pixel_bytes l → l.tile_width * l.tile_length * pixel ≡ plain_size (layout_of l)
@@ -175,15 +178,24 @@ tile_is l tile A x y X Y corner low high above below =
 pub sides_of : (l : Level) (r : Rectangle) → IsTrue (is_inside l r.x r.y r.w r.h) → Sides l r
 sides_of l r inside = (let here = in_level l r inside in record { tile_wide = here.tile_wide; tile_tall = here.tile_tall; fits_x = here.fits_x })
 
+-- ---- the rows
+
+-- those of the tile, and those of the picture
+abbrev pub tile_rows : (l : Level) (x y left top pixel : ℕ) → Rows
+tile_rows l x y left top pixel = record { first = ((top - y) * l.tile_width + (left - x)) * pixel; step = l.tile_width * pixel }
+
+abbrev pub picture_rows : (r : Rectangle) (left top pixel : ℕ) → Rows
+picture_rows r left top pixel = record { first = ((top - r.y) * r.w + (left - r.x)) * pixel; step = r.w * pixel }
+
 -- ---- the picture
 
 abbrev pub picture : Level → Rectangle → List ℕ → Picture
 picture l r bytes = record { level = l; rectangle = r; bytes = bytes }
 
 -- the tile and the rectangle have no pixel in common
-pub blit_none : (l : Level) (r : Rectangle) (tile A x y left right top bottom : ℕ) (bytes old : List ℕ) → IsCorner l tile A x y → Sides l r → Cut r.w r.h r.x r.y l.tile_width l.tile_length x y left right top bottom
+pub blit_none : (l : Level) (r : Rectangle) {tile A x y left right top bottom : ℕ} (bytes old : List ℕ) → IsCorner l tile A x y → Sides l r → Cut r.w r.h r.x r.y l.tile_width l.tile_length x y left right top bottom
     → (left < right → top < bottom → ⊥) → IsBlit tile bytes (picture l r old) (picture l r old)
-blit_none l r tile A x y left right top bottom bytes old corner sides cut none = record {
+blit_none l r {tile} {A} {x} {y} {left} {right} {top} {bottom} bytes old corner sides cut none = record {
   level = refl;
   rectangle = refl;
   size = refl;
@@ -192,12 +204,11 @@ blit_none l r tile A x y left right top bottom bytes old corner sides cut none =
   outside = λ i j b wide tall small isnt. refl;
 }
 
-pub blit_is : (l : Level) (r : Rectangle) (tile A x y left right top bottom pixel : ℕ) (bytes old new : List ℕ) → IsCorner l tile A x y → Sides l r
+pub blit_is : (l : Level) (r : Rectangle) {tile A x y left right top bottom : ℕ} (pixel : ℕ) (bytes old new : List ℕ) → IsCorner l tile A x y → Sides l r
     → Cut r.w r.h r.x r.y l.tile_width l.tile_length x y left right top bottom → left < right → top < bottom → pixel ≡ pixel_bytes l
-    → AreCopied (bottom - top) ((right - left) * pixel) bytes (record { first = ((top - y) * l.tile_width + (left - x)) * pixel; step = l.tile_width * pixel }) old new
-    (record { first = ((top - r.y) * r.w + (left - r.x)) * pixel; step = r.w * pixel })
+    → AreCopied (bottom - top) ((right - left) * pixel) bytes (tile_rows l x y left top pixel) old new (picture_rows r left top pixel)
     → IsBlit tile bytes (picture l r old) (picture l r new)
-blit_is l r tile A x y left right top bottom pixel bytes old new corner sides cut some more size copied = record {
+blit_is l r {tile} {A} {x} {y} {left} {right} {top} {bottom} pixel bytes old new corner sides cut some more size copied = record {
   level = refl;
   rectangle = refl;
   size = copied.size;

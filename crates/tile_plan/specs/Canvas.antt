@@ -1,12 +1,10 @@
 -- The samples of a window as bytes, put together from tiles (TIFF 6.0, section 15).
-use Rattle.std.specs.Prelude.{◌≡◌, ◌≢◌, ℕ, ◌+◌, ◌*◌, ◌%◌, ◌<◌, ◌≤◌, IsTrue, List, length, slice_index}
+use Rattle.std.specs.Prelude.{◌≡◌, ◌≢◌, ℕ, ◌+◌, ◌*◌, ◌%◌, ◌<◌, List, length, slice_index}
 use Rattle.tiff_dir.specs.declared.level.Level.{Level}
 use Rattle.tiff_dir.specs.Profile.{sample_bytes}
 use Rattle.tiff_dir.specs.Described.{grid_of}
 use Rattle.tiff_dir.specs.Window.{tile_at}
-use Rattle.tiff_dir.specs.Query.{max_window_samples}
 use Rattle.tile_plan.specs.declared.asked.Rectangle.{Rectangle}
-use Rattle.tile_plan.specs.Levels.{is_inside}
 
 -- What a contract sees of a canvas: a rectangle of a level, and the bytes of its pixels, row by row.
 pub record Picture : Type 0 where
@@ -21,11 +19,6 @@ pixel_bytes l = l.samples * sample_bytes l.bits
 -- how many bytes a rectangle has
 abbrev pub picture_size : Level → Rectangle → ℕ
 picture_size l r = r.w * r.h * pixel_bytes l
-
--- the rectangle lies in its level, and has as many samples as a window may have
-pub record IsSmall (l : Level) (r : Rectangle) : Type 0 where
-  pub inside : IsTrue (is_inside l r.x r.y r.w r.h)
-  pub few : r.w * r.h * l.samples ≤ max_window_samples
 
 -- where byte b of the pixel in column i and row j stands, in a picture of so many columns
 abbrev pub place : Level → ℕ → ℕ → ℕ → ℕ → ℕ

@@ -1,5 +1,5 @@
 -- The levels of a file as they were read, and a window of one of them.
-use Rattle.std.specs.Prelude.{◌≡◌, ℕ, ◌+◌, ◌-◌, ◌*◌, Bool, false, ◌&&◌, nat_lt, nat_le, List, slice_get, Some, None, unwrap_or, IsTrue, IsSomeAnd}
+use Rattle.std.specs.Prelude.{◌≡◌, ℕ, ◌+◌, ◌-◌, ◌*◌, ◌≤◌, Bool, false, ◌&&◌, nat_lt, nat_le, List, slice_get, Some, None, unwrap_or, IsTrue, IsSomeAnd}
 use Rattle.std.specs.Option.{option_map_or}
 use Rattle.std.specs.List.{filter, last_or, range_with_len}
 use Rattle.tiff_dir.specs.declared.level.Level.{Level}
@@ -38,15 +38,16 @@ outwards n first here x y w h =
     let left = asked.scaled_down here.width first.width x in let top = asked.scaled_down here.length first.length y in
     record { level = n; left = left; top = top; width = asked.scaled_up here.width first.width (x + w) - left; height = asked.scaled_up here.length first.length (y + h) - top }
 
--- the rectangle lies in its level
-abbrev pub IsInLevel : List Level → Rectangle → Type 0
-IsInLevel ls r = IsSomeAnd (slice_get ls r.level) (λ l. IsTrue (is_inside l r.x r.y r.w r.h))
+-- the rectangle lies in the level, and has no more samples than a window may have
+pub record IsSmall (l : Level) (r : Rectangle) : Type 0 where
+  pub inside : IsTrue (is_inside l r.x r.y r.w r.h)
+  pub few : r.w * r.h * l.samples ≤ asked.max_window_samples
 
 -- the rectangle is what the query asks for, and it isn't refused
 pub record IsAsked (ls : List Level) (q : Query) (r : Rectangle) : Type 0 where
   pub rectangle : (f : List ℕ) → HasLevels f ls → asked.rectangle f q ≡ Some (rectangle_of r)
   pub good : (f : List ℕ) → HasLevels f ls → asked.is_refused f q ≡ false
-  pub inside : IsInLevel ls r
+  pub small : IsSomeAnd (slice_get ls r.level) (λ l. IsSmall l r)
 
 -- the fault stands for the query in every file with these levels
 abbrev pub IsRefusedBy : List Level → Query → FileFault → Type 0

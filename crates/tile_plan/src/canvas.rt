@@ -2,7 +2,8 @@
 ghost use Rattle.std.specs.Prelude.{◌≡◌, ◌+◌, ◌*◌, ◌<◌, ◌≤◌, ◌^◌, IfOk, length, max, min, replicate};
 ghost use Rattle.tiff_dir.specs.Described.{grid_of, layout_of};
 ghost use Rattle.tiff_dir.specs.Level.{plain_size, tile_total};
-ghost use Rattle.tile_plan.specs.Canvas.{Picture, IsSmall, IsBlit, picture_size, pixel_bytes};
+ghost use Rattle.tile_plan.specs.Levels.{IsSmall};
+ghost use Rattle.tile_plan.specs.Canvas.{Picture, IsBlit, picture_size, pixel_bytes};
 
 use crate::Rectangle;
 use crate::block::tiles_along;
@@ -23,7 +24,8 @@ pub struct Canvas {
 
 impl Model for Canvas {
     ghost use Rattle.std.specs.Prelude.{◌≡◌, length};
-    ghost use Rattle.tile_plan.specs.Canvas.{Picture, IsSmall, picture_size};
+    ghost use Rattle.tile_plan.specs.Levels.{IsSmall};
+    ghost use Rattle.tile_plan.specs.Canvas.{Picture, picture_size};
 
     ghost Value = { Picture };
 

@@ -7,14 +7,11 @@ use Rattle.tile_plan.specs.declared.plan.PlanError.TheVariants.{File}
 use Rattle.tile_plan.specs.Block.{tile_of_block}
 use Rattle.tile_plan.specs.Plan.{range_in, group_of, tiles_of, IsRangeOf, IsTileFault, IsPlanError, IsErrorOf}
 use Rattle.tile_plan.specs.Adding.{added}
+use Rattle.tile_plan.proofs.AskedLemmas.{passed_on}
 use Rattle.tile_plan.proofs.BlockLemmas.{counted_all}
 use Rattle.tile_plan.proofs.GroupLemmas.{grouped_more, grouped_none, among_counted}
 use Rattle.tile_plan.proofs.PlanLemmas.{IsKnown, planned, needed, stands}
 use Rattle.tile_plan.proofs.plan.groups.Goals as goal
-
-passed_on : {A E : Type 0} (result : Result A E) (error : E) (P : E → Type 0) → IsErrAnd result (λ e. e ≡ error) → P error → IfErr result P
-passed_on (Ok a) error P bad good = absurd bad
-passed_on (Err e) error P is good = subst P (sym is) good
 
 pub loop-n-init : goal.loop-n-init
 loop-n-init c =
