@@ -1,3 +1,4 @@
 mod beside;
+mod bytes;
 mod changes;
 mod fronts;

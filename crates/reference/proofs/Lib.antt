@@ -4,3 +4,4 @@ pub mod RangeLemmas
 pub mod UnpackingLemmas
 pub mod PacketLemmas
 pub mod SampleLemmas
+pub mod RowLemmas

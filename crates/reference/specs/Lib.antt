@@ -4,3 +4,4 @@ pub mod Asked
 pub mod Ranges
 pub mod Unpacking
 pub mod Missing
+pub mod Tile

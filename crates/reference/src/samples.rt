@@ -1,19 +1,19 @@
-//! The samples of a file.
+//! The bytes of unpacked tiles, and the samples in them.
 ghost use Rattle.std.specs.Prelude.{◌≡◌, ◌<◌, ◌≤◌, ◌^◌, ◌+◌, ◌*◌, ◌%◌, ℕ, IfOk, IfSome, IfNone, IsSome, IsTrue, Some, length};
-ghost use Rattle.tiff_dir.specs.Level.{plain_row, plain_size, segment};
-ghost use Rattle.tiff_dir.specs.Window.{place_in_tile, sample_in, tile_at, IsSample, IsUnpacked};
-ghost use Rattle.reference.specs.Missing.{HasNoSample, IsNotUnpacked};
-ghost use Rattle.reference.specs.Modest.{grid_of, is_modest, is_modest_grid, layout_of, modest_level};
+ghost use Rattle.tiff_dir.specs.Level.{plain_row, plain_size};
+ghost use Rattle.tiff_dir.specs.Window.{place_in_tile, sample_in, tile_at, IsUnpacked};
+ghost use Rattle.reference.specs.Missing.{IsNotUnpacked};
+ghost use Rattle.reference.specs.Modest.{grid_of, is_modest, is_modest_grid, layout_of};
 
-use crate::levels::{Grid, Level, level_of, segment};
-use crate::numbers::{number_in, order_of};
+use crate::levels::{Grid, Level};
+use crate::numbers::number_in;
 use crate::packets::unpack;
 use crate::query::tiles_along;
 use std::alloc::{AllocError, Global};
 use tiff_dir::{Compression, Order, one_text};
 
 /// The number of the tile that has the pixel.
-fn tile_at(grid: &Grid, x: u32, y: u32) -> u64
+pub(crate) fn tile_at(grid: &Grid, x: u32, y: u32) -> u64
     requires { IsTrue (is_modest_grid (grid_of grid.now)) }
     ensures { result ≡ tile_at (grid_of grid.now) x y }
 {
@@ -33,7 +33,7 @@ fn pixel_number(row: u32, column: u32, width: u32) -> usize
 }
 
 /// Which sample of its tile is sample `c` of the pixel.
-fn place_in_tile(level: &Level, x: u32, y: u32, c: u16) -> usize
+pub(crate) fn place_in_tile(level: &Level, x: u32, y: u32, c: u16) -> usize
     requires { IsTrue (is_modest (layout_of level.now)) }
     ensures place { result ≡ place_in_tile (layout_of level.now) x y c }
     ensures small { result < 2 ^ 58 }
@@ -67,7 +67,11 @@ fn row_and_size(level: &Level) -> (usize, usize)
 }
 
 /// The samples of a tile whose segment this is, where it has as many as the tile.
-fn plain_tile(alloc: Global, level: &Level, bytes: &[u8]) -> Result<Option<Vec<u8>>, AllocError>
+pub(crate) fn plain_tile(
+    alloc: Global,
+    level: &Level,
+    bytes: &[u8],
+) -> Result<Option<Vec<u8>>, AllocError>
     requires { IsTrue (is_modest (layout_of level.now)) }
     ensures tile { IfOk result (λ o. IfSome o (λ plain. IsUnpacked (layout_of level.now) bytes.now plain.items)) }
     ensures none { IfOk result (λ o. IfNone o (IsNotUnpacked (layout_of level.now) bytes.now)) }
@@ -89,7 +93,7 @@ fn plain_tile(alloc: Global, level: &Level, bytes: &[u8]) -> Result<Option<Vec<u
 
 /// The value of sample `p` of an unpacked tile.
 #[tactic(auto, unfolding(tiff_dir::specs::Window::sample_in))]
-fn sample_in(order: Order, bits: u16, plain: &[u8], p: usize) -> Option<u64>
+pub(crate) fn sample_in(order: Order, bits: u16, plain: &[u8], p: usize) -> Option<u64>
     requires some { 8 ≤ bits }
     requires few { bits ≤ 64 }
     requires small { p < 2 ^ 58 }
@@ -100,35 +104,4 @@ fn sample_in(order: Order, bits: u16, plain: &[u8], p: usize) -> Option<u64>
         return None;
     }
     Some(number_in(order, plain, p * size, size))
-}
-
-/// Sample `c` of the pixel in column `x` and row `y` of level `n`, where its level is modest and its tile is good.
-/// None at another level says nothing.
-pub fn sample(
-    alloc: Global,
-    file: &[u8],
-    n: u32,
-    x: u32,
-    y: u32,
-    c: u16,
-) -> Result<Option<u64>, AllocError>
-    ensures some { IfOk result (λ o. IfSome o (λ v. IsSample file.now n x y c v)) }
-    ensures none { IsSome (modest_level file.now n) → IfOk result (λ o. IfNone o (HasNoSample file.now n x y c)) }
-{
-    one_text();
-    let Some(order) = order_of(file) else {
-        return Ok(None);
-    };
-    let Some(level) = level_of(alloc, file, n as usize)? else {
-        return Ok(None);
-    };
-    let tile = tile_at(&level.grid, x, y);
-    let Some(bytes) = segment(alloc, file, n as usize, tile)? else {
-        return Ok(None);
-    };
-    let Some(plain) = plain_tile(alloc, &level, bytes)? else {
-        return Ok(None);
-    };
-    let place = place_in_tile(&level, x, y, c);
-    Ok(sample_in(order, level.bits, &plain, place))
 }

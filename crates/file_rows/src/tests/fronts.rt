@@ -1,6 +1,6 @@
 //! The fixtures, whole and cut.
 use super::beside::compare;
-use fixtures::{f1, f1m, f2, f2b, f3};
+use fixtures::{f1, f1m, f2, f2b, f3, f4, f5, f6, f6m};
 use std::process::Abort;
 use std::test::Fail;
 
@@ -22,10 +22,22 @@ fn one_tile(rt: HostRuntime) -> Result<(), Fail> {
 #[test]
 fn many_tiles(rt: HostRuntime) -> Result<(), Fail> {
     compare_fronts(&rt, &f2(rt.alloc())?)?;
-    compare_fronts(&rt, &f2b(rt.alloc())?)
+    compare_fronts(&rt, &f2b(rt.alloc())?)?;
+    compare_fronts(&rt, &f5(rt.alloc())?)
 }
 
 #[test]
 fn two_levels(rt: HostRuntime) -> Result<(), Fail> {
     compare_fronts(&rt, &f3(rt.alloc())?)
+}
+
+#[test]
+fn three_samples(rt: HostRuntime) -> Result<(), Fail> {
+    compare_fronts(&rt, &f4(rt.alloc())?)
+}
+
+#[test]
+fn samples_of_16_bits(rt: HostRuntime) -> Result<(), Fail> {
+    compare_fronts(&rt, &f6(rt.alloc())?)?;
+    compare_fronts(&rt, &f6m(rt.alloc())?)
 }
