@@ -4,6 +4,10 @@ use Rattle.std.specs.Prelude.{◌&&◌, nat_lt, nat_le, ◌==◌}
 use Rattle.std.specs.List.{AllByRecursion, IsAmong, list_any, range_with_len}
 use Rattle.std.proofs.lemmas.Bool.{and_parts, cases_Bool, eqb-true, leb-true, false≢true}
 use Rattle.std.proofs.lemmas.List.FromFn.{length-map-range_with_len, get_or-map-range_with_len}
+use Rattle.std.proofs.lemmas.List.Elements.{All-cons, All-nil, All-push}
+use Rattle.tiff_dir.specs.declared.level.Level.{Level}
+use Rattle.tiff_dir.specs.Level.{tile_total}
+use Rattle.tiff_dir.specs.Described.{grid_of}
 use Rattle.tiff_dir.specs.Needs.{Range}
 use Rattle.tiff_dir.specs.Query as asked
 use Rattle.tiff_dir.specs.Query.{joins, with_tile, alone, grouped_after, grouped}
@@ -84,8 +88,9 @@ grouped_none range = refl
 
 -- ---- each group
 
--- a tile has few bytes, inside a file of so many
-pub record IsFit (range : ℕ → Range) (complete t : ℕ) : Type 0 where
+-- a tile of the level has few bytes, inside a file of so many
+pub record IsFit (range : ℕ → Range) (l : Level) (complete t : ℕ) : Type 0 where
+  pub within : t < tile_total (grid_of l)
   pub few : (range t).len ≤ 1048576
   pub inside : (range t).first + (range t).len ≤ complete
 
@@ -93,33 +98,38 @@ adjoin_more : (range : ℕ → Range) (at : ℕ) (ts : List ℕ) (t end : ℕ) �
 adjoin_more range at [] t end is first = (first ∙ sym is, ap (λ k. k + (range t).len) is)
 adjoin_more range at (u ∷ ts) t end (begin, rest) first = (begin, adjoin_more range (at + (range u).len) ts t end rest first)
 
-group_alone : (range : ℕ → Range) (complete t : ℕ) → IsFit range complete t → IsGroup range complete (alone t (range t))
-group_alone range complete t fit = record { adjoin = (refl, refl); few = fit.few; inside = fit.inside }
+group_alone : (range : ℕ → Range) (l : Level) (complete t : ℕ) → IsFit range l complete t → IsGroup range l complete (alone t (range t))
+group_alone range l complete t fit = record { tiles = All-cons (λ t. t < tile_total (grid_of l)) t [] fit.within (All-nil (λ t. t < tile_total (grid_of l))); adjoin = (refl, refl); few = fit.few; inside = fit.inside }
 
-group_more : (range : ℕ → Range) (complete : ℕ) (g : asked.Group) (t : ℕ) → IsGroup range complete g → IsFit range complete t → joins g (range t) ≡ true → IsGroup range complete (with_tile g t (range t))
-group_more range complete g t is fit joined =
+group_more : (range : ℕ → Range) (l : Level) (complete : ℕ) (g : asked.Group) (t : ℕ) → IsGroup range l complete g → IsFit range l complete t → joins g (range t) ≡ true → IsGroup range l complete (with_tile g t (range t))
+group_more range l complete g t is fit joined =
     let (next, few) = and_parts ((range t).first == g.range.first + g.range.len) (nat_le (g.range.len + (range t).len) 1048576) joined in
     let first = eqb-true (range t).first (g.range.first + g.range.len) next in
     let end : g.range.first + g.range.len + (range t).len ≡ g.range.first + (g.range.len + (range t).len) = omega arith in
     record {
+      tiles = All-push (λ t. t < tile_total (grid_of l)) g.tiles t is.tiles fit.within;
       adjoin = subst (Adjoin range g.range.first (g.tiles ++ t ∷ [])) end (adjoin_more range g.range.first g.tiles t (g.range.first + g.range.len) is.adjoin first);
       few = leb-true (g.range.len + (range t).len) 1048576 few;
       inside = omega (arith, fit.inside, first);
     }
 
-each_after : (range : ℕ → Range) (complete : ℕ) (g : asked.Group) (ts : List ℕ) → IsGroup range complete g → AllByRecursion (IsFit range complete) ts → AllByRecursion (IsGroup range complete) (after range (Some g) ts)
+each_after : (range : ℕ → Range) (l : Level) (complete : ℕ) (g : asked.Group) (ts : List ℕ) → IsGroup range l complete g → AllByRecursion (IsFit range l complete) ts → AllByRecursion (IsGroup range l complete) (after range (Some g) ts)
 unfolding after grouped_after
-each_after range complete g [] is all = (is, tt)
-each_after range complete g (t ∷ ts) is (fit, all) = elim (cases_Bool (joins g (range t))) [
-  | inl h ↦ rw h (each_after range complete (with_tile g t (range t)) ts (group_more range complete g t is fit h) all)
-  | inr h ↦ rw h (is, each_after range complete (alone t (range t)) ts (group_alone range complete t fit) all)
+each_after range l complete g [] is all = (is, tt)
+each_after range l complete g (t ∷ ts) is (fit, all) = elim (cases_Bool (joins g (range t))) [
+  | inl h ↦ rw h (each_after range l complete (with_tile g t (range t)) ts (group_more range l complete g t is fit h) all)
+  | inr h ↦ rw h (is, each_after range l complete (alone t (range t)) ts (group_alone range l complete t fit) all)
 ]
 
 -- each group of fitting tiles is the bytes of its tiles
-pub each_group : (range : ℕ → Range) (complete : ℕ) (ts : List ℕ) → AllByRecursion (IsFit range complete) ts → AllByRecursion (IsGroup range complete) (grouped (λ t. Some (range t)) ts)
+pub each_group : (range : ℕ → Range) (l : Level) (complete : ℕ) (ts : List ℕ) → AllByRecursion (IsFit range l complete) ts → AllByRecursion (IsGroup range l complete) (grouped (λ t. Some (range t)) ts)
 unfolding grouped after grouped_after
-each_group range complete [] all = tt
-each_group range complete (t ∷ ts) (fit, all) = each_after range complete (alone t (range t)) ts (group_alone range complete t fit) all
+each_group range l complete [] all = tt
+each_group range l complete (t ∷ ts) (fit, all) = each_after range l complete (alone t (range t)) ts (group_alone range l complete t fit) all
+
+pub all_of : {X Y : Type 0} (P : Y → Type 0) (f : X → Y) (xs : List X) → AllByRecursion P (map f xs) → AllByRecursion (λ x. P (f x)) xs
+all_of P f [] all = tt
+all_of P f (x ∷ xs) (p, ps) = (p, all_of P f xs ps)
 
 -- ---- numbers that are counted
 

@@ -2,8 +2,9 @@
 use Rattle.std.proofs.Common.{◌≡◌, ℕ, zero, suc, ◌+◌, ◌-◌, ◌*◌, ◌<◌, ◌≤◌, ◌⊎◌, inl, inr, Bool, true, false, List, [], ◌∷◌, ◌++◌, length, get_or, map, Option, Some, None, refl, sym, subst, ap, ◌∙◌, arith}
 use Rattle.std.specs.Prelude.{◌&&◌, ◌||◌, nat_lt, nat_le, ◌==◌, IsSomeAnd}
 use Rattle.std.specs.Option.{option_map_or, option_to_list}
-use Rattle.std.specs.List.{AllByRecursion, IsAmong, list_any, range_with_len}
+use Rattle.std.specs.List.{All, AllByRecursion, IsAmong, list_any, range_with_len}
 use Rattle.std.proofs.lemmas.Bool.{and_parts, cases_Bool, eqb-true, leb-true, lt-ltb, le-ltb, ltb-true, cases_lt, false≢true}
+use Rattle.std.proofs.lemmas.List.Elements.{All-from_recursion, All-head, All-tail}
 use Rattle.std.proofs.lemmas.List.Folds.{list_any-append}
 use Rattle.std.proofs.lemmas.Option.{none-some}
 use Rattle.tiff_dir.specs.declared.order.Order.{Order}
@@ -14,7 +15,7 @@ use Rattle.tiff_dir.specs.declared.query.Query.TheVariants.{Window, Info}
 use Rattle.tiff_dir.specs.declared.fault.FileFault.{FileFault}
 use Rattle.tiff_dir.specs.declared.fault.FileFault.TheVariants.{PastEnd, TileSize}
 use Rattle.tiff_dir.specs.File.{◌>>=◌, order_of}
-use Rattle.tiff_dir.specs.Level.{level_layout, level_value, level_grid, plain_size}
+use Rattle.tiff_dir.specs.Level.{level_layout, level_value, level_grid, plain_size, tile_total}
 use Rattle.tiff_dir.specs.Needs.{Range, ends_past}
 use Rattle.tiff_dir.specs.Described.{grid_of, layout_of}
 use Rattle.tiff_dir.specs.Walk.{IsArrayOf, IsDescribed}
@@ -25,7 +26,7 @@ use Rattle.tile_plan.specs.declared.asked.Rectangle.{Rectangle}
 use Rattle.tile_plan.specs.declared.plan.Group.{Group}
 use Rattle.tile_plan.specs.Levels.{rectangle_of}
 use Rattle.tile_plan.specs.Plan.{range_in, tiles_of, group_of, IsRangeOf, IsWrongSize, IsTileFault, IsGroup, IsPlanned, AreNeeded, AreGroups, HasTileFault}
-use Rattle.tile_plan.proofs.GroupLemmas.{IsFit, each_group, all_counted, among_counted, counted_among}
+use Rattle.tile_plan.proofs.GroupLemmas.{IsFit, each_group, all_of, all_counted, among_counted, counted_among}
 
 -- what the arrays say of a tile, in every file that has them
 abbrev pub IsValueOf : Order → Level → List ℕ → List ℕ → ℕ → Type 0
@@ -35,6 +36,7 @@ IsValueOf order l offsets counts t =
 
 -- a tile that was looked at, and has no fault
 pub record IsKnown (order : Order) (l : Level) (complete : ℕ) (offsets counts : List ℕ) (t : ℕ) : Type 0 where
+  pub within : t < tile_total (grid_of l)
   pub sound : (fault : FileFault) → IsTileFault l complete (range_in order l offsets counts t) fault → ⊥
   pub values : IsValueOf order l offsets counts t
 
@@ -46,10 +48,11 @@ small n right = elim (cases_Bool (is_byte_count n)) [
   | inr h ↦ absurd (right h)
 ]
 
-pub known_fit : (order : Order) (l : Level) (complete : ℕ) (offsets counts : List ℕ) (t : ℕ) → IsKnown order l complete offsets counts t → IsFit (range_in order l offsets counts) complete t
+pub known_fit : (order : Order) (l : Level) (complete : ℕ) (offsets counts : List ℕ) (t : ℕ) → IsKnown order l complete offsets counts t → IsFit (range_in order l offsets counts) l complete t
 known_fit order l complete offsets counts t known =
     let r = range_in order l offsets counts t in
     record {
+      within = known.within;
       few = small r.len (λ wrong. known.sound TileSize (inl wrong));
       inside = elim (cases_lt complete (r.first + r.len)) [ inl past ↦ absurd (known.sound PastEnd (lt-ltb complete (r.first + r.len) past)) | inr fits ↦ fits ];
     }
@@ -209,18 +212,22 @@ pub planned : (order : Order) (l : Level) (r : Rectangle) (complete : ℕ) (offs
 planned order l r complete offsets counts e n gs tiles known is =
     let range = range_in order l offsets counts in
     let same : map group_of gs ≡ grouped (λ t. Some (range t)) (tiles_of l r) = is ∙ ap (grouped (λ t. Some (range t))) tiles in
-    let fits = subst (AllByRecursion (IsFit range complete)) tiles (all_counted (IsFit range complete) e 0 n (λ k low less. known_fit order l complete offsets counts (e k) (known k (omega (arith, less))))) in
+    let fits = subst (AllByRecursion (IsFit range l complete)) tiles (all_counted (IsFit range l complete) e 0 n (λ k low less. known_fit order l complete offsets counts (e k) (known k (omega (arith, less))))) in
     record {
       groups = same;
-      each = subst (AllByRecursion (IsGroup range complete)) (sym same) (each_group range complete (tiles_of l r) fits);
+      each = All-from_recursion (λ g. IsGroup range l complete (group_of g)) gs
+          (all_of (IsGroup range l complete) group_of gs (subst (AllByRecursion (IsGroup range l complete)) (sym same) (each_group range l complete (tiles_of l r) fits)));
       sound = λ t among fault wrong. (let k = counted_among e n (tiles_of l r) t tiles among in (known k.0 k.1).sound fault (subst (λ t. IsTileFault l complete (range t) fault) k.2 wrong));
     }
 
-all_inside : (f : List ℕ) (range : ℕ → Range) (complete : ℕ) (gs : List asked.Group) → length f ≡ complete → AllByRecursion (IsGroup range complete) gs → list_any (ends_past f) (map range_of gs) ≡ false
-all_inside f range complete [] size all = refl
-all_inside f range complete (g ∷ gs) size (is, all) =
-    let here : ends_past f g.range ≡ false = le-ltb (length f) (g.range.first + g.range.len) (omega (arith, is.inside, size)) in
-    rw here (all_inside f range complete gs size all)
+all_inside : (f : List ℕ) (range : ℕ → Range) (l : Level) (complete : ℕ) (gs : List Group) → length f ≡ complete → All (λ g. IsGroup range l complete (group_of g)) gs
+    → list_any (ends_past f) (map range_of (map group_of gs)) ≡ false
+all_inside f range l complete [] size all = refl
+all_inside f range l complete (g ∷ gs) size all =
+    let first = group_of g in
+    let is = All-head (λ g. IsGroup range l complete (group_of g)) g gs all in
+    let here : ends_past f first.range ≡ false = le-ltb (length f) (first.range.first + first.range.len) (omega (arith, is.inside, size)) in
+    rw here (all_inside f range l complete gs size (All-tail (λ g. IsGroup range l complete (group_of g)) g gs all))
 
 -- what is wrong with a tile of the window is wrong with its range
 wrong_size : (f : List ℕ) (n t : ℕ) (l : Level) (r : Range) → IsDescribed f n l → IsRangeOf f n t r → IsSomeAnd (level_value f n 325 t) (λ count. (is_byte_count count ≡ false) ⊎ IsNotPlainSize f n count) → IsWrongSize l r.len
@@ -260,6 +267,6 @@ needed f q order l r complete offsets counts e n gs p tiles known are =
     are.groups ∙ sym (groups_are f q order l r complete offsets counts p ∙ grouped_same (tile_range f r.level) (λ t. Some (range t)) (tiles_of l r) same) in
     record {
       groups = groups;
-      inside = ap (λ gs. list_any (ends_past f) (map range_of gs)) (sym groups) ∙ all_inside f range complete (map group_of gs) p.size are.each;
+      inside = ap (λ gs. list_any (ends_past f) (map range_of gs)) (sym groups) ∙ all_inside f range l complete gs p.size are.each;
       right = no_bad_tile f q order l r complete offsets counts e n p tiles known;
     }

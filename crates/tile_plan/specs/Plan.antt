@@ -1,6 +1,6 @@
 -- The groups of a window's tiles, by the bytes of the two arrays of its level.
-use Rattle.std.specs.Prelude.{◌≡◌, ℕ, ◌+◌, ◌*◌, ◌-◌, ◌≤◌, ◌⊎◌, Bool, true, false, ⊤, nat_lt, ◌==◌, List, [], ◌∷◌, length, map, Some}
-use Rattle.std.specs.List.{list_any, AllByRecursion, IsAmong}
+use Rattle.std.specs.Prelude.{◌≡◌, ℕ, ◌+◌, ◌*◌, ◌-◌, ◌<◌, ◌≤◌, ◌⊎◌, Bool, true, false, ⊤, nat_lt, ◌==◌, List, [], ◌∷◌, length, map, Some}
+use Rattle.std.specs.List.{list_any, All, IsAmong}
 use Rattle.tiff_dir.specs.declared.order.Order.{Order}
 use Rattle.tiff_dir.specs.declared.level.Level.{Level}
 use Rattle.tiff_dir.specs.declared.level.Compression.TheVariants.{Plain}
@@ -9,7 +9,7 @@ use Rattle.tiff_dir.specs.declared.fault.FileFault.{FileFault}
 use Rattle.tiff_dir.specs.declared.fault.FileFault.TheVariants.{PastEnd, TileSize}
 use Rattle.tiff_dir.specs.Number.{number_in}
 use Rattle.tiff_dir.specs.File.{order_of, size_of}
-use Rattle.tiff_dir.specs.Level.{level_layout, level_value, plain_size}
+use Rattle.tiff_dir.specs.Level.{level_layout, level_value, plain_size, tile_total}
 use Rattle.tiff_dir.specs.Needs.{Range, ends_past}
 use Rattle.tiff_dir.specs.Described.{grid_of, layout_of}
 use Rattle.tiff_dir.specs.Walk.{IsArrayOf, IsDescribed, range_of_span}
@@ -55,7 +55,8 @@ Adjoin range at [] end = at ≡ end
 Adjoin range at (t ∷ ts) end = ((range t).first ≡ at) × Adjoin range (at + (range t).len) ts end
 
 -- a group is the bytes of its tiles, at most 1,048,576 of the file
-pub record IsGroup (range : ℕ → Range) (complete : ℕ) (g : asked.Group) : Type 0 where
+pub record IsGroup (range : ℕ → Range) (l : Level) (complete : ℕ) (g : asked.Group) : Type 0 where
+  pub tiles : All (λ t. t < tile_total (grid_of l)) g.tiles
   pub adjoin : Adjoin range g.range.first g.tiles (g.range.first + g.range.len)
   pub few : g.range.len ≤ max_group_bytes
   pub inside : g.range.first + g.range.len ≤ complete
@@ -63,7 +64,7 @@ pub record IsGroup (range : ℕ → Range) (complete : ℕ) (g : asked.Group) : 
 -- These are the groups of the rectangle's tiles, of which none has a fault.
 pub record AreGroups (range : ℕ → Range) (l : Level) (r : Rectangle) (complete : ℕ) (gs : List Group) : Type 0 where
   pub groups : map group_of gs ≡ grouped (λ t. Some (range t)) (tiles_of l r)
-  pub each : AllByRecursion (IsGroup range complete) (map group_of gs)
+  pub each : All (λ g. IsGroup range l complete (group_of g)) gs
   pub sound : (t : ℕ) → IsAmong (tiles_of l r) t → (fault : FileFault) → IsTileFault l complete (range t) fault → ⊥
 
 -- a tile of the rectangle has the fault

@@ -1,6 +1,8 @@
 use Rattle.std.proofs.Common.{◌≡◌, ℕ, ◌+◌, ◌*◌, ◌<◌, ◌++◌, ◌∷◌, [], Some, map, below_more, refl, sym, subst, ap, ◌∙◌, arith, Result, Ok, Err}
 use Rattle.std.specs.Prelude.{IfErr, IsErrAnd}
 use Rattle.std.specs.List.{range_with_len}
+use Rattle.tiff_dir.specs.Level.{tile_total}
+use Rattle.tiff_dir.specs.Described.{grid_of}
 use Rattle.tiff_dir.specs.Query.{grouped}
 use Rattle.tiff_dir.specs.Walk.{range_of_span}
 use Rattle.tile_plan.specs.declared.plan.PlanError.TheVariants.{File}
@@ -58,7 +60,7 @@ loop-n-preserved c =
           ∙ ap (added (grouped (λ t. Some (range t)) before) tile) c.in_ok-span.ensures.range ∙ sym (grouped_more range before tile)
           ∙ ap (λ t. grouped (λ t. Some (range t)) (before ++ t ∷ [])) c.tile-tile.ensures ∙ ap (grouped (λ t. Some (range t))) (counted_all (tile_of_block b) n);
       known = below_more (λ k. IsKnown c.args.order l c.args.complete c.args.offsets.now c.args.counts.now (tile_of_block b k)) n c.loop-n.invariant.known
-          (subst (IsKnown c.args.order l c.args.complete c.args.offsets.now c.args.counts.now) c.tile-tile.ensures (record { sound = c.in_ok-span.ensures.sound; values = c.in_ok-span.ensures.values }));
+          (subst (IsKnown c.args.order l c.args.complete c.args.offsets.now c.args.counts.now) c.tile-tile.ensures (record { within = subst (λ t. t < tile_total (grid_of l)) (sym c.tile-tile.ensures) (c.of-block.ensures.within n (omega (arith, c.loop-n-test.true, c.count-n-end.ensures, c.loop-n.auto.n-end))); sound = c.in_ok-span.ensures.sound; values = c.in_ok-span.ensures.values }));
     }
 
 pub returns-clause-groups : goal.returns-clause-groups
