@@ -2,10 +2,12 @@
 //! GB a second each writes on hot tiles.
 #![tactic(auto)]
 
+mod picture;
 mod tiles;
 
-use anyhow::{Result, ensure};
+use anyhow::{Result, bail, ensure};
 use packbits::unpack;
+use picture::Picture;
 use std::alloc::Global;
 use std::env;
 use std::rt::{Clock, Env};
@@ -32,11 +34,35 @@ fn check(rt: &impl Print, alloc: Global) -> Result<()> {
         let same = out.as_slice() == plain(alloc, kind)?.as_slice();
         println!(rt; "unpack {}: {}", kind.name(), fault.is_none() && same)?;
     }
+    println!(rt; "blit: {}", check_blit(alloc)?)?;
     let mut pairs = *b"0123456789abcdefghijklmnopqrstuvwxyz";
     swap_pairs(&mut pairs);
     let same = pairs.as_slice() == b"1032547698badcfehgjilknmporqtsvuxwzy".as_slice();
     println!(rt; "swap_pairs: {same}")?;
     Ok(())
+}
+
+/// Whether four tiles become the picture of their samples.
+fn check_blit(alloc: Global) -> Result<bool> {
+    let Some(mut picture) = Picture::new(alloc) else {
+        bail!("no memory");
+    };
+    for tile in 0..4 {
+        picture.blit(tile, &vec![in alloc; tile as u8; TILE]?);
+    }
+    let samples = picture.into_data();
+    let mut good = samples.len() == 4 * TILE;
+    for (place, byte) in samples.iter().enumerate() {
+        good = good && usize::from(*byte) == place / 131072 * 2 + place / 256 % 2;
+    }
+    Ok(good)
+}
+
+/// Copies each of the four tiles.
+fn blit_often(picture: &mut Picture, tile: &[u8]) {
+    for n in 0..REPEATS {
+        picture.blit(n % 4, tile);
+    }
 }
 
 fn unpack_often(seg: &[u8], out: &mut [u8]) -> bool {
@@ -73,6 +99,13 @@ fn measure(rt: &(impl Print + Clock), alloc: Global) -> Result<()> {
         ensure!(good, "unpack");
         println!(rt; "unpack {}: {:.2} GB/s", kind.name(), rate(seconds))?;
     }
+    let Some(mut picture) = Picture::new(alloc) else {
+        bail!("no memory");
+    };
+    let start = Instant::now(rt)?;
+    blit_often(&mut picture, &out);
+    let seconds = start.elapsed(rt)?.as_secs_f64();
+    println!(rt; "blit: {:.2} GB/s", rate(seconds))?;
     measure_mebibyte(rt, alloc)
 }
 
