@@ -1,6 +1,6 @@
 -- Levels that the plain program reads: those whose numbers and products have 64 bits, and whose tiles
 -- have sides.
-use Rattle.std.specs.Prelude.{ℕ, ◌+◌, ◌^◌, Bool, ◌&&◌, nat_lt, nat_le, length, slice_range, if◌then◌else◌, List, Option, Some, None, ◌≡◌}
+use Rattle.std.specs.Prelude.{ℕ, ◌+◌, ◌^◌, Bool, ◌&&◌, nat_lt, nat_le, length, slice_range, if◌then◌else◌, List, Option, Some, None}
 use Rattle.tiff_dir.specs.File.{◌>>=◌}
 use Rattle.tiff_dir.specs.Level as file
 use Rattle.reference.specs.declared.levels.Grid.{Grid}
@@ -46,7 +46,3 @@ modest_level f n = file.level_layout f n >>= when_modest
 -- count bytes from first, where they are in the file
 abbrev pub part : List ℕ → ℕ → ℕ → Option (List ℕ)
 part f first count = if nat_le (first + count) (length f) then Some (slice_range f first (first + count)) else None
-
--- the plain program doesn't read the level
-abbrev pub HasNoModestLevel : List ℕ → ℕ → Type 0
-HasNoModestLevel f n = modest_grid f n ≡ None

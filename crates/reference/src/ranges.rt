@@ -1,21 +1,22 @@
 //! The ranges of a file that a query needs.
-ghost use Rattle.std.specs.Prelude.{◌≡◌, ◌++◌, ◌<◌, ◌≤◌, ◌^◌, ◌⊎◌, ℕ, IfOk, IfSome, IfNone, MatchOption, OnOk, Option, Some, None, List, ◌∷◌, if◌then◌else◌, map, not};
+ghost use Rattle.std.specs.Prelude.{◌≡◌, true, false, ◌++◌, ◌<◌, ◌≤◌, ◌^◌, ◌⊎◌, ℕ, IfOk, IfSome, IfNone, MatchOption, OnOk, Option, Some, None, List, ◌∷◌, if◌then◌else◌, map, not};
 ghost use Rattle.std.specs.List.{flat_map, filter, sum_by};
 ghost use Rattle.std.specs.Option.{option_map, option_to_list};
 ghost use Rattle.tiff_dir.specs.File.{directories};
 ghost use Rattle.tiff_dir.specs.Level.{level_directory};
 ghost use Rattle.tiff_dir.specs.Needs.{count_range, ends_past, field_range, needs_of_directories, outside_range, range_of_place, ranges_of_directory, table_range};
-ghost use Rattle.tiff_dir.specs.Query.{array_range, array_ranges, blocks, cost, grouped, needs, tile_range};
-ghost use Rattle.reference.specs.Modest.{HasNoModestLevel};
-ghost use Rattle.reference.specs.Asked.{window_of};
+ghost use Rattle.tiff_dir.specs.Geo.{geo_ranges};
+ghost use Rattle.tiff_dir.specs.Query.{array_range, array_ranges, blocks, cost, grouped, groups, needs, tile_range};
+ghost use Rattle.reference.specs.Asked.{rectangle_of, HasNoModestLevel};
 ghost use Rattle.reference.specs.Ranges.{blocks_inside, may_join, range_of, ranges_after, ranges_of, with_range, Ranged};
 
+use crate::asked::asked_rectangle;
 use crate::directories::{directory, entry_count, has_directory};
 use crate::fields::place;
 use crate::levels::{is_level, level_directory, level_value};
-use crate::query::{Rectangle, is_refused, window_tiles};
+use crate::query::{is_refused, window_tiles};
 use std::alloc::{AllocError, Global};
-use tiff_dir::Place;
+use tiff_dir::{Place, Query};
 
 /// `len` bytes from `first`.
 #[derive(Clone, Copy, Debug, PartialEq, Eq)]
@@ -154,22 +155,23 @@ fn tile_range(alloc: Global, file: &[u8], n: usize, t: u64) -> Result<Option<Ran
     }
 }
 
-#[tactic(auto, unfolding(tiff_dir::specs::Query::array_ranges, tiff_dir::specs::Query::rectangle))]
+#[tactic(auto, unfolding(tiff_dir::specs::Query::array_ranges))]
 fn push_arrays(
     alloc: Global,
     out: &mut Vec<Range>,
     file: &[u8],
-    r: Rectangle,
+    query: Query,
 ) -> Result<(), AllocError>
-    ensures { OnOk result (ranges_of out.new.items ≡ ranges_of out.old.items ++ array_ranges file.now (window_of r)) }
+    ensures { OnOk result (ranges_of out.new.items ≡ ranges_of out.old.items ++ array_ranges file.now query) }
 {
-    if is_refused(alloc, file, r)? {
+    if is_refused(alloc, file, query)? {
         return Ok(());
     }
-    let n = r.level as usize;
-    push_some(out, array_range(alloc, file, n, 324)?)?;
-    push_some(out, array_range(alloc, file, n, 325)?)?;
-    Ok(())
+    let Some(r) = asked_rectangle(alloc, file, query)? else {
+        return Ok(());
+    };
+    push_some(out, array_range(alloc, file, r.level, 324)?)?;
+    push_some(out, array_range(alloc, file, r.level, 325)?)
 }
 
 /// The range of a group and the tile behind it, where the tile joins the group.
@@ -224,18 +226,57 @@ fn push_groups(
     push_some(out, group)
 }
 
-/// The ranges of the file that the window needs, where the plain program reads its level.
-#[tactic(auto, unfolding(tiff_dir::specs::Query::needs, tiff_dir::specs::Query::needs_of_query, tiff_dir::specs::Query::groups, tiff_dir::specs::Query::rectangle))]
-pub fn needs(alloc: Global, file: &[u8], r: Rectangle) -> Result<Option<Vec<Range>>, AllocError>
-    ensures ranges { IfOk result (λ o. IfSome o (λ v. ranges_of v.items ≡ needs file.now (window_of r))) }
-    ensures none { IfOk result (λ o. IfNone o (HasNoModestLevel file.now r.level)) }
+/// Adds the ranges of the window's arrays and of its groups of tiles. Whether the plain program reads its level.
+#[tactic(auto, unfolding(tiff_dir::specs::Query::groups))]
+fn push_window(
+    alloc: Global,
+    out: &mut Vec<Range>,
+    file: &[u8],
+    query: Query,
+) -> Result<bool, AllocError>
+    ensures ranges { IfOk result (λ read. read ≡ true → ranges_of out.new.items
+        ≡ ranges_of out.old.items ++ (array_ranges file.now query ++ map (λ g. g.range) (groups file.now query))) }
+    ensures none { IfOk result (λ read. read ≡ false → HasNoModestLevel file.now query) }
+{
+    push_arrays(alloc, out, file, query)?;
+    let Some(r) = asked_rectangle(alloc, file, query)? else {
+        return Ok(true);
+    };
+    let Some(tiles) = window_tiles(alloc, file, query)? else {
+        return Ok(false);
+    };
+    push_groups(alloc, out, file, r.level, &tiles)?;
+    Ok(true)
+}
+
+/// Adds the values of the geo fields that are there.
+#[tactic(auto, unfolding(tiff_dir::specs::Geo::geo_ranges))]
+fn push_geo(out: &mut Vec<Range>, file: &[u8]) -> Result<(), AllocError>
+    ensures { OnOk result (ranges_of out.new.items ≡ ranges_of out.old.items ++ geo_ranges file.now) }
+{
+    push_some(out, field_range(file, 0, 34735))?;
+    push_some(out, field_range(file, 0, 34736))?;
+    push_some(out, field_range(file, 0, 34737))?;
+    push_some(out, field_range(file, 0, 33550))?;
+    push_some(out, field_range(file, 0, 33922))?;
+    push_some(out, field_range(file, 0, 34264))
+}
+
+/// The ranges of the file that the query needs, where the plain program reads its level.
+#[tactic(auto, unfolding(tiff_dir::specs::Query::needs, tiff_dir::specs::Query::needs_of_query))]
+pub fn needs(alloc: Global, file: &[u8], query: Query) -> Result<Option<Vec<Range>>, AllocError>
+    ensures ranges { IfOk result (λ o. IfSome o (λ v. ranges_of v.items ≡ needs file.now query)) }
+    ensures none { IfOk result (λ o. IfNone o (HasNoModestLevel file.now query)) }
 {
     let mut out = needs_of_directories(alloc, file)?;
-    push_arrays(alloc, &mut out, file, r)?;
-    let Some(tiles) = window_tiles(alloc, file, r)? else {
-        return Ok(None);
-    };
-    push_groups(alloc, &mut out, file, r.level as usize, &tiles)?;
+    match query {
+        Query::Window { .. } => {
+            if !push_window(alloc, &mut out, file, query)? {
+                return Ok(None);
+            }
+        }
+        Query::Info => push_geo(&mut out, file)?,
+    }
     Ok(Some(out))
 }
 
@@ -265,16 +306,16 @@ fn sum_blocks(ranges: &[Range], complete: u64) -> Option<u64>
     Some(total)
 }
 
-/// The blocks of the ranges that the window needs and that end inside the file.
+/// The blocks of the ranges that the query needs and that end inside the file.
 #[tactic(auto, unfolding(tiff_dir::specs::Query::cost))]
-pub fn cost(alloc: Global, file: &[u8], r: Rectangle) -> Result<Option<u64>, AllocError>
-    ensures cost { IfOk result (λ o. IfSome o (λ n. n ≡ cost file.now (window_of r))) }
-    ensures none { IfOk result (λ o. IfNone o (HasNoModestLevel file.now r.level ⊎ (2 ^ 64 ≤ cost file.now (window_of r)))) }
+pub fn cost(alloc: Global, file: &[u8], query: Query) -> Result<Option<u64>, AllocError>
+    ensures cost { IfOk result (λ o. IfSome o (λ n. n ≡ cost file.now query)) }
+    ensures none { IfOk result (λ o. IfNone o (HasNoModestLevel file.now query ⊎ (2 ^ 64 ≤ cost file.now query))) }
 {
     if file.len() as u64 >= 1 << 63 {
         return Ok(None);
     }
-    match needs(alloc, file, r)? {
+    match needs(alloc, file, query)? {
         Some(ranges) => Ok(sum_blocks(&ranges, file.len() as u64)),
         None => Ok(None),
     }

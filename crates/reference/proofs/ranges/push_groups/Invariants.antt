@@ -2,7 +2,7 @@ use Rattle.std.proofs.Common.{◌≡◌, ◌++◌, drop, map, None}
 use Rattle.std.specs.Option.{option_map}
 use Rattle.tiff_dir.specs.Query.{tile_range}
 use Rattle.reference.specs.Ranges.{range_of, ranges_of, ranges_after}
-use Rattle.reference.proofs.needs.push_groups.Given as goal
+use Rattle.reference.proofs.ranges.push_groups.Given as goal
 
 -- the groups so far, the one that is open, and those to come
 abbrev pub invariant-loop-t : goal.invariant-loop-t
