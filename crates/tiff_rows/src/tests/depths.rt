@@ -1,18 +1,19 @@
 //! Bits of a sample.
-use super::*;
+use super::{end_of, fault_of, file_with};
+use fixtures::{f6, f6m};
+use std::test::Fail;
+use tiff_dir::{FileFault, Order};
 
 #[test]
 fn sixteen_bits(rt: HostRuntime) -> Result<(), Fail> {
-    for order in [Order::Little, Order::Big] {
-        let mut file = begun(&rt, order, 8)?;
-        let changes = [(258, 3, 1, 16), (325, 4, 1, 512)];
-        put_directory(&mut file, order, fields(&rt, &changes)?.as_slice(), 0)?;
-        let mut walk = Walk::new(rt.alloc());
-        let (_ranges, fault) = drive(&mut walk, &rt, file.as_slice())?;
-        assert_eq!(rt; fault, None);
-        assert!(rt; has_ended(&walk));
-        let depths: Vec<u16> = walk.levels().iter().map(|l| l.bits).collect(rt.alloc())?;
-        assert_eq!(rt; depths.as_slice(), [16].as_slice());
+    for file in [f6(rt.alloc())?, f6m(rt.alloc())?] {
+        match end_of(&rt, &file)? {
+            Ok(walk) => {
+                let depths: Vec<u16> = walk.levels().iter().map(|l| l.bits).collect(rt.alloc())?;
+                assert_eq!(rt; depths.as_slice(), [16].as_slice());
+            }
+            Err(_) => return Err(Fail::new("a fault")),
+        }
     }
     Ok(())
 }
@@ -26,7 +27,7 @@ fn plain_tiles_of_two_bytes_a_sample(rt: HostRuntime) -> Result<(), Fail> {
     ];
     for (side, bits, want) in rows {
         let changes = [(258, 3, 1, bits), (322, 3, 1, side), (323, 3, 1, side)];
-        let file = file_with(&rt, &changes, 0, &[])?;
+        let file = file_with(&rt, Order::Little, &changes, 0, &[])?;
         assert_eq!(rt; fault_of(&rt, file.as_slice())?, want, "at {side} {bits}");
     }
     Ok(())
@@ -52,6 +53,7 @@ fn mixtures(rt: HostRuntime) -> Result<(), Fail> {
         let [a, b, c] = bits;
         let file = file_with(
             &rt,
+            Order::Little,
             &changes,
             0,
             &[0, 0, 0, 0, 0, 0, 0, 0, 0, 0, 0, 0, a, 0, b, 0, c, 0],

@@ -1,18 +1,19 @@
 //! The fields that georeference the image.
-use super::*;
+use super::{Entry, begun, end_of, fields, place, put_directory};
+use fixtures::f3;
+use std::test::Fail;
+use tiff_dir::{FileFault, GeoPlaces, Kind, Order};
 
-/// The fault and the places that a walk over the file tells of its geo fields.
-fn places_of(rt: &HostRuntime, file: &[u8]) -> Result<Result<GeoPlaces, FileFault>, Fail> {
-    let mut walk = Walk::new(rt.alloc());
-    let (_ranges, fault) = drive(&mut walk, rt, file)?;
-    if fault.is_some() || !has_ended(&walk) {
-        return Err(Fail::new("no end"));
+/// The fault or the places that a walk over the file tells of its geo fields.
+fn places_of(rt: &impl AllocGlobal, file: &[u8]) -> Result<Result<GeoPlaces, FileFault>, Fail> {
+    match end_of(rt, file)? {
+        Ok(walk) => Ok(walk.geo_places()),
+        Err(_) => Err(Fail::new("a fault")),
     }
-    Ok(walk.geo_places())
 }
 
 /// A file of one level with these fields behind its own.
-fn with_geo(rt: &HostRuntime, geo: &[Entry]) -> Result<Vec<u8>, Fail> {
+fn with_geo(rt: &impl AllocGlobal, geo: &[Entry]) -> Result<Vec<u8>, Fail> {
     let mut entries = fields(rt, &[])?;
     for entry in geo {
         entries.push(*entry)?;
@@ -33,9 +34,7 @@ const NONE: GeoPlaces = GeoPlaces {
 
 #[test]
 fn places_of_two_levels(rt: HostRuntime) -> Result<(), Fail> {
-    let mut file = begun(&rt, Order::Little, 8)?;
-    put_directory(&mut file, Order::Little, &F3_FIRST, 170)?;
-    put_directory(&mut file, Order::Little, &F3_SECOND, 0)?;
+    let file = f3(rt.alloc())?;
     let want = GeoPlaces {
         directory: Some(place(352, 32, 16, Kind::Short)),
         doubles: Some(place(384, 8, 1, Kind::Double)),
@@ -52,7 +51,8 @@ fn places_of_two_levels(rt: HostRuntime) -> Result<(), Fail> {
 fn places_of_the_first_directory_alone(rt: HostRuntime) -> Result<(), Fail> {
     let mut file = begun(&rt, Order::Big, 8)?;
     put_directory(&mut file, Order::Big, fields(&rt, &[])?.as_slice(), 122)?;
-    put_directory(&mut file, Order::Big, &F3_FIRST, 0)?;
+    let second = [(254, 4, 1, 4), (33550, 12, 3, 328), (34735, 3, 16, 352)];
+    put_directory(&mut file, Order::Big, &second, 0)?;
     assert_eq!(rt; places_of(&rt, file.as_slice())?, Ok(NONE));
     Ok(())
 }
