@@ -11,7 +11,14 @@ abbrev pub grid_of : Grid → file.Grid
 grid_of g = record { width = g.width; length = g.length; tile_width = g.tile_width; tile_length = g.tile_length }
 
 abbrev pub layout_of : Level → file.Layout
-layout_of l = record { grid = grid_of l.grid; samples = l.samples; bits = l.bits; compression = l.compression; offsets = l.offsets; counts = l.counts }
+layout_of l = record {
+  grid = grid_of l.grid;
+  samples = l.samples;
+  bits = l.bits;
+  compression = l.compression;
+  offsets = l.offsets;
+  counts = l.counts;
+}
 
 abbrev pub is_modest_grid : file.Grid → Bool
 is_modest_grid g =

@@ -14,9 +14,12 @@ pub record Range : Type 0 where
 abbrev pub ends_past : List ℕ → Range → Bool
 ends_past f r = nat_lt (length f) (r.first + r.len)
 
+abbrev pub max_entries : ℕ
+max_entries = 256
+
 -- a directory has 1 to 256 entries
 abbrev pub is_entry_count : ℕ → Bool
-is_entry_count n = nat_lt 0 n && nat_le n 256
+is_entry_count n = nat_lt 0 n && nat_le n max_entries
 
 abbrev pub header_range : Range
 header_range = record { first = 0; len = 8 }

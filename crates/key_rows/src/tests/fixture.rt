@@ -1,6 +1,6 @@
 //! The keys of a file of two levels.
 use super::{Value, is_wanted};
-use file_walk::walk_over;
+use file_walk::{Course, walk_over};
 use fixtures::f3;
 use geokeys::Geo;
 use std::test::Fail;
@@ -16,8 +16,8 @@ fn field(file: &[u8], place: Option<Place>) -> Option<&[u8]> {
 
 /// The order of a file without fault, and where its geo fields stand.
 fn places_of(rt: &impl AllocGlobal, file: &[u8]) -> Result<(Order, GeoPlaces), Fail> {
-    let course = walk_over(rt.alloc(), file).ok().ok_or("no memory")?;
-    match course.end {
+    let Course { end, ranges: _ } = walk_over(rt.alloc(), file).ok().ok_or("no memory")?;
+    match end {
         Ok(walk) => Ok((walk.order(), walk.geo_places().ok().ok_or("no places")?)),
         Err(_) => Err(Fail::new("a fault")),
     }
