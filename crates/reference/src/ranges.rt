@@ -86,7 +86,7 @@ fn push_some(out: &mut Vec<Range>, range: Option<Range>) -> Result<(), AllocErro
 }
 
 /// Adds what is read of directory `k`.
-#[tactic(auto, unfolding(tiff_dir::specs::Needs::ranges_of_directory))]
+#[tactic(auto, unfolding(tiff_dir::specs::Needs::ranges_of_directory, tiff_dir::specs::Needs::outside_ranges))]
 fn push_directory(out: &mut Vec<Range>, file: &[u8], k: u32) -> Result<(), AllocError>
     ensures { OnOk result (ranges_of out.new.items ≡ ranges_of out.old.items ++ ranges_of_directory file.now k) }
 {

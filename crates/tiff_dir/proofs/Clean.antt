@@ -15,7 +15,7 @@ use Rattle.tiff_dir.specs.Number.{number_in}
 use Rattle.tiff_dir.specs.File.{order_of, number, directory, has_directory, is_above_zero, directories, entry_count, value}
 use Rattle.tiff_dir.specs.Profile.{profile, accepts, samples_fit, is_depth, is_sample_count}
 use Rattle.tiff_dir.specs.Level.{is_level, layout_at}
-use Rattle.tiff_dir.specs.Needs.{Range, ends_past, is_entry_count, header_range, count_range, table_range, outside_range, ranges_of_directory, needs_of_directories}
+use Rattle.tiff_dir.specs.Needs.{Range, ends_past, is_entry_count, header_range, count_range, table_range, outside_range, ranges_of_directory, needs_of_directories, outside_ranges}
 use Rattle.tiff_dir.specs.Fault.{is_directory_place, IsFaultOfLevel, IsFaultOfDirectories}
 use Rattle.tiff_dir.specs.Table.{entries, found, allows, keeps, short_or, draft_in, long_in, IsEntryFault, HasValues, HasCounts}
 use Rattle.tiff_dir.specs.Shape.{has_sides, has_tiles, has_arrays, layout_from}
@@ -140,7 +140,7 @@ abbrev of_level : List ℕ → ℕ → List Range
 of_level f k = if is_level f k then option_to_list (outside_range f k 258) ++ option_to_list (outside_range f k 339) else []
 
 count_needed : (f : List ℕ) (k at : ℕ) → directory f k ≡ Some at → In (two_bytes at) (ranges_of_directory f k)
-unfolding ranges_of_directory count_range
+unfolding ranges_of_directory outside_ranges count_range
 count_needed f k at place =
     let r = two_bytes at in
     let is : count_range f k ≡ Some r = rw place refl in
@@ -148,7 +148,7 @@ count_needed f k at place =
     (in_left r (option_to_list (count_range f k)) (option_to_list (table_range f k)) (in_option (count_range f k) r is))
 
 table_needed : (f : List ℕ) (k at n : ℕ) → directory f k ≡ Some at → entry_count f k ≡ Some n → is_entry_count n ≡ true → In (rows_from at n) (ranges_of_directory f k)
-unfolding ranges_of_directory table_range
+unfolding ranges_of_directory outside_ranges table_range
 table_needed f k at n place count few =
     let r = rows_from at n in
     let is : table_range f k ≡ Some r = rw (place, count, few) refl in
@@ -156,7 +156,7 @@ table_needed f k at n place count few =
     (in_right r (option_to_list (count_range f k)) (option_to_list (table_range f k)) (in_option (table_range f k) r is))
 
 bits_needed : (f : List ℕ) (k : ℕ) (r : Range) → is_level f k ≡ true → outside_range f k 258 ≡ Some r → In r (ranges_of_directory f k)
-unfolding ranges_of_directory outside_range is_level
+unfolding ranges_of_directory outside_ranges outside_range is_level
 bits_needed f k r level is =
     let both = option_to_list (outside_range f k 258) ++ option_to_list (outside_range f k 339) in
     let here : of_level f k ≡ both = rw level refl in

@@ -8,10 +8,10 @@ use Rattle.tiff_dir.specs.declared.fault.FileFault.TheVariants.{Missing, DirPlac
 use Rattle.tiff_dir.specs.File.{directory, entry_count, value}
 use Rattle.tiff_dir.specs.Profile.{subfile_rule}
 use Rattle.tiff_dir.specs.Level.{is_level}
-use Rattle.tiff_dir.specs.Needs.{is_entry_count}
+use Rattle.tiff_dir.specs.Needs.{is_entry_count, outside_ranges}
 use Rattle.tiff_dir.specs.Fault.{is_directory_place, ascends, IsFaultAt, IsFaultOfDirectory, IsFaultOfDirectories}
 use Rattle.tiff_dir.specs.Table.{field_of, keeps, single_or, IsEntryFault}
-use Rattle.tiff_dir.specs.Stage.{Counts, EndsDirectory, Follows, HasTable, IsAt, StepsOn, index_of, outside_ranges, ranges_from, still}
+use Rattle.tiff_dir.specs.Stage.{Counts, EndsDirectory, Follows, HasTable, IsAt, StepsOn, index_of, ranges_from, still}
 use Rattle.tiff_dir.specs.declared.stage.Stage.{Stage}
 use Rattle.tiff_dir.specs.declared.stage.Stage.TheVariants as stages
 use Rattle.tiff_dir.specs.Number.{number_in}

@@ -16,10 +16,10 @@ use Rattle.tiff_dir.specs.declared.fault.FileFault.{FileFault}
 use Rattle.tiff_dir.specs.File.{◌>>=◌, has_directory, values_at, value}
 use Rattle.tiff_dir.specs.Profile.{subfile_rule, profile, is_depth, accepts}
 use Rattle.tiff_dir.specs.Level.{is_level, place_of}
-use Rattle.tiff_dir.specs.Needs.{outside_entry, outside_range}
+use Rattle.tiff_dir.specs.Needs.{outside_entry, outside_range, outside_ranges}
 use Rattle.tiff_dir.specs.Fault.{IsUnsupported, IsFaultOfLevel, IsFaultOfDirectories}
 use Rattle.tiff_dir.specs.Table.{field_of, found, keeps, short_or, counts_samples, long_in, draft_in, HasValues, HasCounts, IsReadIn}
-use Rattle.tiff_dir.specs.Stage.{HasTable, HasShorts, HasFormats, IsSupported, IsPending, StepsOn, EndsDirectory, outside_ranges, ranges_from, three_shorts, still}
+use Rattle.tiff_dir.specs.Stage.{HasTable, HasShorts, HasFormats, IsSupported, IsPending, StepsOn, EndsDirectory, ranges_from, three_shorts, still}
 use Rattle.tiff_dir.proofs.Chain.{some_and_from}
 use Rattle.tiff_dir.proofs.Fields.{field_told, value_told, kind_short, typed, met_entry, met_there, short_told, short_only, three_values}
 use Rattle.tiff_dir.proofs.Levels.{fits_cases, count_is, supported_by, depth_supported}

@@ -14,11 +14,11 @@ use Rattle.tiff_dir.specs.declared.stage.Step.{Step}
 use Rattle.tiff_dir.specs.declared.stage.Stage.{Stage}
 use Rattle.tiff_dir.specs.declared.stage.Stage.TheVariants.{Header, Count, Table, Bits, Formats, Ended}
 use Rattle.tiff_dir.specs.Number.{number_in}
-use Rattle.tiff_dir.specs.File.{◌>>=◌, order_of, number, directory, has_directory, has_all_tags, fields, field, value, size_of}
+use Rattle.tiff_dir.specs.File.{max_directories, ◌>>=◌, order_of, number, directory, has_directory, has_all_tags, fields, field, value, size_of}
 use Rattle.tiff_dir.specs.Profile.{is_depth, is_sample_count, is_long, is_short_or_long}
 use Rattle.tiff_dir.specs.Level.{Layout, is_level, previous_level, place_of, layout_at, compression_of}
 use Rattle.tiff_dir.specs.Described.{described}
-use Rattle.tiff_dir.specs.Needs.{Range, is_entry_count, header_range, ranges_of_directory, outside_range}
+use Rattle.tiff_dir.specs.Needs.{Range, is_entry_count, header_range, outside_ranges, ranges_of_directory}
 use Rattle.tiff_dir.specs.Fault.{is_directory_place, IsUnsupported, IsFaultAt, IsFaultOfDirectory, IsFaultOfLevel}
 use Rattle.tiff_dir.specs.Table.{field_of, found}
 
@@ -67,11 +67,7 @@ IsBefore f k previous = option_map (layout_at f) (previous_level f k) ≡ option
 
 -- what the directories from k on need
 unfoldable pub ranges_from : List ℕ → ℕ → List Range
-ranges_from f k = flat_map (ranges_of_directory f) (filter (has_directory f) (range_with_len k (16 - k)))
-
--- what a level needs besides its table
-unfoldable pub outside_ranges : List ℕ → ℕ → List Range
-outside_ranges f k = if is_level f k then option_to_list (outside_range f k 258) ++ option_to_list (outside_range f k 339) else []
+ranges_from f k = flat_map (ranges_of_directory f) (filter (has_directory f) (range_with_len k (max_directories - k)))
 
 -- three numbers of two bytes
 abbrev pub three_shorts : ℕ → Range
