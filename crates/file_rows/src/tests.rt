@@ -2,3 +2,4 @@ mod beside;
 mod bytes;
 mod changes;
 mod fronts;
+mod plain;

@@ -5,3 +5,4 @@ pub mod UnpackingLemmas
 pub mod PacketLemmas
 pub mod SampleLemmas
 pub mod RowLemmas
+pub mod AskedLemmas

@@ -8,7 +8,7 @@ use Rattle.tiff_dir.specs.Needs.{Range, ends_past}
 use Rattle.std.specs.Prelude.{MatchOption, IfSome, IfNone, OnOk}
 use Rattle.tiff_dir.specs.declared.query.Query.{Query}
 use Rattle.tiff_dir.specs.Query.{Group, joins, alone, with_tile, grouped_after, grouped, blocks, needs, cost}
-use Rattle.reference.specs.declared.needs.Range as listed
+use Rattle.reference.specs.declared.ranges.Range as listed
 use Rattle.reference.specs.Ranges.{blocks_inside, range_of, ranges_of, ranges_after}
 
 -- ---- groups by their ranges alone

@@ -1,12 +1,13 @@
 -- The tiles of a level, and its rows of samples.
-use Rattle.std.proofs.Common.{◌≡◌, ◌<◌, ◌≤◌, ◌+◌, ◌-◌, ◌*◌, ◌/◌, ◌%◌, ◌∙◌, ℕ, zero, suc, inl, inr, List, [], ◌∷◌, ◌++◌, length, get_or, slice_get, Option, Some, IsTrue, MatchOption, refl, sym, ap, subst, arith, below_more, length-append}
+use Rattle.std.proofs.Common.{◌≡◌, None, ◌<◌, ◌≤◌, ◌+◌, ◌-◌, ◌*◌, ◌/◌, ◌%◌, ◌∙◌, ℕ, zero, suc, inl, inr, List, [], ◌∷◌, ◌++◌, length, get_or, slice_get, Option, Some, IsTrue, MatchOption, refl, sym, ap, subst, arith, below_more, length-append}
 use Rattle.std.specs.Global.{Vec}
 use Rattle.std.proofs.Math.ListN.{get_or-append}
 use Rattle.std.proofs.Math.Nat.{div-lt_iff_lt-mul}
 use Rattle.std.proofs.Math.Seq.{get_or-append_seam}
 use Rattle.std.proofs.lemmas.Option.{slice_get-get_or, slice_get_cases}
 use Rattle.std.proofs.lemmas.Nat.{le-div, row_fits}
-use Rattle.tiff_dir.specs.Level.{Grid, Layout, across, tile_total}
+use Rattle.tiff_dir.specs.Level.{Grid, Layout, across, level_directories, tile_total}
+use Rattle.reference.specs.Info.{HasNoSides, sides_of}
 use Rattle.tiff_dir.specs.Window.{tile_at}
 use Rattle.reference.specs.Missing.{HasNoSample}
 use Rattle.reference.specs.Modest.{is_modest_grid, modest_level}
@@ -85,5 +86,16 @@ no_rows f n l y modest inside none rows are =
     let there : y < length rows = omega (arith, are.count, same, inside) in
     elim (slice_get_cases rows y).1 [
       | inl found ↦ none found.0.items (subst (λ (m : Layout). IsRow f n m y found.0.items) level (are.each y found.0 found.2))
+      | inr past ↦ omega (arith, past.0, there)
+    ]
+
+-- ---- sides of levels
+
+-- no list of sides where a level has none
+pub no_sides : (f : List ℕ) (n : ℕ) → sides_of f n ≡ None → n < length (level_directories f) → HasNoSides f
+no_sides f n none inside sides are =
+    let there : n < length sides = omega (arith, are.count, inside) in
+    elim (slice_get_cases sides n).1 [
+      | inl found ↦ (let is = are.each n found.0 found.2 in cc)
       | inr past ↦ omega (arith, past.0, there)
     ]

@@ -5,3 +5,4 @@ pub mod Ranges
 pub mod Unpacking
 pub mod Missing
 pub mod Tile
+pub mod Info

@@ -1,6 +1,6 @@
 -- Levels that the plain program reads: those whose numbers and products have 64 bits, and whose tiles
 -- have sides.
-use Rattle.std.specs.Prelude.{ℕ, ◌+◌, ◌^◌, Bool, ◌&&◌, nat_lt, nat_le, length, slice_range, if◌then◌else◌, List, Option, Some, None, ◌≡◌}
+use Rattle.std.specs.Prelude.{ℕ, ◌+◌, ◌^◌, Bool, ◌&&◌, nat_lt, nat_le, length, slice_range, if◌then◌else◌, List, Option, Some, None}
 use Rattle.tiff_dir.specs.File.{◌>>=◌}
 use Rattle.tiff_dir.specs.Level as file
 use Rattle.reference.specs.declared.levels.Grid.{Grid}
@@ -11,7 +11,14 @@ abbrev pub grid_of : Grid → file.Grid
 grid_of g = record { width = g.width; length = g.length; tile_width = g.tile_width; tile_length = g.tile_length }
 
 abbrev pub layout_of : Level → file.Layout
-layout_of l = record { grid = grid_of l.grid; samples = l.samples; bits = l.bits; compression = l.compression; offsets = l.offsets; counts = l.counts }
+layout_of l = record {
+  grid = grid_of l.grid;
+  samples = l.samples;
+  bits = l.bits;
+  compression = l.compression;
+  offsets = l.offsets;
+  counts = l.counts;
+}
 
 abbrev pub is_modest_grid : file.Grid → Bool
 is_modest_grid g =
@@ -46,7 +53,3 @@ modest_level f n = file.level_layout f n >>= when_modest
 -- count bytes from first, where they are in the file
 abbrev pub part : List ℕ → ℕ → ℕ → Option (List ℕ)
 part f first count = if nat_le (first + count) (length f) then Some (slice_range f first (first + count)) else None
-
--- the plain program doesn't read the level
-abbrev pub HasNoModestLevel : List ℕ → ℕ → Type 0
-HasNoModestLevel f n = modest_grid f n ≡ None

@@ -3,7 +3,7 @@ use Rattle.std.specs.Prelude.{ℕ, ◌+◌, Bool, ◌&&◌, ◌==◌, nat_lt, na
 use Rattle.std.specs.Option.{option_to_list}
 use Rattle.tiff_dir.specs.Needs as need
 use Rattle.tiff_dir.specs.Query.{blocks}
-use Rattle.reference.specs.declared.needs.Range.{Range}
+use Rattle.reference.specs.declared.ranges.Range.{Range}
 
 abbrev pub range_of : Range → need.Range
 range_of r = record { first = r.first; len = r.len }

@@ -76,7 +76,7 @@ fn count_tags(file: &[u8], first: u64, entries: u16) -> u64
 
 /// The field with the tag in directory `k`.
 #[tactic(auto, unfolding(tiff_dir::specs::File::field, tiff_dir::specs::File::fields))]
-fn field(file: &[u8], k: u32, tag: u16) -> Option<Entry>
+pub fn field(file: &[u8], k: u32, tag: u16) -> Option<Entry>
     ensures found { option_map field_of result ≡ field file.now k tag }
     ensures near { IfSome result (λ e. e.place < 2 ^ 62) }
 {

@@ -1,23 +1,17 @@
-//! The windows of levels, and the tiles that they need.
-ghost use Rattle.std.specs.Prelude.{◌≡◌, ◌<◌, ◌≤◌, ◌^◌, ◌+◌, ◌*◌, ◌/◌, ℕ, Bool, true, false, IsTrue, nat_lt, IfOk, IfSome, IfNone, None, Some, length, List, map};
+//! What a query asks for, and the tiles that a window needs.
+ghost use Rattle.std.specs.Prelude.{◌≡◌, ◌<◌, ◌≤◌, ◌^◌, ◌+◌, ◌-◌, ◌*◌, ◌/◌, ℕ, Bool, true, false, IsTrue, nat_lt, IfOk, IfSome, IfNone, None, Some, length, List, map};
+ghost use Rattle.std.specs.Option.{option_map, option_map_or};
 ghost use Rattle.tiff_dir.specs.Profile.{tiles_along};
 ghost use Rattle.tiff_dir.specs.Level.{across as across_of, tile_total};
-ghost use Rattle.tiff_dir.specs.Query.{is_outside, is_outside_level, is_refused, is_too_large, meets, overlap, passes, rectangle, tiles_in, window_tiles};
-ghost use Rattle.reference.specs.Modest.{grid_of, is_modest_grid, HasNoModestLevel};
-ghost use Rattle.reference.specs.Asked.{rectangle_of, window_of};
+ghost use Rattle.tiff_dir.specs.Query.{is_outside, is_outside_level, is_refused, is_too_large, meets, overlap, passes, tiles_in, window_tiles};
+ghost use Rattle.reference.specs.Modest.{grid_of, is_modest_grid};
+ghost use Rattle.reference.specs.Asked.{rectangle_of, HasNoModestLevel};
 
+use crate::asked::asked_rectangle;
 use crate::levels::{Grid, level_directory, level_grid, level_value};
+use crate::rectangles::Rectangle;
 use std::alloc::{AllocError, Global};
-
-/// A window of a level: columns from `left` and rows from `top`, in the pixels of the level.
-#[derive(Clone, Copy, Debug, PartialEq, Eq)]
-pub struct Rectangle {
-    pub level: u32,
-    pub left: u32,
-    pub top: u32,
-    pub width: u32,
-    pub height: u32,
-}
+use tiff_dir::{Pick, Query};
 
 fn passes(end: u64, side: Option<u64>) -> bool
     ensures { result ≡ passes end side }
@@ -28,44 +22,67 @@ fn passes(end: u64, side: Option<u64>) -> bool
     }
 }
 
-/// Whether the window is empty, in no level, or passes a side of its level.
-#[tactic(auto, unfolding(tiff_dir::specs::Query::is_outside))]
-pub fn is_outside(alloc: Global, file: &[u8], r: Rectangle) -> Result<bool, AllocError>
-    ensures { IfOk result (λ outside. outside ≡ is_outside file.now (window_of r)) }
+/// Whether the window is empty, its level isn't there, or it passes a side of the level.
+fn is_outside_level(
+    alloc: Global,
+    file: &[u8],
+    n: usize,
+    x: u32,
+    y: u32,
+    w: u32,
+    h: u32,
+) -> Result<bool, AllocError>
+    ensures { IfOk result (λ outside. outside ≡ is_outside_level file.now n x y w h) }
 {
-    if r.width == 0 || r.height == 0 {
-        return Ok(true);
-    }
-    let n = r.level as usize;
-    if level_directory(alloc, file, n)?.is_none() {
+    if w == 0 || h == 0 || level_directory(alloc, file, n)?.is_none() {
         return Ok(true);
     }
     let width = level_value(alloc, file, n, 256, 0)?;
     let length = level_value(alloc, file, n, 257, 0)?;
-    let right = u64::from(r.left) + u64::from(r.width);
-    let bottom = u64::from(r.top) + u64::from(r.height);
-    Ok(passes(right, width) || passes(bottom, length))
+    Ok(passes(u64::from(x) + u64::from(w), width) || passes(u64::from(y) + u64::from(h), length))
 }
 
-fn exceeds(pixels: u64, samples: u64) -> bool
-    ensures { result ≡ nat_lt 4194304 (pixels * samples) }
+/// Whether the window is outside the level that its numbers are given in.
+#[tactic(auto, unfolding(tiff_dir::specs::Query::is_outside))]
+pub fn is_outside(alloc: Global, file: &[u8], query: Query) -> Result<bool, AllocError>
+    ensures { IfOk result (λ outside. outside ≡ is_outside file.now query) }
 {
-    match pixels.checked_mul(samples) {
-        Some(n) => n > 4194304,
+    match query {
+        Query::Window { x, y, w, h, pick } => match pick {
+            Pick::Level(n) => is_outside_level(alloc, file, n as usize, x, y, w, h),
+            Pick::Columns(0) => Ok(true),
+            Pick::Columns(_) => is_outside_level(alloc, file, 0, x, y, w, h),
+        },
+        Query::Info => Ok(false),
+    }
+}
+
+/// Whether so many columns and rows of so many samples are more than 4,194,304 samples.
+fn exceeds(width: u128, height: u128, samples: u64) -> bool
+    ensures { result ≡ nat_lt 4194304 (width * height * samples) }
+{
+    if width == 0 || height == 0 || samples == 0 {
+        return false;
+    }
+    match width.checked_mul(height) {
+        Some(pixels) => match pixels.checked_mul(u128::from(samples)) {
+            Some(n) => n > 4194304,
+            None => true,
+        },
         None => true,
     }
 }
 
-/// Whether the window has more than 4,194,304 samples.
-#[tactic(auto, unfolding(tiff_dir::specs::Query::is_too_large, tiff_dir::specs::Query::rectangle))]
-pub fn is_too_large(alloc: Global, file: &[u8], r: Rectangle) -> Result<bool, AllocError>
-    ensures { IfOk result (λ large. large ≡ is_too_large file.now (window_of r)) }
+/// Whether the rectangle that is asked for has more than 4,194,304 samples.
+#[tactic(auto, unfolding(tiff_dir::specs::Query::is_too_large))]
+pub fn is_too_large(alloc: Global, file: &[u8], query: Query) -> Result<bool, AllocError>
+    ensures { IfOk result (λ large. large ≡ is_too_large file.now query) }
 {
-    match level_value(alloc, file, r.level as usize, 277, 0)? {
-        Some(samples) => {
-            let pixels = u64::from(r.width) * u64::from(r.height);
-            Ok(exceeds(pixels, samples))
-        }
+    match asked_rectangle(alloc, file, query)? {
+        Some(r) => match level_value(alloc, file, r.level, 277, 0)? {
+            Some(samples) => Ok(exceeds(r.width, r.height, samples)),
+            None => Ok(false),
+        },
         None => Ok(false),
     }
 }
@@ -81,12 +98,12 @@ pub(crate) fn tiles_along(side: u32, tile_side: u32) -> u64
 }
 
 /// Whether the tile of this place along a side has a column or row of the rectangle's.
-fn overlaps(place: u64, tile_side: u32, first: u32, count: u32) -> bool
+fn overlaps(place: u64, tile_side: u32, first: u128, count: u128) -> bool
+    requires { first + count < 2 ^ 100 }
     ensures { result ≡ overlap (place * tile_side) tile_side first count }
 {
-    let end = u64::from(first) + u64::from(count);
-    match place.checked_mul(u64::from(tile_side)) {
-        Some(at) => at < end && u64::from(first) < at + u64::from(tile_side),
+    match u128::from(place).checked_mul(u128::from(tile_side)) {
+        Some(at) => at < first + count && first < at + u128::from(tile_side),
         None => false,
     }
 }
@@ -118,26 +135,29 @@ fn tiles_in(alloc: Global, g: &Grid, r: &Rectangle) -> Result<Vec<u64>, AllocErr
 }
 
 /// Whether the window is outside or too large.
-pub fn is_refused(alloc: Global, file: &[u8], r: Rectangle) -> Result<bool, AllocError>
-    ensures { IfOk result (λ refused. refused ≡ is_refused file.now (window_of r)) }
+pub fn is_refused(alloc: Global, file: &[u8], query: Query) -> Result<bool, AllocError>
+    ensures { IfOk result (λ refused. refused ≡ is_refused file.now query) }
 {
-    Ok(is_outside(alloc, file, r)? || is_too_large(alloc, file, r)?)
+    Ok(is_outside(alloc, file, query)? || is_too_large(alloc, file, query)?)
 }
 
 /// The tiles that the window needs, in ascending number, where its level is modest.
-#[tactic(auto, unfolding(tiff_dir::specs::Query::window_tiles, tiff_dir::specs::Query::rectangle))]
+#[tactic(auto, unfolding(tiff_dir::specs::Query::window_tiles))]
 pub fn window_tiles(
     alloc: Global,
     file: &[u8],
-    r: Rectangle,
+    query: Query,
 ) -> Result<Option<Vec<u64>>, AllocError>
-    ensures tiles { IfOk result (λ o. IfSome o (λ ts. ts.items ≡ window_tiles file.now (window_of r))) }
-    ensures none { IfOk result (λ o. IfNone o (HasNoModestLevel file.now r.level)) }
+    ensures tiles { IfOk result (λ o. IfSome o (λ ts. ts.items ≡ window_tiles file.now query)) }
+    ensures none { IfOk result (λ o. IfNone o (HasNoModestLevel file.now query)) }
 {
-    if is_refused(alloc, file, r)? {
+    if is_refused(alloc, file, query)? {
         return Ok(Some(Vec::new(alloc)));
     }
-    match level_grid(alloc, file, r.level as usize)? {
+    let Some(r) = asked_rectangle(alloc, file, query)? else {
+        return Ok(Some(Vec::new(alloc)));
+    };
+    match level_grid(alloc, file, r.level)? {
         Some(grid) => Ok(Some(tiles_in(alloc, &grid, &r)?)),
         None => Ok(None),
     }

@@ -7,10 +7,10 @@ use Rattle.tiff_dir.specs.declared.fault.FileFault.{FileFault}
 use Rattle.tiff_dir.specs.declared.fault.FileFault.TheVariants.{Header, DirPlace, DirCount, TooManyDirs}
 use Rattle.tiff_dir.specs.Number.{number_in}
 use Rattle.tiff_dir.specs.File.{order_of, number, directory, has_directory, is_above_zero, entry_count, field_at, fields_from, fields, has_all_tags}
-use Rattle.tiff_dir.specs.Needs.{Range, is_entry_count, count_range, table_range, ranges_of_directory}
+use Rattle.tiff_dir.specs.Needs.{Range, is_entry_count, count_range, table_range, ranges_of_directory, outside_ranges}
 use Rattle.tiff_dir.specs.Fault.{is_directory_place, IsFaultAt, IsFaultOfDirectories}
 use Rattle.tiff_dir.specs.Table.{entry, entries, field_of}
-use Rattle.tiff_dir.specs.Stage.{ranges_from, outside_ranges, IsWalked, Follows, Reaches, Counts, IsOver}
+use Rattle.tiff_dir.specs.Stage.{ranges_from, IsWalked, Follows, Reaches, Counts, IsOver}
 use Rattle.tiff_dir.proofs.Parts.{part_inside, number_inside, number_part, entries-part}
 use Rattle.tiff_dir.proofs.Ranges.{filter_none}
 

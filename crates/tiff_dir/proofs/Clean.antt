@@ -15,9 +15,9 @@ use Rattle.tiff_dir.specs.Number.{number_in}
 use Rattle.tiff_dir.specs.File.{order_of, number, directory, has_directory, is_above_zero, directories, entry_count, value}
 use Rattle.tiff_dir.specs.Profile.{profile, accepts, samples_fit, is_depth, is_sample_count}
 use Rattle.tiff_dir.specs.Level.{is_level, layout_at}
-use Rattle.tiff_dir.specs.Needs.{Range, ends_past, is_entry_count, header_range, count_range, table_range, outside_range, ranges_of_directory, needs_of_directories}
+use Rattle.tiff_dir.specs.Needs.{Range, ends_past, is_entry_count, header_range, count_range, table_range, outside_range, ranges_of_directory, needs_of_directories, outside_ranges}
 use Rattle.tiff_dir.specs.Fault.{is_directory_place, IsFaultOfLevel, IsFaultOfDirectories}
-use Rattle.tiff_dir.specs.Table.{entries, found, allows, meets, short_or, draft_in, long_in, IsEntryFault, HasValues, HasCounts}
+use Rattle.tiff_dir.specs.Table.{entries, found, allows, keeps, short_or, draft_in, long_in, IsEntryFault, HasValues, HasCounts}
 use Rattle.tiff_dir.specs.Shape.{has_sides, has_tiles, has_arrays, layout_from}
 use Rattle.tiff_dir.specs.Stage.{three_shorts, IsWalked, Counts, HasTable, IsDrafted}
 use Rattle.tiff_dir.proofs.Parts.{number_inside}
@@ -140,7 +140,7 @@ abbrev of_level : List ℕ → ℕ → List Range
 of_level f k = if is_level f k then option_to_list (outside_range f k 258) ++ option_to_list (outside_range f k 339) else []
 
 count_needed : (f : List ℕ) (k at : ℕ) → directory f k ≡ Some at → In (two_bytes at) (ranges_of_directory f k)
-unfolding ranges_of_directory count_range
+unfolding ranges_of_directory outside_ranges count_range
 count_needed f k at place =
     let r = two_bytes at in
     let is : count_range f k ≡ Some r = rw place refl in
@@ -148,7 +148,7 @@ count_needed f k at place =
     (in_left r (option_to_list (count_range f k)) (option_to_list (table_range f k)) (in_option (count_range f k) r is))
 
 table_needed : (f : List ℕ) (k at n : ℕ) → directory f k ≡ Some at → entry_count f k ≡ Some n → is_entry_count n ≡ true → In (rows_from at n) (ranges_of_directory f k)
-unfolding ranges_of_directory table_range
+unfolding ranges_of_directory outside_ranges table_range
 table_needed f k at n place count few =
     let r = rows_from at n in
     let is : table_range f k ≡ Some r = rw (place, count, few) refl in
@@ -156,7 +156,7 @@ table_needed f k at n place count few =
     (in_right r (option_to_list (count_range f k)) (option_to_list (table_range f k)) (in_option (table_range f k) r is))
 
 bits_needed : (f : List ℕ) (k : ℕ) (r : Range) → is_level f k ≡ true → outside_range f k 258 ≡ Some r → In r (ranges_of_directory f k)
-unfolding ranges_of_directory outside_range is_level
+unfolding ranges_of_directory outside_ranges outside_range is_level
 bits_needed f k r level is =
     let both = option_to_list (outside_range f k 258) ++ option_to_list (outside_range f k 339) in
     let here : of_level f k ≡ both = rw level refl in
@@ -194,7 +194,7 @@ tabled f o k clean order few there =
 
 -- ---- a level
 
-not_met : (es : List Entry) (r : Rule) → meets es r ≡ false → (fault : FileFault) × IsEntryFault r es fault
+not_met : (es : List Entry) (r : Rule) → keeps es r ≡ false → (fault : FileFault) × IsEntryFault r es fault
 not_met es r bad = at (found r.tag es) refl where
   at : (o : Option Entry) → found r.tag es ≡ o → (fault : FileFault) × IsEntryFault r es fault
   at None is = (Missing r.tag, (refl, not_false r.required (λ optional. false≢true (sym bad ∙ rw (is, optional) refl)), is))
@@ -207,12 +207,12 @@ IsSound f k = (fault : FileFault) → IsFaultOfLevel f k fault → ⊥
 sound_level : (f : List ℕ) (k : ℕ) → IsClean f → k < 16 → has_directory f k ≡ true → is_level f k ≡ true → IsSound f k
 sound_level f k clean few there level fault bad = clean fault (level_fault f k fault few there level bad)
 
-all_met : (f : List ℕ) (k : ℕ) (es : List Entry) → HasTable f k es → IsSound f k → AllPass (meets es) profile
-all_met f k es has sound = λ j d within. not_false (meets es (get_or profile j d)) (λ bad.
+all_met : (f : List ℕ) (k : ℕ) (es : List Entry) → HasTable f k es → IsSound f k → AllPass (keeps es) profile
+all_met f k es has sound = λ j d within. not_false (keeps es (get_or profile j d)) (λ bad.
     let (fault, is) = not_met es (get_or profile j d) bad in
     sound fault (profile_fault f k es fault has (j, d, within, is)))
 
-has_values : (f : List ℕ) (k : ℕ) (es : List Entry) → HasTable f k es → IsSound f k → AllPass (meets es) profile → HasValues es
+has_values : (f : List ℕ) (k : ℕ) (es : List Entry) → HasTable f k es → IsSound f k → AllPass (keeps es) profile → HasValues es
 has_values f k es has sound met = record {
   photometric = not_false _ (λ bad. sound (Unsupported 262) (value_fault f k es (Unsupported 262) has met (inl (refl, bad))));
   samples = not_false _ (λ bad. sound (Unsupported 277) (value_fault f k es (Unsupported 277) has met (inr (inl (refl, bad)))));
@@ -220,14 +220,14 @@ has_values f k es has sound met = record {
   compression = not_false _ (λ bad. sound (Unsupported 259) (value_fault f k es (Unsupported 259) has met (inr (inr (inr (refl, bad))))));
 }
 
-has_counts : (f : List ℕ) (k : ℕ) (es : List Entry) → HasTable f k es → IsSound f k → AllPass (meets es) profile → HasCounts es
+has_counts : (f : List ℕ) (k : ℕ) (es : List Entry) → HasTable f k es → IsSound f k → AllPass (keeps es) profile → HasCounts es
 has_counts f k es has sound met = (
   not_false _ (λ bad. sound (FieldType 258) (count_fault f k es (FieldType 258) has met (inl (refl, bad)))),
   not_false _ (λ bad. sound (FieldType 339) (count_fault f k es (FieldType 339) has met (inr (refl, bad)))),
 )
 
 -- the values of BitsPerSample are there
-some_bits : (f : List ℕ) (o : Order) (k : ℕ) (es : List Entry) → IsClean f → order_of f ≡ Some o → k < 16 → has_directory f k ≡ true → is_level f k ≡ true → HasTable f k es → AllPass (meets es) profile → HasValues es → HasCounts es
+some_bits : (f : List ℕ) (o : Order) (k : ℕ) (es : List Entry) → IsClean f → order_of f ≡ Some o → k < 16 → has_directory f k ≡ true → is_level f k ≡ true → HasTable f k es → AllPass (keeps es) profile → HasValues es → HasCounts es
     → (bits : ℕ) × (value f k 258 0 ≡ Some bits)
 some_bits f o k es clean order few there level has met right counts = elim (fits_cases (short_or es 277 1) (short_or es 262 0) right.samples) [
   | inl one ↦ (short_or es 258 0, bits_value f k es has met counts one)

@@ -7,7 +7,7 @@ use Rattle.std.specs.List.{AllPass}
 use Rattle.tiff_dir.specs.declared.table.Entry.{Entry}
 use Rattle.tiff_dir.specs.declared.rule.Rule.{Rule}
 use Rattle.tiff_dir.specs.declared.level.Kind.{Kind}
-use Rattle.tiff_dir.specs.Table.{meets, short_or, place_or, draft_in, HasValues}
+use Rattle.tiff_dir.specs.Table.{keeps, short_or, place_or, draft_in, HasValues}
 use Rattle.tiff_dir.proofs.Fields.{kind_told, kind_long, typed, met_entry, met_there}
 use Rattle.tiff_dir.proofs.Levels.{fits_cases}
 use Rattle.tiff_dir.specs.declared.level.Level.{Level}
@@ -275,7 +275,7 @@ is_multiple side good =
     let whole : side % 16 ≡ 0 = eqb-true (side % 16) 0 p.1 in
     (omega arith, whole)
 
-long_place : (es : List Entry) → AllPass (meets es) profile → is_long (place_or es 324).kind ≡ true
+long_place : (es : List Entry) → AllPass (keeps es) profile → is_long (place_or es 324).kind ≡ true
 unfolding profile
 long_place es met =
     let r : Rule = get_or profile 10 subfile_rule in
@@ -284,7 +284,7 @@ long_place es met =
     let four : e.kind ≡ 4 = kind_long r.typing e.kind refl (typed r e (met_entry es r e ok there)) in
     rw there (rw four refl)
 
-whole_place : (es : List Entry) → AllPass (meets es) profile → is_short_or_long (place_or es 325).kind ≡ true
+whole_place : (es : List Entry) → AllPass (keeps es) profile → is_short_or_long (place_or es 325).kind ≡ true
 unfolding profile
 whole_place es met =
     let r : Rule = get_or profile 11 subfile_rule in
@@ -292,7 +292,7 @@ whole_place es met =
     let (e, there) = met_there es r ok refl in
     elim (kind_told r.typing e.kind tt (typed r e (met_entry es r e ok there))) [ inl three ↦ rw there (rw three refl) | inr four ↦ rw there (rw four refl) ]
 
-pub draft_bounds : (es : List Entry) (d : Draft) → AllPass (meets es) profile → HasValues es → d ≡ draft_in es → IsBounded d → IsDraft d
+pub draft_bounds : (es : List Entry) (d : Draft) → AllPass (keeps es) profile → HasValues es → d ≡ draft_in es → IsBounded d → IsDraft d
 unfolding draft_in
 draft_bounds es d met right is bounded = record {
   bounded = bounded;

@@ -18,7 +18,7 @@ use Rattle.tiff_dir.specs.File.{Field, order_of, number, with_tag, field, values
 use Rattle.tiff_dir.specs.Profile.{has_typing}
 use Rattle.tiff_dir.specs.Fault.{IsMistyped, IsMiscounted, IsRuleFault}
 use Rattle.tiff_dir.specs.Stage.{HasTable, IsTableOf}
-use Rattle.tiff_dir.specs.Table.{entry, entries, field_of, found, allows, counts_one, meets, IsEntryFault, single_of, single_or, short_or}
+use Rattle.tiff_dir.specs.Table.{entry, entries, field_of, found, allows, counts_one, keeps, IsEntryFault, single_of, single_or, short_or}
 use Rattle.tiff_dir.proofs.Parts.{part_inside, number_inside}
 use Rattle.tiff_dir.proofs.Chain.{some_and_at, some_and_from, same_entries, fields_are, all_tags}
 
@@ -131,12 +131,12 @@ typed r e ok = (and_parts (has_typing r.typing e.kind) (counts_one r.count e.cou
 counted : (r : Rule) (e : Entry) → allows r e ≡ true → counts_one r.count e.count ≡ true
 counted r e ok = (and_parts (has_typing r.typing e.kind) (counts_one r.count e.count) ok).1
 
--- an entry that is there and meets its rule
-pub met_entry : (es : List Entry) (r : Rule) (e : Entry) → meets es r ≡ true → found r.tag es ≡ Some e → allows r e ≡ true
+-- an entry that is there and keeps its rule
+pub met_entry : (es : List Entry) (r : Rule) (e : Entry) → keeps es r ≡ true → found r.tag es ≡ Some e → allows r e ≡ true
 met_entry es r e met is = rw is at met
 
 -- a required field is there
-pub met_there : (es : List Entry) (r : Rule) → meets es r ≡ true → r.required ≡ true → (e : Entry) × (found r.tag es ≡ Some e)
+pub met_there : (es : List Entry) (r : Rule) → keeps es r ≡ true → r.required ≡ true → (e : Entry) × (found r.tag es ≡ Some e)
 met_there es r met required = there (found r.tag es) met where
   there : (o : Option Entry) → option_map_or (allows r) o (not r.required) ≡ true → (e : Entry) × (o ≡ Some e)
   there None met = absurd (false≢true (sym (not_from_true r.required required) ∙ met))
@@ -158,7 +158,7 @@ no_value : (f : List ℕ) (e : Entry) (i : ℕ) → e.kind ≡ 3 → e.count ≡
 unfolding field_value values_at
 no_value f e i kind count some = let past = le-ltb i 1 (omega arith) in rw (count, kind, past) refl
 
-pub single_told : (f : List ℕ) (k : ℕ) (es : List Entry) (r : Rule) (d : ℕ) → HasTable f k es → meets es r ≡ true → IsInteger r.typing → r.count ≡ One → (default_of r.tag ≡ Some d) ⊎ (r.required ≡ true) → value f k r.tag 0 ≡ Some (single_or es r.tag d)
+pub single_told : (f : List ℕ) (k : ℕ) (es : List Entry) (r : Rule) (d : ℕ) → HasTable f k es → keeps es r ≡ true → IsInteger r.typing → r.count ≡ One → (default_of r.tag ≡ Some d) ⊎ (r.required ≡ true) → value f k r.tag 0 ≡ Some (single_or es r.tag d)
 single_told f k es r d has met integer one default = value_told f k es r.tag 0 has ∙ at (found r.tag es) refl default where
   at : (o : Option Entry) → found r.tag es ≡ o → (default_of r.tag ≡ Some d) ⊎ (r.required ≡ true) → option_map_or (λ e. field_value f (field_of e) 0) o (default_of r.tag) ≡ Some (option_map_or single_of o d)
   at None is (inl default) = default
@@ -167,7 +167,7 @@ single_told f k es r d has met integer one default = value_told f k es r.tag 0 h
       let ok = met_entry es r e met is in
       single_value f e (has.short r.tag e is) (has.long r.tag e is) (kind_told r.typing e.kind integer (typed r e ok)) (count_one r.count e.count one (counted r e ok))
 
-pub short_told : (f : List ℕ) (k : ℕ) (es : List Entry) (r : Rule) (d : ℕ) → HasTable f k es → meets es r ≡ true → r.typing ≡ typing.Short
+pub short_told : (f : List ℕ) (k : ℕ) (es : List Entry) (r : Rule) (d : ℕ) → HasTable f k es → keeps es r ≡ true → r.typing ≡ typing.Short
     → ((e : Entry) → found r.tag es ≡ Some e → e.count ≡ 1) → (default_of r.tag ≡ Some d) ⊎ (r.required ≡ true) → value f k r.tag 0 ≡ Some (short_or es r.tag d)
 short_told f k es r d has met short one default = value_told f k es r.tag 0 has ∙ at (found r.tag es) refl default where
   at : (o : Option Entry) → found r.tag es ≡ o → (default_of r.tag ≡ Some d) ⊎ (r.required ≡ true) → option_map_or (λ e. field_value f (field_of e) 0) o (default_of r.tag) ≡ Some (option_map_or (λ e. e.short) o d)
@@ -178,7 +178,7 @@ short_told f k es r d has met short one default = value_told f k es r.tag 0 has 
       short_value f e (has.short r.tag e is) (kind_short r.typing e.kind short (typed r e ok)) (one e is)
 
 -- each value of a field of one SHORT is that one
-pub short_only : (f : List ℕ) (k : ℕ) (es : List Entry) (r : Rule) (d : ℕ) → HasTable f k es → meets es r ≡ true → r.typing ≡ typing.Short
+pub short_only : (f : List ℕ) (k : ℕ) (es : List Entry) (r : Rule) (d : ℕ) → HasTable f k es → keeps es r ≡ true → r.typing ≡ typing.Short
     → ((e : Entry) → found r.tag es ≡ Some e → e.count ≡ 1) → (default_of r.tag ≡ Some d) ⊎ (r.required ≡ true) → (i v : ℕ) → value f k r.tag i ≡ Some v → v ≡ short_or es r.tag d
 short_only f k es r d has met short one default i v told = at (found r.tag es) refl default (sym (value_told f k es r.tag i has) ∙ told) where
   at : (o : Option Entry) → found r.tag es ≡ o → (default_of r.tag ≡ Some d) ⊎ (r.required ≡ true) → option_map_or (λ e. field_value f (field_of e) i) o (default_of r.tag) ≡ Some v → v ≡ option_map_or (λ e. e.short) o d
@@ -193,7 +193,7 @@ short_only f k es r d has met short one default i v told = at (found r.tag es) r
     which (suc j) told = absurd (none-some v (sym (no_value f e (suc j) kind (one e is) (omega arith)) ∙ told))
 
 -- the same of the count that a rule asks for
-pub one_counted : (es : List Entry) (r : Rule) → meets es r ≡ true → r.count ≡ One → (e : Entry) → found r.tag es ≡ Some e → e.count ≡ 1
+pub one_counted : (es : List Entry) (r : Rule) → keeps es r ≡ true → r.count ≡ One → (e : Entry) → found r.tag es ≡ Some e → e.count ≡ 1
 one_counted es r met one e is = count_one r.count e.count one (counted r e (met_entry es r e met is))
 
 -- Three values outside the entry
@@ -227,7 +227,7 @@ rule_fault f k es r (FieldType tag) has bad =
 rule_fault f k es r _ has bad = absurd bad
 
 -- the field of a rule that is met, and counted where it counts samples
-pub no_rule_fault : (f : List ℕ) (k : ℕ) (es : List Entry) (r : Rule) → HasTable f k es → meets es r ≡ true
+pub no_rule_fault : (f : List ℕ) (k : ℕ) (es : List Entry) (r : Rule) → HasTable f k es → keeps es r ≡ true
     → (r.count ≡ Samples → (e : Entry) → found r.tag es ≡ Some e → (s : ℕ) × (value f k 277 0 ≡ Some s) × ((e.count == s) ≡ true)) → (fault : FileFault) → IsRuleFault f k r fault → ⊥
 no_rule_fault f k es r has met right (Missing tag) bad =
     let (e, there) = met_there es r met bad.1 in

@@ -27,7 +27,7 @@ use Rattle.tiff_dir.specs.Fault.{IsRuleFault}
 use Rattle.tiff_dir.specs.GeoEntries.{geo_in, place_by, ArePlacesBy, IsFaultBy}
 use Rattle.tiff_dir.specs.Known.{HasGeo}
 use Rattle.tiff_dir.specs.Stage.{range_of, AgreesAt, HasTable, IsPart}
-use Rattle.tiff_dir.specs.Table.{allows, counts_one, entries, field_of, found, kind_in, len_of, meets, place_in}
+use Rattle.tiff_dir.specs.Table.{allows, counts_one, entries, field_of, found, kind_in, len_of, keeps, place_in}
 use Rattle.tiff_dir.specs.Walk.{AreGeoPlaces, IsGeoPlace}
 use Rattle.tiff_dir.proofs.Chain.{some_and_at, some_and_from}
 use Rattle.tiff_dir.proofs.Fields.{IsKind, has_table, field_told, kind_is, typed, rule_fault, no_rule_fault}
@@ -87,9 +87,9 @@ place_told f es r p has is = rw (field_told f 0 es r.tag has) (at (found r.tag e
       let h = placed r e p is in
       place_entry f e (has.long r.tag e there) (entry_kind r e h.allowed) ∙ sym h.place
 
-met : (es : List Entry) (r : Rule) (p : Option Place) → r.required ≡ false → place_by r (found r.tag es) ≡ Ok p → meets es r ≡ true
+met : (es : List Entry) (r : Rule) (p : Option Place) → r.required ≡ false → place_by r (found r.tag es) ≡ Ok p → keeps es r ≡ true
 met es r p optional is = at (found r.tag es) refl is where
-  at : (o : Option Entry) → found r.tag es ≡ o → place_by r o ≡ Ok p → meets es r ≡ true
+  at : (o : Option Entry) → found r.tag es ≡ o → place_by r o ≡ Ok p → keeps es r ≡ true
   at None there is = rw (there, optional) refl
   at (Some e) there is = rw there (placed r e p is).allowed
 

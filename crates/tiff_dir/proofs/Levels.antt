@@ -19,7 +19,7 @@ use Rattle.tiff_dir.specs.File.{◌>>=◌, kind_of, size_of, number, field, valu
 use Rattle.tiff_dir.specs.Profile.{subfile_rule, profile, is_depth, accepts, samples_fit, planes_fit}
 use Rattle.tiff_dir.specs.Level.{is_level, place_of, compression_of}
 use Rattle.tiff_dir.specs.Fault.{IsMistyped, IsMiscounted, IsRuleFault, IsUnsupported, IsMisfit, IsFaultOfDirectory, IsFaultOfLevel}
-use Rattle.tiff_dir.specs.Table.{field_of, found, meets, IsFaultOfEntries, short_or, counts_samples, kind_in, place_in, place_or, draft_in, HasValues, IsValueFault, HasCounts, IsCountFault, IsReadIn, IsReadFault}
+use Rattle.tiff_dir.specs.Table.{field_of, found, keeps, IsFaultOfEntries, short_or, counts_samples, kind_in, place_in, place_or, draft_in, HasValues, IsValueFault, HasCounts, IsCountFault, IsReadIn, IsReadFault}
 use Rattle.tiff_dir.specs.Stage.{HasTable, IsTableOf, IsDrafted, IsPending}
 use Rattle.tiff_dir.proofs.Chain.{some_and_at, some_and_from, next_is}
 use Rattle.tiff_dir.proofs.Fields.{IsKind, field_told, kind_is, typed, met_entry, met_there, single_told, short_told, short_only, one_counted, rule_fault, no_rule_fault}
@@ -29,7 +29,7 @@ rule : ℕ → Rule
 rule j = get_or profile j subfile_rule
 
 Met : List Entry → Type 0
-Met es = AllPass (meets es) profile
+Met es = AllPass (keeps es) profile
 
 pub some_and_cases : {A : Type 0} (o : Option A) (P : A → Type 0) → IsSomeAnd o P → (x : A) × (o ≡ Some x) × P x
 some_and_cases None P bad = absurd bad
@@ -37,22 +37,22 @@ some_and_cases (Some x) P p = (x, refl, p)
 
 -- The values in the entries
 
-photometric_told : (f : List ℕ) (k : ℕ) (es : List Entry) → HasTable f k es → AllPass (meets es) profile → value f k 262 0 ≡ Some (short_or es 262 0)
+photometric_told : (f : List ℕ) (k : ℕ) (es : List Entry) → HasTable f k es → AllPass (keeps es) profile → value f k 262 0 ≡ Some (short_or es 262 0)
 unfolding profile
 photometric_told f k es has met =
     let r : Rule = get_or profile 5 subfile_rule in let ok = met 5 subfile_rule (lit< tt) in short_told f k es r 0 has ok refl (one_counted es r ok refl) (inr refl)
 
-pub samples_told : (f : List ℕ) (k : ℕ) (es : List Entry) → HasTable f k es → AllPass (meets es) profile → value f k 277 0 ≡ Some (short_or es 277 1)
+pub samples_told : (f : List ℕ) (k : ℕ) (es : List Entry) → HasTable f k es → AllPass (keeps es) profile → value f k 277 0 ≡ Some (short_or es 277 1)
 unfolding profile
 samples_told f k es has met =
     let r : Rule = get_or profile 6 subfile_rule in let ok = met 6 subfile_rule (lit< tt) in short_told f k es r 1 has ok refl (one_counted es r ok refl) (inl refl)
 
-planar_told : (f : List ℕ) (k : ℕ) (es : List Entry) → HasTable f k es → AllPass (meets es) profile → value f k 284 0 ≡ Some (short_or es 284 1)
+planar_told : (f : List ℕ) (k : ℕ) (es : List Entry) → HasTable f k es → AllPass (keeps es) profile → value f k 284 0 ≡ Some (short_or es 284 1)
 unfolding profile
 planar_told f k es has met =
     let r : Rule = get_or profile 7 subfile_rule in let ok = met 7 subfile_rule (lit< tt) in short_told f k es r 1 has ok refl (one_counted es r ok refl) (inl refl)
 
-compression_told : (f : List ℕ) (k : ℕ) (es : List Entry) → HasTable f k es → AllPass (meets es) profile → value f k 259 0 ≡ Some (short_or es 259 0)
+compression_told : (f : List ℕ) (k : ℕ) (es : List Entry) → HasTable f k es → AllPass (keeps es) profile → value f k 259 0 ≡ Some (short_or es 259 0)
 unfolding profile
 compression_told f k es has met =
     let r : Rule = get_or profile 4 subfile_rule in let ok = met 4 subfile_rule (lit< tt) in short_told f k es r 0 has ok refl (one_counted es r ok refl) (inr refl)
@@ -64,7 +64,7 @@ profile_fault f k es (Missing tag) has (j, d, inside, bad) = (j, get_or profile 
 profile_fault f k es (FieldType tag) has (j, d, inside, bad) = (j, get_or profile j d, inside, get_or_default profile j _ d inside, rule_fault f k es (get_or profile j d) (FieldType tag) has bad)
 profile_fault f k es _ has (j, d, inside, bad) = absurd bad
 
-pub value_fault : (f : List ℕ) (k : ℕ) (es : List Entry) (fault : FileFault) → HasTable f k es → AllPass (meets es) profile → IsValueFault es fault → IsFaultOfLevel f k fault
+pub value_fault : (f : List ℕ) (k : ℕ) (es : List Entry) (fault : FileFault) → HasTable f k es → AllPass (keeps es) profile → IsValueFault es fault → IsFaultOfLevel f k fault
 value_fault f k es fault has met (inl (is, bad)) =
     let here : IsFaultOfLevel f k (Unsupported 262) = inl (0, some_and_from (value f k 262 0) (λ v. accepts 262 v ≡ false) _ (photometric_told f k es has met) bad) in
     subst (IsFaultOfLevel f k) (sym is) here
@@ -85,7 +85,7 @@ value_fault f k es fault has met (inr (inr (inr (is, bad)))) =
     subst (IsFaultOfLevel f k) (sym is) here
 
 -- a field that has another number of values than a pixel has samples
-miscounted : (f : List ℕ) (k : ℕ) (es : List Entry) (r : Rule) → HasTable f k es → AllPass (meets es) profile → r.count ≡ Samples → counts_samples es r.tag ≡ false → IsRuleFault f k r (FieldType r.tag)
+miscounted : (f : List ℕ) (k : ℕ) (es : List Entry) (r : Rule) → HasTable f k es → AllPass (keeps es) profile → r.count ≡ Samples → counts_samples es r.tag ≡ false → IsRuleFault f k r (FieldType r.tag)
 miscounted f k es r has met counts bad = (refl, at (found r.tag es) refl bad) where
   at : (o : Option Entry) → found r.tag es ≡ o → option_map_or (λ e. e.count == short_or es 277 1) o true ≡ false → IsSomeAnd (field f k r.tag) (λ e. IsMistyped r.typing e ⊎ IsMiscounted f k r.count e)
   at None is bad = absurd (false≢true (sym bad))
@@ -93,7 +93,7 @@ miscounted f k es r has met counts bad = (refl, at (found r.tag es) refl bad) wh
       let wrong : IsMiscounted f k Samples (field_of e) = some_and_from (value f k 277 0) (λ s. (e.count == s) ≡ false) _ (samples_told f k es has met) bad in
       some_and_from (field f k r.tag) (λ x. IsMistyped r.typing x ⊎ IsMiscounted f k r.count x) (field_of e) (field_told f k es r.tag has ∙ rw is refl) (inr (rw counts wrong))
 
-pub count_fault : (f : List ℕ) (k : ℕ) (es : List Entry) (fault : FileFault) → HasTable f k es → AllPass (meets es) profile → IsCountFault es fault → IsFaultOfLevel f k fault
+pub count_fault : (f : List ℕ) (k : ℕ) (es : List Entry) (fault : FileFault) → HasTable f k es → AllPass (keeps es) profile → IsCountFault es fault → IsFaultOfLevel f k fault
 unfolding profile
 count_fault f k es fault has met (inl (is, bad)) =
     let here : IsFaultOfLevel f k (FieldType 258) = (3, get_or profile 3 subfile_rule, lit< tt, refl, miscounted f k es (get_or profile 3 subfile_rule) has met refl bad) in
@@ -129,7 +129,7 @@ pub count_is : (es : List Entry) (tag : ℕ) (e : Entry) → counts_samples es t
 count_is es tag e right is = rw is at right
 
 -- no field is missing or has another type or count
-pub no_field_fault : (f : List ℕ) (k : ℕ) (es : List Entry) → HasTable f k es → AllPass (meets es) profile → HasCounts es → (fault : FileFault) → Any (λ r. IsRuleFault f k r fault) profile → ⊥
+pub no_field_fault : (f : List ℕ) (k : ℕ) (es : List Entry) → HasTable f k es → AllPass (keeps es) profile → HasCounts es → (fault : FileFault) → Any (λ r. IsRuleFault f k r fault) profile → ⊥
 no_field_fault f k es has met right fault (j, r, inside, is, bad) =
     no_rule_fault f k es (get_or profile j r) has (met j r inside)
     (λ counts e there. (short_or es 277 1, samples_told f k es has met, count_is es (get_or profile j r).tag e (profile_counts es right j r inside counts) there))
@@ -172,28 +172,28 @@ accepted_here : (f : List ℕ) (k tag : ℕ) → AllAccepted f k tag → ((i : �
 unfolding AllAccepted
 accepted_here f k tag all (i, bad) = let (v, told, wrong) = some_and_cases _ _ bad in false≢true (sym wrong ∙ all i v told)
 
-compression_accepted : (f : List ℕ) (k : ℕ) (es : List Entry) → HasTable f k es → AllPass (meets es) profile → HasValues es → AllAccepted f k 259
+compression_accepted : (f : List ℕ) (k : ℕ) (es : List Entry) → HasTable f k es → AllPass (keeps es) profile → HasValues es → AllAccepted f k 259
 unfolding profile
 compression_accepted f k es has met right = let r : Rule = get_or profile 4 subfile_rule in let ok = met 4 subfile_rule (lit< tt) in
     all_accepted f k 259 (short_or es 259 0) right.compression (short_only f k es r 0 has ok refl (one_counted es r ok refl) (inr refl))
 
-photometric_accepted : (f : List ℕ) (k : ℕ) (es : List Entry) → HasTable f k es → AllPass (meets es) profile → HasValues es → AllAccepted f k 262
+photometric_accepted : (f : List ℕ) (k : ℕ) (es : List Entry) → HasTable f k es → AllPass (keeps es) profile → HasValues es → AllAccepted f k 262
 unfolding profile
 photometric_accepted f k es has met right = let r : Rule = get_or profile 5 subfile_rule in let ok = met 5 subfile_rule (lit< tt) in
     all_accepted f k 262 (short_or es 262 0) right.photometric (short_only f k es r 0 has ok refl (one_counted es r ok refl) (inr refl))
 
-samples_accepted : (f : List ℕ) (k : ℕ) (es : List Entry) → HasTable f k es → AllPass (meets es) profile → HasValues es → AllAccepted f k 277
+samples_accepted : (f : List ℕ) (k : ℕ) (es : List Entry) → HasTable f k es → AllPass (keeps es) profile → HasValues es → AllAccepted f k 277
 unfolding profile
 samples_accepted f k es has met right = let r : Rule = get_or profile 6 subfile_rule in let ok = met 6 subfile_rule (lit< tt) in
     all_accepted f k 277 (short_or es 277 1) (accepts-samples (short_or es 277 1) (short_or es 262 0) right.samples) (short_only f k es r 1 has ok refl (one_counted es r ok refl) (inl refl))
 
-planar_accepted : (f : List ℕ) (k : ℕ) (es : List Entry) → HasTable f k es → AllPass (meets es) profile → HasValues es → AllAccepted f k 284
+planar_accepted : (f : List ℕ) (k : ℕ) (es : List Entry) → HasTable f k es → AllPass (keeps es) profile → HasValues es → AllAccepted f k 284
 unfolding profile
 planar_accepted f k es has met right = let r : Rule = get_or profile 7 subfile_rule in let ok = met 7 subfile_rule (lit< tt) in
     all_accepted f k 284 (short_or es 284 1) (accepts-planar (short_or es 284 1) (short_or es 277 1) right.planar) (short_only f k es r 1 has ok refl (one_counted es r ok refl) (inl refl))
 
 -- but for 258 and 339 each value is one that the profile accepts
-tag_accepted : (f : List ℕ) (k : ℕ) (es : List Entry) → HasTable f k es → AllPass (meets es) profile → HasValues es → (tag : ℕ) → tag ≢ 258 → tag ≢ 339 → AllAccepted f k tag
+tag_accepted : (f : List ℕ) (k : ℕ) (es : List Entry) → HasTable f k es → AllPass (keeps es) profile → HasValues es → (tag : ℕ) → tag ≢ 258 → tag ≢ 339 → AllAccepted f k tag
 unfolding AllAccepted
 tag_accepted f k es has met right tag n1 n6 = λ i v told. elim (cases_eq tag 259) [
   | inl e ↦ at 259 e (compression_accepted f k es has met right) i v told
@@ -211,7 +211,7 @@ tag_accepted f k es has met right tag n1 n6 = λ i v told. elim (cases_eq tag 25
   at : (t : ℕ) → tag ≡ t → AllAccepted f k t → AllAccepted f k tag
   at t e all = let P : ℕ → Type 0 = λ x. AllAccepted f k x in subst P (sym e) all
 
-pub supported : (f : List ℕ) (k : ℕ) (es : List Entry) → HasTable f k es → AllPass (meets es) profile → HasValues es → (tag : ℕ) → tag ≢ 258 → tag ≢ 339 → IsUnsupported f k tag → ⊥
+pub supported : (f : List ℕ) (k : ℕ) (es : List Entry) → HasTable f k es → AllPass (keeps es) profile → HasValues es → (tag : ℕ) → tag ≢ 258 → tag ≢ 339 → IsUnsupported f k tag → ⊥
 supported f k es has met right tag n1 n6 (inl bad) = accepted_here f k tag (tag_accepted f k es has met right tag n1 n6) bad
 supported f k es has met right tag n1 n6 (inr (inl bad)) =
     let one = some_and_at (value f k 277 0) (λ x. IsSomeAnd (value f k 262 0) (λ y. samples_fit x y ≡ false)) _ (samples_told f k es has met) bad.1 in
@@ -263,13 +263,13 @@ place_entry f e long (inr (inl kind)) = place_with f e kinds.Long (rw kind refl)
 place_entry f e long (inr (inr (inl kind))) = place_with f e kinds.Ascii (rw kind refl) (rw kind refl) long
 place_entry f e long (inr (inr (inr kind))) = place_with f e kinds.Double (rw kind refl) (rw kind refl) long
 
-place_told : (f : List ℕ) (k : ℕ) (es : List Entry) (r : Rule) → HasTable f k es → meets es r ≡ true → r.required ≡ true → (field f k r.tag >>= place_of f) ≡ Some (place_or es r.tag)
+place_told : (f : List ℕ) (k : ℕ) (es : List Entry) (r : Rule) → HasTable f k es → keeps es r ≡ true → r.required ≡ true → (field f k r.tag >>= place_of f) ≡ Some (place_or es r.tag)
 place_told f k es r has met required =
     let (e, there) = met_there es r met required in
     let kind = kind_is r.typing e.kind (typed r e (met_entry es r e met there)) in
     rw (field_told f k es r.tag has) (rw there (place_entry f e (has.long r.tag e there) kind))
 
-pub drafted : (f : List ℕ) (k : ℕ) (es : List Entry) → HasTable f k es → AllPass (meets es) profile → HasValues es → IsDrafted f k (draft_in es)
+pub drafted : (f : List ℕ) (k : ℕ) (es : List Entry) → HasTable f k es → AllPass (keeps es) profile → HasValues es → IsDrafted f k (draft_in es)
 unfolding draft_in profile
 drafted f k es has met right =
     let d : Rule = subfile_rule in

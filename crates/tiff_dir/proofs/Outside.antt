@@ -16,10 +16,10 @@ use Rattle.tiff_dir.specs.declared.fault.FileFault.{FileFault}
 use Rattle.tiff_dir.specs.File.{◌>>=◌, has_directory, values_at, value}
 use Rattle.tiff_dir.specs.Profile.{subfile_rule, profile, is_depth, accepts}
 use Rattle.tiff_dir.specs.Level.{is_level, place_of}
-use Rattle.tiff_dir.specs.Needs.{outside_entry, outside_range}
+use Rattle.tiff_dir.specs.Needs.{outside_entry, outside_range, outside_ranges}
 use Rattle.tiff_dir.specs.Fault.{IsUnsupported, IsFaultOfLevel, IsFaultOfDirectories}
-use Rattle.tiff_dir.specs.Table.{field_of, found, meets, short_or, counts_samples, long_in, draft_in, HasValues, HasCounts, IsReadIn}
-use Rattle.tiff_dir.specs.Stage.{HasTable, HasShorts, HasFormats, IsSupported, IsPending, StepsOn, EndsDirectory, outside_ranges, ranges_from, three_shorts, still}
+use Rattle.tiff_dir.specs.Table.{field_of, found, keeps, short_or, counts_samples, long_in, draft_in, HasValues, HasCounts, IsReadIn}
+use Rattle.tiff_dir.specs.Stage.{HasTable, HasShorts, HasFormats, IsSupported, IsPending, StepsOn, EndsDirectory, ranges_from, three_shorts, still}
 use Rattle.tiff_dir.proofs.Chain.{some_and_from}
 use Rattle.tiff_dir.proofs.Fields.{field_told, value_told, kind_short, typed, met_entry, met_there, short_told, short_only, three_values}
 use Rattle.tiff_dir.proofs.Levels.{fits_cases, count_is, supported_by, depth_supported}
@@ -40,24 +40,24 @@ then_also P R Q (Err e) h more = h
 
 -- A field of SHORT
 
-is_short : (es : List Entry) (r : Rule) (e : Entry) → meets es r ≡ true → r.typing ≡ typing.Short → found r.tag es ≡ Some e → e.kind ≡ 3
+is_short : (es : List Entry) (r : Rule) (e : Entry) → keeps es r ≡ true → r.typing ≡ typing.Short → found r.tag es ≡ Some e → e.kind ≡ 3
 is_short es r e met short is = kind_short r.typing e.kind short (typed r e (met_entry es r e met is))
 
 is_counted : (es : List Entry) (tag s : ℕ) (e : Entry) → counts_samples es tag ≡ true → short_or es 277 1 ≡ s → found tag es ≡ Some e → e.count ≡ s
 is_counted es tag s e right samples is = eqb-true e.count (short_or es 277 1) (count_is es tag e right is) ∙ samples
 
-three_told : (f : List ℕ) (k : ℕ) (es : List Entry) (r : Rule) (e : Entry) → HasTable f k es → meets es r ≡ true → r.typing ≡ typing.Short → e.count ≡ 3 → found r.tag es ≡ Some e → HasShorts f k r.tag e.long
+three_told : (f : List ℕ) (k : ℕ) (es : List Entry) (r : Rule) (e : Entry) → HasTable f k es → keeps es r ≡ true → r.typing ≡ typing.Short → e.count ≡ 3 → found r.tag es ≡ Some e → HasShorts f k r.tag e.long
 three_told f k es r e has met short count is = λ i.
     value_told f k es r.tag i has ∙ rw is (three_values f e i (has.long r.tag e is) (is_short es r e met short is) count)
 
-three_outside : (f : List ℕ) (k : ℕ) (es : List Entry) (r : Rule) (e : Entry) → HasTable f k es → meets es r ≡ true → r.typing ≡ typing.Short → e.count ≡ 3 → found r.tag es ≡ Some e → outside_range f k r.tag ≡ Some (three_shorts e.long)
+three_outside : (f : List ℕ) (k : ℕ) (es : List Entry) (r : Rule) (e : Entry) → HasTable f k es → keeps es r ≡ true → r.typing ≡ typing.Short → e.count ≡ 3 → found r.tag es ≡ Some e → outside_range f k r.tag ≡ Some (three_shorts e.long)
 unfolding outside_range place_of values_at
 three_outside f k es r e has met short count is =
     let kind = is_short es r e met short is in
     let long = has.long r.tag e is in
     rw (field_told f k es r.tag has) (rw is (rw (kind, count, long) refl))
 
-one_inside : (f : List ℕ) (k : ℕ) (es : List Entry) (r : Rule) → HasTable f k es → meets es r ≡ true → r.typing ≡ typing.Short → ((e : Entry) → found r.tag es ≡ Some e → e.count ≡ 1) → outside_range f k r.tag ≡ None
+one_inside : (f : List ℕ) (k : ℕ) (es : List Entry) (r : Rule) → HasTable f k es → keeps es r ≡ true → r.typing ≡ typing.Short → ((e : Entry) → found r.tag es ≡ Some e → e.count ≡ 1) → outside_range f k r.tag ≡ None
 unfolding outside_range place_of values_at
 one_inside f k es r has met short one = rw (field_told f k es r.tag has) (at (found r.tag es) refl) where
   at : (o : Option Entry) → found r.tag es ≡ o → (option_map field_of o >>= place_of f >>= outside_entry) ≡ None
@@ -66,7 +66,7 @@ one_inside f k es r has met short one = rw (field_told f k es r.tag has) (at (fo
 
 -- Three samples
 
-pub bits_outside : (f : List ℕ) (k : ℕ) (es : List Entry) (first : ℕ) → HasTable f k es → AllPass (meets es) profile → HasCounts es → short_or es 277 1 ≡ 3 → long_in es 258 ≡ Some first
+pub bits_outside : (f : List ℕ) (k : ℕ) (es : List Entry) (first : ℕ) → HasTable f k es → AllPass (keeps es) profile → HasCounts es → short_or es 277 1 ≡ 3 → long_in es 258 ≡ Some first
     → HasShorts f k 258 first × (outside_range f k 258 ≡ Some (three_shorts first))
 unfolding profile
 bits_outside f k es first has met right samples told = at (found 258 es) refl told where
@@ -78,7 +78,7 @@ bits_outside f k es first has met right samples told = at (found 258 es) refl to
       let P : ℕ → Type 0 = λ n. HasShorts f k 258 n × (outside_range f k 258 ≡ Some (three_shorts n)) in
       subst P (same_Some _ _ e) (three_told f k es (get_or profile 3 subfile_rule) x has ok refl count is, three_outside f k es (get_or profile 3 subfile_rule) x has ok refl count is)
 
-pub formats_outside : (f : List ℕ) (k : ℕ) (es : List Entry) (formats : Option ℕ) → HasTable f k es → AllPass (meets es) profile → HasCounts es → short_or es 277 1 ≡ 3 → long_in es 339 ≡ formats
+pub formats_outside : (f : List ℕ) (k : ℕ) (es : List Entry) (formats : Option ℕ) → HasTable f k es → AllPass (keeps es) profile → HasCounts es → short_or es 277 1 ≡ 3 → long_in es 339 ≡ formats
     → HasFormats f k formats × (outside_range f k 339 ≡ option_map three_shorts formats)
 unfolding profile
 formats_outside f k es formats has met right samples told =
@@ -99,7 +99,7 @@ formats_outside f k es formats has met right samples told =
           (three_told f k es (get_or profile 12 subfile_rule) x has ok refl count is, three_outside f k es (get_or profile 12 subfile_rule) x has ok refl count is)
 
 -- the entry of BitsPerSample is there
-pub bits_there : (es : List Entry) → AllPass (meets es) profile → long_in es 258 ≡ None → ⊥
+pub bits_there : (es : List Entry) → AllPass (keeps es) profile → long_in es 258 ≡ None → ⊥
 unfolding profile
 bits_there es met none = let (e, there) = met_there es (get_or profile 3 subfile_rule) (met 3 subfile_rule (lit< tt)) refl in
     none-some e.long (sym none ∙ rw there refl)
@@ -109,25 +109,25 @@ bits_there es met none = let (e, there) = met_there es (get_or profile 3 subfile
 pub one_sample : (es : List Entry) → HasValues es → short_or es 277 1 ≢ 3 → short_or es 277 1 ≡ 1
 one_sample es right not = elim (fits_cases (short_or es 277 1) (short_or es 262 0) right.samples) [ inl one ↦ one | inr three ↦ absurd (not three) ]
 
-pub bits_value : (f : List ℕ) (k : ℕ) (es : List Entry) → HasTable f k es → AllPass (meets es) profile → HasCounts es → short_or es 277 1 ≡ 1 → value f k 258 0 ≡ Some (short_or es 258 0)
+pub bits_value : (f : List ℕ) (k : ℕ) (es : List Entry) → HasTable f k es → AllPass (keeps es) profile → HasCounts es → short_or es 277 1 ≡ 1 → value f k 258 0 ≡ Some (short_or es 258 0)
 unfolding profile
 bits_value f k es has met right samples =
     short_told f k es (get_or profile 3 subfile_rule) 0 has (met 3 subfile_rule (lit< tt)) refl (λ e is. is_counted es 258 1 e right.0 samples is) (inr refl)
 
-formats_value : (f : List ℕ) (k : ℕ) (es : List Entry) → HasTable f k es → AllPass (meets es) profile → HasCounts es → short_or es 277 1 ≡ 1 → value f k 339 0 ≡ Some (short_or es 339 1)
+formats_value : (f : List ℕ) (k : ℕ) (es : List Entry) → HasTable f k es → AllPass (keeps es) profile → HasCounts es → short_or es 277 1 ≡ 1 → value f k 339 0 ≡ Some (short_or es 339 1)
 unfolding profile
 formats_value f k es has met right samples =
     short_told f k es (get_or profile 12 subfile_rule) 1 has (met 12 subfile_rule (lit< tt)) refl (λ e is. is_counted es 339 1 e right.1 samples is) (inl refl)
 
-pub bits_unsupported : (f : List ℕ) (k : ℕ) (es : List Entry) → HasTable f k es → AllPass (meets es) profile → HasCounts es → short_or es 277 1 ≡ 1 → is_depth (short_or es 258 0) ≡ false → IsUnsupported f k 258
+pub bits_unsupported : (f : List ℕ) (k : ℕ) (es : List Entry) → HasTable f k es → AllPass (keeps es) profile → HasCounts es → short_or es 277 1 ≡ 1 → is_depth (short_or es 258 0) ≡ false → IsUnsupported f k 258
 bits_unsupported f k es has met right samples bad =
     inl (0, some_and_from (value f k 258 0) (λ v. accepts 258 v ≡ false) (short_or es 258 0) (bits_value f k es has met right samples) bad)
 
-pub formats_unsupported : (f : List ℕ) (k : ℕ) (es : List Entry) → HasTable f k es → AllPass (meets es) profile → HasCounts es → short_or es 277 1 ≡ 1 → short_or es 339 1 ≢ 1 → IsUnsupported f k 339
+pub formats_unsupported : (f : List ℕ) (k : ℕ) (es : List Entry) → HasTable f k es → AllPass (keeps es) profile → HasCounts es → short_or es 277 1 ≡ 1 → short_or es 339 1 ≢ 1 → IsUnsupported f k 339
 formats_unsupported f k es has met right samples bad =
     inl (0, some_and_from (value f k 339 0) (λ v. accepts 339 v ≡ false) (short_or es 339 1) (formats_value f k es has met right samples) (ne_eqb (short_or es 339 1) 1 bad))
 
-pub bits_inside : (f : List ℕ) (k : ℕ) (es : List Entry) → HasTable f k es → AllPass (meets es) profile → HasCounts es → short_or es 277 1 ≡ 1 → is_depth (short_or es 258 0) ≡ true
+pub bits_inside : (f : List ℕ) (k : ℕ) (es : List Entry) → HasTable f k es → AllPass (keeps es) profile → HasCounts es → short_or es 277 1 ≡ 1 → is_depth (short_or es 258 0) ≡ true
     → (value f k 258 0 ≡ Some (short_or es 258 0)) × IsSupported f k 258 × (outside_range f k 258 ≡ None)
 unfolding profile
 bits_inside f k es has met right samples good =
@@ -139,7 +139,7 @@ bits_inside f k es has met right samples good =
       one_inside f k es r has ok refl one,
     )
 
-pub formats_inside : (f : List ℕ) (k : ℕ) (es : List Entry) → HasTable f k es → AllPass (meets es) profile → HasCounts es → short_or es 277 1 ≡ 1 → short_or es 339 1 ≡ 1
+pub formats_inside : (f : List ℕ) (k : ℕ) (es : List Entry) → HasTable f k es → AllPass (keeps es) profile → HasCounts es → short_or es 277 1 ≡ 1 → short_or es 339 1 ≡ 1
     → IsSupported f k 339 × (outside_range f k 339 ≡ None)
 unfolding profile
 formats_inside f k es has met right samples good =

@@ -23,9 +23,9 @@ use Rattle.tiff_dir.proofs.Ends.{layout_parts}
 use Rattle.tiff_dir.specs.File.{◌>>=◌, Field, field, order_of, number, has_directory, directories}
 use Rattle.tiff_dir.specs.Described.{described, layout_of, AreLevels}
 use Rattle.tiff_dir.specs.Level.{Layout, is_level, place_of, level_directories, previous_level, layout_at, layouts, level_layout, level_directory}
-use Rattle.tiff_dir.specs.Needs.{Range, ends_past, range_of_place, field_range, needs_of_directories}
+use Rattle.tiff_dir.specs.Needs.{Range, ends_past, range_of_place, field_range, needs_of_directories, outside_ranges}
 use Rattle.tiff_dir.specs.Fault.{IsFaultOfDirectories}
-use Rattle.tiff_dir.specs.Stage.{range_of, index_of, still, outside_ranges, three_shorts, ranges_from, is_past_first, is_first_table, layouts_below, AgreesAt, IsBefore, IsPart, IsOver, StepsOn}
+use Rattle.tiff_dir.specs.Stage.{range_of, index_of, still, three_shorts, ranges_from, is_past_first, is_first_table, layouts_below, AgreesAt, IsBefore, IsPart, IsOver, StepsOn}
 use Rattle.tiff_dir.specs.declared.geo.GeoEntries.{GeoEntries}
 use Rattle.tiff_dir.specs.GeoEntries.{AreNear}
 use Rattle.tiff_dir.specs.Known.{Known, HasGeo}

@@ -7,7 +7,14 @@ abbrev pub grid_of : Level → Grid
 grid_of l = record { width = l.width; length = l.length; tile_width = l.tile_width; tile_length = l.tile_length }
 
 abbrev pub layout_of : Level → Layout
-layout_of l = record { grid = grid_of l; samples = l.samples; bits = l.bits; compression = l.compression; offsets = l.offsets; counts = l.counts }
+layout_of l = record {
+  grid = grid_of l;
+  samples = l.samples;
+  bits = l.bits;
+  compression = l.compression;
+  offsets = l.offsets;
+  counts = l.counts;
+}
 
 abbrev pub described : Level → Option Layout
 described l = Some (layout_of l)

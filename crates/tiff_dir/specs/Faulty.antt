@@ -45,7 +45,8 @@ is_byte_count n = nat_lt 0 n && nat_le n max_tile_bytes
 
 -- a plain tile has another number of bytes than its samples
 abbrev pub IsNotPlainSize : List ℕ → ℕ → ℕ → Type 0
-IsNotPlainSize f n count = (level_compression f n ≡ Some Plain) × IsSomeAnd (level_plain_size f n) (λ size. (count == size) ≡ false)
+IsNotPlainSize f n count =
+    (level_compression f n ≡ Some Plain) × IsSomeAnd (level_plain_size f n) (λ size. (count == size) ≡ false)
 
 -- the byte count of a tile of the window is wrong
 pub record HasBadTile (f : List ℕ) (q : Query) : Type 0 where

@@ -41,9 +41,12 @@ unfoldable pub has_directory : List ℕ → ℕ → Bool
 has_directory f zero = true
 has_directory f (suc k) = has_directory f k && is_above_zero (directory f (suc k))
 
+abbrev pub max_directories : ℕ
+max_directories = 16
+
 -- the file's directories, by their numbers: 16 at most
 unfoldable pub directories : List ℕ → List ℕ
-directories f = filter (has_directory f) (range_with_len 0 16)
+directories f = filter (has_directory f) (range_with_len 0 max_directories)
 
 -- how many entries directory k has
 unfoldable pub entry_count : List ℕ → ℕ → Option ℕ

@@ -12,7 +12,14 @@ use Rattle.tiff_dir.specs.Table.{allows, found, len_of, place_in}
 
 -- those among the entries of a table
 abbrev pub geo_in : List Entry → GeoEntries
-geo_in es = record { directory = found 34735 es; doubles = found 34736 es; ascii = found 34737 es; scale = found 33550 es; tiepoints = found 33922 es; transformation = found 34264 es }
+geo_in es = record {
+  directory = found 34735 es;
+  doubles = found 34736 es;
+  ascii = found 34737 es;
+  scale = found 33550 es;
+  tiepoints = found 33922 es;
+  transformation = found 34264 es;
+}
 
 -- where the values stand of a rule's entry
 abbrev pub place_by : Rule → Option Entry → Result (Option Place) FileFault

@@ -14,9 +14,12 @@ pub record Range : Type 0 where
 abbrev pub ends_past : List ℕ → Range → Bool
 ends_past f r = nat_lt (length f) (r.first + r.len)
 
+abbrev pub max_entries : ℕ
+max_entries = 256
+
 -- a directory has 1 to 256 entries
 abbrev pub is_entry_count : ℕ → Bool
-is_entry_count n = nat_lt 0 n && nat_le n 256
+is_entry_count n = nat_lt 0 n && nat_le n max_entries
 
 abbrev pub header_range : Range
 header_range = record { first = 0; len = 8 }
@@ -47,11 +50,15 @@ outside_entry p = if nat_lt 4 p.len then Some (range_of_place p) else None
 unfoldable pub outside_range : List ℕ → ℕ → ℕ → Option Range
 outside_range f k tag = field f k tag >>= place_of f >>= outside_entry
 
--- what is read of directory k: of a level also BitsPerSample and SampleFormat
+-- the values of BitsPerSample and SampleFormat that stand outside the entries of a level
+unfoldable pub outside_ranges : List ℕ → ℕ → List Range
+outside_ranges f k =
+    if is_level f k then option_to_list (outside_range f k 258) ++ option_to_list (outside_range f k 339) else []
+
+-- what is read of directory k
 unfoldable pub ranges_of_directory : List ℕ → ℕ → List Range
 ranges_of_directory f k =
-    option_to_list (count_range f k) ++ option_to_list (table_range f k)
-    ++ (if is_level f k then option_to_list (outside_range f k 258) ++ option_to_list (outside_range f k 339) else [])
+    option_to_list (count_range f k) ++ option_to_list (table_range f k) ++ outside_ranges f k
 
 -- The ranges that every query needs, in the order in which they are read. A range is among them where each
 -- value that gives its place is in the file.

@@ -43,7 +43,8 @@ pub record Packs (row : ℕ) (bytes out : List ℕ) : Type 0 where
 
 -- no packet begins another
 abbrev pub PacketsAreApart : Type 0
-PacketsAreApart = (p q : Packet) (us vs : List ℕ) → IsPacket p → IsPacket q → written p ++ us ≡ written q ++ vs → (p ≡ q) × (us ≡ vs)
+PacketsAreApart =
+    (p q : Packet) (us vs : List ℕ) → IsPacket p → IsPacket q → written p ++ us ≡ written q ++ vs → (p ≡ q) × (us ≡ vs)
 
 -- packed bytes stand for one text
 abbrev pub TextsAreUnique : Type 0

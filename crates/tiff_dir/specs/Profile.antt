@@ -14,7 +14,7 @@ subfile_rule = record { tag = 254; typing = typing.Long; count = One; required =
 -- the fields that are read of a level, in the order of their tags
 unfoldable pub profile : List Rule
 profile =
-    record { tag = 254; typing = typing.Long; count = One; required = false }  -- NewSubfileType
+    subfile_rule
     ∷ record { tag = 256; typing = typing.ShortOrLong; count = One; required = true }  -- ImageWidth
     ∷ record { tag = 257; typing = typing.ShortOrLong; count = One; required = true }  -- ImageLength
     ∷ record { tag = 258; typing = typing.Short; count = Samples; required = true }  -- BitsPerSample

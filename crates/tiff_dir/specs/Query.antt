@@ -44,7 +44,13 @@ scaled f n x y w h = do
   width ← level_value f n 256 0
   length ← level_value f n 257 0
   let left = scaled_down width first_width x in let top = scaled_down length first_length y in
-      Some (record { level = n; left = left; top = top; width = scaled_up width first_width (x + w) - left; height = scaled_up length first_length (y + h) - top })
+      Some (record {
+        level = n;
+        left = left;
+        top = top;
+        width = scaled_up width first_width (x + w) - left;
+        height = scaled_up length first_length (y + h) - top;
+      })
 
 -- The rectangle that is asked for.
 unfoldable pub rectangle : List ℕ → Query → Option Rectangle
@@ -152,7 +158,8 @@ groups f q = option_map_or (λ r. grouped (tile_range f r.level) (window_tiles f
 unfoldable pub array_ranges : List ℕ → Query → List Range
 array_ranges f q =
     if is_refused f q then []
-    else option_map_or (λ r. option_to_list (array_range f r.level 324) ++ option_to_list (array_range f r.level 325)) (rectangle f q) []
+    else option_map_or (λ r. option_to_list (array_range f r.level 324) ++ option_to_list (array_range f r.level 325))
+    (rectangle f q) []
 
 -- what a window needs, and what Info needs, besides the directories
 unfoldable pub needs_of_query : List ℕ → Query → List Range

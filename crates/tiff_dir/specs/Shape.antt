@@ -24,7 +24,9 @@ fits_under (Some p) d = has_sides d && is_smaller (d.width, d.length) (p.width, 
 
 -- the tile sides and the plain size of a tile are those of the profile
 abbrev pub has_tiles : Draft → ℕ → Bool
-has_tiles d bits = is_tile_side d.tile_width && (is_tile_side d.tile_length && nat_le (tile_bytes d.tile_width d.tile_length d.samples bits) max_tile_bytes)
+has_tiles d bits =
+    is_tile_side d.tile_width && (is_tile_side d.tile_length
+    && nat_le (tile_bytes d.tile_width d.tile_length d.samples bits) max_tile_bytes)
 
 -- how many tiles the draft has
 abbrev pub tiles_of : Draft → ℕ
@@ -49,7 +51,14 @@ IsShapeFault previous d bits _ = ⊥
 
 -- the layout of a level that is read
 abbrev pub layout_from : Draft → ℕ → Layout
-layout_from d bits = record { grid = record { width = d.width; length = d.length; tile_width = d.tile_width; tile_length = d.tile_length }; samples = d.samples; bits = bits; compression = d.compression; offsets = d.offsets; counts = d.counts }
+layout_from d bits = record {
+  grid = record { width = d.width; length = d.length; tile_width = d.tile_width; tile_length = d.tile_length };
+  samples = d.samples;
+  bits = bits;
+  compression = d.compression;
+  offsets = d.offsets;
+  counts = d.counts;
+}
 
 -- a step keeps the bounds of a walk: the first directory is a level, and only its table leads past it
 pub record IsNext (stage : Stage) (given : ℕ) (step : Step) : Type 0 where

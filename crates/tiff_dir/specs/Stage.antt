@@ -14,11 +14,11 @@ use Rattle.tiff_dir.specs.declared.stage.Step.{Step}
 use Rattle.tiff_dir.specs.declared.stage.Stage.{Stage}
 use Rattle.tiff_dir.specs.declared.stage.Stage.TheVariants.{Header, Count, Table, Bits, Formats, Ended}
 use Rattle.tiff_dir.specs.Number.{number_in}
-use Rattle.tiff_dir.specs.File.{◌>>=◌, order_of, number, directory, has_directory, has_all_tags, fields, field, value, size_of}
+use Rattle.tiff_dir.specs.File.{max_directories, ◌>>=◌, order_of, number, directory, has_directory, has_all_tags, fields, field, value, size_of}
 use Rattle.tiff_dir.specs.Profile.{is_depth, is_sample_count, is_long, is_short_or_long}
 use Rattle.tiff_dir.specs.Level.{Layout, is_level, previous_level, place_of, layout_at, compression_of}
 use Rattle.tiff_dir.specs.Described.{described}
-use Rattle.tiff_dir.specs.Needs.{Range, is_entry_count, header_range, ranges_of_directory, outside_range}
+use Rattle.tiff_dir.specs.Needs.{Range, is_entry_count, header_range, outside_ranges, ranges_of_directory}
 use Rattle.tiff_dir.specs.Fault.{is_directory_place, IsUnsupported, IsFaultAt, IsFaultOfDirectory, IsFaultOfLevel}
 use Rattle.tiff_dir.specs.Table.{field_of, found}
 
@@ -67,11 +67,7 @@ IsBefore f k previous = option_map (layout_at f) (previous_level f k) ≡ option
 
 -- what the directories from k on need
 unfoldable pub ranges_from : List ℕ → ℕ → List Range
-ranges_from f k = flat_map (ranges_of_directory f) (filter (has_directory f) (range_with_len k (16 - k)))
-
--- what a level needs besides its table
-unfoldable pub outside_ranges : List ℕ → ℕ → List Range
-outside_ranges f k = if is_level f k then option_to_list (outside_range f k 258) ++ option_to_list (outside_range f k 339) else []
+ranges_from f k = flat_map (ranges_of_directory f) (filter (has_directory f) (range_with_len k (max_directories - k)))
 
 -- three numbers of two bytes
 abbrev pub three_shorts : ℕ → Range
@@ -81,8 +77,10 @@ three_shorts first = record { first = first; len = 6 }
 abbrev pub still : List ℕ → Stage → List Range
 still f Header = header_range ∷ ranges_from f 0
 still f (Count order index at) = ranges_from f index
-still f (Table order index at n) = record { first = at + 2; len = 12 * n + 4 } ∷ (outside_ranges f index ++ ranges_from f (suc index))
-still f (Bits pending first formats) = three_shorts first ∷ (option_to_list (option_map three_shorts formats) ++ ranges_from f (suc pending.index))
+still f (Table order index at n) =
+    record { first = at + 2; len = 12 * n + 4 } ∷ (outside_ranges f index ++ ranges_from f (suc index))
+still f (Bits pending first formats) =
+    three_shorts first ∷ (option_to_list (option_map three_shorts formats) ++ ranges_from f (suc pending.index))
 still f (Formats pending first bits) = three_shorts first ∷ ranges_from f (suc pending.index)
 still f (Ended order index) = []
 
@@ -186,7 +184,8 @@ IsAt f k stage = AgreesAt f stage × (still f stage ≡ ranges_from f k)
 -- The walk goes on to this stage, and the step has the level that was read, if one was.
 pub record StepsOn (f : List ℕ) (stage : Stage) (step : Step) : Type 0 where
   pub here : AgreesAt f step.stage
-  pub levels : layouts_below f (index_of step.stage) ≡ layouts_below f (index_of stage) ++ map described (option_to_list step.level)
+  pub levels : layouts_below f (index_of step.stage)
+      ≡ layouts_below f (index_of stage) ++ map described (option_to_list step.level)
   pub come : (r : Range) → range_of stage ≡ Some r → still f stage ≡ r ∷ still f step.stage
 
 -- The directory is done with: the walk goes on to the next one or ends.
@@ -221,7 +220,8 @@ IsKept Header given = given ≤ 0
 IsKept (Count order index at) given = (index < 16) × (given ≤ 1 + 4 * index)
 IsKept (Table order index at n) given = (index < 16) × (given ≤ 2 + 4 * index) × (n ≤ 256)
 IsKept (Bits p first formats) given = (p.index < 16) × (given ≤ 3 + 4 * p.index) × IsDraft p.draft
-IsKept (Formats p first bits) given = (p.index < 16) × (given ≤ 4 + 4 * p.index) × IsDraft p.draft × IfSome bits (λ n. is_depth n ≡ true)
+IsKept (Formats p first bits) given =
+    (p.index < 16) × (given ≤ 4 + 4 * p.index) × IsDraft p.draft × IfSome bits (λ n. is_depth n ≡ true)
 IsKept (Ended order index) given = (0 < index) × (index ≤ 16) × (given ≤ 1 + 4 * index)
 
 -- the table of directory k, with what each entry holds in itself

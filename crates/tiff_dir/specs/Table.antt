@@ -21,7 +21,14 @@ use Rattle.tiff_dir.specs.Profile.{profile, has_typing, is_multiple, accepts, sa
 
 -- the entry in the 12 bytes from at, of bytes that stand in the file from base
 abbrev pub entry : Order → ℕ → ℕ → List ℕ → Entry
-entry o base at bytes = record { tag = number_in o at 2 bytes; kind = number_in o (at + 2) 2 bytes; count = number_in o (at + 4) 4 bytes; place = base + at; short = number_in o (at + 8) 2 bytes; long = number_in o (at + 8) 4 bytes }
+entry o base at bytes = record {
+  tag = number_in o at 2 bytes;
+  kind = number_in o (at + 2) 2 bytes;
+  count = number_in o (at + 4) 4 bytes;
+  place = base + at;
+  short = number_in o (at + 8) 2 bytes;
+  long = number_in o (at + 8) 4 bytes;
+}
 
 -- the n entries from at
 unfoldable pub entries : Order → ℕ → ℕ → ℕ → List ℕ → List Entry
@@ -50,9 +57,9 @@ counts_one (Multiple n) count = is_multiple n count
 abbrev pub allows : Rule → Entry → Bool
 allows r e = has_typing r.typing e.kind && counts_one r.count e.count
 
--- nothing is wrong with the field of the rule
-abbrev pub meets : List Entry → Rule → Bool
-meets es r = option_map_or (allows r) (found r.tag es) (not r.required)
+-- the entries keep the rule: nothing is wrong with its field
+abbrev pub keeps : List Entry → Rule → Bool
+keeps es r = option_map_or (allows r) (found r.tag es) (not r.required)
 
 -- what is wrong with the field of the rule
 abbrev pub IsEntryFault : Rule → List Entry → FileFault → Type 0
@@ -85,19 +92,37 @@ long_in es tag = option_map (λ e. e.long) (found tag es)
 
 -- the types that the profile has
 abbrev pub kind_in : ℕ → Kind
-kind_in number = if number == 3 then kind.Short else if number == 4 then kind.Long else if number == 2 then kind.Ascii else kind.Double
+kind_in number =
+    if number == 3 then kind.Short
+    else if number == 4 then kind.Long
+    else if number == 2 then kind.Ascii
+    else kind.Double
 
 abbrev pub len_of : Entry → ℕ
 len_of e = e.count * size_of (kind_in e.kind)
 
 abbrev pub place_in : Entry → Place
-place_in e = record { first = (if nat_le (len_of e) 4 then e.place + 8 else e.long); len = len_of e; count = e.count; kind = kind_in e.kind }
+place_in e = record {
+  first = (if nat_le (len_of e) 4 then e.place + 8 else e.long);
+  len = len_of e;
+  count = e.count;
+  kind = kind_in e.kind;
+}
 
 abbrev pub place_or : List Entry → ℕ → Place
 place_or es tag = option_map_or place_in (found tag es) (record { first = 0; len = 0; count = 0; kind = kind.Long })
 
 unfoldable pub draft_in : List Entry → Draft
-draft_in es = record { width = single_or es 256 0; length = single_or es 257 0; tile_width = single_or es 322 0; tile_length = single_or es 323 0; samples = short_or es 277 1; compression = (if short_or es 259 0 == 1 then Plain else PackBits); offsets = place_or es 324; counts = place_or es 325 }
+draft_in es = record {
+  width = single_or es 256 0;
+  length = single_or es 257 0;
+  tile_width = single_or es 322 0;
+  tile_length = single_or es 323 0;
+  samples = short_or es 277 1;
+  compression = (if short_or es 259 0 == 1 then Plain else PackBits);
+  offsets = place_or es 324;
+  counts = place_or es 325;
+}
 
 -- the values of 262, 277, 284 and 259 are those of the profile
 pub record HasValues (es : List Entry) : Type 0 where
@@ -124,7 +149,7 @@ IsCountFault es fault =
 
 -- the entries keep the profile, and this is what they say of the level
 pub record IsReadIn (es : List Entry) (d : Draft) : Type 0 where
-  pub met : AllPass (meets es) profile
+  pub met : AllPass (keeps es) profile
   pub values : HasValues es
   pub counts : HasCounts es
   pub draft : d ≡ draft_in es
@@ -132,4 +157,5 @@ pub record IsReadIn (es : List Entry) (d : Draft) : Type 0 where
 -- they don't
 abbrev pub IsReadFault : List Entry → FileFault → Type 0
 IsReadFault es fault =
-    IsFaultOfEntries profile es fault ⊎ (AllPass (meets es) profile × (IsValueFault es fault ⊎ (HasValues es × IsCountFault es fault)))
+    IsFaultOfEntries profile es fault
+    ⊎ (AllPass (keeps es) profile × (IsValueFault es fault ⊎ (HasValues es × IsCountFault es fault)))

@@ -29,7 +29,8 @@ place_in_tile l x y c = ((y % l.grid.tile_length) * l.grid.tile_width + x % l.gr
 -- the value of sample p of a tile: the number of its one or two bytes, in the file's order
 unfoldable pub sample_in : Order → ℕ → List ℕ → ℕ → Option ℕ
 sample_in order bits plain p =
-    let size = sample_bytes bits in if nat_le (p * size + size) (length plain) then Some (number_in order (p * size) size plain) else None
+    let size = sample_bytes bits in
+    if nat_le (p * size + size) (length plain) then Some (number_in order (p * size) size plain) else None
 
 -- Sample c of the pixel in column x and row y of level n has this value.
 pub record IsSample (f : List ℕ) (n x y c v : ℕ) : Type 0 where

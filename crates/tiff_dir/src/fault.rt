@@ -24,7 +24,7 @@ pub enum FileFault {
     FieldType(u16),
     /// A value of this tag is outside the profile.
     Unsupported(u16),
-    /// A side is 0, the first directory is a reduced picture, or a level is not smaller than the one before.
+    /// A side is 0, the first directory is a reduced-resolution image, or a level is not smaller than the one before.
     LevelShape,
     /// An array of tiles has another count than there are tiles, or there are more than 65,536 tiles.
     TileArray,

@@ -20,7 +20,7 @@ use crate::table::Table;
 use crate::{FileFault, Level, Order};
 
 /// How many samples a pixel has whose BitsPerSample doesn't fit in the entry.
-const RGB: u16 = 3;
+const COLOUR_SAMPLES: u16 = 3;
 
 /// The first directory is a reduced-resolution image.
 fn is_reduced_first(index: u32, subfile: u32) -> bool
@@ -83,7 +83,7 @@ pub(crate) fn after_level(
         next: table.next(),
         draft,
     };
-    if draft.samples == RGB {
+    if draft.samples == COLOUR_SAMPLES {
         let Some(first) = table.long(258) else {
             return Err(FileFault::Missing(258));
         };

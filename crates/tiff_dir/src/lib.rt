@@ -23,7 +23,7 @@ mod walk;
 
 pub use fault::{FileFault, WalkError};
 pub use geo::GeoPlaces;
-pub use laws::{one_text, one_window};
+pub use laws::{one_text, one_window, some_window};
 pub use level::{Compression, Kind, Level, Place};
 pub use memory::Memory;
 pub use order::Order;
@@ -31,6 +31,3 @@ pub use query::{Pick, Query};
 pub use span::Span;
 pub use tiles::tile_of;
 pub use walk::Walk;
-
-#[cfg(test)]
-mod tests;

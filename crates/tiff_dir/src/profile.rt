@@ -2,7 +2,7 @@
 ghost use Rattle.std.specs.Prelude.{◌≡◌, true, false, MatchResult};
 ghost use Rattle.std.specs.List.{AllPass};
 ghost use Rattle.tiff_dir.specs.Profile.{profile};
-ghost use Rattle.tiff_dir.specs.Table.{allows, entries_of, meets, IsEntryFault, IsFaultOfEntries};
+ghost use Rattle.tiff_dir.specs.Table.{allows, entries_of, keeps, IsEntryFault, IsFaultOfEntries};
 
 use crate::FileFault;
 use crate::rule::{Count, Rule, Typing};
@@ -18,13 +18,7 @@ pub const SUBFILE: Rule = Rule {
 
 /// The fields that are read of a level, in the order of their tags.
 const PROFILE: [Rule; 13] = [
-    // NewSubfileType
-    Rule {
-        tag: 254,
-        typing: Typing::Long,
-        count: Count::One,
-        required: false,
-    },
+    SUBFILE,
     // ImageWidth
     Rule {
         tag: 256,
@@ -134,7 +128,7 @@ pub(crate) fn is_allowed(rule: Rule, entry: Entry) -> bool
 impl Table<'_> {
     /// Whether the table has the field of the rule as the rule says.
     pub fn check_rule(&self, rule: Rule) -> Result<(), FileFault>
-        ensures { MatchResult result (λ _. meets (entries_of self.now) rule ≡ true) (IsEntryFault rule (entries_of self.now)) }
+        ensures { MatchResult result (λ _. keeps (entries_of self.now) rule ≡ true) (IsEntryFault rule (entries_of self.now)) }
     {
         match self.find(rule.tag) {
             Some(entry) if is_allowed(rule, entry) => Ok(()),
@@ -146,7 +140,7 @@ impl Table<'_> {
 
     /// Whether the table has the field of each rule as the rule says.
     fn check_rules(&self, rules: &[Rule]) -> Result<(), FileFault>
-        ensures { MatchResult result (λ _. AllPass (meets (entries_of self.now)) rules.now) (IsFaultOfEntries rules.now (entries_of self.now)) }
+        ensures { MatchResult result (λ _. AllPass (keeps (entries_of self.now)) rules.now) (IsFaultOfEntries rules.now (entries_of self.now)) }
     {
         for rule in rules {
             self.check_rule(*rule)?;
@@ -157,7 +151,7 @@ impl Table<'_> {
     /// Whether the table has each field of the profile as the profile says, but for the counts of samples and tiles.
     #[tactic(auto, unfolding(crate::specs::Profile::profile))]
     pub fn check_profile(&self) -> Result<(), FileFault>
-        ensures { MatchResult result (λ _. AllPass (meets (entries_of self.now)) profile) (IsFaultOfEntries profile (entries_of self.now)) }
+        ensures { MatchResult result (λ _. AllPass (keeps (entries_of self.now)) profile) (IsFaultOfEntries profile (entries_of self.now)) }
     {
         self.check_rules(&PROFILE)
     }

@@ -3,29 +3,18 @@ ghost use Rattle.std.specs.Prelude.{◌<◌, ◌≤◌, ◌+◌, ◌^◌};
 
 use super::model::{BLOCK, Model};
 use super::piece::{piece, put};
+use fixtures::Numbers;
 use range_cache::Cache;
 use std::process::Abort;
 use std::test::Fail;
 use tiff_dir::Span;
 
-/// A fixed generator of numbers.
-#[derive(Drop)]
-struct Numbers {
-    state: u64,
-}
-
-impl Numbers {
-    /// The next number below `n`.
-    fn below(&mut self, n: u64) -> u64
-        requires { 0 < n }
-        ensures { result < n }
-    {
-        self.state = self
-            .state
-            .wrapping_mul(6364136223846793005)
-            .wrapping_add(1442695040888963407);
-        (self.state >> 33) % n
-    }
+/// The next number below `n`.
+fn below(numbers: &mut Numbers, n: u64) -> u64
+    requires { 0 < n }
+    ensures { result < n }
+{
+    numbers.below(n as usize) as u64
 }
 
 /// A cache, the rules, and the length of the file that both hold blocks of.
@@ -42,12 +31,12 @@ impl Trial {
     /// A piece of up to 66 blocks, of which a part is wanted.
     fn put<R: Abort + AllocGlobal>(&mut self, rt: &R) -> Result<(), Fail> {
         let complete = self.complete;
-        let first = self.numbers.below(complete);
-        let len = self.numbers.below((complete - first + 1).min(66 * BLOCK));
-        let wanted_first = first.saturating_sub(self.numbers.below(2 * BLOCK));
+        let first = below(&mut self.numbers, complete);
+        let len = below(&mut self.numbers, (complete - first + 1).min(66 * BLOCK));
+        let wanted_first = first.saturating_sub(below(&mut self.numbers, 2 * BLOCK));
         let wanted = Span {
             first: wanted_first,
-            last: wanted_first + self.numbers.below(66 * BLOCK),
+            last: wanted_first + below(&mut self.numbers, 66 * BLOCK),
         };
         let bytes = piece(rt.alloc(), first, len as usize)?;
         let count = put(&mut self.cache, complete, first, &bytes, wanted)
@@ -61,8 +50,8 @@ impl Trial {
     /// A range of up to 1,048,576 bytes.
     fn read<R: Abort + AllocGlobal>(&mut self, rt: &R) -> Result<(), Fail> {
         let complete = self.complete;
-        let first = self.numbers.below(complete);
-        let len = 1 + self.numbers.below((complete - first).min(1048576));
+        let first = below(&mut self.numbers, complete);
+        let len = 1 + below(&mut self.numbers, (complete - first).min(1048576));
         let bytes = piece(rt.alloc(), first, len as usize)?;
         let mut out = vec![in rt.alloc(); 0u8; len as usize]?;
         let gap = self.cache.read_into(complete, first, &mut out).err();
@@ -84,7 +73,7 @@ impl Trial {
 
     /// Either of the two.
     fn call<R: Abort + AllocGlobal>(&mut self, rt: &R) -> Result<(), Fail> {
-        if self.numbers.below(2) == 0 {
+        if below(&mut self.numbers, 2) == 0 {
             self.put(rt)
         } else {
             self.read(rt)
@@ -117,7 +106,7 @@ fn run<R: Abort + AllocGlobal>(rt: &R, blocks: u32, complete: u64, calls: u32) -
     let mut trial = Trial {
         cache: Cache::new(rt.alloc(), blocks).ok().ok_or("no cache")?,
         model: Model::new(rt.alloc(), blocks as usize),
-        numbers: Numbers { state: 2026 },
+        numbers: Numbers::new(2026),
         complete,
     };
     for call in 0..calls {
