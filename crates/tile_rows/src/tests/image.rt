@@ -3,21 +3,14 @@ ghost use Rattle.std.specs.Prelude.{◌≡◌, ◌<◌, Some, slice_get, IfOk, I
 ghost use Rattle.std.specs.List.{All};
 ghost use Rattle.tiff_dir.specs.Described.{grid_of, layout_of};
 ghost use Rattle.tiff_dir.specs.Level.{plain_size, tile_total};
-ghost use Rattle.tiff_dir.specs.Walk.{HasEnded};
 ghost use Rattle.tile_plan.specs.Levels.{is_inside};
 
+use file_walk::{Course, walk_over};
 use packbits::unpack;
 use std::alloc::Global;
 use std::test::Fail;
-use tiff_dir::{Compression, FileFault, Level, Order, Place, Query, Walk, tile_of};
+use tiff_dir::{Compression, FileFault, Level, Order, Place, Query, tile_of};
 use tile_plan::{Canvas, Group, PlanError, Rectangle, groups, rect};
-
-/// Whether the walk has ended, by what it wants of a file of any length.
-fn has_ended(walk: &Walk) -> bool
-    ensures { IsTrue result → HasEnded walk.now }
-{
-    matches!(walk.need(u64::MAX), Ok(None))
-}
 
 /// A file whose directories are without fault.
 #[derive(Drop)]
@@ -46,16 +39,8 @@ fn plain_sizes(level: &Level) -> (usize, usize)
 
 impl Image {
     pub fn new(alloc: Global, file: Vec<u8>) -> Result<Image, Fail> {
-        let mut walk = Walk::new(alloc);
-        for _ in 0..66 {
-            if let Ok(Some(span)) = walk.need(file.len() as u64) {
-                walk.give(&file[span.first as usize..span.last as usize + 1])
-                    .map_err(|_| Fail::new("a range is refused"))?;
-            }
-        }
-        if !has_ended(&walk) {
-            return Err(Fail::new("the walk goes on"));
-        }
+        let Course { end, ranges: _ } = walk_over(alloc, &file).ok().ok_or("no memory")?;
+        let walk = end.ok().ok_or("the file has a fault")?;
         let order = walk.order();
         let levels = Vec::from_slice(alloc, walk.levels())?;
         Ok(Image {

@@ -1,33 +1,10 @@
 //! Random packets by a fixed generator, beside the plain program's unpacking.
 ghost use Rattle.std.specs.Prelude.{◌<◌, ◌≤◌, IfOk};
 
+use fixtures::Numbers;
 use packbits::unpack;
 use std::alloc::{AllocError, Global};
 use std::test::Fail;
-
-/// A fixed generator of numbers.
-#[derive(Drop)]
-struct Numbers {
-    state: u64,
-}
-
-impl Numbers {
-    /// The next number below `n`.
-    fn below(&mut self, n: usize) -> usize
-        requires { 0 < n }
-        ensures { result < n }
-    {
-        self.state = self
-            .state
-            .wrapping_mul(6364136223846793005)
-            .wrapping_add(1442695040888963407);
-        (self.state >> 33) as usize % n
-    }
-
-    fn byte(&mut self) -> u8 {
-        self.below(256) as u8
-    }
-}
 
 /// Appends a packet that stands for up to `room` bytes, and says for how many.
 fn push_packet(bytes: &mut Vec<u8>, numbers: &mut Numbers, room: usize) -> Result<usize, AllocError>
@@ -86,7 +63,7 @@ fn packets(
 #[test]
 fn beside_the_plain_program(rt: HostRuntime) -> Result<(), Fail> {
     let alloc = rt.alloc();
-    let mut numbers = Numbers { state: 2026 };
+    let mut numbers = Numbers::new(2026);
     let mut good = 0u32;
     for _ in 0..2000 {
         let row = 1 + numbers.below(200);

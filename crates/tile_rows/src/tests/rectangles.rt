@@ -1,34 +1,10 @@
 //! The rectangles of window queries.
-ghost use Rattle.std.specs.Prelude.{IsTrue};
-ghost use Rattle.tiff_dir.specs.Walk.{HasEnded};
-
+use crate::tests::image::Image;
 use fixtures::{Field, FieldType, Order, Values, f3, push_directory, push_header};
 use std::process::Abort;
 use std::test::Fail;
-use tiff_dir::{FileFault, Level, Pick, Query, Walk};
+use tiff_dir::{FileFault, Level, Pick, Query};
 use tile_plan::{Rectangle, rect};
-
-/// Whether the walk has ended, by what it wants of a file of any length.
-fn has_ended(walk: &Walk) -> bool
-    ensures { IsTrue result → HasEnded walk.now }
-{
-    matches!(walk.need(u64::MAX), Ok(None))
-}
-
-/// The levels of a file without fault.
-fn levels_of(rt: &HostRuntime, file: &[u8]) -> Result<Vec<Level>, Fail> {
-    let mut walk = Walk::new(rt.alloc());
-    for _ in 0..66 {
-        if let Ok(Some(span)) = walk.need(file.len() as u64) {
-            walk.give(&file[span.first as usize..span.last as usize + 1])
-                .map_err(|_| Fail::new("a range is refused"))?;
-        }
-    }
-    if !has_ended(&walk) {
-        return Err(Fail::new("the walk goes on"));
-    }
-    Ok(Vec::from_slice(rt.alloc(), walk.levels())?)
-}
 
 /// The numbers of a window, and its pick.
 type Asked = (u32, u32, u32, u32, Pick);
@@ -91,7 +67,7 @@ fn compare(rt: &impl Abort, levels: &[Level], rows: &[(Asked, Result<Numbers, Fi
 
 #[test]
 fn two_levels(rt: HostRuntime) -> Result<(), Fail> {
-    let levels = levels_of(&rt, &f3(rt.alloc())?)?;
+    let levels = Image::new(rt.alloc(), f3(rt.alloc())?)?.levels;
     compare(&rt, &levels, &TWO_LEVELS);
     assert_eq!(rt; rect(&levels, Query::Info), Err(FileFault::Outside));
     Ok(())
@@ -168,7 +144,7 @@ fn limits(rt: HostRuntime) -> Result<(), Fail> {
     let mut file = Vec::new(rt.alloc());
     push_header(&mut file, Order::Little, 8)?;
     push_directory(&mut file, Order::Little, &LARGE, 0)?;
-    let levels = levels_of(&rt, &file)?;
+    let levels = Image::new(rt.alloc(), file)?.levels;
     compare(&rt, &levels, &LIMITS);
     Ok(())
 }
