@@ -1,5 +1,5 @@
 use super::*;
-use http_range::{Span, Tag, Why};
+use http_range::{Span, Tag, Why, publication_tag};
 use std::alloc::Global;
 use std::fs;
 use std::process::Abort;
@@ -132,7 +132,7 @@ fn opened(client: u32, outcome: Outcome) -> Entry {
         effect: Effect::Opened(client),
         report: Some(Report {
             query: QUERY,
-            tag: Tag::of_publication(1, 2),
+            tag: publication_tag(1, 2),
             outcome,
         }),
     }
@@ -175,7 +175,7 @@ fn effects(rt: HostRuntime) -> Result<(), Fail> {
     let table = [
         (Effect::Skipped, "skipped\n"),
         (
-            Effect::Published(Tag::of_publication(4294967295, 4294967295)),
+            Effect::Published(publication_tag(4294967295, 4294967295)),
             "published \"4294967295-4294967295\"\n",
         ),
         (Effect::Refused(Refusal::Name), "refused 1\n"),
@@ -210,7 +210,7 @@ fn expect_exchange(
 
 #[test]
 fn exchanges(rt: HostRuntime) -> Result<(), Fail> {
-    let tag = Some(Tag::of_publication(1, 2));
+    let tag = Some(publication_tag(1, 2));
     let want = "\"1-2\" answer 5 206 2 took 0\n";
     expect_exchange(&rt, tag, Delivered::Took(0), want)?;
     let table = [
