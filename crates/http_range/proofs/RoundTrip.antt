@@ -1,5 +1,5 @@
 -- What a server writes is what a client reads, cut anywhere.
-use Rattle.std.proofs.Common.{◌≡◌, ℕ, ◌+◌, ◌-◌, ◌<◌, ◌≤◌, Bool, true, false, List, ◌++◌, length, take, drop, refl, ap, ◌∙◌, subst, arith, inl, inr, length-append, length-drop, take-append-drop, codes, Result, Ok, Err}
+use Rattle.std.proofs.Common.{◌≡◌, ℕ, ◌+◌, ◌-◌, ◌<◌, ◌≤◌, Bool, true, false, cond, List, ◌++◌, length, take, drop, refl, ap, ◌∙◌, subst, arith, inl, inr, length-append, length-drop, take-append-drop, codes, Result, Ok, Err}
 use Rattle.std.specs.List.{list_all}
 use Rattle.std.specs.Char.{is_ascii_digit}
 use Rattle.std.specs.Str.Parse.{digits_value}
@@ -174,34 +174,32 @@ module _ (laws : PartsAreRead) where
             found_short reply close sent bytes (drop k text) some parts found finds;
       }
 
+  -- what is read of them, by what is read of the whole head
+  front_by : {A : Type 0} (of : SeenHead → Result A Why) (told : List ℕ → Result A Why) (reply : Reply) (close : Bool) (body : List ℕ) (k : ℕ)
+      → IsSent reply
+      → ((rest : List ℕ) → of (record { status = status_of reply; fields = fields_of reply ++ closing close; rest = rest }) ≡ told rest)
+      → (bytes : List ℕ) → bytes ≡ take k (head_text reply close ++ body) → (found : Result SeenHead Why) → FindsHead bytes found
+      → (found >>= of) ≡ cond (leb (length (head_text reply close)) k) (told (take (k - length (head_text reply close)) body)) (Err Cut)
+  front_by of told reply close body k sent tells bytes is found finds =
+      let n = length (head_text reply close) in
+      let head = front_found reply close body k sent bytes is found finds in
+      elim (cases_lt k n) [
+        | inl below ↦
+            let test : leb n k ≡ false = lt-leb n k below in
+            ap (λ (f : Result SeenHead Why). f >>= of) (head.short below) ∙ rw test
+        | inr above ↦
+            let test : leb n k ≡ true = le-leb n k above in
+            ap (λ (f : Result SeenHead Why). f >>= of) (head.whole above) ∙ tells (take (k - n) body) ∙ rw test
+      ]
+
   pub front_read : (reply : Reply) (close : Bool) (body : List ℕ) (k : ℕ) → IsSent reply → (bytes : List ℕ)
       → bytes ≡ take k (head_text reply close ++ body) → (r : Result SeenPiece Why) → ReadsAnswer bytes r
       → r ≡ front_seen reply close body k
   front_read reply close body k sent bytes is r reads =
-      let n = length (head_text reply close) in
-      let found = front_found reply close body k sent bytes is reads.0 reads.1 in
-      elim (cases_lt k n) [
-        | inl below ↦
-            let test : leb n k ≡ false = lt-leb n k below in
-            reads.2 ∙ ap (λ (f : Result SeenHead Why). f >>= reading_of) (found.short below) ∙ rw test
-        | inr above ↦
-            let test : leb n k ≡ true = le-leb n k above in
-            reads.2 ∙ ap (λ (f : Result SeenHead Why). f >>= reading_of) (found.whole above)
-            ∙ reads_reply reply close (take (k - n) body) sent ∙ rw test
-      ]
+      reads.2 ∙ front_by reading_of (reply_seen reply) reply close body k sent (λ rest. reads_reply reply close rest sent) bytes is reads.0 reads.1
 
   pub front_checked : (reply : Reply) (close : Bool) (body : List ℕ) (k : ℕ) → IsSent reply → (bytes : List ℕ)
       → bytes ≡ take k (head_text reply close ++ body) → (r : Result (List ℕ) Why) → ReadsCheck bytes r
       → r ≡ front_tag reply close k
   front_checked reply close body k sent bytes is r reads =
-      let n = length (head_text reply close) in
-      let found = front_found reply close body k sent bytes is reads.0 reads.1 in
-      elim (cases_lt k n) [
-        | inl below ↦
-            let test : leb n k ≡ false = lt-leb n k below in
-            reads.2 ∙ ap (λ (f : Result SeenHead Why). f >>= tag_of) (found.short below) ∙ rw test
-        | inr above ↦
-            let test : leb n k ≡ true = le-leb n k above in
-            reads.2 ∙ ap (λ (f : Result SeenHead Why). f >>= tag_of) (found.whole above)
-            ∙ reads_tag reply close (take (k - n) body) sent ∙ rw test
-      ]
+      reads.2 ∙ front_by tag_of (λ rest. tag_seen reply) reply close body k sent (λ rest. reads_tag reply close rest sent) bytes is reads.0 reads.1

@@ -1,2 +1,3 @@
+mod reports;
 mod scripts_and_logs;
 mod windows;

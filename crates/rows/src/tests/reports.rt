@@ -1,9 +1,10 @@
-use super::*;
+//! Reports of one exchange: windows with their samples, and windows outside the level.
 use fixtures::{f1, f1m};
 use std::alloc::Global;
 use std::process::Abort;
 use std::test::Fail;
 use tiff_dir::{FileFault, Pick, Query};
+use world::{Event, Log, Outcome, run};
 
 fn window(x: u32, y: u32, w: u32, h: u32) -> Query {
     Query::Window {
@@ -15,25 +16,21 @@ fn window(x: u32, y: u32, w: u32, h: u32) -> Query {
     }
 }
 
-fn name(alloc: Global) -> Result<Vec<u8>, Fail> {
-    let mut name = Vec::new(alloc);
-    name.push(b'a')?;
-    Ok(name)
-}
-
 /// The log of one exchange for a file that is published as `a` in epoch 1.
 fn read(alloc: Global, file: Vec<u8>, query: Query) -> Result<Log, Fail> {
-    let mut events = Vec::new(alloc);
-    events.push(Event::Epoch(1))?;
-    let of = name(alloc)?;
-    events.push(Event::Publish { name: of, file })?;
-    let of = name(alloc)?;
-    events.push(Event::NewClient {
-        name: of,
-        blocks: 66,
-    })?;
-    events.push(Event::Open { client: 0, query })?;
-    events.push(Event::Exchange(0))?;
+    let events = vec![in alloc;
+        Event::Epoch(1),
+        Event::Publish {
+            name: Vec::from_slice(alloc, b"a")?,
+            file
+        },
+        Event::NewClient {
+            name: Vec::from_slice(alloc, b"a")?,
+            blocks: 66
+        },
+        Event::Open { client: 0, query },
+        Event::Exchange(0),
+    ]?;
     let mut log = Log {
         entries: Vec::new(alloc),
     };
