@@ -1,21 +1,22 @@
 -- Publications under their names, and the tags that tell them apart.
-use Rattle.std.proofs.Common.{◌≡◌, ◌≢◌, ℕ, ◌+◌, ◌-◌, ◌^◌, ◌<◌, ◌≤◌, Bool, true, false, cond, ◌&&◌, List, [], ◌∷◌, ◌++◌, length, get_or, take, drop, suc, refl, sym, ap, ◌∙◌, subst, arith, append_assoc, length-append, codes, Option, Some}
+use Rattle.std.proofs.Common.{◌≡◌, ◌≢◌, ℕ, ◌^◌, ◌<◌, ◌≤◌, Bool, true, false, cond, ◌&&◌, List, [], ◌∷◌, ◌++◌, length, drop, refl, sym, ap, ◌∙◌, subst, arith, append_assoc, length-append, codes, Option, Some}
 use Rattle.std.specs.Prelude.{decimal}
 use Rattle.std.specs.Char.{is_ascii_digit}
 use Rattle.std.specs.List.{list_all, before_first, after_first}
 use Rattle.std.specs.Str.{bytes_eq, all_ascii_digits}
 use Rattle.std.proofs.Math.Dec.{eqb}
-use Rattle.std.proofs.Math.Seq.{take-append_seam, get_or-append_seam}
-use Rattle.std.proofs.lemmas.Bool.{lt-ltb, le-leb}
+use Rattle.std.proofs.lemmas.Bool.{and_parts, le-leb}
 use Rattle.std.proofs.lemmas.Bool.Decides.{nat_tests}
 use Rattle.std.proofs.lemmas.Fmt.{decimal_injective}
 use Rattle.std.proofs.lemmas.List.Folds.{list_all-append}
 use Rattle.std.proofs.lemmas.Slice.Eq.{bytes_eq-Decides}
+use Rattle.std.proofs.lemmas.List.Sums.{AllPass-from_list_all}
 use Rattle.httparse.proofs.GrammarLemmas.{cons-append}
-use Rattle.http_range.specs.Tag.{is_tag_byte, is_opaque_tag, is_kept_tag}
+use Rattle.http_parts.specs.Tag.{is_tag_byte, is_opaque_tag, is_kept_tag}
 use Rattle.http_range.specs.Book.{Publication, IsPublication, Catalogue, IsCatalogue, published, publish, publication_tag}
 use Rattle.http_range.specs.Laws.{TagsTellPublications, PublicationTagsAreKept, PublishReplaces, PublishedIsNamed}
-use Rattle.http_range.proofs.ValueLemmas.{both, digit_range, decimal_digits, digits_miss, before_at, after_at}
+use Rattle.http_parts.specs.Laws.{PartsAreRead}
+use Rattle.http_range.proofs.PlaceLemmas.{digit_range, digits_miss, before_at, after_at}
 use Rattle.http_range.proofs.ReplyLemmas.{length_20}
 
 -- ---- names
@@ -108,52 +109,14 @@ record HasNumbers (tag x y : List ℕ) : Type 0 where
   epoch : before_first (λ b. eqb b 45) (drop 1 tag) ≡ x
   number : before_first (λ b. eqb b 34) (after_first (λ b. eqb b 45) (drop 1 tag)) ≡ y
 
-tag_numbers : (e n : ℕ) → e < 2 ^ 64 → n < 2 ^ 64 → HasNumbers (publication_tag e n) (decimal e) (decimal n)
-unfolding publication_tag
-tag_numbers e n se sn =
-    let x = decimal e in
-    let y = decimal n in
-    let rest = y ++ 34 ∷ [] in
-    let dash = digits_miss 45 (omega arith) x (decimal_digits e se) in
-    let quote = digits_miss 34 (omega arith) y (decimal_digits n sn) in
-    rw (tag_grouped x y) (record {
-      epoch = before_at (λ b. eqb b 45) x 45 rest dash refl;
-      number =
-          ap (before_first (λ b. eqb b 34)) (after_at (λ b. eqb b 45) x 45 rest dash refl)
-          ∙ before_at (λ b. eqb b 34) y 34 [] quote refl;
-    })
-
-pub tags_tell_publications : TagsTellPublications
-tags_tell_publications e n f m se sn sf sm same =
-    let a = tag_numbers e n se sn in
-    let b = tag_numbers f m sf sm in (
-      decimal_injective e f se sf
-          (sym a.epoch ∙ ap (λ (t : List ℕ). before_first (λ b. eqb b 45) (drop 1 t)) same ∙ b.epoch),
-      decimal_injective n m sn sm
-          (sym a.number ∙ ap (λ (t : List ℕ). before_first (λ b. eqb b 34) (after_first (λ b. eqb b 45) (drop 1 t))) same ∙ b.number),
-    )
-
 digit_tag : (b : ℕ) → is_ascii_digit b ≡ true → is_tag_byte b ≡ true
 digit_tag b h = let range = digit_range b h in grind (arith, nat_tests)
 
 digits_tag : (ds : List ℕ) → all_ascii_digits ds ≡ true → list_all is_tag_byte ds ≡ true
 digits_tag [] h = refl
 digits_tag (d ∷ ds) h =
-    let parts = both (is_ascii_digit d) (all_ascii_digits ds) h in
+    let parts = and_parts (is_ascii_digit d) (all_ascii_digits ds) h in
     rw (digit_tag d parts.0, digits_tag ds parts.1)
-
--- a text between quotes
-pub opaque_of : (m : List ℕ) → list_all is_tag_byte m ≡ true → is_opaque_tag (34 ∷ (m ++ 34 ∷ [])) ≡ true
-opaque_of m pass =
-    let text = 34 ∷ (m ++ 34 ∷ []) in
-    let long : length text ≡ length m + 2 = omega (arith, length-append m (34 ∷ [])) in
-    let last : get_or text (length text - 1) 0 ≡ 34 =
-    let e : length text - 1 ≡ suc (length m) = omega arith in
-    rw e (get_or-append_seam m 34 [] 0) in
-    let middle : take (length text - 1 - 1) (drop 1 text) ≡ m =
-    let e : length text - 1 - 1 ≡ length m = omega arith in
-    rw e (take-append_seam m (34 ∷ [])) in
-    rw (lt-ltb 1 (length text) (omega arith), last, middle, pass)
 
 middle_tag : (x y : List ℕ) → list_all is_tag_byte x ≡ true → list_all is_tag_byte y ≡ true
     → list_all is_tag_byte (x ++ 45 ∷ y) ≡ true
@@ -162,20 +125,46 @@ middle_tag x y px py = rw (list_all-append is_tag_byte x (45 ∷ y), px) py
 and_true : (a b : Bool) → a ≡ true → b ≡ true → (a && b) ≡ true
 and_true a b ha hb = rw (ha, hb)
 
-kept_by : (x y : List ℕ) → list_all is_tag_byte x ≡ true → list_all is_tag_byte y ≡ true → length x ≤ 20 → length y ≤ 20
-    → is_kept_tag (codes "\"" ++ x ++ codes "-" ++ y ++ codes "\"") ≡ true
-kept_by x y px py sx sy =
-    let m = x ++ 45 ∷ y in
-    let grouped : codes "\"" ++ x ++ codes "-" ++ y ++ codes "\"" ≡ 34 ∷ (m ++ 34 ∷ []) =
-    tag_grouped x y ∙ ap (λ (t : List ℕ). 34 ∷ t) (sym (append_assoc x (45 ∷ y) (34 ∷ []))) in
-    let small : length (34 ∷ (m ++ 34 ∷ [])) ≤ 64 =
-    omega (arith, length-append m (34 ∷ []), length-append x (45 ∷ y)) in
-    let kept : is_kept_tag (34 ∷ (m ++ 34 ∷ [])) ≡ true =
-    and_true (is_opaque_tag (34 ∷ (m ++ 34 ∷ []))) _ (opaque_of m (middle_tag x y px py)) (le-leb (length (34 ∷ (m ++ 34 ∷ []))) 64 small) in
-    subst (λ (t : List ℕ). is_kept_tag t ≡ true) (sym grouped) kept
+module _ (laws : PartsAreRead) where
+  tag_numbers : (e n : ℕ) → e < 2 ^ 64 → n < 2 ^ 64 → HasNumbers (publication_tag e n) (decimal e) (decimal n)
+  unfolding publication_tag
+  tag_numbers e n se sn =
+      let x = decimal e in
+      let y = decimal n in
+      let rest = y ++ 34 ∷ [] in
+      let dash = digits_miss 45 (omega arith) x (laws.decimals.digits e se) in
+      let quote = digits_miss 34 (omega arith) y (laws.decimals.digits n sn) in
+      rw (tag_grouped x y) (record {
+        epoch = before_at (λ b. eqb b 45) x 45 rest dash refl;
+        number =
+            ap (before_first (λ b. eqb b 34)) (after_at (λ b. eqb b 45) x 45 rest dash refl)
+            ∙ before_at (λ b. eqb b 34) y 34 [] quote refl;
+      })
 
-pub publication_tags_kept : PublicationTagsAreKept
-unfolding publication_tag
-publication_tags_kept e n se sn =
-    kept_by (decimal e) (decimal n) (digits_tag (decimal e) (decimal_digits e se)) (digits_tag (decimal n) (decimal_digits n sn)) (length_20 e se)
-    (length_20 n sn)
+  pub tags_tell_publications : TagsTellPublications
+  tags_tell_publications e n f m se sn sf sm same =
+      let a = tag_numbers e n se sn in
+      let b = tag_numbers f m sf sm in (
+        decimal_injective e f se sf
+            (sym a.epoch ∙ ap (λ (t : List ℕ). before_first (λ b. eqb b 45) (drop 1 t)) same ∙ b.epoch),
+        decimal_injective n m sn sm
+            (sym a.number ∙ ap (λ (t : List ℕ). before_first (λ b. eqb b 34) (after_first (λ b. eqb b 45) (drop 1 t))) same ∙ b.number),
+      )
+
+  kept_by : (x y : List ℕ) → list_all is_tag_byte x ≡ true → list_all is_tag_byte y ≡ true → length x ≤ 20 → length y ≤ 20
+      → is_kept_tag (codes "\"" ++ x ++ codes "-" ++ y ++ codes "\"") ≡ true
+  kept_by x y px py sx sy =
+      let m = x ++ 45 ∷ y in
+      let grouped : codes "\"" ++ x ++ codes "-" ++ y ++ codes "\"" ≡ 34 ∷ (m ++ 34 ∷ []) =
+      tag_grouped x y ∙ ap (λ (t : List ℕ). 34 ∷ t) (sym (append_assoc x (45 ∷ y) (34 ∷ []))) in
+      let small : length (34 ∷ (m ++ 34 ∷ [])) ≤ 64 =
+      omega (arith, length-append m (34 ∷ []), length-append x (45 ∷ y)) in
+      let kept : is_kept_tag (34 ∷ (m ++ 34 ∷ [])) ≡ true =
+      and_true (is_opaque_tag (34 ∷ (m ++ 34 ∷ []))) _ ((laws.quoted.opaque (34 ∷ (m ++ 34 ∷ []))).1 (m, refl, AllPass-from_list_all is_tag_byte m (middle_tag x y px py))) (le-leb (length (34 ∷ (m ++ 34 ∷ []))) 64 small) in
+      subst (λ (t : List ℕ). is_kept_tag t ≡ true) (sym grouped) kept
+
+  pub publication_tags_kept : PublicationTagsAreKept
+  unfolding publication_tag
+  publication_tags_kept e n se sn =
+      kept_by (decimal e) (decimal n) (digits_tag (decimal e) (laws.decimals.digits e se)) (digits_tag (decimal n) (laws.decimals.digits n sn)) (length_20 e se)
+      (length_20 n sn)

@@ -1,78 +1,19 @@
--- Tags and Content-Range values, computed, have the forms of the standard.
-use Rattle.std.proofs.Common.{◌≡◌, ℕ, suc, ◌+◌, ◌-◌, ◌^◌, ◌<◌, ◌≤◌, Bool, true, false, cond, ◌&&◌, List, [], ◌∷◌, ◌++◌, length, get_or, take, drop, refl, sym, ap, ◌∙◌, subst, arith, append_assoc, take-append-drop, codes, Option, Some, None}
+-- Content-Range values, computed, have the form of the standard.
+use Rattle.std.proofs.Common.{◌≡◌, ℕ, ◌+◌, ◌^◌, ◌<◌, ◌≤◌, Bool, true, false, cond, ◌&&◌, List, [], ◌∷◌, ◌++◌, length, get_or, take, drop, refl, sym, ap, ◌∙◌, subst, arith, append_assoc, take-append-drop, codes, Option, Some, None}
 use Rattle.std.specs.Prelude.{nat_eq, option_and_then}
-use Rattle.std.specs.List.{AllPass, before_first, after_first, position_or_len, starts_with}
+use Rattle.std.specs.List.{before_first, after_first, position_or_len, starts_with}
 use Rattle.std.specs.Str.{all_ascii_digits}
 use Rattle.std.specs.Str.Parse.{digits_value}
 use Rattle.std.proofs.Math.Dec.{eqb, ltb, leb}
-use Rattle.std.proofs.Math.Seq.{split_at}
 use Rattle.std.proofs.lemmas.Bool.{lt-ltb, le-leb, ltb-true, ltb-false, leb-true, eqb-true}
 use Rattle.std.proofs.lemmas.List.{drop_all}
-use Rattle.std.proofs.lemmas.List.Sums.{list_all-from_AllPass, split_at_first, passes_at_first}
+use Rattle.std.proofs.lemmas.List.Sums.{split_at_first, passes_at_first}
 use Rattle.http_range.specs.declared.reading.ContentRange.{ContentRange}
-use Rattle.http_range.specs.Digits.{with_64_bits, number_64}
-use Rattle.http_range.specs.Tag.{is_tag_byte, is_opaque_tag, is_weak_tag}
+use Rattle.http_parts.specs.Digits.{with_64_bits, number_64}
 use Rattle.http_range.specs.ContentRange.{IsContentRange, range_of_numbers, range_of}
-use Rattle.http_range.specs.Laws.{TagsAreQuoted, ContentRangesAreForms}
-use Rattle.http_range.proofs.ValueLemmas.{both, quoted_parts, before_at, after_at, digits_miss}
-use Rattle.http_range.proofs.BookLemmas.{same_bytes, opaque_of}
-
--- ---- tags
-
-last_apart : (xs : List ℕ) → 0 < length xs → get_or xs (length xs - 1) 0 ≡ 34 → xs ≡ take (length xs - 1) xs ++ 34 ∷ []
-last_apart xs some last =
-    let j = length xs - 1 in
-    let none : drop (suc j) xs ≡ [] = drop_all (suc j) xs (omega arith) in
-    split_at xs j 0 (omega arith) ∙ rw (last, none)
-
-pub opaque_parts : (text : List ℕ) → is_opaque_tag text ≡ true
-    → (inner : List ℕ) × (text ≡ 34 ∷ (inner ++ 34 ∷ [])) × AllPass is_tag_byte inner
-opaque_parts [] h = absurd (let long = (quoted_parts [] h).long in omega arith)
-opaque_parts (x ∷ xs) h =
-    let q = quoted_parts (x ∷ xs) h in
-    let long = q.long in
-    let j = length xs - 1 in
-    let e : length (x ∷ xs) - 1 ≡ suc j = omega arith in
-    let f : length (x ∷ xs) - 1 - 1 ≡ j = omega arith in
-    let last : get_or xs j 0 ≡ 34 = ap (λ (n : ℕ). get_or (x ∷ xs) n 0) (sym e) ∙ q.last in
-    let middle : AllPass is_tag_byte (take j xs) = subst (λ (n : ℕ). AllPass is_tag_byte (take n xs)) f q.middle in
-    let parts = last_apart xs (omega arith) last in
-    (take j xs, ap (λ (c : ℕ). c ∷ xs) q.first ∙ ap (λ (t : List ℕ). 34 ∷ t) parts, middle)
-
-opaque_is : (text : List ℕ) → (inner : List ℕ) × (text ≡ 34 ∷ (inner ++ 34 ∷ [])) × AllPass is_tag_byte inner
-    → is_opaque_tag text ≡ true
-opaque_is text form =
-    subst (λ (t : List ℕ). is_opaque_tag t ≡ true) (sym form.1) (opaque_of form.0 (list_all-from_AllPass is_tag_byte form.0 form.2))
-
-weak_parts : (text : List ℕ) → is_weak_tag text ≡ true → (tag : List ℕ) × (text ≡ codes "W/" ++ tag) × (is_opaque_tag tag ≡ true)
-weak_parts text h =
-    let a = both _ _ h in
-    let b = both _ _ a.0 in
-    let c = both _ _ b.0 in
-    by_text text (ltb-true _ _ c.0) (eqb-true _ _ c.1) (eqb-true _ _ b.1) a.1
-  where
-    by_text : (text : List ℕ) → 2 < length text → get_or text 0 0 ≡ 87 → get_or text 1 0 ≡ 47 → is_opaque_tag (drop 2 text) ≡ true
-        → (tag : List ℕ) × (text ≡ codes "W/" ++ tag) × (is_opaque_tag tag ≡ true)
-    by_text [] long first second opaque = absurd (omega arith)
-    by_text (x ∷ []) long first second opaque = absurd (omega arith)
-    by_text (x ∷ y ∷ tag) long first second opaque = (tag, rw (first, second), opaque)
-
-weak_is : (text : List ℕ) → (tag : List ℕ) × (text ≡ codes "W/" ++ tag) × (is_opaque_tag tag ≡ true) → is_weak_tag text ≡ true
-weak_is text form =
-    subst (λ (t : List ℕ). is_weak_tag t ≡ true) (sym form.1) (by_tag form.0 form.2)
-  where
-    by_tag : (tag : List ℕ) → is_opaque_tag tag ≡ true → is_weak_tag (codes "W/" ++ tag) ≡ true
-    by_tag tag opaque =
-        let long = (quoted_parts tag opaque).long in
-        rw (lt-ltb 2 (length (87 ∷ 47 ∷ tag)) (omega arith)) opaque
-
-pub tags_are_quoted : TagsAreQuoted
-tags_are_quoted = record {
-  opaque = λ text. (opaque_parts text, opaque_is text);
-  weak = λ text. (weak_parts text, weak_is text);
-}
-
--- ---- Content-Range
+use Rattle.http_range.specs.Laws.{ContentRangesAreForms}
+use Rattle.http_range.proofs.PlaceLemmas.{before_at, after_at, digits_miss}
+use Rattle.http_range.proofs.BookLemmas.{same_bytes}
 
 record IsNumber64 (text : List ℕ) : Type 0 where
   some : 0 < length text

@@ -12,17 +12,13 @@ use Rattle.http_range.specs.Book.{Publication, Book, In, Includes, Covers, Catal
 use Rattle.http_range.specs.Response.{Response, text_of, IsAnswer}
 use Rattle.http_range.specs.Honest.{IsFront, IsHonestFor, IsNamelessFront, IsHonest, IsPieceOf, IsPieceOfBook}
 use Rattle.http_range.specs.Laws.{FrontsAreRead, ChecksAreRead, HonestyIsKept}
+use Rattle.http_parts.specs.Laws.{PartsAreRead}
 use Rattle.http_range.proofs.BookLemmas.{published_lawful}
 use Rattle.http_range.proofs.RoundTrip.{front_read, front_checked}
 use Rattle.http_range.proofs.ResponseLemmas.{Kind, IsRefusal, IsFileAnswer, kind_of, front_same, front_trans}
 
 front_is : (text whole : List ℕ) → IsFront text whole → text ≡ take (length text) whole
 front_is text whole front = sym (take-append_seam text front.0) ∙ ap (take (length text)) front.1
-
-front_told : (s : Response) (text : List ℕ) → IsSent s.reply → IsFront text (text_of s) → (r : Result SeenPiece Why) → ReadsAnswer text r
-    → r ≡ front_seen s.reply s.close s.body (length text)
-front_told s text sent front r found =
-    front_read s.reply s.close s.body (length text) sent text (front_is text (text_of s) front) r found
 
 refusal_told : (s : Response) (k : ℕ) → IsRefusal s → IsErr (front_seen s.reply s.close s.body k)
 refusal_told s k is = by_test (leb (length (head_text s.reply s.close)) k)
@@ -64,36 +60,10 @@ sent_kind : (catalogue : Catalogue) (s : Response) → Kind catalogue s → IsSe
 sent_kind catalogue s (inl is) = is.sent
 sent_kind catalogue s (inr file) = file.1.sent
 
-honest_read : (text : List ℕ) (p : Publication) → IsHonestFor text p → (r : Result SeenPiece Why) → ReadsAnswer text r
-    → IfOk r (IsPieceOf p)
-honest_read text p honest r found =
-    let c = honest.catalogue in
-    let s = honest.response in
-    let kind : Kind c s = subst (Kind c) (sym honest.answers.2) (kind_of c honest.lawful honest.answers.0) in
-    subst (λ (x : Result SeenPiece Why). IfOk x (IsPieceOf p))
-    (sym (front_told s text (sent_kind c s kind) honest.front r found))
-    (honest_kind c s p (length text) honest.has honest.named kind)
-
-answer_read : (catalogue : Catalogue) (message : List ℕ) (s : Response) (k : ℕ) → IsCatalogue catalogue → IsAnswer catalogue message s
-    → (text : List ℕ) → text ≡ take k (text_of s) → (r : Result SeenPiece Why) → ReadsAnswer text r
-    → r ≡ front_seen s.reply s.close s.body k
-answer_read catalogue message s k lawful answers text is r found =
-    let kind : Kind catalogue s = subst (Kind catalogue) (sym answers.2) (kind_of catalogue lawful answers.0) in
-    front_read s.reply s.close s.body k (sent_kind catalogue s kind) text is r found
-
 nameless_kind : (catalogue : Catalogue) (s : Response) (k : ℕ) → s.name ≡ None → Kind catalogue s
     → IsErr (front_seen s.reply s.close s.body k)
 nameless_kind catalogue s k none (inl is) = refusal_told s k is
 nameless_kind catalogue s k none (inr file) = absurd (let e : Some file.0.name ≡ None = sym file.1.named ∙ none in cc)
-
-nameless_read : (text : List ℕ) → IsNamelessFront text → (r : Result SeenPiece Why) → ReadsAnswer text r → IsErr r
-nameless_read text front r found =
-    let c = front.catalogue in
-    let s = front.response in
-    let kind : Kind c s = subst (Kind c) (sym front.answers.2) (kind_of c front.lawful front.answers.0) in
-    subst (λ (x : Result SeenPiece Why). IsErr x)
-    (sym (front_told s text (sent_kind c s kind) front.front r found))
-    (nameless_kind c s (length text) front.nameless kind)
 
 in_book : (name : List ℕ) (book : Book) (p : Publication) → In p book → p.name ≡ name → (r : Result SeenPiece Why)
     → IfOk r (IsPieceOf p) → IfOk r (IsPieceOfBook name book)
@@ -104,28 +74,7 @@ no_piece : (name : List ℕ) (book : Book) (r : Result SeenPiece Why) → IsErr 
 no_piece name book (Ok piece) is = absurd (let wrong : false ≡ true = is in cc)
 no_piece name book (Err why) is = tt
 
-book_read : (text name : List ℕ) (book : Book) → IsHonest text name book → (r : Result SeenPiece Why) → ReadsAnswer text r
-    → IfOk r (IsPieceOfBook name book)
-book_read text name book (inl of) r found =
-    in_book name book of.0 of.1 of.2 r (honest_read text of.0 of.3 r found)
-book_read text name book (inr nameless) r found = no_piece name book r (nameless_read text nameless r found)
-
-pub fronts_are_read : FrontsAreRead
-fronts_are_read = record {
-  reply = λ reply close body bytes k r sent is reads. front_read reply close body k sent bytes is r reads;
-  answer = λ catalogue message bytes s k r lawful answers is reads. answer_read catalogue message s k lawful answers bytes is r reads;
-  honest = λ text p r honest reads. honest_read text p honest r reads;
-  book = λ text name book r honest reads. book_read text name book honest r reads;
-  nameless = λ text r front reads. nameless_read text front r reads;
-}
-
 -- ---- checks
-
-answer_checked : (catalogue : Catalogue) (message bytes : List ℕ) (s : Response) (k : ℕ) (r : Result (List ℕ) Why) → IsCatalogue catalogue
-    → IsAnswer catalogue message s → bytes ≡ take k (text_of s) → ReadsCheck bytes r → r ≡ front_tag s.reply s.close k
-answer_checked catalogue message bytes s k r lawful answers is reads =
-    let kind : Kind catalogue s = subst (Kind catalogue) (sym answers.2) (kind_of catalogue lawful answers.0) in
-    front_checked s.reply s.close s.body k (sent_kind catalogue s kind) bytes is r reads
 
 refusal_checked : (s : Response) (k : ℕ) → IsRefusal s → IsErr (front_tag s.reply s.close k)
 refusal_checked s k is = by_test (leb (length (head_text s.reply s.close)) k)
@@ -156,37 +105,6 @@ checked_kind catalogue s p k has (inl named) (inr file) =
     (same_publication catalogue p file.0 has file.1.has same) (file_checked catalogue s file.0 k file.1)
 checked_kind catalogue s p k has (inr none) (inr file) =
     absurd (let e : Some file.0.name ≡ None = sym file.1.named ∙ none in cc)
-
-honest_checked : (text : List ℕ) (p : Publication) (r : Result (List ℕ) Why) → IsHonestFor text p → ReadsCheck text r
-    → IfOk r (λ tag. tag ≡ p.tag)
-honest_checked text p r honest reads =
-    let c = honest.catalogue in
-    let s = honest.response in
-    let kind : Kind c s = subst (Kind c) (sym honest.answers.2) (kind_of c honest.lawful honest.answers.0) in
-    subst (λ (x : Result (List ℕ) Why). IfOk x (λ tag. tag ≡ p.tag))
-    (sym (answer_checked c honest.message text s (length text) r honest.lawful honest.answers (front_is text (text_of s) honest.front) reads))
-    (checked_kind c s p (length text) honest.has honest.named kind)
-
-nameless_checked : (text : List ℕ) (r : Result (List ℕ) Why) → IsNamelessFront text → ReadsCheck text r → IsErr r
-nameless_checked text r front reads =
-    let c = front.catalogue in
-    let s = front.response in
-    let kind : Kind c s = subst (Kind c) (sym front.answers.2) (kind_of c front.lawful front.answers.0) in
-    subst (λ (x : Result (List ℕ) Why). IsErr x)
-    (sym (answer_checked c front.message text s (length text) r front.lawful front.answers (front_is text (text_of s) front.front) reads))
-    (by_kind kind)
-  where
-    by_kind : Kind front.catalogue front.response → IsErr (front_tag front.response.reply front.response.close (length text))
-    by_kind (inl is) = refusal_checked front.response (length text) is
-    by_kind (inr file) = absurd (let e : Some file.0.name ≡ None = sym file.1.named ∙ front.nameless in cc)
-
-pub checks_are_read : ChecksAreRead
-checks_are_read = record {
-  reply = λ reply close body bytes k r sent is reads. front_checked reply close body k sent bytes is r reads;
-  answer = answer_checked;
-  honest = honest_checked;
-  nameless = nameless_checked;
-}
 
 -- ---- honest answers stay honest
 
@@ -267,3 +185,91 @@ honesty_is_kept = record {
   later = stays_later;
   lawful = λ text p h. published_lawful p.name h.catalogue p h.lawful h.has;
 }
+
+-- ---- what is read, by the laws of the parts
+
+module _ (laws : PartsAreRead) where
+  front_told : (s : Response) (text : List ℕ) → IsSent s.reply → IsFront text (text_of s) → (r : Result SeenPiece Why) → ReadsAnswer text r
+      → r ≡ front_seen s.reply s.close s.body (length text)
+  front_told s text sent front r found =
+      front_read laws s.reply s.close s.body (length text) sent text (front_is text (text_of s) front) r found
+
+  honest_read : (text : List ℕ) (p : Publication) → IsHonestFor text p → (r : Result SeenPiece Why) → ReadsAnswer text r
+      → IfOk r (IsPieceOf p)
+  honest_read text p honest r found =
+      let c = honest.catalogue in
+      let s = honest.response in
+      let kind : Kind c s = subst (Kind c) (sym honest.answers.2) (kind_of c honest.lawful honest.answers.0) in
+      subst (λ (x : Result SeenPiece Why). IfOk x (IsPieceOf p))
+      (sym (front_told s text (sent_kind c s kind) honest.front r found))
+      (honest_kind c s p (length text) honest.has honest.named kind)
+
+  answer_read : (catalogue : Catalogue) (message : List ℕ) (s : Response) (k : ℕ) → IsCatalogue catalogue → IsAnswer catalogue message s
+      → (text : List ℕ) → text ≡ take k (text_of s) → (r : Result SeenPiece Why) → ReadsAnswer text r
+      → r ≡ front_seen s.reply s.close s.body k
+  answer_read catalogue message s k lawful answers text is r found =
+      let kind : Kind catalogue s = subst (Kind catalogue) (sym answers.2) (kind_of catalogue lawful answers.0) in
+      front_read laws s.reply s.close s.body k (sent_kind catalogue s kind) text is r found
+
+  nameless_read : (text : List ℕ) → IsNamelessFront text → (r : Result SeenPiece Why) → ReadsAnswer text r → IsErr r
+  nameless_read text front r found =
+      let c = front.catalogue in
+      let s = front.response in
+      let kind : Kind c s = subst (Kind c) (sym front.answers.2) (kind_of c front.lawful front.answers.0) in
+      subst (λ (x : Result SeenPiece Why). IsErr x)
+      (sym (front_told s text (sent_kind c s kind) front.front r found))
+      (nameless_kind c s (length text) front.nameless kind)
+
+  book_read : (text name : List ℕ) (book : Book) → IsHonest text name book → (r : Result SeenPiece Why) → ReadsAnswer text r
+      → IfOk r (IsPieceOfBook name book)
+  book_read text name book (inl of) r found =
+      in_book name book of.0 of.1 of.2 r (honest_read text of.0 of.3 r found)
+  book_read text name book (inr nameless) r found = no_piece name book r (nameless_read text nameless r found)
+
+  pub fronts_are_read : FrontsAreRead
+  fronts_are_read = record {
+    reply = λ reply close body bytes k r sent is reads. front_read laws reply close body k sent bytes is r reads;
+    answer = λ catalogue message bytes s k r lawful answers is reads. answer_read catalogue message s k lawful answers bytes is r reads;
+    honest = λ text p r honest reads. honest_read text p honest r reads;
+    book = λ text name book r honest reads. book_read text name book honest r reads;
+    nameless = λ text r front reads. nameless_read text front r reads;
+  }
+
+  -- ---- checks
+
+  answer_checked : (catalogue : Catalogue) (message bytes : List ℕ) (s : Response) (k : ℕ) (r : Result (List ℕ) Why) → IsCatalogue catalogue
+      → IsAnswer catalogue message s → bytes ≡ take k (text_of s) → ReadsCheck bytes r → r ≡ front_tag s.reply s.close k
+  answer_checked catalogue message bytes s k r lawful answers is reads =
+      let kind : Kind catalogue s = subst (Kind catalogue) (sym answers.2) (kind_of catalogue lawful answers.0) in
+      front_checked laws s.reply s.close s.body k (sent_kind catalogue s kind) bytes is r reads
+
+  honest_checked : (text : List ℕ) (p : Publication) (r : Result (List ℕ) Why) → IsHonestFor text p → ReadsCheck text r
+      → IfOk r (λ tag. tag ≡ p.tag)
+  honest_checked text p r honest reads =
+      let c = honest.catalogue in
+      let s = honest.response in
+      let kind : Kind c s = subst (Kind c) (sym honest.answers.2) (kind_of c honest.lawful honest.answers.0) in
+      subst (λ (x : Result (List ℕ) Why). IfOk x (λ tag. tag ≡ p.tag))
+      (sym (answer_checked c honest.message text s (length text) r honest.lawful honest.answers (front_is text (text_of s) honest.front) reads))
+      (checked_kind c s p (length text) honest.has honest.named kind)
+
+  nameless_checked : (text : List ℕ) (r : Result (List ℕ) Why) → IsNamelessFront text → ReadsCheck text r → IsErr r
+  nameless_checked text r front reads =
+      let c = front.catalogue in
+      let s = front.response in
+      let kind : Kind c s = subst (Kind c) (sym front.answers.2) (kind_of c front.lawful front.answers.0) in
+      subst (λ (x : Result (List ℕ) Why). IsErr x)
+      (sym (answer_checked c front.message text s (length text) r front.lawful front.answers (front_is text (text_of s) front.front) reads))
+      (by_kind kind)
+    where
+      by_kind : Kind front.catalogue front.response → IsErr (front_tag front.response.reply front.response.close (length text))
+      by_kind (inl is) = refusal_checked front.response (length text) is
+      by_kind (inr file) = absurd (let e : Some file.0.name ≡ None = sym file.1.named ∙ front.nameless in cc)
+
+  pub checks_are_read : ChecksAreRead
+  checks_are_read = record {
+    reply = λ reply close body bytes k r sent is reads. front_checked laws reply close body k sent bytes is r reads;
+    answer = answer_checked;
+    honest = honest_checked;
+    nameless = nameless_checked;
+  }

@@ -1,10 +1,7 @@
-pub mod DigitsLemmas
-pub mod FieldLemmas
 pub mod HeadLemmas
-pub mod LineLemmas
-pub mod MembersLemmas
+pub mod TextLemmas
 pub mod FrontLemmas
-pub mod ValueLemmas
+pub mod PlaceLemmas
 pub mod ReplyLemmas
 pub mod RoundTrip
 pub mod RangeLemmas
@@ -15,6 +12,5 @@ pub mod ResponseLemmas
 pub mod HonestLemmas
 pub mod AskedLemmas
 pub mod FormLemmas
-pub mod MatchLemmas
 pub mod MessageLemmas
 pub mod StreamLemmas

@@ -4,7 +4,7 @@ use Rattle.std.proofs.lemmas.Bool.{cases_lt, eq-eqb}
 use Rattle.std.proofs.lemmas.List.{take-append-le}
 use Rattle.httparse.proofs.GrammarLemmas.{ReadsRequest-append}
 use Rattle.httparse.specs.Grammar.{ReadsRequest}
-use Rattle.http_range.specs.declared.limits.TheConstants.{MESSAGE_LIMIT}
+use Rattle.http_parts.specs.declared.limits.TheConstants.{MESSAGE_LIMIT}
 use Rattle.http_range.specs.Stream.{is_message, HasNoMessage, IsFirstMessage, IsUnfinished}
 use Rattle.http_range.specs.Laws.{MessagesStay, HeadsStay}
 

@@ -1,5 +1,5 @@
 -- What a server writes is what a client reads, cut anywhere.
-use Rattle.std.proofs.Common.{◌≡◌, ℕ, ◌+◌, ◌-◌, ◌<◌, ◌≤◌, Bool, true, false, List, ◌++◌, length, take, drop, refl, ap, ◌∙◌, subst, arith, inl, inr, length-append, length-drop, take-append-drop, codes, Result, Ok, Err}
+use Rattle.std.proofs.Common.{◌≡◌, ℕ, ◌+◌, ◌-◌, ◌<◌, ◌≤◌, Bool, true, false, cond, List, ◌++◌, length, take, drop, refl, ap, ◌∙◌, subst, arith, inl, inr, length-append, length-drop, take-append-drop, codes, Result, Ok, Err}
 use Rattle.std.specs.List.{list_all}
 use Rattle.std.specs.Char.{is_ascii_digit}
 use Rattle.std.specs.Str.Parse.{digits_value}
@@ -13,12 +13,13 @@ use Rattle.http_range.specs.declared.reading.Why.{Why}
 use Rattle.http_range.specs.declared.reading.Why.TheVariants.{Cut}
 use Rattle.http_range.specs.declared.reply.Reply.{Reply}
 use Rattle.http_range.specs.declared.reply.Reply.TheVariants.{R200, R206, R304, R400, R404, R405, R412, R416}
-use Rattle.http_range.specs.Text.{FieldLine, head_with, closing}
+use Rattle.http_parts.specs.Text.{FieldLine, head_with, closing}
 use Rattle.http_range.specs.Reply.{IsSent, status_of, status_line, fields_of, head_text}
 use Rattle.http_range.specs.Head.{SeenHead, seen_head, FindsHead}
 use Rattle.http_range.specs.Piece.{SeenPiece, ◌>>=◌}
 use Rattle.http_range.specs.Reading.{reading_of, reply_seen, front_seen, tag_of, tag_seen, front_tag, ReadsAnswer, ReadsCheck}
-use Rattle.http_range.proofs.LineLemmas.{ArePlain, head_by, status_by, head_with-is, head_is, length-fields, length-head_with, seen-are}
+use Rattle.http_range.proofs.TextLemmas.{ArePlain, head_by, status_by, head_with-is, head_is, length-fields, length-head_with, seen-are}
+use Rattle.http_parts.specs.Laws.{PartsAreRead}
 use Rattle.http_range.proofs.FrontLemmas.{found_whole, found_cut, whole_head, seen_whole}
 use Rattle.http_range.proofs.ReplyLemmas.{fields_plain, closing_plain, plain-append, kept_read, reads_200, reads_206}
 
@@ -66,84 +67,6 @@ closing_few : (close : Bool) → length (closing close) ≤ 1
 closing_few true = omega arith
 closing_few false = omega arith
 
-module _ (reply : Reply) (close : Bool) (sent : IsSent reply) where
-  abbrev lines : List FieldLine
-  lines = fields_of reply ++ closing close
-
-  abbrev head : ResponseHead
-  head = head_by (digits_of reply) (phrase_of reply) lines
-
-  plain : ArePlain lines
-  plain = plain-append (fields_of reply) (closing close) (fields_plain reply sent) (closing_plain close)
-
-  few : length lines ≤ 20
-  few = omega (arith, length-append (fields_of reply) (closing close), (status reply).few, closing_few close)
-
-  valid : IsResponseHead head
-  valid =
-      let s = status reply in
-      head_is (digits_of reply) (phrase_of reply) lines s.three (AllPass-from_list_all is_ascii_digit (digits_of reply) s.digits)
-      (AllPass-from_list_all is_value_byte (phrase_of reply) s.value) plain
-
-  printed : head_text reply close ≡ print_response head
-  printed =
-      ap (λ (t : List ℕ). head_with t lines) (status reply).line ∙ head_with-is (digits_of reply) (phrase_of reply) lines
-
-  small : length (head_text reply close) ≤ 4096
-  small =
-      let short = (status reply).short in length-head_with (status_line reply) lines plain (omega arith) few
-
-  room : length head.fields ≤ 32
-  room = let n = few in omega (arith, length-fields lines)
-
-  -- what is seen of the head and of what follows it
-  seen_is : (bytes rest : List ℕ) → bytes ≡ head_text reply close ++ rest
-      → seen_head bytes head ≡ record { status = status_of reply; fields = lines; rest = rest }
-  seen_is bytes rest parts =
-      let behind = seen_whole head bytes rest (parts ∙ ap (λ (t : List ℕ). t ++ rest) printed) in
-      λ i. record { status = (status reply).code i; fields = seen-are lines plain i; rest = behind i }
-
-  found_there : (bytes rest : List ℕ) → bytes ≡ head_text reply close ++ rest → (found : Result SeenHead Why)
-      → FindsHead bytes found → found ≡ Ok (record { status = status_of reply; fields = lines; rest = rest })
-  found_there bytes rest parts found finds =
-      let fits : length (print_response head) ≤ 4096 = subst (λ (t : List ℕ). length t ≤ 4096) printed small in
-      found_whole bytes head found
-      (whole_head head valid room fits bytes rest (parts ∙ ap (λ (t : List ℕ). t ++ rest) printed)) finds
-      ∙ ap Ok (seen_is bytes rest parts)
-
-  found_short : (bytes more : List ℕ) → 0 < length more → bytes ++ more ≡ head_text reply close → (found : Result SeenHead Why)
-      → FindsHead bytes found → found ≡ Err Cut
-  found_short bytes more some parts =
-      let fits : length (print_response head) ≤ 4096 = subst (λ (t : List ℕ). length t ≤ 4096) printed small in
-      found_cut head valid room fits bytes more some (parts ∙ printed)
-
--- what the fields of a reply say
-reads_reply : (reply : Reply) (close : Bool) (rest : List ℕ) → IsSent reply
-    → reading_of (record { status = status_of reply; fields = fields_of reply ++ closing close; rest = rest }) ≡ reply_seen reply rest
-reads_reply (R200 tag l) close rest sent = reads_200 tag l close rest sent
-reads_reply (R206 tag a b l) close rest sent = reads_206 tag a b l close rest sent
-reads_reply (R304 tag) close rest sent = refl
-reads_reply R400 close rest sent = refl
-reads_reply R404 close rest sent = refl
-reads_reply R405 close rest sent = refl
-reads_reply R412 close rest sent = refl
-reads_reply (R416 l) close rest sent = refl
-
--- what a check reads of them
-reads_tag : (reply : Reply) (close : Bool) (rest : List ℕ) → IsSent reply
-    → tag_of (record { status = status_of reply; fields = fields_of reply ++ closing close; rest = rest }) ≡ tag_seen reply
-reads_tag (R200 tag l) true rest sent = kept_read tag sent.0
-reads_tag (R200 tag l) false rest sent = kept_read tag sent.0
-reads_tag (R206 tag a b l) true rest sent = kept_read tag sent.0
-reads_tag (R206 tag a b l) false rest sent = kept_read tag sent.0
-reads_tag (R304 tag) true rest sent = kept_read tag sent
-reads_tag (R304 tag) false rest sent = kept_read tag sent
-reads_tag R400 close rest sent = refl
-reads_tag R404 close rest sent = refl
-reads_tag R405 close rest sent = refl
-reads_tag R412 close rest sent = refl
-reads_tag (R416 l) close rest sent = refl
-
 -- the first k bytes of a reply and a body have its whole head, or are cut
 record IsFoundHead (reply : Reply) (close : Bool) (body : List ℕ) (k : ℕ) (found : Result SeenHead Why) : Type 0 where
   whole : length (head_text reply close) ≤ k
@@ -154,52 +77,129 @@ record IsFoundHead (reply : Reply) (close : Bool) (body : List ℕ) (k : ℕ) (f
       })
   short : k < length (head_text reply close) → found ≡ Err Cut
 
-front_found : (reply : Reply) (close : Bool) (body : List ℕ) (k : ℕ) → IsSent reply → (bytes : List ℕ)
-    → bytes ≡ take k (head_text reply close ++ body) → (found : Result SeenHead Why) → FindsHead bytes found
-    → IsFoundHead reply close body k found
-front_found reply close body k sent bytes is found finds =
-    let text = head_text reply close in
-    let n = length text in record {
-      whole = λ above.
-          let e : k ≡ n + (k - n) = omega arith in
-          let parts : bytes ≡ text ++ take (k - n) body =
-          is ∙ ap (λ (m : ℕ). take m (text ++ body)) e ∙ take-append-add text body (k - n) in
-          found_there reply close sent bytes (take (k - n) body) parts found finds;
-      short = λ below.
-          let front : bytes ≡ take k text = is ∙ take-append-le k text body (omega arith) in
-          let parts : bytes ++ drop k text ≡ text = ap (λ (t : List ℕ). t ++ drop k text) front ∙ take-append-drop k text in
-          let some : 0 < length (drop k text) = omega (arith, length-drop k text) in
-          found_short reply close sent bytes (drop k text) some parts found finds;
-    }
+module _ (laws : PartsAreRead) where
+  module _ (reply : Reply) (close : Bool) (sent : IsSent reply) where
+    abbrev lines : List FieldLine
+    lines = fields_of reply ++ closing close
 
-pub front_read : (reply : Reply) (close : Bool) (body : List ℕ) (k : ℕ) → IsSent reply → (bytes : List ℕ)
-    → bytes ≡ take k (head_text reply close ++ body) → (r : Result SeenPiece Why) → ReadsAnswer bytes r
-    → r ≡ front_seen reply close body k
-front_read reply close body k sent bytes is r reads =
-    let n = length (head_text reply close) in
-    let found = front_found reply close body k sent bytes is reads.0 reads.1 in
-    elim (cases_lt k n) [
-      | inl below ↦
-          let test : leb n k ≡ false = lt-leb n k below in
-          reads.2 ∙ ap (λ (f : Result SeenHead Why). f >>= reading_of) (found.short below) ∙ rw test
-      | inr above ↦
-          let test : leb n k ≡ true = le-leb n k above in
-          reads.2 ∙ ap (λ (f : Result SeenHead Why). f >>= reading_of) (found.whole above)
-          ∙ reads_reply reply close (take (k - n) body) sent ∙ rw test
-    ]
+    abbrev head : ResponseHead
+    head = head_by (digits_of reply) (phrase_of reply) lines
 
-pub front_checked : (reply : Reply) (close : Bool) (body : List ℕ) (k : ℕ) → IsSent reply → (bytes : List ℕ)
-    → bytes ≡ take k (head_text reply close ++ body) → (r : Result (List ℕ) Why) → ReadsCheck bytes r
-    → r ≡ front_tag reply close k
-front_checked reply close body k sent bytes is r reads =
-    let n = length (head_text reply close) in
-    let found = front_found reply close body k sent bytes is reads.0 reads.1 in
-    elim (cases_lt k n) [
-      | inl below ↦
-          let test : leb n k ≡ false = lt-leb n k below in
-          reads.2 ∙ ap (λ (f : Result SeenHead Why). f >>= tag_of) (found.short below) ∙ rw test
-      | inr above ↦
-          let test : leb n k ≡ true = le-leb n k above in
-          reads.2 ∙ ap (λ (f : Result SeenHead Why). f >>= tag_of) (found.whole above)
-          ∙ reads_tag reply close (take (k - n) body) sent ∙ rw test
-    ]
+    plain : ArePlain lines
+    plain = plain-append (fields_of reply) (closing close) (fields_plain laws reply sent) (closing_plain close)
+
+    few : length lines ≤ 20
+    few = omega (arith, length-append (fields_of reply) (closing close), (status reply).few, closing_few close)
+
+    valid : IsResponseHead head
+    valid =
+        let s = status reply in
+        head_is laws (digits_of reply) (phrase_of reply) lines s.three (AllPass-from_list_all is_ascii_digit (digits_of reply) s.digits)
+        (AllPass-from_list_all is_value_byte (phrase_of reply) s.value) plain
+
+    printed : head_text reply close ≡ print_response head
+    printed =
+        ap (λ (t : List ℕ). head_with t lines) (status reply).line ∙ head_with-is laws (digits_of reply) (phrase_of reply) lines
+
+    small : length (head_text reply close) ≤ 4096
+    small =
+        let short = (status reply).short in length-head_with laws (status_line reply) lines plain (omega arith) few
+
+    room : length head.fields ≤ 32
+    room = let n = few in omega (arith, length-fields lines)
+
+    -- what is seen of the head and of what follows it
+    seen_is : (bytes rest : List ℕ) → bytes ≡ head_text reply close ++ rest
+        → seen_head bytes head ≡ record { status = status_of reply; fields = lines; rest = rest }
+    seen_is bytes rest parts =
+        let behind = seen_whole head bytes rest (parts ∙ ap (λ (t : List ℕ). t ++ rest) printed) in
+        λ i. record { status = (status reply).code i; fields = seen-are laws lines plain i; rest = behind i }
+
+    found_there : (bytes rest : List ℕ) → bytes ≡ head_text reply close ++ rest → (found : Result SeenHead Why)
+        → FindsHead bytes found → found ≡ Ok (record { status = status_of reply; fields = lines; rest = rest })
+    found_there bytes rest parts found finds =
+        let fits : length (print_response head) ≤ 4096 = subst (λ (t : List ℕ). length t ≤ 4096) printed small in
+        found_whole bytes head found
+        (whole_head head valid room fits bytes rest (parts ∙ ap (λ (t : List ℕ). t ++ rest) printed)) finds
+        ∙ ap Ok (seen_is bytes rest parts)
+
+    found_short : (bytes more : List ℕ) → 0 < length more → bytes ++ more ≡ head_text reply close → (found : Result SeenHead Why)
+        → FindsHead bytes found → found ≡ Err Cut
+    found_short bytes more some parts =
+        let fits : length (print_response head) ≤ 4096 = subst (λ (t : List ℕ). length t ≤ 4096) printed small in
+        found_cut head valid room fits bytes more some (parts ∙ printed)
+
+  -- what the fields of a reply say
+  reads_reply : (reply : Reply) (close : Bool) (rest : List ℕ) → IsSent reply
+      → reading_of (record { status = status_of reply; fields = fields_of reply ++ closing close; rest = rest }) ≡ reply_seen reply rest
+  reads_reply (R200 tag l) close rest sent = reads_200 laws tag l close rest sent
+  reads_reply (R206 tag a b l) close rest sent = reads_206 laws tag a b l close rest sent
+  reads_reply (R304 tag) close rest sent = refl
+  reads_reply R400 close rest sent = refl
+  reads_reply R404 close rest sent = refl
+  reads_reply R405 close rest sent = refl
+  reads_reply R412 close rest sent = refl
+  reads_reply (R416 l) close rest sent = refl
+
+  -- what a check reads of them
+  reads_tag : (reply : Reply) (close : Bool) (rest : List ℕ) → IsSent reply
+      → tag_of (record { status = status_of reply; fields = fields_of reply ++ closing close; rest = rest }) ≡ tag_seen reply
+  reads_tag (R200 tag l) true rest sent = kept_read laws tag sent.0
+  reads_tag (R200 tag l) false rest sent = kept_read laws tag sent.0
+  reads_tag (R206 tag a b l) true rest sent = kept_read laws tag sent.0
+  reads_tag (R206 tag a b l) false rest sent = kept_read laws tag sent.0
+  reads_tag (R304 tag) true rest sent = kept_read laws tag sent
+  reads_tag (R304 tag) false rest sent = kept_read laws tag sent
+  reads_tag R400 close rest sent = refl
+  reads_tag R404 close rest sent = refl
+  reads_tag R405 close rest sent = refl
+  reads_tag R412 close rest sent = refl
+  reads_tag (R416 l) close rest sent = refl
+
+  front_found : (reply : Reply) (close : Bool) (body : List ℕ) (k : ℕ) → IsSent reply → (bytes : List ℕ)
+      → bytes ≡ take k (head_text reply close ++ body) → (found : Result SeenHead Why) → FindsHead bytes found
+      → IsFoundHead reply close body k found
+  front_found reply close body k sent bytes is found finds =
+      let text = head_text reply close in
+      let n = length text in record {
+        whole = λ above.
+            let e : k ≡ n + (k - n) = omega arith in
+            let parts : bytes ≡ text ++ take (k - n) body =
+            is ∙ ap (λ (m : ℕ). take m (text ++ body)) e ∙ take-append-add text body (k - n) in
+            found_there reply close sent bytes (take (k - n) body) parts found finds;
+        short = λ below.
+            let front : bytes ≡ take k text = is ∙ take-append-le k text body (omega arith) in
+            let parts : bytes ++ drop k text ≡ text = ap (λ (t : List ℕ). t ++ drop k text) front ∙ take-append-drop k text in
+            let some : 0 < length (drop k text) = omega (arith, length-drop k text) in
+            found_short reply close sent bytes (drop k text) some parts found finds;
+      }
+
+  -- what is read of them, by what is read of the whole head
+  front_by : {A : Type 0} (of : SeenHead → Result A Why) (told : List ℕ → Result A Why) (reply : Reply) (close : Bool) (body : List ℕ) (k : ℕ)
+      → IsSent reply
+      → ((rest : List ℕ) → of (record { status = status_of reply; fields = fields_of reply ++ closing close; rest = rest }) ≡ told rest)
+      → (bytes : List ℕ) → bytes ≡ take k (head_text reply close ++ body) → (found : Result SeenHead Why) → FindsHead bytes found
+      → (found >>= of) ≡ cond (leb (length (head_text reply close)) k) (told (take (k - length (head_text reply close)) body)) (Err Cut)
+  front_by of told reply close body k sent tells bytes is found finds =
+      let n = length (head_text reply close) in
+      let head = front_found reply close body k sent bytes is found finds in
+      elim (cases_lt k n) [
+        | inl below ↦
+            let test : leb n k ≡ false = lt-leb n k below in
+            ap (λ (f : Result SeenHead Why). f >>= of) (head.short below) ∙ rw test
+        | inr above ↦
+            let test : leb n k ≡ true = le-leb n k above in
+            ap (λ (f : Result SeenHead Why). f >>= of) (head.whole above) ∙ tells (take (k - n) body) ∙ rw test
+      ]
+
+  pub front_read : (reply : Reply) (close : Bool) (body : List ℕ) (k : ℕ) → IsSent reply → (bytes : List ℕ)
+      → bytes ≡ take k (head_text reply close ++ body) → (r : Result SeenPiece Why) → ReadsAnswer bytes r
+      → r ≡ front_seen reply close body k
+  front_read reply close body k sent bytes is r reads =
+      reads.2 ∙ front_by reading_of (reply_seen reply) reply close body k sent (λ rest. reads_reply reply close rest sent) bytes is reads.0 reads.1
+
+  pub front_checked : (reply : Reply) (close : Bool) (body : List ℕ) (k : ℕ) → IsSent reply → (bytes : List ℕ)
+      → bytes ≡ take k (head_text reply close ++ body) → (r : Result (List ℕ) Why) → ReadsCheck bytes r
+      → r ≡ front_tag reply close k
+  front_checked reply close body k sent bytes is r reads =
+      reads.2 ∙ front_by tag_of (λ rest. tag_seen reply) reply close body k sent (λ rest. reads_tag reply close rest sent) bytes is reads.0 reads.1

@@ -1,9 +1,9 @@
 -- A client's requests: for a range of a file, and a check whether it is still the same (RFC 9110, sections 13.1.2, 13.1.5
 -- and 14.2; RFC 9112, section 3).
 use Rattle.std.specs.Prelude.{ℕ, ◌^◌, ◌<◌, true, IsTrue, IfSome, List, [], ◌∷◌, ◌++◌, codes, decimal, Option, Some, None}
-use Rattle.http_range.specs.Tag.{is_kept_tag}
-use Rattle.http_range.specs.Names.{is_name, is_host}
-use Rattle.http_range.specs.Text.{FieldLine, head_with, closing}
+use Rattle.http_parts.specs.Tag.{is_kept_tag}
+use Rattle.http_parts.specs.Names.{is_name, is_host}
+use Rattle.http_parts.specs.Text.{FieldLine, head_with, closing}
 use Rattle.http_range.specs.Seen.{SeenRequest}
 
 -- `METHOD /NAME HTTP/1.1`, the target in origin-form

@@ -1,8 +1,8 @@
 -- Files that were published, and what a server has of them.
 use Rattle.std.specs.Prelude.{◌≡◌, ◌≤◌, ◌⊎◌, ℕ, IsTrue, if◌then◌else◌, List, [], ◌∷◌, ◌++◌, length, codes, decimal, Option, Some, None, ⊤}
 use Rattle.std.specs.Str.{bytes_eq}
-use Rattle.http_range.specs.Names.{is_name}
-use Rattle.http_range.specs.Tag.{is_kept_tag}
+use Rattle.http_parts.specs.Names.{is_name}
+use Rattle.http_parts.specs.Tag.{is_kept_tag}
 
 -- one revision of a file: the name and the tag under which it was published, and its bytes
 pub record Publication : Type 0 where

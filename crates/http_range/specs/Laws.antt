@@ -1,10 +1,9 @@
 -- Laws of the definitions, each the contract of a function of `laws`.
-use Rattle.std.specs.Prelude.{◌≡◌, ◌≢◌, ◌<◌, ◌≤◌, ◌^◌, ◌↔◌, ◌⊎◌, ℕ, Bool, IsTrue, IsErr, IfOk, List, [], ◌∷◌, ◌++◌, length, take, drop, codes, Option, Some, None, Result}
-use Rattle.std.specs.List.{AllPass}
+use Rattle.std.specs.Prelude.{◌≡◌, ◌≢◌, ◌<◌, ◌≤◌, ◌^◌, ◌↔◌, ◌⊎◌, ℕ, Bool, IsTrue, IsErr, IfOk, List, ◌++◌, length, take, drop, Option, Some, None, Result}
 use Rattle.http_range.specs.Ask.{CanAsk, request_text, CanCheck, check_text}
 use Rattle.http_range.specs.Book.{Publication, IsPublication, Book, Includes, Covers, Catalogue, IsCatalogue, published, publish, publication_tag}
 use Rattle.http_range.specs.Response.{Response, text_of, IsAnswer, response_to_client, response_to_check}
-use Rattle.http_range.specs.declared.limits.TheConstants.{FIELD_LIMIT, TAG_LIMIT, HEAD_LIMIT, MESSAGE_LIMIT, ANSWERS_LIMIT}
+use Rattle.http_parts.specs.declared.limits.TheConstants.{MESSAGE_LIMIT}
 use Rattle.http_range.specs.Seen.{SeenRequest, HasRequest}
 use Rattle.http_range.specs.Stream.{AreAnswers, HasNoMessage, IsFirstMessage, IsUnfinished}
 use Rattle.http_range.specs.Honest.{IsFront, IsHonestFor, IsNamelessFront, IsHonest, IsPieceOf, IsPieceOfBook}
@@ -15,15 +14,8 @@ use Rattle.http_range.specs.Piece.{SeenPiece}
 use Rattle.http_range.specs.Reading.{front_seen, front_tag, ReadsAnswer, ReadsCheck}
 use Rattle.http_range.specs.ContentRange.{IsContentRange, range_of}
 use Rattle.http_range.specs.declared.reading.ContentRange.{ContentRange}
-use Rattle.http_range.specs.Tag.{is_tag_byte, is_opaque_tag, is_weak_tag, is_kept_tag}
-
--- the limits, in numbers
-pub record LimitsAre : Type 0 where
-  pub fields : FIELD_LIMIT ≡ 32
-  pub tag : TAG_LIMIT ≡ 64
-  pub head : HEAD_LIMIT ≡ 4096
-  pub message : MESSAGE_LIMIT ≡ 8192
-  pub answers : ANSWERS_LIMIT ≡ 100
+use Rattle.http_parts.specs.Tag.{is_kept_tag}
+pub use Rattle.http_parts.specs.Laws.{TagsAreQuoted, LimitsAre}
 
 -- the tags of two publications of one server are different
 abbrev pub TagsTellPublications : Type 0
@@ -144,13 +136,6 @@ pub record ChecksAreRead : Type 0 where
       → IfOk r (λ tag. tag ≡ p.tag)
   -- an answer without a tag says none
   pub nameless : (text : List ℕ) (r : Result (List ℕ) Why) → IsNamelessFront text → ReadsCheck text r → IsErr r
-
--- the texts between quotes are the entity tags, and those behind `W/` the weak ones
-pub record TagsAreQuoted : Type 0 where
-  pub opaque : (text : List ℕ) → IsTrue (is_opaque_tag text)
-      ↔ ((inner : List ℕ) × (text ≡ 34 ∷ (inner ++ 34 ∷ [])) × AllPass is_tag_byte inner)
-  pub weak : (text : List ℕ) → IsTrue (is_weak_tag text)
-      ↔ ((tag : List ℕ) × (text ≡ codes "W/" ++ tag) × IsTrue (is_opaque_tag tag))
 
 -- a Content-Range is read exactly where it has the form `bytes a-b/l`
 abbrev pub ContentRangesAreForms : Type 0

@@ -1,7 +1,7 @@
 -- The messages of a stream, and a server's answers to them (RFC 9112, sections 2.2, 9.3 and 9.6).
 use Rattle.std.specs.Prelude.{◌≡◌, ℕ, suc, ◌<◌, ◌≤◌, Bool, true, false, ◌&&◌, ◌||◌, ◌==◌, not, if◌then◌else◌, List, [], ◌∷◌, length, reverse, take, drop}
 use Rattle.std.specs.List.{list_any, flat_map}
-use Rattle.http_range.specs.declared.limits.TheConstants.{MESSAGE_LIMIT, ANSWERS_LIMIT}
+use Rattle.http_parts.specs.declared.limits.TheConstants.{MESSAGE_LIMIT, ANSWERS_LIMIT}
 use Rattle.http_range.specs.Book.{Catalogue}
 use Rattle.http_range.specs.Response.{Response, text_of, IsAnswer}
 

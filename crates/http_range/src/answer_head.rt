@@ -4,11 +4,11 @@ ghost use Rattle.http_range.specs.Head.{front_of, FindsHead};
 ghost use Rattle.http_range.specs.AnswerHead.{head_seen, found_seen};
 ghost use Rattle.http_range.specs.Reading.{is_coded, tag_by_rows, tag_in};
 
-use crate::bytes::after;
-use crate::fields::Fields;
-use crate::limits::{FIELD_LIMIT, HEAD_LIMIT};
 use crate::reading::Why;
-use crate::tag::{Tag, is_opaque_tag, is_weak_tag};
+use http_parts::bytes::after;
+use http_parts::fields::Fields;
+use http_parts::limits::{FIELD_LIMIT, HEAD_LIMIT};
+use http_parts::tag::{Tag, is_opaque_tag, is_weak_tag};
 use httparse::Status;
 use httparse::spans::{EMPTY_HEADER_SPAN, parse_response};
 

@@ -1,11 +1,11 @@
 //! A client's requests.
 ghost use Rattle.std.specs.Prelude.{◌≡◌, ◌++◌, IfOk, OnOk, codes, option_map};
 ghost use Rattle.std.specs.List.{flat_map};
-ghost use Rattle.http_range.specs.Text.{line};
+ghost use Rattle.http_parts.specs.Text.{line};
 ghost use Rattle.http_range.specs.Ask.{request_text, request_line, range_value, if_range, check_text};
 
-use crate::line::{push_closing, push_decimal, push_line};
-use crate::tag::Tag;
+use http_parts::line::{push_closing, push_decimal, push_line};
+use http_parts::tag::Tag;
 use std::alloc::{AllocError, Global};
 use tiff_dir::{Memory, Span};
 
@@ -55,7 +55,7 @@ fn push_request_line(out: &mut Vec<u8>, method: &[u8], name: &[u8]) -> Result<()
     Ok(())
 }
 
-#[tactic(auto, unfolding(crate::specs::Text::line, crate::specs::Ask::range_value))]
+#[tactic(auto, unfolding(http_parts::specs::Text::line, crate::specs::Ask::range_value))]
 fn push_range(out: &mut Vec<u8>, first: u64, last: u64) -> Result<(), AllocError>
     ensures { OnOk result (out.new.items ≡ out.old.items ++ line (codes "Range", range_value first last)) }
 {

@@ -1,16 +1,17 @@
-//! Laws of the definitions, for the crates above. Each function does nothing: its contract is the law.
-ghost use Rattle.http_range.specs.Laws.{LimitsAre, FrontsAreRead, ChecksAreRead, HonestyIsKept, TagsAreQuoted, ContentRangesAreForms, TagsTellPublications, PublicationTagsAreKept, AnswersAreUnique, StreamsAreAnsweredOnce, MessagesStay, HeadsStay, ClientsAreAnswered, ChecksAreAnswered, PublishReplaces, PublishedIsNamed};
+//! Laws of the definitions, for the crates above. Each function does nothing but name the laws
+//! that it rests on: its contract is the law.
+ghost use Rattle.http_range.specs.Laws.{FrontsAreRead, ChecksAreRead, HonestyIsKept, ContentRangesAreForms, TagsTellPublications, PublicationTagsAreKept, AnswersAreUnique, StreamsAreAnsweredOnce, MessagesStay, HeadsStay, ClientsAreAnswered, ChecksAreAnswered, PublishReplaces, PublishedIsNamed};
+ghost use Rattle.http_parts.specs.Laws.{TagsAreQuoted};
 
-/// The limits that the definitions name.
-pub fn limits_are()
-    ensures { LimitsAre }
-{}
+use http_parts::laws::parts_are_read;
 
 /// Different epochs or numbers give different tags, and each is a tag that is kept.
 pub fn tags_tell_publications()
     ensures apart { TagsTellPublications }
     ensures kept { PublicationTagsAreKept }
-{}
+{
+    parts_are_read();
+}
 
 /// What was found of a message or of its head stays so when bytes follow.
 pub fn messages_stay()
@@ -28,7 +29,9 @@ pub fn answers_are_unique()
 pub fn clients_are_answered()
     ensures followed { ClientsAreAnswered }
     ensures checks { ChecksAreAnswered }
-{}
+{
+    parts_are_read();
+}
 
 /// What stands under a name after a publication, and that it has that name.
 pub fn publications_replace()
@@ -45,10 +48,14 @@ pub fn honesty_is_kept()
 pub fn fronts_are_read()
     ensures answers { FrontsAreRead }
     ensures checks { ChecksAreRead }
-{}
+{
+    parts_are_read();
+}
 
 /// The tests and functions that read tags and Content-Range are the forms of the standard.
 pub fn values_have_forms()
     ensures tags { TagsAreQuoted }
     ensures ranges { ContentRangesAreForms }
-{}
+{
+    parts_are_read();
+}

@@ -6,38 +6,30 @@
 
 mod answer_head;
 mod ask;
-mod bytes;
 mod check;
-mod conditional;
-mod digits;
-mod fields;
 mod laws;
-mod limits;
-mod line;
-mod members;
-mod names;
-mod numeral;
 mod publication;
 mod range;
 mod reading;
 mod reply;
 mod request;
 mod stream;
-mod tag;
 
 pub use ask::{write_check, write_request};
 pub use check::{CheckReading, read_check};
-pub use conditional::any_match;
+pub use http_parts::conditional::any_match;
+pub use http_parts::laws::limits_are;
+pub use http_parts::limits::{ANSWERS_LIMIT, MESSAGE_LIMIT};
+pub use http_parts::names::{is_host, is_name};
+pub use http_parts::tag::Tag;
 pub use laws::{
-    answers_are_unique, clients_are_answered, fronts_are_read, honesty_is_kept, limits_are,
-    messages_stay, publications_replace, tags_tell_publications, values_have_forms,
+    answers_are_unique, clients_are_answered, fronts_are_read, honesty_is_kept, messages_stay,
+    publications_replace, tags_tell_publications, values_have_forms,
 };
-pub use limits::{ANSWERS_LIMIT, MESSAGE_LIMIT};
-pub use names::{is_host, is_name};
+pub use publication::publication_tag;
 pub use range::{RangeSpec, Resolved, read_range, resolve};
 pub use reading::{Piece, Reading, Why, read_answer};
 pub use reply::{Reply, write_head};
 pub use request::{Request, read_request};
 pub use stream::message_length;
-pub use tag::Tag;
 pub use tiff_dir::{Memory, Span};

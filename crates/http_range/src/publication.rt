@@ -3,19 +3,19 @@ ghost use Rattle.std.specs.Prelude.{◌≡◌, ◌≤◌, ◌+◌, ◌++◌, len
 ghost use Rattle.arrayvec.specs.ArrayVec.{array_vec_len};
 ghost use Rattle.http_range.specs.Book.{publication_tag};
 
-use crate::limits::TAG_LIMIT;
-use crate::tag::Tag;
 use arrayvec::ArrayVec;
+use http_parts::laws::parts_are_read;
+use http_parts::limits::TAG_LIMIT;
+use http_parts::tag::Tag;
 use itoa::Buffer;
 
-impl Tag {
-    /// The tag `"E-N"` of publication `number` of an epoch. It takes no memory.
-    pub fn of_publication(epoch: u32, number: u32) -> Tag
-        ensures { result ≡ publication_tag epoch number }
-    {
-        let text = publication_text(epoch, number);
-        Tag::new(text.as_slice()).unwrap()
-    }
+/// The tag `"E-N"` of publication `number` of an epoch. It takes no memory.
+pub fn publication_tag(epoch: u32, number: u32) -> Tag
+    ensures { result ≡ publication_tag epoch number }
+{
+    parts_are_read();
+    let text = publication_text(epoch, number);
+    Tag::new(text.as_slice()).unwrap()
 }
 
 #[tactic(auto, unfolding(crate::specs::Book::publication_tag))]

@@ -6,9 +6,9 @@ ghost use Rattle.http_range.specs.ContentRange.{range_of, range_of_numbers, IsRa
 ghost use Rattle.http_range.specs.Reading.{has_other_status, range_named, length_named, piece_by_rows, piece_in, reading_of, ReadsAnswer};
 
 use crate::answer_head::{AnswerHead, head_of};
-use crate::bytes::{after, split_first, up_to};
-use crate::digits::number_64;
-use crate::tag::Tag;
+use http_parts::bytes::{after, split_first, up_to};
+use http_parts::digits::number_64;
+use http_parts::tag::Tag;
 
 /// Why an answer is not used.
 #[derive(Clone, Copy, Debug, PartialEq, Eq)]

@@ -1,11 +1,11 @@
 //! A server's answers.
 ghost use Rattle.std.specs.Prelude.{◌≡◌, ◌+◌, ◌-◌, IfOk, OnOk, ◌++◌, codes, decimal};
 ghost use Rattle.std.specs.List.{flat_map};
-ghost use Rattle.http_range.specs.Text.{line};
+ghost use Rattle.http_parts.specs.Text.{line};
 ghost use Rattle.http_range.specs.Reply.{file_fields, content_range, fields_of, head_text, status_line};
 
-use crate::line::{push_closing, push_decimal, push_line, push_number_line};
-use crate::tag::Tag;
+use http_parts::line::{push_closing, push_decimal, push_line, push_number_line};
+use http_parts::tag::Tag;
 use std::alloc::{AllocError, Global};
 use tiff_dir::Memory;
 
@@ -139,7 +139,7 @@ fn push_file(out: &mut Vec<u8>, tag: &Tag) -> Result<(), AllocError>
     Ok(())
 }
 
-#[tactic(auto, unfolding(crate::specs::Text::line, crate::specs::Reply::content_range))]
+#[tactic(auto, unfolding(http_parts::specs::Text::line, crate::specs::Reply::content_range))]
 fn push_content_range(
     out: &mut Vec<u8>,
     first: u64,
@@ -159,7 +159,7 @@ fn push_content_range(
     Ok(())
 }
 
-#[tactic(auto, unfolding(crate::specs::Text::line))]
+#[tactic(auto, unfolding(http_parts::specs::Text::line))]
 fn push_unsatisfied(out: &mut Vec<u8>, length: u64) -> Result<(), AllocError>
     ensures { OnOk result (out.new.items
         ≡ out.old.items ++ line (codes "Content-Range", codes "bytes */" ++ decimal length)) }

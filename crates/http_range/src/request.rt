@@ -1,16 +1,17 @@
 //! The head of a request that came (RFC 9112, section 3).
 ghost use Rattle.std.specs.Prelude.{◌≡◌, ℕ, List, Option, ◌++◌, slice_get, option_copied, IsSomeAnd, Some};
 ghost use Rattle.std.specs.List.{list_any};
-ghost use Rattle.http_range.specs.Fields.{values_of, only, is_there};
-ghost use Rattle.http_range.specs.Members.{has_member};
-ghost use Rattle.http_range.specs.Conditional.{one_matches};
+ghost use Rattle.http_parts.specs.Fields.{values_of, only, is_there};
+ghost use Rattle.http_parts.specs.Members.{has_member};
+ghost use Rattle.http_parts.specs.Conditional.{one_matches};
 ghost use Rattle.http_range.specs.Seen.{HasRequest};
 ghost use Rattle.http_range.specs.Ask.{CanAsk, request_text, asked_request};
 
-use crate::bytes::up_to;
-use crate::fields::Fields;
-use crate::limits::{FIELD_LIMIT, MESSAGE_LIMIT};
-use crate::tag::Tag;
+use http_parts::bytes::up_to;
+use http_parts::fields::Fields;
+use http_parts::laws::parts_are_read;
+use http_parts::limits::{FIELD_LIMIT, MESSAGE_LIMIT};
+use http_parts::tag::Tag;
 use httparse::Status;
 use httparse::spans::{EMPTY_HEADER_SPAN, parse_request};
 use std::marker::Model;
@@ -102,6 +103,7 @@ pub fn read_request(bytes: &[u8]) -> Option<Request<'_>>
         → bytes.now ≡ request_text host name first last tag ++ more
         → result ≡ Some (asked_request host name first last tag) }
 {
+    parts_are_read();
     find(bytes)
 }
 

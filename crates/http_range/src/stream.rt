@@ -2,7 +2,7 @@
 ghost use Rattle.std.specs.Prelude.{◌≡◌, ◌≤◌, IfSome, IfNone, length, reverse, take};
 ghost use Rattle.http_range.specs.Stream.{begins_line, has_empty_line, ends_line, without_return, ends_head, is_message, HasNoMessage, IsFirstMessage, IsUnfinished};
 
-use crate::limits::MESSAGE_LIMIT;
+use http_parts::limits::MESSAGE_LIMIT;
 
 /// Whether the text ends where a line begins.
 fn begins_line(text: &[u8]) -> bool

@@ -12,6 +12,3 @@ mod text;
 pub use line::{ScriptError, script};
 pub use log::log_text;
 pub use source::{Disk, LoadError, Loaded, Source};
-
-#[cfg(test)]
-mod tests;

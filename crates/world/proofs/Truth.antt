@@ -9,7 +9,6 @@ use Rattle.std.proofs.lemmas.Bool.Decides.{nat_tests}
 use Rattle.std.proofs.lemmas.Option.{none-some, same_Some}
 use Rattle.std.proofs.lemmas.Slice.Eq.{bytes_eq-Decides}
 use Rattle.tiff_dir.specs.declared.query.Query.{Query}
-use Rattle.tiff_dir.specs.Faulty.{IsWindow}
 use Rattle.http_range.specs.Names.{is_name}
 use Rattle.http_range.specs.Ask.{CanAsk, request_text}
 use Rattle.http_range.specs.Book.{Publication, IsPublication, Book, In, Includes, HasDistinctTags, Catalogue, IsCatalogue, published, Covers, publish, publication_tag}
@@ -17,7 +16,6 @@ use Rattle.http_range.specs.declared.range.Resolved.TheVariants.{Part}
 use Rattle.http_range.specs.declared.reply.Reply.TheVariants.{R416}
 use Rattle.http_range.specs.Response.{Response, IsAnswer, text_of, response_to_client, serve_part, refused}
 use Rattle.http_range.specs.Honest.{IsHonest}
-use Rattle.http_range.specs.Laws.{TagsTellPublications, PublicationTagsAreKept, ClientsAreAnswered, PublishReplaces, PublishedIsNamed, HonestyIsKept}
 use Rattle.world.specs.declared.server.Refusal.{Refusal}
 use Rattle.world.specs.declared.client.Client.{Client}
 use Rattle.world.specs.declared.client.ClientError.{ClientError}
@@ -31,18 +29,9 @@ use Rattle.world.specs.Calls.{Requests, may_ask}
 use Rattle.world.specs.Server.{refusal_of}
 use Rattle.world.specs.World.{World, Seen, host, start, next_of, publish_by, refused_at, restart_by, with_clients, with_sent, made_by, opened, sent_after, after, after_all, told_of, client_of, IsTrueAt, AllTrue}
 use Rattle.world.specs.Run.{seen, Tells, AtClient, MakesBy, OpensWith, IsExchanged, ExchangesWith, Step, Runs}
+use Rattle.world.specs.LowerLaws.{LowerLaws}
 use Rattle.world.proofs.Lists.{get-map, get-set, get-set_same, get-push, set_there}
 use Rattle.world.proofs.ShelfLemmas.{map-set}
-
--- what the lower crates' contracts say
-pub record LowerLaws : Type 0 where
-  pub apart : TagsTellPublications
-  pub kept : PublicationTagsAreKept
-  pub answered : ClientsAreAnswered
-  pub replaces : PublishReplaces
-  pub named : PublishedIsNamed
-  pub honest : HonestyIsKept
-  pub window : (f : List ℕ) (q : Query) (v u : List ℕ) → IsWindow f q v → IsWindow f q u → v ≡ u
 
 abbrev AgreesLater : Client → Book → Type 0
 AgreesLater c book = (later : Book) → Includes later book → HasDistinctTags later → Agrees c later
@@ -58,6 +47,18 @@ pub record IsOlder (w : World) (p : Publication) : Type 0 where
   pub number_small : number < 2 ^ 32
   pub tag : p.tag ≡ publication_tag epoch number
   pub used : (epoch < w.epoch) ⊎ ((epoch ≡ w.epoch) × (number ≤ w.count))
+
+-- it is so in another world, where the number is used there
+older_in : (w later : World) (p : Publication) (old : IsOlder w p)
+    → ((old.epoch < later.epoch) ⊎ ((old.epoch ≡ later.epoch) × (old.number ≤ later.count))) → IsOlder later p
+older_in w later p old used = record {
+  epoch = old.epoch;
+  number = old.number;
+  epoch_small = old.epoch_small;
+  number_small = old.number_small;
+  tag = old.tag;
+  used = used;
+}
 
 pub record Good (w : World) (cs : List Client) : Type 0 where
   pub epoch_small : w.epoch < 2 ^ 32
@@ -150,14 +151,7 @@ module _ (laws : LowerLaws) where
         count_small = room;
         older = λ q i. elim i [
           | inl e ↦ record { epoch = w.epoch; number = w.count + 1; epoch_small = epoch; number_small = room; tag = ap (λ (x : Publication). x.tag) e; used = inr (refl, omega arith) }
-          | inr j ↦ (let old = g.older q j in record {
-            epoch = old.epoch;
-            number = old.number;
-            epoch_small = old.epoch_small;
-            number_small = old.number_small;
-            tag = old.tag;
-            used = elim old.used [ inl h ↦ inl h | inr h ↦ inr (h.0, omega (arith, h.1)) ];
-          })
+          | inr j ↦ older_in w _ q (g.older q j) (elim (g.older q j).used [ inl h ↦ inl h | inr h ↦ inr (h.0, omega (arith, h.1)) ])
         ];
         distinct = λ q r i j e. elim i [
           | inl x ↦ elim j [ inl y ↦ x ∙ sym y | inr y ↦ absurd (unused w cs r g room y (sym e ∙ ap (λ (z : Publication). z.tag) x)) ]
@@ -180,14 +174,7 @@ good_epoch true w cs e t small g =
     record {
       epoch_small = small;
       count_small = omega arith;
-      older = λ p i. (let old = g.older p i in record {
-        epoch = old.epoch;
-        number = old.number;
-        epoch_small = old.epoch_small;
-        number_small = old.number_small;
-        tag = old.tag;
-        used = inl (elim old.used [ inl h ↦ omega (arith, h) | inr h ↦ omega (arith, h.0) ]);
-      });
+      older = λ p i. older_in w _ p (g.older p i) (inl (elim (g.older p i).used [ inl h ↦ omega (arith, h) | inr h ↦ omega (arith, h.0) ]));
       distinct = g.distinct;
       lawful = tt;
       covers = λ name p found. absurd (none-some p found);
@@ -202,7 +189,7 @@ good_clients w cs new clients g same agree =
     record {
       epoch_small = g.epoch_small;
       count_small = g.count_small;
-      older = λ p i. (let old = g.older p i in record { epoch = old.epoch; number = old.number; epoch_small = old.epoch_small; number_small = old.number_small; tag = old.tag; used = old.used });
+      older = λ p i. older_in w _ p (g.older p i) (g.older p i).used;
       distinct = g.distinct;
       lawful = g.lawful;
       covers = g.covers;
@@ -215,7 +202,7 @@ good_sent w cs sent g =
     record {
       epoch_small = g.epoch_small;
       count_small = g.count_small;
-      older = λ p i. (let old = g.older p i in record { epoch = old.epoch; number = old.number; epoch_small = old.epoch_small; number_small = old.number_small; tag = old.tag; used = old.used });
+      older = λ p i. older_in w _ p (g.older p i) (g.older p i).used;
       distinct = g.distinct;
       lawful = g.lawful;
       covers = g.covers;

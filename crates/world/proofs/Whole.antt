@@ -21,7 +21,8 @@ use Rattle.world.specs.Client.{client_refusal}
 use Rattle.world.specs.Server.{refusal_of, IsAt, catalogue_of, count_of}
 use Rattle.world.specs.World.{World, host, start, next_of, publish_by, publish_effect, refused_at, restart_by, made_by, after, after_all, told_of, client_of, IsTrueAt, AllTrue, IsToldIn, SaysTheSame, AreAlike}
 use Rattle.world.specs.Run.{IsAtAfter, Publishes, Step, Runs, IsRun, IsBeginning, IsState, Does}
-use Rattle.world.proofs.Truth.{LowerLaws, good_start, true_run}
+use Rattle.world.specs.LowerLaws.{LowerLaws}
+use Rattle.world.proofs.Truth.{good_start, true_run}
 
 pub runs_more : (w : World) (cs : List Client) (es : List Event) (ns : List Entry) (mid : List Client) (e : Event) (n : Entry) (new : List Client) → Runs w cs es ns mid → Step (after_all w es ns) mid e n new → Runs w cs (es ++ e ∷ []) (ns ++ n ∷ []) new
 runs_more w cs [] [] mid e n new h s = (new, (let P : List Client → Type 0 = λ xs. Step w xs e n new in subst P h s), refl)

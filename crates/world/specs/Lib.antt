@@ -8,3 +8,4 @@ pub mod Server
 pub mod Numbers
 pub mod World
 pub mod Run
+pub mod LowerLaws

@@ -17,6 +17,3 @@ pub use event::{Delivered, Effect, Entry, Event, Exchange, Ignored, Log};
 pub use outcome::{Outcome, Report};
 pub use server::{Answer, Refusal};
 pub use world::run;
-
-#[cfg(test)]
-mod tests;

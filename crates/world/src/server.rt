@@ -4,7 +4,7 @@ ghost use Rattle.std.specs.Prelude.{◌≤◌, length, IsTrue};
 ghost use Rattle.http_range.specs.Names.{is_name};
 
 use crate::shelf::{answer_nothing, answer_part, find_file, is_crowded, name_asked, place_of, put};
-use http_range::{Memory, Tag, is_name};
+use http_range::{Memory, Tag, is_name, publication_tag};
 use std::alloc::Global;
 
 /// Why a file isn't published.
@@ -115,7 +115,7 @@ impl Server {
             return Err(PublishError::Refused(refusal));
         }
         let place = place_of(&self.files, name);
-        let tag = Tag::of_publication(self.epoch, self.count + 1);
+        let tag = publication_tag(self.epoch, self.count + 1);
         let Ok(name) = Vec::from_slice(self.alloc, name) else {
             return Err(PublishError::Memory);
         };

@@ -1,5 +1,6 @@
 //! Runs a schedule.
 ghost use Rattle.std.specs.Prelude.{◌≡◌, ◌+◌, ◌<◌, ◌≤◌, ◌^◌, [], IfOk, OnOk, OnErr};
+ghost use Rattle.world.specs.LowerLaws.{LowerLaws};
 ghost use Rattle.world.specs.World.{AllTrue, AreAlike, World, start};
 ghost use Rattle.world.specs.Run.{Does, IsBeginning, IsRun, IsState};
 
@@ -31,11 +32,7 @@ pub fn run(alloc: Global, events: &[Event], log: &mut Log) -> Result<(), Memory>
     // After want of memory all this holds of the events before.
     ensures memory { OnErr result (IsBeginning events.now log.new.entries.items) }
 {
-    tags_tell_publications();
-    publications_replace();
-    clients_are_answered();
-    honesty_is_kept();
-    one_window();
+    lower_laws();
     let mut server = Server::new(alloc, 0);
     let mut sent = 0;
     let mut clients = Vec::new(alloc);
@@ -44,6 +41,17 @@ pub fn run(alloc: Global, events: &[Event], log: &mut Log) -> Result<(), Memory>
         log.entries.push(entry)?;
     }
     Ok(())
+}
+
+/// What the crates below say of their definitions.
+fn lower_laws()
+    ensures { LowerLaws }
+{
+    tags_tell_publications();
+    publications_replace();
+    clients_are_answered();
+    honesty_is_kept();
+    one_window();
 }
 
 /// One event.

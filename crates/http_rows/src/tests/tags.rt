@@ -1,4 +1,4 @@
-use http_range::{Memory, Tag};
+use http_range::{Memory, Tag, publication_tag};
 use std::alloc::Global;
 use std::test::Fail;
 
@@ -49,14 +49,14 @@ fn tags(rt: HostRuntime) -> Result<(), Fail> {
 
 #[test]
 fn tags_of_publications(rt: HostRuntime) -> Result<(), Fail> {
-    assert!(rt; Tag::of_publication(1, 1) == tag_1()?);
+    assert!(rt; publication_tag(1, 1) == tag_1()?);
     for (epoch, number, want) in [
         (0, 1, b"\"0-1\"".as_slice()),
         (10, 9, b"\"10-9\""),
         (1, 11, b"\"1-11\""),
         (4294967295, 4294967295, b"\"4294967295-4294967295\""),
     ] {
-        assert_eq!(rt; Tag::of_publication(epoch, number).as_bytes(), want);
+        assert_eq!(rt; publication_tag(epoch, number).as_bytes(), want);
     }
     Ok(())
 }

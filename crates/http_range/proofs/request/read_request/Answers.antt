@@ -3,4 +3,4 @@ use Rattle.http_range.proofs.request.read_request.Goals as goal
 
 pub returns-clause-asked : goal.returns-clause-asked
 returns-clause-asked c host name first last tag more can is =
-    asked_read host name first last tag more can c.args.bytes.now is c.find.result c.find.ensures
+    asked_read c.parts_are_read.ensures host name first last tag more can c.args.bytes.now is c.find.result c.find.ensures

@@ -1,5 +1,4 @@
 use Rattle.std.proofs.Common.{arith, refl}
-use Rattle.world.proofs.Truth.{LowerLaws}
 use Rattle.world.proofs.Whole.{begun, more, whole, beginning, run_true, run_alike, on_err_of}
 use Rattle.world.proofs.world.run.Goals as goal
 
@@ -21,54 +20,18 @@ returns-clause-logged c =
 
 pub returns-clause-true_reports : goal.returns-clause-true_reports
 returns-clause-true_reports c =
-    let laws : LowerLaws = record {
-      apart = c.tags_tell_publications.ensures.apart;
-      kept = c.tags_tell_publications.ensures.kept;
-      answered = c.clients_are_answered.ensures.followed;
-      replaces = c.publications_replace.ensures.replaces;
-      named = c.publications_replace.ensures.named;
-      honest = c.honesty_is_kept.ensures;
-      window = c.one_window.ensures.window;
-    } in
-    run_true laws c.args.events.now c.loop-event.log.entries.items
+    run_true c.lower_laws.ensures c.args.events.now c.loop-event.log.entries.items
     (whole c.args.events.now c.loop-event.event-index c.loop-event.log.entries.items c.loop-event.clients.items c.loop-event-test.false c.loop-event.invariant.runs)
 
 pub returns-clause-alike : goal.returns-clause-alike
 returns-clause-alike c =
-    let laws : LowerLaws = record {
-      apart = c.tags_tell_publications.ensures.apart;
-      kept = c.tags_tell_publications.ensures.kept;
-      answered = c.clients_are_answered.ensures.followed;
-      replaces = c.publications_replace.ensures.replaces;
-      named = c.publications_replace.ensures.named;
-      honest = c.honesty_is_kept.ensures;
-      window = c.one_window.ensures.window;
-    } in
-    run_alike laws c.args.events.now c.loop-event.log.entries.items
+    run_alike c.lower_laws.ensures c.args.events.now c.loop-event.log.entries.items
     (whole c.args.events.now c.loop-event.event-index c.loop-event.log.entries.items c.loop-event.clients.items c.loop-event-test.false c.loop-event.invariant.runs)
 
 pub returns-in_err-entry-clause-memory : goal.returns-in_err-entry-clause-memory
 returns-in_err-entry-clause-memory c =
-    let laws : LowerLaws = record {
-      apart = c.tags_tell_publications.ensures.apart;
-      kept = c.tags_tell_publications.ensures.kept;
-      answered = c.clients_are_answered.ensures.followed;
-      replaces = c.publications_replace.ensures.replaces;
-      named = c.publications_replace.ensures.named;
-      honest = c.honesty_is_kept.ensures;
-      window = c.one_window.ensures.window;
-    } in
-    on_err_of c.from_residual.result _ (beginning laws c.args.events.now c.loop-event.event-index c.loop-event.log.entries.items c.loop-event.clients.items (omega arith) c.loop-event.invariant.runs)
+    on_err_of c.from_residual.result _ (beginning c.lower_laws.ensures c.args.events.now c.loop-event.event-index c.loop-event.log.entries.items c.loop-event.clients.items (omega arith) c.loop-event.invariant.runs)
 
 pub returns-in_err-push-clause-memory : goal.returns-in_err-push-clause-memory
 returns-in_err-push-clause-memory c =
-    let laws : LowerLaws = record {
-      apart = c.tags_tell_publications.ensures.apart;
-      kept = c.tags_tell_publications.ensures.kept;
-      answered = c.clients_are_answered.ensures.followed;
-      replaces = c.publications_replace.ensures.replaces;
-      named = c.publications_replace.ensures.named;
-      honest = c.honesty_is_kept.ensures;
-      window = c.one_window.ensures.window;
-    } in
-    on_err_of c.from_residual-in_err-push.result _ (rw c.in_err-push.ensures.items (beginning laws c.args.events.now c.loop-event.event-index c.loop-event.log.entries.items c.loop-event.clients.items (omega arith) c.loop-event.invariant.runs))
+    on_err_of c.from_residual-in_err-push.result _ (rw c.in_err-push.ensures.items (beginning c.lower_laws.ensures c.args.events.now c.loop-event.event-index c.loop-event.log.entries.items c.loop-event.clients.items (omega arith) c.loop-event.invariant.runs))

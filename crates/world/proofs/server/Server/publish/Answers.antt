@@ -10,7 +10,7 @@ use Rattle.world.proofs.server.Server.publish.Goals as goal
 pub returns-clause-ok : goal.returns-clause-ok
 returns-clause-ok c =
     let files = c.args.self.now.files.items in
-    let p : Publication = record { name = c.in-Ok.name.items; tag = c.of_publication-tag.result; file = c.args.file.items } in
+    let p : Publication = record { name = c.in-Ok.name.items; tag = c.publication_tag-tag.result; file = c.args.file.items } in
     let place : c.place_of-place.result ≡ position (λ (file : Published). bytes_eq file.name.items c.in-Ok.name.items) files =
     c.place_of-place.ensures
     ∙ ap (λ (fs : List Published). position (λ (file : Published). bytes_eq file.name.items c.args.name.now) fs) c.deref-2.ensures.value

@@ -1,0 +1,9 @@
+pub mod DigitsLemmas
+pub mod NumeralLemmas
+pub mod MembersLemmas
+pub mod FieldLemmas
+pub mod VisibleLemmas
+pub mod DecimalLemmas
+pub mod TagLemmas
+pub mod MatchLemmas
+pub mod LineLemmas

@@ -1,0 +1,16 @@
+use Rattle.http_parts.proofs.TagLemmas.{tags_are_quoted, tags_are_visible}
+use Rattle.http_parts.proofs.MatchLemmas.{matches_itself}
+use Rattle.http_parts.proofs.DecimalLemmas.{decimals_are_read}
+use Rattle.http_parts.proofs.LineLemmas.{lines_are_fields}
+use Rattle.http_parts.proofs.VisibleLemmas.{visible_values}
+use Rattle.http_parts.proofs.laws.parts_are_read.Goals as goal
+
+pub returns : goal.returns
+returns c = record {
+  quoted = tags_are_quoted;
+  tags = tags_are_visible;
+  alone = matches_itself;
+  decimals = decimals_are_read;
+  lines = lines_are_fields;
+  values = visible_values;
+}

@@ -1,0 +1,10 @@
+pub mod Tag
+pub mod Names
+pub mod Text
+pub mod Digits
+pub mod Fields
+pub mod FieldLines
+pub mod Members
+pub mod Conditional
+pub mod Plain
+pub mod Laws

@@ -1,0 +1,47 @@
+-- Lists in the value of a field (RFC 9110, sections 5.6.1 and 5.6.4).
+use Rattle.std.specs.Prelude.{ℕ, Bool, false, ◌&&◌, ◌==◌, not, if◌then◌else◌, List, [], ◌∷◌, map, slice_get, unwrap_or, Option, Some, None}
+use Rattle.std.specs.List.{list_any}
+use Rattle.std.specs.Str.{bytes_eq, str_to_ascii_lowercase}
+use Rattle.std.specs.Borrow.{Bor}
+use Rattle.httparse.specs.Grammar.{trim_ows}
+use Rattle.http_parts.specs.declared.members.Members.{Members}
+
+-- the parts, with a byte before the first
+abbrev pub before_parts : ℕ → List (List ℕ) → List (List ℕ)
+before_parts b [] = (b ∷ []) ∷ []
+before_parts b (part ∷ parts) = (b ∷ part) ∷ parts
+
+-- whether a quoted string is open behind b; without `quotes` there are none
+abbrev pub is_open : Bool → Bool → ℕ → Bool
+is_open quotes open_before b = if quotes && b == 34 then not open_before else open_before
+
+-- the parts between commas, where no quoted string is open
+abbrev pub parts_from : Bool → Bool → List ℕ → List (List ℕ)
+parts_from quotes open_before [] = [] ∷ []
+parts_from quotes open_before (b ∷ bytes) =
+    if b == 44 && not open_before then [] ∷ parts_from quotes false bytes
+    else before_parts b (parts_from quotes (is_open quotes open_before b) bytes)
+
+-- the members of a list, empty ones too, without spaces and tabs round them; with `quotes` a comma between quotes
+-- belongs to its member
+unfoldable pub members : Bool → List ℕ → List (List ℕ)
+members quotes value = map trim_ows (parts_from quotes false value)
+
+-- a member is this word; case is ignored
+abbrev pub has_member : List ℕ → List ℕ → Bool
+has_member word value =
+    list_any (λ member. bytes_eq (str_to_ascii_lowercase member) (str_to_ascii_lowercase word)) (members false value)
+
+-- the bytes before the first comma that cuts, or all
+abbrev pub first_part : Bool → List ℕ → List ℕ
+first_part quotes value = unwrap_or (slice_get (parts_from quotes false value) 0) []
+
+-- ---- how the code walks through them
+
+abbrev pub members_of_rest : Bool → Option (Bor (List ℕ)) → List (List ℕ)
+members_of_rest quotes None = []
+members_of_rest quotes (Some rest) = members quotes rest.now
+
+-- the members that are still to come
+abbrev pub members_left : Members → List (List ℕ)
+members_left m = members_of_rest m.quotes m.rest

@@ -1,0 +1,12 @@
+//! Laws of the definitions, for the crates above. Each function does nothing: its contract is the law.
+ghost use Rattle.http_parts.specs.Laws.{LimitsAre, PartsAreRead};
+
+/// The limits that the definitions name.
+pub fn limits_are()
+    ensures { LimitsAre }
+{}
+
+/// What is written of tags, numbers and field lines is read as it was.
+pub fn parts_are_read()
+    ensures { PartsAreRead }
+{}

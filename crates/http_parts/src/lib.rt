@@ -1,0 +1,17 @@
+//! What heads of HTTP/1.1 are made of (RFC 9110, RFC 9112): entity tags, numbers, names, lists and field lines. Nothing
+//! here knows a request or an answer.
+//!
+//! Only `line` takes memory.
+#![tactic(auto)]
+
+pub mod bytes;
+pub mod conditional;
+pub mod digits;
+pub mod fields;
+pub mod laws;
+pub mod limits;
+pub mod line;
+mod members;
+pub mod names;
+pub mod numeral;
+pub mod tag;

@@ -1,0 +1,42 @@
+//! The names of files and of hosts.
+ghost use Rattle.std.specs.Prelude.{◌≡◌};
+ghost use Rattle.std.specs.List.{list_all};
+ghost use Rattle.http_parts.specs.Names.{is_host, is_host_byte, is_name, is_name_byte};
+
+fn is_name_byte(b: u8) -> bool
+    ensures { result ≡ is_name_byte b }
+{
+    b.is_ascii_alphanumeric() || b == b'.' || b == b'_' || b == b'-' || b == b'/'
+}
+
+/// Whether a file may have this name.
+pub fn is_name(name: &[u8]) -> bool
+    ensures { result ≡ is_name name.now }
+{
+    !name.is_empty() && name.len() <= 200 && are_name_bytes(name)
+}
+
+fn are_name_bytes(name: &[u8]) -> bool
+    ensures { result ≡ list_all is_name_byte name.now }
+{
+    name.iter().all(|b| is_name_byte(*b))
+}
+
+fn is_host_byte(b: u8) -> bool
+    ensures { result ≡ is_host_byte b }
+{
+    b.is_ascii_alphanumeric() || b == b'.' || b == b'-' || b == b':'
+}
+
+/// Whether a host may have this name.
+pub fn is_host(host: &[u8]) -> bool
+    ensures { result ≡ is_host host.now }
+{
+    !host.is_empty() && host.len() <= 64 && are_host_bytes(host)
+}
+
+fn are_host_bytes(host: &[u8]) -> bool
+    ensures { result ≡ list_all is_host_byte host.now }
+{
+    host.iter().all(|b| is_host_byte(*b))
+}

@@ -1,0 +1,12 @@
+use Rattle.world.proofs.world.lower_laws.Goals as goal
+
+pub returns : goal.returns
+returns c = record {
+  apart = c.tags_tell_publications.ensures.apart;
+  kept = c.tags_tell_publications.ensures.kept;
+  answered = c.clients_are_answered.ensures.followed;
+  replaces = c.publications_replace.ensures.replaces;
+  named = c.publications_replace.ensures.named;
+  honest = c.honesty_is_kept.ensures;
+  window = c.one_window.ensures.window;
+}

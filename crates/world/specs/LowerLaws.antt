@@ -1,0 +1,14 @@
+-- The laws of the crates below that the truth of a log rests on.
+use Rattle.std.specs.Prelude.{◌≡◌, ℕ, List}
+use Rattle.tiff_dir.specs.declared.query.Query.{Query}
+use Rattle.tiff_dir.specs.Faulty.{IsWindow}
+use Rattle.http_range.specs.Laws.{TagsTellPublications, PublicationTagsAreKept, ClientsAreAnswered, PublishReplaces, PublishedIsNamed, HonestyIsKept}
+
+pub record LowerLaws : Type 0 where
+  pub apart : TagsTellPublications
+  pub kept : PublicationTagsAreKept
+  pub answered : ClientsAreAnswered
+  pub replaces : PublishReplaces
+  pub named : PublishedIsNamed
+  pub honest : HonestyIsKept
+  pub window : (f : List ℕ) (q : Query) (v u : List ℕ) → IsWindow f q v → IsWindow f q u → v ≡ u
