@@ -1,8 +1,8 @@
 -- Where the pixels of a tile stand in a picture.
-use Rattle.std.proofs.Common.{◌≡◌, ◌≢◌, ℕ, zero, suc, ◌+◌, ◌-◌, ◌*◌, ◌/◌, ◌%◌, ◌<◌, ◌≤◌, inl, inr, List, length, get_or, max, min, refl, sym, subst, ap, ◌∙◌, arith}
-use Rattle.std.proofs.Math.Nat.{mul-le-mul_right, mul-le-mul_left}
+use Rattle.std.proofs.Common.{◌≡◌, ℕ, ◌+◌, ◌-◌, ◌*◌, ◌/◌, ◌%◌, ◌<◌, ◌≤◌, inl, inr, List, get_or, max, min, refl, sym, ap, ◌∙◌, arith}
+use Rattle.std.proofs.Math.Nat.{mul-le-mul_right}
 use Rattle.std.proofs.lemmas.Bool.{cases_lt}
-use Rattle.std.proofs.lemmas.Nat.{div-mul-add, mod-mul-add, div-add-mod', same_from_place, mul-add-lt}
+use Rattle.std.proofs.lemmas.Nat.{div-mul-add, mod-mul-add, div-add-mod', same_from_place}
 use Rattle.tiff_dir.specs.declared.level.Level.{Level}
 use Rattle.tiff_dir.specs.Profile.{tiles_along, sample_bytes}
 use Rattle.tiff_dir.specs.Level.{plain_size}
@@ -12,7 +12,7 @@ use Rattle.std.specs.Prelude.{IsTrue}
 use Rattle.tile_plan.specs.Levels.{is_inside}
 use Rattle.tile_plan.specs.declared.asked.Rectangle.{Rectangle}
 use Rattle.tile_plan.specs.declared.rows.Rows.{Rows}
-use Rattle.tile_plan.specs.Rows.{at, AreCopied}
+use Rattle.tile_plan.specs.Rows.{AreCopied}
 use Rattle.tile_plan.specs.Canvas.{Picture, IsBlit, pixel_bytes, place}
 use Rattle.tile_plan.proofs.BlockLemmas.{last_below, in_level}
 

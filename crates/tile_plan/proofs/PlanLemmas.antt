@@ -1,7 +1,7 @@
 -- The groups of a window in a file.
-use Rattle.std.proofs.Common.{◌≡◌, ℕ, zero, suc, ◌+◌, ◌-◌, ◌*◌, ◌<◌, ◌≤◌, ◌⊎◌, inl, inr, Bool, true, false, List, [], ◌∷◌, ◌++◌, length, get_or, map, Option, Some, None, refl, sym, subst, ap, ◌∙◌, arith}
-use Rattle.std.specs.Prelude.{◌&&◌, ◌||◌, nat_lt, nat_le, ◌==◌, IsSomeAnd}
-use Rattle.std.specs.Option.{option_map_or, option_to_list}
+use Rattle.std.proofs.Common.{◌≡◌, ℕ, zero, suc, ◌+◌, ◌<◌, ◌≤◌, ◌⊎◌, inl, inr, Bool, true, false, List, [], ◌∷◌, length, get_or, map, Option, Some, None, refl, sym, subst, ap, ◌∙◌, arith}
+use Rattle.std.specs.Prelude.{◌||◌, nat_lt, nat_le, ◌==◌, IsSomeAnd}
+use Rattle.std.specs.Option.{option_map_or}
 use Rattle.std.specs.List.{All, AllByRecursion, IsAmong, list_any, range_with_len}
 use Rattle.std.proofs.lemmas.Bool.{and_parts, cases_Bool, eqb-true, leb-true, lt-ltb, le-ltb, ltb-true, cases_lt, false≢true}
 use Rattle.std.proofs.lemmas.List.Elements.{All-from_recursion, All-head, All-tail}
@@ -14,8 +14,8 @@ use Rattle.tiff_dir.specs.declared.query.Query.{Query}
 use Rattle.tiff_dir.specs.declared.query.Query.TheVariants.{Window, Info}
 use Rattle.tiff_dir.specs.declared.fault.FileFault.{FileFault}
 use Rattle.tiff_dir.specs.declared.fault.FileFault.TheVariants.{PastEnd, TileSize}
-use Rattle.tiff_dir.specs.File.{◌>>=◌, order_of}
-use Rattle.tiff_dir.specs.Level.{level_layout, level_value, level_grid, plain_size, tile_total}
+use Rattle.tiff_dir.specs.File.{order_of}
+use Rattle.tiff_dir.specs.Level.{level_layout, level_value, plain_size, tile_total}
 use Rattle.tiff_dir.specs.Needs.{Range, ends_past}
 use Rattle.tiff_dir.specs.Described.{grid_of, layout_of}
 use Rattle.tiff_dir.specs.Walk.{IsArrayOf, IsDescribed}
@@ -25,8 +25,8 @@ use Rattle.tiff_dir.specs.Query.{joins, with_tile, alone, grouped_after, grouped
 use Rattle.tile_plan.specs.declared.asked.Rectangle.{Rectangle}
 use Rattle.tile_plan.specs.declared.plan.Group.{Group}
 use Rattle.tile_plan.specs.Levels.{rectangle_of}
-use Rattle.tile_plan.specs.Plan.{range_in, tiles_of, group_of, IsRangeOf, IsWrongSize, IsTileFault, IsGroup, IsPlanned, AreNeeded, AreGroups, HasTileFault}
-use Rattle.tile_plan.proofs.GroupLemmas.{IsFit, each_group, all_of, all_counted, among_counted, counted_among}
+use Rattle.tile_plan.specs.Plan.{range_in, tiles_of, group_of, IsRangeOf, IsWrongSize, IsTileFault, IsGroup, IsPlanned, AreNeeded, AreGroups}
+use Rattle.tile_plan.proofs.GroupLemmas.{IsFit, each_group, all_of, all_counted, counted_among}
 
 -- what the arrays say of a tile, in every file that has them
 abbrev pub IsValueOf : Order → Level → List ℕ → List ℕ → ℕ → Type 0

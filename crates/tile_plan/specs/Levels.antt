@@ -30,13 +30,20 @@ has_columns columns w first l = nat_le (columns * first) (l.width * w)
 -- the number of the last such level of those before n, 0 if there is none
 abbrev pub last_with_columns : List Level → ℕ → ℕ → ℕ → ℕ → ℕ
 last_with_columns ls columns w first n =
-    unwrap_or (last_or None (filter (λ k. option_map_or (has_columns columns w first) (slice_get ls k) false) (range_with_len 0 n))) 0
+    unwrap_or
+    (last_or None (filter (λ k. option_map_or (has_columns columns w first) (slice_get ls k) false) (range_with_len 0 n))) 0
 
 -- a window of the first level in another one, rounded outwards
 abbrev pub outwards : ℕ → (first here : Level) → ℕ → ℕ → ℕ → ℕ → asked.Rectangle
 outwards n first here x y w h =
     let left = asked.scaled_down here.width first.width x in let top = asked.scaled_down here.length first.length y in
-    record { level = n; left = left; top = top; width = asked.scaled_up here.width first.width (x + w) - left; height = asked.scaled_up here.length first.length (y + h) - top }
+    record {
+      level = n;
+      left = left;
+      top = top;
+      width = asked.scaled_up here.width first.width (x + w) - left;
+      height = asked.scaled_up here.length first.length (y + h) - top;
+    }
 
 -- the rectangle lies in the level, and has no more samples than a window may have
 pub record IsSmall (l : Level) (r : Rectangle) : Type 0 where

@@ -1,5 +1,5 @@
 -- The groups of a window's tiles, by the bytes of the two arrays of its level.
-use Rattle.std.specs.Prelude.{◌≡◌, ℕ, ◌+◌, ◌*◌, ◌-◌, ◌<◌, ◌≤◌, ◌⊎◌, Bool, true, false, ⊤, nat_lt, ◌==◌, List, [], ◌∷◌, length, map, Some}
+use Rattle.std.specs.Prelude.{◌≡◌, ℕ, ◌+◌, ◌*◌, ◌<◌, ◌≤◌, ◌⊎◌, true, false, ⊤, nat_lt, ◌==◌, List, [], ◌∷◌, length, map, Some}
 use Rattle.std.specs.List.{list_any, All, IsAmong}
 use Rattle.tiff_dir.specs.declared.order.Order.{Order}
 use Rattle.tiff_dir.specs.declared.level.Level.{Level}
@@ -25,7 +25,10 @@ use Rattle.tile_plan.specs.Levels.{rectangle_of}
 -- where a tile stands in the file, as the level's arrays say
 abbrev pub range_in : Order → Level → List ℕ → List ℕ → ℕ → Range
 range_in order l offsets counts t =
-    let size = size_of l.counts.kind in record { first = number_in order (t * 4) 4 offsets; len = number_in order (t * size) size counts }
+    let size = size_of l.counts.kind in record {
+      first = number_in order (t * 4) 4 offsets;
+      len = number_in order (t * size) size counts;
+    }
 
 -- the tiles of the level that have a pixel of the rectangle, in ascending number
 abbrev pub tiles_of : Level → Rectangle → List ℕ
@@ -80,7 +83,8 @@ IsPlanError range l r complete Memory = ⊤
 -- ---- in a file
 
 -- The query asks for this rectangle of this level of the file, and these are the bytes of the level's arrays.
-pub record IsPlanned (f : List ℕ) (q : Query) (order : Order) (l : Level) (r : Rectangle) (complete : ℕ) (offsets counts : List ℕ) : Type 0 where
+pub record IsPlanned (f : List ℕ) (q : Query) (order : Order) (l : Level) (r : Rectangle) (complete : ℕ)
+    (offsets counts : List ℕ) : Type 0 where
   pub size : length f ≡ complete
   pub order_is : order_of f ≡ Some order
   pub layout_is : level_layout f r.level ≡ Some (layout_of l)

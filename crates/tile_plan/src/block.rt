@@ -53,6 +53,7 @@ impl Block {
         ensures tiles { map (tile_of_block result) (range_with_len 0 (result.columns * result.rows)) ≡ tiles_of level.now rect }
         ensures within { (n : ℕ) → n < result.columns * result.rows → tile_of_block result n < tile_total (grid_of level.now) }
     {
+        // The length is read for its bound alone.
         let Level {
             width,
             length: _length,

@@ -1,13 +1,11 @@
-use Rattle.std.proofs.Common.{◌≡◌, ◌-◌, ◌<◌, ◌++◌, ◌∷◌, [], ℕ, List, suc, length, get_or, set, map, false, refl, sym, ap, ◌∙◌, subst, arith, Result, Ok, Err}
+use Rattle.std.proofs.Common.{◌≡◌, ◌-◌, ◌<◌, ◌++◌, ◌∷◌, [], set, map, refl, sym, ap, ◌∙◌, arith, Result, Ok, Err}
 use Rattle.std.specs.Result.{OnOk}
 use Rattle.std.specs.Vec.{vec_len}
 use Rattle.std.proofs.lemmas.Grind.{common_steps}
 use Rattle.std.proofs.lemmas.List.{set-get_or}
 use Rattle.tiff_dir.specs.Walk.{range_of_span}
-use Rattle.tiff_dir.specs.Query.{joins, with_tile}
-use Rattle.tile_plan.specs.declared.plan.Group.{Group}
+use Rattle.tiff_dir.specs.Query.{with_tile}
 use Rattle.tile_plan.specs.Plan.{group_of}
-use Rattle.tile_plan.specs.Adding.{added}
 use Rattle.tile_plan.proofs.GroupLemmas.{added_join, added_apart, added_first}
 use Rattle.tile_plan.proofs.plan.add_tile.Goals as goal
 use Rattle.tile_plan.proofs.plan.add_tile.Goals.{in_default-via-in-Some+else-joins, in_default-via-in-None-1}

@@ -1,11 +1,11 @@
-use Rattle.std.proofs.Common.{◌≡◌, ℕ, ◌<◌, ◌≤◌, ◌+◌, ◌-◌, ◌*◌, ◌/◌, ◌%◌, refl, sym, arith, subst, map}
+use Rattle.std.proofs.Common.{◌≡◌, ◌<◌, ◌≤◌, ◌+◌, ◌*◌, ◌/◌, ◌%◌, sym, arith, subst, map}
 use Rattle.std.specs.List.{range_with_len}
 use Rattle.tiff_dir.specs.Level.{across}
 use Rattle.tiff_dir.specs.Profile.{tiles_along}
 use Rattle.tiff_dir.specs.Described.{grid_of}
 use Rattle.tile_plan.specs.Levels.{rectangle_of}
 use Rattle.tile_plan.specs.Plan.{tiles_of}
-use Rattle.tile_plan.proofs.BlockLemmas.{IsIn, IsBlock, HasRoom, in_level, level_few, block_few, block_room, block_tiles, below_total}
+use Rattle.tile_plan.proofs.BlockLemmas.{IsBlock, HasRoom, in_level, level_few, block_few, block_room, block_tiles, below_total}
 use Rattle.tile_plan.proofs.block.Block.of.Goals as goal
 
 pub tiles_along-across-requires-clause-few : goal.tiles_along-across-requires-clause-few

@@ -1,10 +1,10 @@
-use Rattle.std.proofs.Common.{◌≡◌, ℕ, ◌+◌, ◌-◌, ◌*◌, ◌/◌, ◌%◌, ◌<◌, ◌≤◌, length, refl, sym, ap, subst, ◌∙◌, arith}
+use Rattle.std.proofs.Common.{◌≡◌, ◌-◌, ◌*◌, ◌/◌, ◌%◌, ◌≤◌, length, refl, sym, ap, subst, ◌∙◌, arith}
 use Rattle.std.proofs.lemmas.List.{with_items_is}
 use Rattle.tiff_dir.specs.Level.{plain_size}
 use Rattle.tiff_dir.specs.Described.{layout_of}
 use Rattle.tile_plan.specs.Rows.{at, AreCopied}
-use Rattle.tile_plan.specs.Canvas.{pixel_bytes, picture_size, IsBlit}
-use Rattle.tile_plan.proofs.BlitLemmas.{IsCorner, cut_of, sides_of, rows_read, rows_written, read_fits, written_fits, tile_size, tile_rows, picture_rows, picture, blit_none, blit_is}
+use Rattle.tile_plan.specs.Canvas.{IsBlit}
+use Rattle.tile_plan.proofs.BlitLemmas.{cut_of, sides_of, rows_read, rows_written, read_fits, written_fits, tile_size, tile_rows, picture_rows, picture, blit_none, blit_is}
 use Rattle.tile_plan.proofs.canvas.Canvas.blit.Goals as goal
 use Rattle.tile_plan.proofs.canvas.Canvas.blit.Goals.{then-columns-via-then-columns, then-columns-via-else-columns+then-rows}
 
