@@ -37,6 +37,17 @@ fn packed_tiles(rt: HostRuntime) -> Result<(), Fail> {
     Ok(())
 }
 
+/// Where no memory is left, that is what is told, and no window.
+#[test]
+fn refused_memory(rt: HostRuntime) -> Result<(), Fail> {
+    let image = Image::new(rt.alloc(), f4(rt.alloc())?)?;
+    match image.window(rt.alloc(), of_level(15, 15, 3, 3, 0)) {
+        Ok(bytes) => assert_eq!(rt; bytes.as_slice(), CORNER.as_slice()),
+        Err(error) => assert_eq!(rt; error, PlanError::Memory),
+    }
+    Ok(())
+}
+
 /// A byte of f4's first tile changed: a packet crosses its row.
 #[test]
 fn damaged_tile(rt: HostRuntime) -> Result<(), Fail> {
