@@ -1,7 +1,7 @@
 -- Groups, one tile more, and what is true of all of them.
-use Rattle.std.proofs.Common.{◌≡◌, ℕ, zero, suc, ◌+◌, ◌<◌, ◌≤◌, inl, inr, true, false, List, [], ◌∷◌, ◌++◌, length, get_or, set, map, Option, Some, refl, sym, subst, ap, ◌∙◌, arith}
+use Rattle.std.proofs.Common.{append_assoc, ◌≡◌, ℕ, zero, suc, ◌+◌, ◌<◌, ◌≤◌, inl, inr, true, false, List, [], ◌∷◌, ◌++◌, length, get_or, set, map, Option, Some, refl, sym, subst, ap, ◌∙◌, arith}
 use Rattle.std.specs.Prelude.{nat_le, ◌==◌}
-use Rattle.std.specs.List.{AllByRecursion, IsAmong, range_with_len}
+use Rattle.std.specs.List.{flat_map, AllByRecursion, IsAmong, range_with_len}
 use Rattle.std.proofs.lemmas.Bool.{and_parts, cases_Bool, eqb-true, leb-true}
 use Rattle.std.proofs.lemmas.List.FromFn.{length-map-range_with_len, get_or-map-range_with_len}
 use Rattle.std.proofs.lemmas.List.Elements.{All-cons, All-nil, All-push}
@@ -85,6 +85,29 @@ grouped_more range (u ∷ ts) t = more_after range (alone u (range u)) ts t
 pub grouped_none : (range : ℕ → Option Range) → grouped range [] ≡ []
 unfolding grouped grouped_after
 grouped_none range = refl
+
+-- ---- their tiles
+
+tiles_after : (range : ℕ → Range) (g : asked.Group) (ts : List ℕ) → flat_map (λ (h : asked.Group). h.tiles) (after range (Some g) ts) ≡ g.tiles ++ ts
+unfolding after grouped_after
+tiles_after range g [] = refl
+tiles_after range g (t ∷ ts) = elim (cases_Bool (joins g (range t))) [
+  | inl h ↦ rw h (tiles_after range (with_tile g t (range t)) ts ∙ append_assoc g.tiles (t ∷ []) ts)
+  | inr h ↦ rw h (ap (λ l. g.tiles ++ l) (tiles_after range (alone t (range t)) ts))
+]
+
+tiles_joined : (range : ℕ → Range) (ts : List ℕ) → flat_map (λ (h : asked.Group). h.tiles) (grouped (λ t. Some (range t)) ts) ≡ ts
+unfolding grouped after grouped_after
+tiles_joined range [] = refl
+tiles_joined range (t ∷ ts) = tiles_after range (alone t (range t)) ts
+
+tiles_kept : (gs : List Group) → flat_map (λ (g : Group). g.tiles.items) gs ≡ flat_map (λ (h : asked.Group). h.tiles) (map group_of gs)
+tiles_kept [] = refl
+tiles_kept (g ∷ gs) = ap (λ l. g.tiles.items ++ l) (tiles_kept gs)
+
+-- the tiles of the groups are the tiles that were grouped
+pub tiles_of_groups : (range : ℕ → Range) (ts : List ℕ) (gs : List Group) → map group_of gs ≡ grouped (λ t. Some (range t)) ts → flat_map (λ (g : Group). g.tiles.items) gs ≡ ts
+tiles_of_groups range ts gs is = tiles_kept gs ∙ ap (flat_map (λ (h : asked.Group). h.tiles)) is ∙ tiles_joined range ts
 
 -- ---- each group
 

@@ -26,7 +26,7 @@ use Rattle.tile_plan.specs.declared.asked.Rectangle.{Rectangle}
 use Rattle.tile_plan.specs.declared.plan.Group.{Group}
 use Rattle.tile_plan.specs.Levels.{rectangle_of}
 use Rattle.tile_plan.specs.Plan.{range_in, tiles_of, group_of, IsRangeOf, IsWrongSize, IsTileFault, IsGroup, IsPlanned, AreNeeded, AreGroups}
-use Rattle.tile_plan.proofs.GroupLemmas.{IsFit, each_group, all_of, all_counted, counted_among}
+use Rattle.tile_plan.proofs.GroupLemmas.{IsFit, tiles_of_groups, each_group, all_of, all_counted, counted_among}
 
 -- what the arrays say of a tile, in every file that has them
 abbrev pub IsValueOf : Order → Level → List ℕ → List ℕ → ℕ → Type 0
@@ -215,6 +215,7 @@ planned order l r complete offsets counts e n gs tiles known is =
     let fits = subst (AllByRecursion (IsFit range l complete)) tiles (all_counted (IsFit range l complete) e 0 n (λ k low less. known_fit order l complete offsets counts (e k) (known k (omega (arith, less))))) in
     record {
       groups = same;
+      tiles = tiles_of_groups range (tiles_of l r) gs same;
       each = All-from_recursion (λ g. IsGroup range l complete (group_of g)) gs
           (all_of (IsGroup range l complete) group_of gs (subst (AllByRecursion (IsGroup range l complete)) (sym same) (each_group range l complete (tiles_of l r) fits)));
       sound = λ t among fault wrong. (let k = counted_among e n (tiles_of l r) t tiles among in (known k.0 k.1).sound fault (subst (λ t. IsTileFault l complete (range t) fault) k.2 wrong));

@@ -1,6 +1,6 @@
 -- The groups of a window's tiles, by the bytes of the two arrays of its level.
 use Rattle.std.specs.Prelude.{◌≡◌, ℕ, ◌+◌, ◌*◌, ◌<◌, ◌≤◌, ◌⊎◌, true, false, ⊤, nat_lt, ◌==◌, List, [], ◌∷◌, length, map, Some}
-use Rattle.std.specs.List.{list_any, All, IsAmong}
+use Rattle.std.specs.List.{flat_map, list_any, All, IsAmong}
 use Rattle.tiff_dir.specs.declared.order.Order.{Order}
 use Rattle.tiff_dir.specs.declared.level.Level.{Level}
 use Rattle.tiff_dir.specs.declared.level.Compression.TheVariants.{Plain}
@@ -67,6 +67,7 @@ pub record IsGroup (range : ℕ → Range) (l : Level) (complete : ℕ) (g : ask
 -- These are the groups of the rectangle's tiles, of which none has a fault.
 pub record AreGroups (range : ℕ → Range) (l : Level) (r : Rectangle) (complete : ℕ) (gs : List Group) : Type 0 where
   pub groups : map group_of gs ≡ grouped (λ t. Some (range t)) (tiles_of l r)
+  pub tiles : flat_map (λ g. g.tiles.items) gs ≡ tiles_of l r
   pub each : All (λ g. IsGroup range l complete (group_of g)) gs
   pub sound : (t : ℕ) → IsAmong (tiles_of l r) t → (fault : FileFault) → IsTileFault l complete (range t) fault → ⊥
 
