@@ -1,10 +1,13 @@
 -- The tiles of a rectangle, counted row by row.
-use Rattle.std.proofs.Common.{append-nil, ◌≡◌, ℕ, zero, suc, ◌+◌, ◌-◌, ◌*◌, ◌/◌, ◌%◌, ◌<◌, ◌≤◌, inl, inr, Bool, true, [], ◌∷◌, ◌++◌, refl, sym, ap, ◌∙◌, arith, map}
+use Rattle.std.proofs.Common.{List, subst, length, length-append, append-nil, ◌≡◌, ℕ, zero, suc, ◌+◌, ◌-◌, ◌*◌, ◌/◌, ◌%◌, ◌<◌, ◌≤◌, inl, inr, Bool, true, [], ◌∷◌, ◌++◌, refl, sym, ap, ◌∙◌, arith, map}
 use Rattle.std.specs.Prelude.{◌&&◌, nat_lt, nat_le, ◌==◌, IsTrue, cond}
-use Rattle.std.specs.List.{filter, range_with_len}
+use Rattle.std.specs.List.{IsAmong, filter, range_with_len}
 use Rattle.std.proofs.Math.Nat.{mul-le-mul_right, mul-le-mul_left}
 use Rattle.std.proofs.lemmas.Bool.{and_parts, cases_Bool, lt-ltb, ltb-true, leb-true, cases_lt, false≢true}
 use Rattle.std.proofs.lemmas.Nat.{le-div, div_below, div-add-mod', mul-add-lt, div-mul-add, mod-mul-add}
+use Rattle.std.proofs.lemmas.List.{get_or_append_left}
+use Rattle.std.proofs.Math.Seq.{get_or-append_seam}
+use Rattle.tiff_dir.specs.Window.{tile_at}
 use Rattle.std.proofs.lemmas.List.FromFn.{map-range_with_len_more}
 use Rattle.tiff_dir.specs.Profile.{tiles_along}
 use Rattle.tiff_dir.specs.Level.{Grid, across, tile_total}
@@ -136,6 +139,13 @@ counted p e inverse up (suc N) M each all =
           )
     ]
 
+-- a number of a stretch is in the tile that it lies in
+shares : (at len tile x : ℕ) → 0 < tile → at ≤ x → x < at + len → overlap (x / tile * tile) tile at len ≡ true
+shares at len tile x some low high =
+    let down : x / tile * tile ≤ x = omega arith in
+    let up : x < x / tile * tile + tile = omega arith in
+    rw (lt-ltb (x / tile * tile) (at + len) (omega (arith, down)), lt-ltb at (x / tile * tile + tile) (omega (arith, up))) refl
+
 both_true : (a b : Bool) → a ≡ true → b ≡ true → (a && b) ≡ true
 both_true a b x y = rw (x, y) refl
 
@@ -253,3 +263,43 @@ level_few l = factor_few (tiles_along l.width l.tile_width) (tiles_along l.lengt
 -- the last row's tiles are few
 pub block_few : (l : Level) (top R : ℕ) → top + R ≤ tiles_along l.length l.tile_length → (top + R) * tiles_along l.width l.tile_width ≤ 65536
 block_few l top R tall = omega (arith, l.tiles, mul-le-mul_right (tiles_along l.width l.tile_width) tall)
+
+-- ---- the tile of a pixel
+
+among_front : (xs ys : List ℕ) (t : ℕ) → IsAmong xs t → IsAmong (xs ++ ys) t
+among_front xs ys t (i, (less, is)) = (i, (omega (arith, less, length-append xs ys), is ∙ sym (get_or_append_left xs ys t i less)))
+
+among_last : (xs : List ℕ) (t : ℕ) → IsAmong (xs ++ t ∷ []) t
+among_last xs t = (length xs, (omega (arith, length-append xs (t ∷ [])), sym (get_or-append_seam xs t [] t)))
+
+among_filter : (p : ℕ → Bool) (n t : ℕ) → t < n → p t ≡ true → IsAmong (filter p (range_with_len 0 n)) t
+among_filter p zero t less passes = absurd (omega (arith, less))
+among_filter p (suc n) t less passes =
+    let here : 0 + n ≡ n = omega arith in
+    let more = filter_more p 0 n ∙ ap (λ k. filter p (range_with_len 0 n) ++ cond (p k) (k ∷ []) []) here in
+    subst (λ l. IsAmong l t) (sym more) (elim (cases_lt t n) [
+      | inl below ↦ among_front (filter p (range_with_len 0 n)) (cond (p n) (n ∷ []) []) t (among_filter p n t below passes)
+      | inr last ↦ (
+          let is : t ≡ n = omega (arith, less, last) in
+          subst (λ b. IsAmong (filter p (range_with_len 0 n) ++ cond b (n ∷ []) []) t) (sym (ap p (sym is) ∙ passes))
+          (subst (λ k. IsAmong (filter p (range_with_len 0 n) ++ k ∷ []) t) is (among_last (filter p (range_with_len 0 n)) t))
+          )
+    ])
+
+-- it is one of the rectangle's
+pub tile_among : (g : Grid) (r : Rectangle) (i j : ℕ) → IsIn g r → i < r.width → j < r.height → IsAmong (tiles_in g r) (tile_at g (r.left + i) (r.top + j))
+unfolding tiles_in
+tile_among g r i j here wide tall =
+    let X = r.left + i in
+    let Y = r.top + j in
+    let A = across g in
+    let one : X + 1 - 1 ≡ X = omega arith in
+    let row_one : Y + 1 - 1 ≡ Y = omega arith in
+    let column : X / g.tile_width < A = omega (arith, last_below X 1 g.width g.tile_width (omega arith) here.tile_wide (omega (arith, wide, here.fits_x)), ap (λ k. k / g.tile_width) one) in
+    let row : Y / g.tile_length < tiles_along g.length g.tile_length =
+    omega (arith, last_below Y 1 g.length g.tile_length (omega arith) here.tile_tall (omega (arith, tall, here.fits_y)), ap (λ k. k / g.tile_length) row_one) in
+    let total : Y / g.tile_length * A + X / g.tile_width < A * tiles_along g.length g.tile_length = mul-add-lt (Y / g.tile_length) A (X / g.tile_width) (tiles_along g.length g.tile_length) row column in
+    among_filter (meets g r) (tile_total g) (tile_at g X Y) total
+    (meets_at g r (tile_at g X Y) (X / g.tile_width) (Y / g.tile_length) (mod-mul-add (Y / g.tile_length) A (X / g.tile_width) column) (div-mul-add (Y / g.tile_length) A (X / g.tile_width) column)
+    (shares r.left r.width g.tile_width X here.tile_wide (omega arith) (omega (arith, wide)))
+    (shares r.top r.height g.tile_length Y here.tile_tall (omega arith) (omega (arith, tall))))

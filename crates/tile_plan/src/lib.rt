@@ -4,11 +4,13 @@
 mod asked;
 mod block;
 mod canvas;
+mod laws;
 mod plan;
 mod rows;
 mod swap;
 
 pub use asked::{Rectangle, rect};
 pub use canvas::Canvas;
+pub use laws::tiles_cover;
 pub use plan::{Group, PlanError, groups};
 pub use swap::swap_pairs;
