@@ -1,0 +1,2 @@
+pub mod PaintLemmas
+pub mod WorkLemmas

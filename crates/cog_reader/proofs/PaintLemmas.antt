@@ -1,0 +1,113 @@
+-- Tiles on a picture.
+use Rattle.std.proofs.Common.{◌≡◌, ◌≢◌, ℕ, zero, suc, ◌+◌, ◌-◌, ◌*◌, ◌<◌, ◌≤◌, inl, inr, List, [], ◌∷◌, ◌++◌, length, take, drop, get_or, Some, refl, sym, subst, ap, ◌∙◌, arith}
+use Rattle.std.specs.Prelude.{Result, Ok, Err, IfErr, IsErrAnd, nat_le, if◌then◌else◌}
+use Rattle.std.specs.List.{All, slice_range}
+use Rattle.std.proofs.lemmas.Bool.{cases_eq, le-leb}
+use Rattle.std.proofs.lemmas.List.{drop-take, drop-drop, take-take, drop_more}
+use Rattle.std.proofs.lemmas.Grind.{get_or_default_zero}
+use Rattle.std.proofs.lemmas.List.Elements.{All-push, All-from_get_or, All-get_or}
+use Rattle.tiff_dir.specs.declared.level.Level.{Level}
+use Rattle.tiff_dir.specs.File.{◌>>=◌}
+use Rattle.tiff_dir.specs.Level.{level_value, segment}
+use Rattle.tiff_dir.specs.Needs.{Range}
+use Rattle.tiff_dir.specs.Described.{grid_of}
+use Rattle.tiff_dir.specs.Window.{tile_at}
+use Rattle.tile_plan.specs.declared.asked.Rectangle.{Rectangle}
+use Rattle.tile_plan.specs.Plan.{Adjoin}
+use Rattle.tile_plan.specs.Canvas.{Picture, IsBlit, byte_at, byte_in_tile, place}
+use Rattle.cog_reader.specs.Mosaic.{IsPainted}
+use Rattle.cog_reader.specs.Paint.{IsPaint}
+
+-- ---- the bytes of a tile in those of its group
+
+pub adjoin_step : (range : ℕ → Range) (at : ℕ) (ts : List ℕ) (i t end : ℕ) → Adjoin range at (drop i ts) end → i < length ts → t ≡ get_or ts i t
+    → ((range t).first ≡ at) × Adjoin range (at + (range t).len) (drop (i + 1) ts) end
+adjoin_step range at ts i t end adjoin less is =
+    let here : drop i ts ≡ t ∷ drop (i + 1) ts = drop_more ts i t less ∙ ap (λ k. k ∷ drop (i + 1) ts) (sym is) in
+    let next = subst (λ l. Adjoin range at l end) here adjoin in
+    (next.0, next.1)
+
+pub adjoin_within : (range : ℕ → Range) (at : ℕ) (ts : List ℕ) (end : ℕ) → Adjoin range at ts end → at ≤ end
+adjoin_within range at [] end is = omega (arith, is)
+adjoin_within range at (t ∷ ts) end (first, rest) = (let more = adjoin_within range (at + (range t).len) ts end rest in omega (arith, more))
+
+-- tile i of some tiles, which end within so many bytes
+pub tile_step : (range : ℕ → Range) (at : ℕ) (ts : List ℕ) (i end : ℕ) → Adjoin range at (drop i ts) end → i < length ts
+    → ((range (get_or ts i 0)).first ≡ at) × Adjoin range (at + (range (get_or ts i 0)).len) (drop (i + 1) ts) end
+tile_step range at ts i end adjoin less = adjoin_step range at ts i (get_or ts i 0) end adjoin less (sym (get_or_default_zero ts i (get_or ts i 0) less))
+
+pub tile_end : (range : ℕ → Range) (first at len : ℕ) (ts : List ℕ) (i : ℕ) → Adjoin range (first + at) (drop i ts) (first + len) → i < length ts → at + (range (get_or ts i 0)).len ≤ len
+tile_end range first at len ts i adjoin less =
+    let next = tile_step range (first + at) ts i (first + len) adjoin less in
+    let within = adjoin_within range (first + at + (range (get_or ts i 0)).len) (drop (i + 1) ts) (first + len) next.1 in
+    omega (arith, within)
+
+-- the bytes from one place on, in a part of a list
+part_of : (f : List ℕ) (first total at len n m : ℕ) → at + len ≤ total → n ≡ first + total - first → m ≡ len → take m (drop at (take n (drop first f))) ≡ take len (drop (first + at) f)
+part_of f first total at len n m fits is same =
+    let split : n ≡ at + (total - at) = omega (arith, is, fits) in
+    ap (λ k. take m (drop at (take k (drop first f)))) split ∙ ap (take m) (drop-take at (total - at) (drop first f))
+    ∙ take-take m (total - at) (drop at (drop first f)) (omega (arith, same, fits)) ∙ ap (λ k. take k (drop at (drop first f))) same ∙ ap (take len) (drop-drop at first f)
+
+pub segment_is : (f : List ℕ) (n t at first total len m : ℕ) (bytes : List ℕ) → level_value f n 324 t ≡ Some (first + at) → level_value f n 325 t ≡ Some len → first + total ≤ length f → at + len ≤ total
+    → bytes ≡ slice_range f first (first + total) → m ≡ len → segment f n t ≡ Some (take m (drop at bytes))
+unfolding segment
+segment_is f n t at first total len m bytes offset count inside fits is same =
+    let room : first + at + len ≤ length f = omega (arith, inside, fits) in
+    let size : first + at + len - (first + at) ≡ len = omega arith in
+    rw (offset, count, le-leb (first + at + len) (length f) room)
+    (ap (λ k. Some (take k (drop (first + at) f))) size ∙ ap Some (sym (part_of f first total at len (first + total - first) m fits refl same)) ∙ ap (λ l. Some (take m (drop at l))) (sym is))
+
+-- a refusal that is handed on
+pub passed_on : {A E : Type 0} (result : Result A E) (error : E) (P : E → Type 0) → IsErrAnd result (λ e. e ≡ error) → P error → IfErr result P
+passed_on (Ok a) error P bad good = absurd bad
+passed_on (Err e) error P is good = subst P (sym is) good
+
+-- ---- one tile more
+
+-- what is on the picture, where only its bytes are others
+picture : Level → Rectangle → List ℕ → Picture
+picture l r bytes = record { level = l; rectangle = r; bytes = bytes }
+
+same_bytes : (old new : Picture) (i j b : ℕ) → new.level ≡ old.level → new.rectangle ≡ old.rectangle → byte_at new i j b ≡ get_or new.bytes (place old.level old.rectangle.w i j b) 0
+same_bytes old new i j b level rectangle =
+    ap (λ l. get_or new.bytes (place l new.rectangle.w i j b) 0) level ∙ ap (λ (r : Rectangle). get_or new.bytes (place old.level r.w i j b) 0) rectangle
+
+at_new : (f : List ℕ) (n t : ℕ) (old new : Picture) → new.level ≡ old.level → new.rectangle ≡ old.rectangle → IsPainted f n (picture old.level old.rectangle new.bytes) t → IsPainted f n new t
+unfolding picture
+at_new f n t old new level rectangle is =
+    subst (λ l. IsPainted f n (picture l new.rectangle new.bytes) t) (sym level) (subst (λ r. IsPainted f n (picture old.level r new.bytes) t) (sym rectangle) is)
+
+-- a tile that was on the picture is there after another one
+kept : (f : List ℕ) (n t u : ℕ) (plain : List ℕ) (old new : Picture) → IsBlit t plain old new → u ≢ t → IsPainted f n old u → IsPainted f n (picture old.level old.rectangle new.bytes) u
+unfolding picture
+kept f n t u plain old new blit other is = record {
+  bytes = is.bytes;
+  bytes_are = is.bytes_are;
+  plain = is.plain;
+  unpacked = is.unpacked;
+  size = is.size;
+  pixels = λ i j b wide tall small here.
+      sym (same_bytes old new i j b blit.level blit.rectangle) ∙ blit.outside i j b wide tall small (λ same. other (sym here ∙ same)) ∙ is.pixels i j b wide tall small here;
+}
+
+drawn : (f : List ℕ) (n t : ℕ) (bytes : List ℕ) (old new : Picture) → IsPaint t bytes old new → segment f n t ≡ Some bytes → IsPainted f n (picture old.level old.rectangle new.bytes) t
+unfolding picture
+drawn f n t bytes old new paint is = record {
+  bytes = bytes;
+  bytes_are = is;
+  plain = paint.plain;
+  unpacked = paint.unpacked;
+  size = paint.size;
+  pixels = λ i j b wide tall small here. sym (same_bytes old new i j b paint.blit.level paint.blit.rectangle) ∙ paint.blit.inside i j b wide tall small here;
+}
+
+pub painted_more : (f : List ℕ) (n t : ℕ) (bytes done : List ℕ) (old new : Picture) → IsPaint t bytes old new → segment f n t ≡ Some bytes → All (IsPainted f n old) done → All (IsPainted f n new) (done ++ t ∷ [])
+painted_more f n t bytes done old new paint is all =
+    let here = at_new f n t old new paint.blit.level paint.blit.rectangle (drawn f n t bytes old new paint is) in
+    All-push (IsPainted f n new) done t
+    (λ k d less. elim (cases_eq (get_or done k d) t) [
+      | inl same ↦ subst (IsPainted f n new) (sym same) here
+      | inr other ↦ at_new f n (get_or done k d) old new paint.blit.level paint.blit.rectangle (kept f n t (get_or done k d) paint.plain old new paint.blit other (all k d less))
+    ])
+    here

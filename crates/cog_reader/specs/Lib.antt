@@ -1,0 +1,2 @@
+pub mod Mosaic
+pub mod Paint

@@ -1,0 +1,95 @@
+-- A window of a level, put together from its tiles as their groups come.
+use Rattle.std.specs.Prelude.{◌≡◌, ℕ, ◌+◌, ◌<◌, ◌≤◌, false, List, length, take, Some, slice_get, IsSomeAnd}
+use Rattle.std.specs.List.{flat_map, All, IsAmong, slice_range}
+use Rattle.tiff_dir.specs.declared.level.Level.{Level}
+use Rattle.tiff_dir.specs.declared.level.Compression.TheVariants.{Plain, PackBits}
+use Rattle.tiff_dir.specs.declared.fault.FileFault.{FileFault}
+use Rattle.tiff_dir.specs.declared.fault.FileFault.TheVariants.{Packet}
+use Rattle.tiff_dir.specs.Packets.{Packs}
+use Rattle.tiff_dir.specs.declared.query.Query.{Query}
+use Rattle.tiff_dir.specs.File.{order_of}
+use Rattle.tiff_dir.specs.Level.{level_layout, segment, plain_row, plain_size, tile_total}
+use Rattle.tiff_dir.specs.Needs.{Range}
+use Rattle.tiff_dir.specs.Described.{grid_of, layout_of}
+use Rattle.tiff_dir.specs.Walk.{IsArrayOf, bytes_in, range_of_span}
+use Rattle.tiff_dir.specs.Window.{tile_at, IsUnpacked}
+use Rattle.tile_plan.specs.declared.plan.Group.{Group}
+use Rattle.tile_plan.specs.Plan.{Adjoin, range_in, IsRangeOf, AreGroups, AreNeeded, IsPlanned}
+use Rattle.tile_plan.specs.Canvas.{Picture, pixel_bytes, byte_at, byte_in_tile}
+use Rattle.cog_reader.specs.declared.arrays.Arrays.{Arrays}
+
+-- the groups of the window, how many of them were taken, and the picture so far
+pub record Work : Type 0 where
+  pub groups : List Group
+  pub taken : ℕ
+  pub picture : Picture
+
+-- where the arrays say that a tile stands
+abbrev pub range_of : Arrays → ℕ → Range
+range_of a = range_in a.order a.level a.offsets.items a.counts.items
+
+-- the tiles of some groups
+abbrev pub tiles_in : List Group → List ℕ
+tiles_in gs = flat_map (λ g. g.tiles.items) gs
+
+-- tile t of level n of the file is on the picture: its pixels have the bytes that its segment stands for
+pub record IsPainted (f : List ℕ) (n : ℕ) (p : Picture) (t : ℕ) : Type 0 where
+  pub bytes : List ℕ
+  pub bytes_are : segment f n t ≡ Some bytes
+  pub plain : List ℕ
+  pub unpacked : IsUnpacked (layout_of p.level) bytes plain
+  pub size : length plain ≡ plain_size (layout_of p.level)
+  pub pixels : (i j b : ℕ) → i < p.rectangle.w → j < p.rectangle.h → b < pixel_bytes p.level
+      → tile_at (grid_of p.level) (p.rectangle.x + i) (p.rectangle.y + j) ≡ t
+      → byte_at p i j b ≡ byte_in_tile p.level plain (p.rectangle.x + i) (p.rectangle.y + j) b
+
+-- the arrays are those of level n of the file
+pub record AreArraysOf (f : List ℕ) (n : ℕ) (a : Arrays) : Type 0 where
+  pub order_is : order_of f ≡ Some a.order
+  pub layout_is : level_layout f n ≡ Some (layout_of a.level)
+  pub offsets_are : IsArrayOf f a.level.offsets a.offsets.items
+  pub counts_are : IsArrayOf f a.level.counts a.counts.items
+
+-- the groups are those that the arrays give for the picture's rectangle, in a file of so many bytes
+pub record IsPlan (a : Arrays) (w : Work) : Type 0 where
+  pub complete : ℕ
+  pub level : w.picture.level ≡ a.level
+  pub are : AreGroups (range_of a) a.level w.picture.rectangle complete w.groups
+
+-- The work is the query's in this file: its groups are those that the query needs, and the tiles of those that were taken
+-- are on the picture.
+pub record IsUnderway (f : List ℕ) (q : Query) (a : Arrays) (w : Work) : Type 0 where
+  pub planned : IsPlanned f q a.order a.level w.picture.rectangle (length f) a.offsets.items a.counts.items
+  pub are : AreGroups (range_of a) a.level w.picture.rectangle (length f) w.groups
+  pub needed : AreNeeded f q w.groups
+  pub painted : All (IsPainted f w.picture.rectangle.level w.picture) (tiles_in (take w.taken w.groups))
+
+-- the bytes of the file that are wanted next
+abbrev pub IsNextOf : List ℕ → Work → List ℕ → Type 0
+IsNextOf f w bytes = IsSomeAnd (slice_get w.groups w.taken) (λ g. bytes ≡ bytes_in f (range_of_span g.span))
+
+-- as many bytes as are wanted next
+abbrev pub IsNext : Work → ℕ → Type 0
+IsNext w len = IsSomeAnd (slice_get w.groups w.taken) (λ g. len ≡ (range_of_span g.span).len)
+
+-- tiles that stand one after the other and have so many bytes, of which plain ones are each as long as its samples
+pub record IsWhole (a : Arrays) (ts : List ℕ) (len : ℕ) : Type 0 where
+  pub within : All (λ t. t < tile_total (grid_of a.level)) ts
+  pub plain : All (λ t. a.level.compression ≡ Plain → (range_of a t).len ≡ plain_size (layout_of a.level)) ts
+  pub first : ℕ
+  pub adjoin : Adjoin (range_of a) first ts (first + len)
+
+-- these are the bytes of the file from one place on
+pub record AreBytesOf (f : List ℕ) (first : ℕ) (bytes : List ℕ) : Type 0 where
+  pub are : bytes ≡ slice_range f first (first + length bytes)
+  pub inside : first + length bytes ≤ length f
+
+-- a tile's packets are damaged
+pub record HasDamage (f : List ℕ) (n : ℕ) (l : Level) (ts : List ℕ) (fault : FileFault) : Type 0 where
+  pub tile : ℕ
+  pub among : IsAmong ts tile
+  pub bytes : List ℕ
+  pub bytes_are : segment f n tile ≡ Some bytes
+  pub packet : fault ≡ Packet
+  pub packed : l.compression ≡ PackBits
+  pub wrong : (plain : List ℕ) → length plain ≡ plain_size (layout_of l) → Packs (plain_row (layout_of l)) bytes plain → ⊥

@@ -1,0 +1,9 @@
+//! One query answered from one file, range by range.
+#![tactic(auto)]
+
+mod arrays;
+mod mosaic;
+mod paint;
+
+pub use arrays::Arrays;
+pub use mosaic::Mosaic;

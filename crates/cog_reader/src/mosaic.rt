@@ -1,0 +1,146 @@
+//! A window, put together from its tiles as their groups come.
+ghost use Rattle.std.specs.Prelude.{◌≡◌, ◌+◌, ◌++◌, ℕ, List, IfErr, OnOk, length};
+ghost use Rattle.std.specs.List.{All};
+ghost use Rattle.tiff_dir.specs.Described.{layout_of};
+ghost use Rattle.tiff_dir.specs.Level.{plain_size};
+ghost use Rattle.tile_plan.specs.Plan.{Adjoin};
+ghost use Rattle.cog_reader.specs.Mosaic.{range_of, IsPainted, AreArraysOf, IsWhole, AreBytesOf, HasDamage};
+
+use crate::Arrays;
+use crate::paint::{paint, plain_size};
+use std::alloc::Global;
+use std::marker::Model;
+use tiff_dir::{FileFault, Span};
+use tile_plan::{Canvas, Group, PlanError, Rectangle, groups};
+
+/// Copies tiles that stand one after the other onto the canvas, by their bytes. `plain` is room for a tile.
+fn paint_tiles(
+    canvas: &mut Canvas,
+    arrays: &Arrays,
+    tiles: &[u32],
+    bytes: &[u8],
+    plain: &mut [u8],
+) -> Result<(), FileFault>
+    requires level { canvas.old.level ≡ arrays.now.level }
+    requires whole { IsWhole arrays.now tiles.now (length bytes.now) }
+    requires room { length plain.old ≡ plain_size (layout_of arrays.now.level) }
+    ensures level { canvas.new.level ≡ canvas.old.level }
+    ensures rectangle { canvas.new.rectangle ≡ canvas.old.rectangle }
+    ensures painted { (f : List ℕ) (n first : ℕ) (done : List ℕ) → AreArraysOf f n arrays.now → AreBytesOf f first bytes.now
+        → Adjoin (range_of arrays.now) first tiles.now (first + length bytes.now) → All (IsPainted f n canvas.old) done
+        → OnOk result (All (IsPainted f n canvas.new) (done ++ tiles.now)) }
+    ensures damaged { (f : List ℕ) (n first : ℕ) → AreArraysOf f n arrays.now → AreBytesOf f first bytes.now
+        → Adjoin (range_of arrays.now) first tiles.now (first + length bytes.now)
+        → IfErr result (HasDamage f n arrays.now.level tiles.now) }
+{
+    let mut at = 0;
+    for tile in tiles {
+        let end = at + arrays.len_of(*tile);
+        paint(canvas, &arrays.level, *tile, &bytes[at..end], plain)?;
+        at = end;
+    }
+    Ok(())
+}
+
+/// A window of a level, put together from its tiles as their groups come.
+#[derive(Drop)]
+pub struct Mosaic {
+    groups: Vec<Group>,
+    taken: usize,
+    canvas: Canvas,
+    plain: Vec<u8>,
+}
+
+impl Model for Mosaic {
+    ghost use Rattle.std.specs.Prelude.{◌≡◌, ◌≤◌, length};
+    ghost use Rattle.tiff_dir.specs.Described.{layout_of};
+    ghost use Rattle.tiff_dir.specs.Level.{plain_size};
+    ghost use Rattle.cog_reader.specs.Mosaic.{Work};
+
+    ghost Value = { Work };
+
+    ghost view = { λ m. record { groups = m.groups.items; taken = m.taken; picture = m.canvas } };
+
+    ghost invariant = { λ m. (m.taken ≤ length m.groups.items) × (length m.plain.items ≡ plain_size (layout_of m.canvas.level)) };
+}
+
+impl Mosaic {
+    ghost use Rattle.std.specs.Prelude.{◌≡◌, ◌+◌, ℕ, List, IfOk, IfErr, OnOk, MatchOption, Some, slice_get, IsSomeAnd, length};
+    ghost use Rattle.tiff_dir.specs.declared.query.Query.{Query};
+    ghost use Rattle.tiff_dir.specs.Faulty.{IsFaultOfWindow};
+    ghost use Rattle.tile_plan.specs.Levels.{IsSmall};
+    ghost use Rattle.tile_plan.specs.Plan.{IsPlanned, IsErrorOf};
+    ghost use Rattle.cog_reader.specs.Mosaic.{IsPlan, IsUnderway, IsNext, IsNextOf};
+
+    /// The window of a rectangle, in a file of `complete` bytes: nothing of it is there yet. The rectangle lies in the arrays'
+    /// level and is small. Where a tile of it has a wrong byte count or ends past the file, that fault is told.
+    pub fn new(
+        alloc: Global,
+        arrays: &Arrays,
+        rect: Rectangle,
+        complete: u64,
+    ) -> Result<Mosaic, PlanError>
+        requires { IsSmall arrays.now.level rect }
+        ensures plan { IfOk result (IsPlan arrays.now) }
+        ensures none { IfOk result (λ w. (w.taken ≡ 0) × (w.picture.rectangle ≡ rect)) }
+        ensures underway { (f : List ℕ) (q : Query) → length f ≡ complete
+            → IsPlanned f q arrays.now.order arrays.now.level rect complete arrays.now.offsets.items arrays.now.counts.items
+            → IfOk result (IsUnderway f q arrays.now) }
+        ensures refused { (f : List ℕ) (q : Query) → length f ≡ complete
+            → IsPlanned f q arrays.now.order arrays.now.level rect complete arrays.now.offsets.items arrays.now.counts.items
+            → IfErr result (IsErrorOf f q) }
+    {
+        let level = &arrays.level;
+        let groups = groups(
+            alloc,
+            arrays.order,
+            level,
+            rect,
+            complete,
+            &arrays.offsets,
+            &arrays.counts,
+        )?;
+        let canvas = Canvas::new(alloc, level, rect)?;
+        let plain = vec![in alloc; 0u8; plain_size(level)].map_err(|_| PlanError::Memory)?;
+        Ok(Mosaic {
+            groups,
+            taken: 0,
+            canvas,
+            plain,
+        })
+    }
+
+    /// The bytes of the next group, None where all were given.
+    pub fn need(&self) -> Option<Span>
+        ensures { MatchOption result (self.now.taken ≡ length self.now.groups)
+            (λ span. IsSomeAnd (slice_get self.now.groups self.now.taken) (λ g. g.span ≡ span)) }
+    {
+        let group = self.groups.get(self.taken)?;
+        Some(group.span)
+    }
+
+    /// Takes the bytes of the next group. After a fault the work is of no use.
+    pub fn give(&mut self, arrays: &Arrays, bytes: &[u8]) -> Result<(), FileFault>
+        requires plan { IsPlan arrays.now self.old }
+        requires wanted { IsNext self.old (length bytes.now) }
+        ensures plan { IsPlan arrays.now self.new }
+        ensures taken { OnOk result ((self.new.groups ≡ self.old.groups) × (self.new.taken ≡ self.old.taken + 1)) }
+        ensures underway { (f : List ℕ) (q : Query) → IsUnderway f q arrays.now self.old → IsNextOf f self.old bytes.now
+            → OnOk result (IsUnderway f q arrays.now self.new) }
+        ensures damaged { (f : List ℕ) (q : Query) → IsUnderway f q arrays.now self.old → IsNextOf f self.old bytes.now
+            → IfErr result (IsFaultOfWindow f q) }
+    {
+        let Some(group) = self.groups.get(self.taken) else {
+            return Ok(());
+        };
+        paint_tiles(
+            &mut self.canvas,
+            arrays,
+            &group.tiles,
+            bytes,
+            &mut self.plain,
+        )?;
+        self.taken += 1;
+        Ok(())
+    }
+}

@@ -1,0 +1,52 @@
+//! A tile, unpacked and copied onto a canvas.
+ghost use Rattle.std.specs.Prelude.{◌≡◌, ◌<◌, ◌≤◌, IfErr, OnOk, length};
+ghost use Rattle.tiff_dir.specs.declared.level.Compression.TheVariants as compression;
+ghost use Rattle.tiff_dir.specs.Described.{grid_of, layout_of};
+ghost use Rattle.tiff_dir.specs.Level.{plain_row, plain_size, tile_total};
+ghost use Rattle.cog_reader.specs.Paint.{IsPaint, IsBad};
+
+use packbits::unpack;
+use tiff_dir::{Compression, FileFault, Level};
+use tile_plan::Canvas;
+
+/// How many bytes a row of a tile has when it is unpacked.
+pub fn plain_row(level: &Level) -> usize
+    ensures row { result ≡ plain_row (layout_of level.now) }
+    ensures some { 0 < result }
+{
+    level.tile_width as usize * usize::from(level.samples) * usize::from(level.bits / 8)
+}
+
+/// How many bytes a tile has when it is unpacked.
+pub fn plain_size(level: &Level) -> usize
+    ensures { result ≡ plain_size (layout_of level.now) }
+{
+    plain_row(level) * level.tile_length as usize
+}
+
+/// Copies the tile that the bytes of a file stand for onto the canvas. `plain` is room for the tile.
+pub fn paint(
+    canvas: &mut Canvas,
+    level: &Level,
+    tile: u32,
+    bytes: &[u8],
+    plain: &mut [u8],
+) -> Result<(), FileFault>
+    requires level { canvas.old.level ≡ level.now }
+    requires tile { tile < tile_total (grid_of level.now) }
+    requires size { level.now.compression ≡ compression.Plain → length bytes.now ≡ plain_size (layout_of level.now) }
+    requires room { length plain.old ≡ plain_size (layout_of level.now) }
+    ensures paint { OnOk result (IsPaint tile bytes.now canvas.old canvas.new) }
+    ensures bad { IfErr result (IsBad bytes.now canvas.old) }
+    ensures level { canvas.new.level ≡ level.now }
+    ensures rectangle { canvas.new.rectangle ≡ canvas.old.rectangle }
+{
+    match level.compression {
+        Compression::Plain => canvas.blit(tile, bytes),
+        Compression::PackBits => {
+            unpack(bytes, plain_row(level), plain)?;
+            canvas.blit(tile, plain);
+        }
+    }
+    Ok(())
+}
