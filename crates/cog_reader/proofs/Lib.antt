@@ -1,2 +1,4 @@
 pub mod PaintLemmas
 pub mod WorkLemmas
+pub mod SampleLemmas
+pub mod WindowSamples

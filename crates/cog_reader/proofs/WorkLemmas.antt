@@ -20,9 +20,9 @@ use Rattle.tiff_dir.specs.Query.{window_tiles}
 use Rattle.tiff_dir.specs.Walk.{range_of_span, bytes_in}
 use Rattle.tile_plan.specs.declared.asked.Rectangle.{Rectangle}
 use Rattle.tile_plan.specs.declared.plan.Group.{Group}
-use Rattle.tile_plan.specs.Levels.{rectangle_of}
+use Rattle.tile_plan.specs.Levels.{rectangle_of, IsSmall}
 use Rattle.tile_plan.specs.Plan.{AreGroups, Adjoin, tiles_of, group_of, IsGroup, IsPlanned}
-use Rattle.tile_plan.specs.Canvas.{Picture}
+use Rattle.tile_plan.specs.Canvas.{Picture, picture_size}
 use Rattle.cog_reader.specs.declared.arrays.Arrays.{Arrays}
 use Rattle.cog_reader.specs.Mosaic.{Work, range_of, tiles_in, IsPainted, IsPlan, IsUnderway, IsNext, IsNextOf, IsWhole, AreBytesOf, AreArraysOf, HasDamage}
 
@@ -95,11 +95,14 @@ arrays_of f q a w u = record { order_is = u.planned.order_is; layout_is = u.plan
 
 -- ---- a group more
 
-pub underway_more : (f : List ℕ) (q : Query) (a : Arrays) (w : Work) (g : Group) (new : Picture) → IsUnderway f q a w → slice_get w.groups w.taken ≡ Some g → new.rectangle ≡ w.picture.rectangle
+pub underway_more : (f : List ℕ) (q : Query) (a : Arrays) (w : Work) (g : Group) (new : Picture) → IsUnderway f q a w → slice_get w.groups w.taken ≡ Some g → new.level ≡ w.picture.level → new.rectangle ≡ w.picture.rectangle → length new.bytes ≡ length w.picture.bytes
     → All (IsPainted f w.picture.rectangle.level new) (tiles_in (take w.taken w.groups) ++ g.tiles.items) → IsUnderway f q a (record { groups = w.groups; taken = w.taken + 1; picture = new })
-underway_more f q a w g new u is rectangle painted = record {
+underway_more f q a w g new u is level rectangle size painted = record {
   planned = subst (λ r. IsPlanned f q a.order a.level r (length f) a.offsets.items a.counts.items) (sym rectangle) u.planned;
   are = subst (λ r. AreGroups (range_of a) a.level r (length f) w.groups) (sym rectangle) u.are;
+  level = level ∙ u.level;
+  small = subst (IsSmall a.level) (sym rectangle) u.small;
+  size = size ∙ u.size ∙ ap (picture_size a.level) (sym rectangle);
   needed = u.needed;
   painted = subst (All (IsPainted f new.rectangle.level new)) (sym (tiles_more w.groups w.taken g is))
       (subst (λ (r : Rectangle). All (IsPainted f r.level new) (tiles_in (take w.taken w.groups) ++ g.tiles.items)) (sym rectangle) painted);

@@ -1,2 +1,3 @@
 pub mod Mosaic
 pub mod Paint
+pub mod Samples

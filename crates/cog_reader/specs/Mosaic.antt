@@ -15,7 +15,8 @@ use Rattle.tiff_dir.specs.Walk.{IsArrayOf, bytes_in, range_of_span}
 use Rattle.tiff_dir.specs.Window.{tile_at, IsUnpacked}
 use Rattle.tile_plan.specs.declared.plan.Group.{Group}
 use Rattle.tile_plan.specs.Plan.{Adjoin, range_in, IsRangeOf, AreGroups, AreNeeded, IsPlanned}
-use Rattle.tile_plan.specs.Canvas.{Picture, pixel_bytes, byte_at, byte_in_tile}
+use Rattle.tile_plan.specs.Levels.{IsSmall}
+use Rattle.tile_plan.specs.Canvas.{Picture, picture_size, pixel_bytes, byte_at, byte_in_tile}
 use Rattle.cog_reader.specs.declared.arrays.Arrays.{Arrays}
 
 -- the groups of the window, how many of them were taken, and the picture so far
@@ -61,6 +62,9 @@ pub record IsPlan (a : Arrays) (w : Work) : Type 0 where
 pub record IsUnderway (f : List ℕ) (q : Query) (a : Arrays) (w : Work) : Type 0 where
   pub planned : IsPlanned f q a.order a.level w.picture.rectangle (length f) a.offsets.items a.counts.items
   pub are : AreGroups (range_of a) a.level w.picture.rectangle (length f) w.groups
+  pub level : w.picture.level ≡ a.level
+  pub small : IsSmall a.level w.picture.rectangle
+  pub size : length w.picture.bytes ≡ picture_size a.level w.picture.rectangle
   pub needed : AreNeeded f q w.groups
   pub painted : All (IsPainted f w.picture.rectangle.level w.picture) (tiles_in (take w.taken w.groups))
 

@@ -4,6 +4,7 @@
 mod arrays;
 mod mosaic;
 mod paint;
+mod samples;
 
 pub use arrays::Arrays;
 pub use mosaic::Mosaic;

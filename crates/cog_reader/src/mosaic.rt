@@ -8,10 +8,11 @@ ghost use Rattle.cog_reader.specs.Mosaic.{range_of, IsPainted, AreArraysOf, IsWh
 
 use crate::Arrays;
 use crate::paint::{paint, plain_size};
+use crate::samples::big_first;
 use std::alloc::Global;
 use std::marker::Model;
 use tiff_dir::{FileFault, Span};
-use tile_plan::{Canvas, Group, PlanError, Rectangle, groups};
+use tile_plan::{Canvas, Group, PlanError, Rectangle, groups, tiles_cover};
 
 /// Copies tiles that stand one after the other onto the canvas, by their bytes. `plain` is room for a tile.
 fn paint_tiles(
@@ -26,6 +27,7 @@ fn paint_tiles(
     requires room { length plain.old ≡ plain_size (layout_of arrays.now.level) }
     ensures level { canvas.new.level ≡ canvas.old.level }
     ensures rectangle { canvas.new.rectangle ≡ canvas.old.rectangle }
+    ensures size { length canvas.new.bytes ≡ length canvas.old.bytes }
     ensures painted { (f : List ℕ) (n first : ℕ) (done : List ℕ) → AreArraysOf f n arrays.now → AreBytesOf f first bytes.now
         → Adjoin (range_of arrays.now) first tiles.now (first + length bytes.now) → All (IsPainted f n canvas.old) done
         → OnOk result (All (IsPainted f n canvas.new) (done ++ tiles.now)) }
@@ -68,7 +70,9 @@ impl Mosaic {
     ghost use Rattle.std.specs.Prelude.{◌≡◌, ◌+◌, ℕ, List, IfOk, IfErr, OnOk, MatchOption, Some, slice_get, IsSomeAnd, length};
     ghost use Rattle.tiff_dir.specs.declared.query.Query.{Query};
     ghost use Rattle.tiff_dir.specs.Faulty.{IsFaultOfWindow};
-    ghost use Rattle.tile_plan.specs.Levels.{IsSmall};
+    ghost use Rattle.tiff_dir.specs.Window.{HasSamples};
+    ghost use Rattle.tile_plan.specs.Levels.{IsSmall, rectangle_of};
+    ghost use Rattle.cog_reader.specs.Samples.{samples_in};
     ghost use Rattle.tile_plan.specs.Plan.{IsPlanned, IsErrorOf};
     ghost use Rattle.cog_reader.specs.Mosaic.{IsPlan, IsUnderway, IsNext, IsNextOf};
 
@@ -142,5 +146,16 @@ impl Mosaic {
         )?;
         self.taken += 1;
         Ok(())
+    }
+
+    /// The bytes of the window's samples, row by row, each sample with its most significant byte first. All groups were given.
+    pub fn into_pixels(self, arrays: &Arrays) -> Vec<u8>
+        ensures { (f : List ℕ) (q : Query) → IsUnderway f q arrays.now self → self.taken ≡ length self.groups
+            → HasSamples f (rectangle_of self.picture.rectangle) (samples_in arrays.now.level.bits result.items) }
+    {
+        tiles_cover();
+        let mut bytes = self.canvas.into_data();
+        big_first(arrays.order, arrays.level.bits, &mut bytes);
+        bytes
     }
 }

@@ -40,6 +40,7 @@ pub fn paint(
     ensures bad { IfErr result (IsBad bytes.now canvas.old) }
     ensures level { canvas.new.level ≡ level.now }
     ensures rectangle { canvas.new.rectangle ≡ canvas.old.rectangle }
+    ensures size { length canvas.new.bytes ≡ length canvas.old.bytes }
 {
     match level.compression {
         Compression::Plain => canvas.blit(tile, bytes),

@@ -42,6 +42,7 @@ loop-tile-preserved c =
           );
       level = c.paint.ensures.level ∙ sym c.requires.level;
       rectangle = c.paint.ensures.rectangle ∙ c.loop-tile.invariant.rectangle;
+      size = c.paint.ensures.size ∙ c.loop-tile.invariant.size;
       room = c.paint.auto.plain ∙ c.loop-tile.invariant.room;
       painted = λ f n first done arrays bytes_of adjoin all. (
           let rest = c.loop-tile.invariant.rest first adjoin in

@@ -11,6 +11,7 @@ invariant-loop-tile l = record {
   rest : (first : ℕ) → Adjoin (range_of l.arrays) first l.tiles (first + length l.bytes) → Adjoin (range_of l.arrays) (first + l.at) (drop l.tile-index l.tiles) (first + length l.bytes);
   level : l.canvas.level ≡ l.fn.canvas.level;
   rectangle : l.canvas.rectangle ≡ l.fn.canvas.rectangle;
+  size : length l.canvas.bytes ≡ length l.fn.canvas.bytes;
   room : length l.plain ≡ plain_size (layout_of l.arrays.level);
   painted : (f : List ℕ) (n first : ℕ) (done : List ℕ) → AreArraysOf f n l.arrays → AreBytesOf f first l.bytes → Adjoin (range_of l.arrays) first l.tiles (first + length l.bytes)
       → All (IsPainted f n l.fn.canvas) done → All (IsPainted f n l.canvas) (done ++ take l.tile-index l.tiles);

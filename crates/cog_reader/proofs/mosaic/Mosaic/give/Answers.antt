@@ -41,5 +41,5 @@ returns-clause-underway c f q w next =
     (subst (λ w. IsNextOf f w c.args.bytes.now) (sym c.self.view_is) next) in
     let adjoin = subst (λ l. Adjoin (range_of a) g.span.first l (g.span.first + length c.args.bytes.now)) (sym c.deref-2.ensures.value) given.1 in
     let painted = c.in_ok-paint_tiles.ensures.painted f work.picture.rectangle.level g.span.first (tiles_in (take work.taken work.groups)) (arrays_of f q a work u) given.0 adjoin u.painted in
-    underway_more f q a work g c.paint_tiles.new.canvas u there c.in_ok-paint_tiles.ensures.rectangle
+    underway_more f q a work g c.paint_tiles.new.canvas u there c.in_ok-paint_tiles.ensures.level c.in_ok-paint_tiles.ensures.rectangle c.in_ok-paint_tiles.ensures.size
     (subst (λ l. All (IsPainted f work.picture.rectangle.level c.paint_tiles.new.canvas) (tiles_in (take work.taken work.groups) ++ l)) c.deref-2.ensures.value painted)

@@ -1,6 +1,8 @@
-use Rattle.std.proofs.Common.{◌≡◌, ℕ, List, length, sym, subst, ap, arith}
+use Rattle.std.proofs.Common.{◌≡◌, ℕ, List, length, sym, subst, ap, ◌∙◌, arith}
+use Rattle.std.proofs.lemmas.List.{length-replicate}
+use Rattle.tile_plan.specs.Levels.{IsSmall}
 use Rattle.tile_plan.specs.declared.asked.Rectangle.{Rectangle}
-use Rattle.tile_plan.specs.Canvas.{Picture}
+use Rattle.tile_plan.specs.Canvas.{Picture, picture_size}
 use Rattle.tile_plan.specs.Plan.{range_in, AreGroups, IsPlanned}
 use Rattle.cog_reader.specs.Mosaic.{range_of}
 use Rattle.cog_reader.proofs.mosaic.Mosaic.new.Goals as goal
@@ -31,6 +33,9 @@ returns-clause-underway c f q size p =
       planned = subst (λ n. IsPlanned f q a.order a.level c.in_ok-canvas.canvas.rectangle n a.offsets.items a.counts.items) (sym size)
           (subst (λ r. IsPlanned f q a.order a.level r c.args.complete a.offsets.items a.counts.items) rectangle p);
       are = subst (λ n. AreGroups (range_of a) a.level c.in_ok-canvas.canvas.rectangle n gs) (sym size) (subst (λ r. AreGroups (range_of a) a.level r c.args.complete gs) rectangle counts);
+      level = ap (λ (p : Picture). p.level) c.in_ok-canvas.ensures;
+      small = subst (IsSmall a.level) rectangle c.requires;
+      size = ap (λ (p : Picture). length p.bytes) c.in_ok-canvas.ensures ∙ length-replicate (picture_size a.level c.args.rect) 0 ∙ ap (picture_size a.level) rectangle;
       needed = c.in_ok-groups.ensures.needed f q asked;
       painted = λ k d less. absurd (omega arith);
     }
