@@ -1,8 +1,8 @@
 -- A picture on which all tiles are is the window.
-use Rattle.std.proofs.Common.{◌≡◌, ℕ, ◌+◌, ◌-◌, ◌*◌, ◌/◌, ◌%◌, ◌<◌, ◌≤◌, inl, inr, List, length, take, get_or, map, Some, refl, sym, subst, ap, ◌∙◌, arith}
-use Rattle.std.specs.Prelude.{◌==◌, nat_lt, nat_le, if◌then◌else◌, IsTrue}
-use Rattle.std.specs.List.{All, IsAmong, range_with_len}
-use Rattle.std.proofs.Math.Nat.{mul-le-mul_right, mul-le-mul_left}
+use Rattle.std.proofs.Common.{◌≡◌, ℕ, ◌+◌, ◌*◌, ◌/◌, ◌%◌, ◌<◌, ◌≤◌, inl, inr, List, length, get_or, Some, refl, sym, subst, ap, ◌∙◌, arith}
+use Rattle.std.specs.Prelude.{◌==◌, nat_lt}
+use Rattle.std.specs.List.{All}
+use Rattle.std.proofs.Math.Nat.{mul-le-mul_right}
 use Rattle.std.proofs.lemmas.Bool.{le-leb, ltb-true, and_parts}
 use Rattle.std.proofs.lemmas.Nat.{div-mul-add, mul-add-lt, mod_below}
 use Rattle.std.proofs.lemmas.List.{take_all}
@@ -15,12 +15,10 @@ use Rattle.tiff_dir.specs.Number.{number_in}
 use Rattle.tiff_dir.specs.Profile.{sample_bytes}
 use Rattle.tiff_dir.specs.Level.{level_layout, plain_size, segment}
 use Rattle.tiff_dir.specs.Described.{grid_of, layout_of}
-use Rattle.tiff_dir.specs.Window.{IsSample, HasSamples, IsUnpacked, sample_in, place_in_tile, tile_at}
-use Rattle.tile_plan.specs.declared.asked.Rectangle.{Rectangle}
-use Rattle.tile_plan.specs.Levels.{rectangle_of, is_inside}
-use Rattle.tile_plan.specs.Plan.{tiles_of}
+use Rattle.tiff_dir.specs.Window.{HasSamples, sample_in, place_in_tile, tile_at}
+use Rattle.tile_plan.specs.Levels.{rectangle_of}
 use Rattle.tile_plan.specs.Covered.{TilesCover}
-use Rattle.tile_plan.specs.Canvas.{Picture, picture_size, pixel_bytes, place}
+use Rattle.tile_plan.specs.Canvas.{Picture, picture_size}
 use Rattle.cog_reader.specs.declared.arrays.Arrays.{Arrays}
 use Rattle.cog_reader.specs.Mosaic.{Work, tiles_in, IsPainted, IsUnderway}
 use Rattle.cog_reader.specs.Samples.{sample_at, samples_in}

@@ -1,21 +1,19 @@
 -- One group after another.
-use Rattle.std.proofs.Common.{◌≡◌, ℕ, zero, suc, ◌+◌, ◌-◌, ◌<◌, ◌≤◌, inl, inr, Bool, true, false, List, [], ◌∷◌, ◌++◌, length, take, get_or, Option, Some, None, refl, sym, subst, ap, ◌∙◌, arith, length-append}
+use Rattle.std.proofs.Common.{◌≡◌, ℕ, zero, suc, ◌+◌, ◌<◌, inl, inr, true, List, [], ◌∷◌, ◌++◌, length, take, get_or, Option, Some, None, refl, sym, subst, ap, ◌∙◌, arith, length-append}
 use Rattle.std.specs.Prelude.{◌==◌, nat_lt, slice_get, IsSomeAnd}
-use Rattle.std.specs.List.{flat_map, All, IsAmong, slice_range}
+use Rattle.std.specs.List.{All, IsAmong, slice_range}
 use Rattle.std.proofs.lemmas.Bool.{cases_Bool, eqb-true, ltb-true}
 use Rattle.std.proofs.lemmas.Grind.{flat_map-append}
 use Rattle.std.proofs.lemmas.List.{get_or_append_left, get_or-append-add, take_more}
 use Rattle.std.proofs.lemmas.Option.{none-some, slice_get_read, slice_get_within, get_or_from_slice_get}
 use Rattle.std.proofs.Common.{append-nil}
-use Rattle.tiff_dir.specs.declared.level.Level.{Level}
-use Rattle.tiff_dir.specs.declared.level.Compression.TheVariants.{Plain, PackBits}
+use Rattle.tiff_dir.specs.declared.level.Compression.TheVariants.{Plain}
 use Rattle.tiff_dir.specs.declared.query.Query.{Query}
 use Rattle.tiff_dir.specs.declared.fault.FileFault.{FileFault}
-use Rattle.tiff_dir.specs.declared.fault.FileFault.TheVariants.{Packet, TileSize}
+use Rattle.tiff_dir.specs.declared.fault.FileFault.TheVariants.{TileSize}
 use Rattle.tiff_dir.specs.Level.{plain_row, plain_size}
-use Rattle.tiff_dir.specs.Described.{grid_of, layout_of}
+use Rattle.tiff_dir.specs.Described.{layout_of}
 use Rattle.tiff_dir.specs.Faulty.{HasBadPackets, IsFaultOfWindow}
-use Rattle.tiff_dir.specs.Query as asked
 use Rattle.tiff_dir.specs.Query.{window_tiles}
 use Rattle.tiff_dir.specs.Walk.{range_of_span, bytes_in}
 use Rattle.tile_plan.specs.declared.asked.Rectangle.{Rectangle}

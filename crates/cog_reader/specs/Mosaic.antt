@@ -1,5 +1,5 @@
 -- A window of a level, put together from its tiles as their groups come.
-use Rattle.std.specs.Prelude.{◌≡◌, ℕ, ◌+◌, ◌<◌, ◌≤◌, false, List, length, take, Some, slice_get, IsSomeAnd}
+use Rattle.std.specs.Prelude.{◌≡◌, ℕ, ◌+◌, ◌<◌, ◌≤◌, List, length, take, Some, slice_get, IsSomeAnd}
 use Rattle.std.specs.List.{flat_map, All, IsAmong, slice_range}
 use Rattle.tiff_dir.specs.declared.level.Level.{Level}
 use Rattle.tiff_dir.specs.declared.level.Compression.TheVariants.{Plain, PackBits}
@@ -14,7 +14,7 @@ use Rattle.tiff_dir.specs.Described.{grid_of, layout_of}
 use Rattle.tiff_dir.specs.Walk.{IsArrayOf, bytes_in, range_of_span}
 use Rattle.tiff_dir.specs.Window.{tile_at, IsUnpacked}
 use Rattle.tile_plan.specs.declared.plan.Group.{Group}
-use Rattle.tile_plan.specs.Plan.{Adjoin, range_in, IsRangeOf, AreGroups, AreNeeded, IsPlanned}
+use Rattle.tile_plan.specs.Plan.{Adjoin, range_in, AreGroups, AreNeeded, IsPlanned}
 use Rattle.tile_plan.specs.Levels.{IsSmall}
 use Rattle.tile_plan.specs.Canvas.{Picture, picture_size, pixel_bytes, byte_at, byte_in_tile}
 use Rattle.cog_reader.specs.declared.arrays.Arrays.{Arrays}

@@ -1,4 +1,4 @@
-use Rattle.std.proofs.Common.{◌≡◌, ◌+◌, ◌-◌, ◌*◌, ◌<◌, ◌≤◌, ◌++◌, ◌∷◌, [], ℕ, List, length, take, drop, get_or, Some, refl, sym, subst, ap, ◌∙◌, arith, append_assoc}
+use Rattle.std.proofs.Common.{◌≡◌, ◌+◌, ◌-◌, ◌<◌, ◌++◌, ◌∷◌, [], ℕ, List, length, take, drop, get_or, Some, sym, subst, ap, ◌∙◌, arith, append_assoc}
 use Rattle.std.specs.List.{All}
 use Rattle.std.proofs.lemmas.Grind.{get_or_default_zero}
 use Rattle.std.proofs.lemmas.List.{take_more, take_all}
@@ -6,7 +6,7 @@ use Rattle.tiff_dir.specs.Level.{plain_row, plain_size}
 use Rattle.tiff_dir.specs.Packets.{Packs}
 use Rattle.tiff_dir.specs.Described.{layout_of}
 use Rattle.tile_plan.specs.Plan.{Adjoin}
-use Rattle.cog_reader.specs.Mosaic.{range_of, IsPainted, HasDamage, AreArraysOf}
+use Rattle.cog_reader.specs.Mosaic.{range_of, IsPainted, HasDamage}
 use Rattle.cog_reader.proofs.PaintLemmas.{tile_step, tile_end, segment_is, passed_on, painted_more}
 use Rattle.cog_reader.proofs.mosaic.paint_tiles.Goals as goal
 

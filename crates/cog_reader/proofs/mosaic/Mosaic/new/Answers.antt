@@ -1,7 +1,6 @@
-use Rattle.std.proofs.Common.{◌≡◌, ℕ, List, length, sym, subst, ap, ◌∙◌, arith}
+use Rattle.std.proofs.Common.{length, sym, subst, ap, ◌∙◌, arith}
 use Rattle.std.proofs.lemmas.List.{length-replicate}
 use Rattle.tile_plan.specs.Levels.{IsSmall}
-use Rattle.tile_plan.specs.declared.asked.Rectangle.{Rectangle}
 use Rattle.tile_plan.specs.Canvas.{Picture, picture_size}
 use Rattle.tile_plan.specs.Plan.{range_in, AreGroups, IsPlanned}
 use Rattle.cog_reader.specs.Mosaic.{range_of}
