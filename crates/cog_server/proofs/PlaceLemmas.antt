@@ -1,12 +1,12 @@
 -- A part lies in its content.
-use Rattle.std.proofs.Common.{◌≡◌, ℕ, ◌-◌, ◌<◌, ◌≤◌, Bool, true, false, cond, List, Option, Some, None, refl, arith, min}
+use Rattle.std.proofs.Common.{◌≡◌, ℕ, ◌-◌, ◌≤◌, Bool, true, false, cond, List, Option, Some, None, refl, arith, min}
 use Rattle.std.specs.Prelude.{nat_lt, ◌==◌}
-use Rattle.std.proofs.Math.Dec.{eqb, ltb}
+use Rattle.std.proofs.Math.Dec.{ltb}
 use Rattle.std.proofs.lemmas.Bool.{ltb-true, eqb-false}
 use Rattle.http_range.specs.declared.range.RangeSpec.{RangeSpec}
 use Rattle.http_range.specs.declared.range.RangeSpec.TheVariants.{Between, From, Suffix}
 use Rattle.http_range.specs.declared.range.Resolved.{Resolved}
-use Rattle.http_range.specs.declared.range.Resolved.TheVariants.{Whole, Part, Unsatisfiable}
+use Rattle.http_range.specs.declared.range.Resolved.TheVariants.{Part, Unsatisfiable}
 use Rattle.http_range.specs.Range.{IsRangeText, resolved, resolved_or}
 use Rattle.cog_server.specs.Place.{IsInside}
 

@@ -1,9 +1,9 @@
 -- What a publication leaves as it was.
-use Rattle.std.proofs.Common.{◌≡◌, ℕ, List, Option, refl, ap, ◌∙◌}
+use Rattle.std.proofs.Common.{◌≡◌, ℕ, List, refl, ap, ◌∙◌}
 use Rattle.std.specs.Prelude.{◌≢◌}
 use Rattle.http_range.specs.Book.{Publication, Catalogue, publish, published}
 use Rattle.http_range.specs.Seen.{SeenRequest}
-use Rattle.http_range.specs.Response.{Response, answer_by, target_name}
+use Rattle.http_range.specs.Response.{answer_by, target_name}
 use Rattle.http_range.specs.Laws.{PublishReplaces}
 use Rattle.std.proofs.Common.{Some}
 use Rattle.cog_server.specs.Server.{OthersStay}

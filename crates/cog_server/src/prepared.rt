@@ -119,10 +119,20 @@ fn serve_part<'f>(file: &'f Published, part: Resolved, close: bool) -> Prepared<
 {
     let length = file.file.len() as u64;
     match part {
-        Resolved::Whole => serve(file, Reply::R200(file.tag.copy(), length), close, &file.file),
+        Resolved::Whole => serve(
+            file,
+            Reply::R200(file.tag.copy(), length),
+            close,
+            &file.file,
+        ),
         Resolved::Part(first, last) => {
             let body = &file.file[first as usize..last as usize + 1];
-            serve(file, Reply::R206(file.tag.copy(), first, last, length), close, body)
+            serve(
+                file,
+                Reply::R206(file.tag.copy(), first, last, length),
+                close,
+                body,
+            )
         }
         Resolved::Unsatisfiable => refuse(Reply::R416(length), close),
     }

@@ -1,4 +1,4 @@
-use Rattle.std.proofs.Common.{refl, sym, subst}
+use Rattle.std.proofs.Common.{sym, subst}
 use Rattle.http_range.specs.declared.range.Resolved.{Resolved}
 use Rattle.http_range.specs.Range.{range_spec}
 use Rattle.cog_server.specs.Place.{IsInside}
