@@ -1,5 +1,4 @@
 pub mod Agreement
-pub mod ShelfLemmas
 pub mod Lists
 pub mod Truth
 pub mod Whole

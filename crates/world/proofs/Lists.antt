@@ -42,6 +42,11 @@ get-push [] (suc j) x y is = absurd (cc)
 get-push (a ∷ xs) zero x y is = inr is
 get-push (a ∷ xs) (suc j) x y is = get-push xs j x y is
 
+pub map-set : {A B : Type 0} (f : A → B) (xs : List A) (i : ℕ) (x : A) → map f (slice_set xs i x) ≡ slice_set (map f xs) i (f x)
+map-set f [] i x = refl
+map-set f (a ∷ xs) zero x = refl
+map-set f (a ∷ xs) (suc i) x = ap (λ ys. f a ∷ ys) (map-set f xs i x)
+
 -- a call of the client that is there
 pub at_client : (R : Client → Client → Type 0) (old : List Client) (i : ℕ) (c next : Client) (n : Entry) → i < length old → c ≡ get_or old i c → Acts R n c next → AtClient (slice_get old i) R i n old (slice_set old i next)
 at_client R old i c next n inside is acts =

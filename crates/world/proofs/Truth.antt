@@ -16,7 +16,7 @@ use Rattle.http_range.specs.declared.range.Resolved.TheVariants.{Part}
 use Rattle.http_range.specs.declared.reply.Reply.TheVariants.{R416}
 use Rattle.http_range.specs.Response.{Response, IsAnswer, text_of, response_to_client, serve_part, refused}
 use Rattle.http_range.specs.Honest.{IsHonest}
-use Rattle.world.specs.declared.server.Refusal.{Refusal}
+use Rattle.cog_server.specs.declared.error.PublishError.{PublishError}
 use Rattle.world.specs.declared.client.Client.{Client}
 use Rattle.world.specs.declared.client.ClientError.{ClientError}
 use Rattle.world.specs.declared.event.Event.{Event}
@@ -26,12 +26,11 @@ use Rattle.world.specs.declared.event.Entry.{Entry}
 use Rattle.world.specs.Report.{Told, IsTrueReport}
 use Rattle.world.specs.Client.{client_refusal, host_of, name_of, query_of, report_of, Agrees}
 use Rattle.world.specs.Calls.{Requests, may_ask}
-use Rattle.world.specs.Server.{refusal_of}
-use Rattle.world.specs.World.{World, Seen, host, start, next_of, publish_by, refused_at, restart_by, with_clients, with_sent, made_by, opened, sent_after, after, after_all, told_of, client_of, IsTrueAt, AllTrue}
+use Rattle.cog_server.specs.Server.{ServerState, refusal_of}
+use Rattle.world.specs.World.{World, Seen, host, start, next_of, publish_by, refused_at, server_of, restart_by, with_clients, with_sent, made_by, opened, sent_after, after, after_all, told_of, client_of, IsTrueAt, AllTrue}
 use Rattle.world.specs.Run.{seen, Tells, AtClient, MakesBy, OpensWith, IsExchanged, ExchangesWith, Step, Runs}
 use Rattle.world.specs.LowerLaws.{LowerLaws}
-use Rattle.world.proofs.Lists.{get-map, get-set, get-set_same, get-push, set_there}
-use Rattle.world.proofs.ShelfLemmas.{map-set}
+use Rattle.world.proofs.Lists.{get-map, get-set, get-set_same, get-push, map-set, set_there}
 
 abbrev AgreesLater : Client → Book → Type 0
 AgreesLater c book = (later : Book) → Includes later book → HasDistinctTags later → Agrees c later
@@ -99,8 +98,8 @@ not_false : (b : Bool) → not b ≡ false → b ≡ true
 not_false true e = refl
 not_false false e = sym e
 
-accepted : (catalogue : Catalogue) (count : ℕ) (name file : List ℕ) → refusal_of catalogue count name file ≡ None → IsAccepted count name file
-accepted catalogue count name file e =
+accepted : (s : ServerState) (name file : List ℕ) → refusal_of s name file ≡ None → IsAccepted s.count name file
+accepted s name file e =
     let a = passed _ _ _ e in
     let b = passed _ _ _ a.1 in
     let c = passed _ _ _ b.1 in
@@ -135,7 +134,7 @@ module _ (laws : LowerLaws) where
   good_accepted : (w : World) (cs : List Client) (name file : List ℕ) → refused_at w name file ≡ None → Good w cs → Good (publish_by w (next_of w name file) None) cs
   good_accepted w cs name file none g =
       let p = next_of w name file in
-      let ok = accepted w.catalogue w.count name file none in
+      let ok = accepted (server_of w) name file none in
       let full : (w.count == 4294967295) ≡ false = ok.room in
       let small = g.count_small in
       let epoch = g.epoch_small in
@@ -163,7 +162,7 @@ module _ (laws : LowerLaws) where
         agree = λ i c e later inc d. g.agree i c e later (λ q j. inc q (inr j)) d;
       }
 
-  good_publish : (w : World) (cs : List Client) (name file : List ℕ) (o : Option Refusal) → refused_at w name file ≡ o → Good w cs → Good (publish_by w (next_of w name file) o) cs
+  good_publish : (w : World) (cs : List Client) (name file : List ℕ) (o : Option PublishError) → refused_at w name file ≡ o → Good w cs → Good (publish_by w (next_of w name file) o) cs
   good_publish w cs name file (Some refusal) e g = g
   good_publish w cs name file None e g = good_accepted w cs name file e g
 

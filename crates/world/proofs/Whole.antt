@@ -7,10 +7,9 @@ use Rattle.std.proofs.lemmas.Option.{same_Some}
 use Rattle.tiff_dir.specs.declared.query.Query.{Query}
 use Rattle.tiff_dir.specs.Level.{Layout, level_layout}
 use Rattle.tiff_dir.specs.Query.{Rectangle}
-use Rattle.http_range.specs.Book.{Publication, Book, Catalogue, In, Includes, HasDistinctTags, publication_tag}
+use Rattle.http_range.specs.Book.{Publication, Book, In, Includes, HasDistinctTags}
 use Rattle.tiff_dir.specs.declared.memory.Memory.{Memory}
-use Rattle.world.specs.declared.server.Refusal.{Refusal}
-use Rattle.world.specs.declared.server.Server.{Server}
+use Rattle.cog_server.specs.declared.error.PublishError.{PublishError}
 use Rattle.world.specs.declared.client.Client.{Client}
 use Rattle.world.specs.declared.client.ClientError.{ClientError}
 use Rattle.world.specs.declared.event.Event.{Event}
@@ -18,8 +17,8 @@ use Rattle.world.specs.declared.event.Event.TheVariants.{Publish, Epoch, NewClie
 use Rattle.world.specs.declared.event.Entry.{Entry}
 use Rattle.world.specs.Report.{Said, Samples, Bad, Told, HasShape, IsTrueOf}
 use Rattle.world.specs.Client.{client_refusal}
-use Rattle.world.specs.Server.{refusal_of, IsAt, catalogue_of, count_of}
-use Rattle.world.specs.World.{World, host, start, next_of, publish_by, publish_effect, refused_at, restart_by, made_by, after, after_all, told_of, client_of, IsTrueAt, AllTrue, IsToldIn, SaysTheSame, AreAlike}
+use Rattle.cog_server.specs.Server.{ServerState}
+use Rattle.world.specs.World.{World, host, start, next_of, publish_by, refused_at, server_of, restart_by, made_by, after, after_all, told_of, client_of, IsTrueAt, AllTrue, IsToldIn, SaysTheSame, AreAlike}
 use Rattle.world.specs.Run.{IsAtAfter, Publishes, Step, Runs, IsRun, IsBeginning, IsState, Does}
 use Rattle.world.specs.LowerLaws.{LowerLaws}
 use Rattle.world.proofs.Truth.{good_start, true_run}
@@ -38,7 +37,7 @@ after_more w cs (d ∷ es) (m ∷ ns) mid e n h = after_more (after w d m.effect
 
 -- ---- nothing that was published is lost
 
-grows_publish : (w : World) (p : Publication) (o : Option Refusal) → Includes (publish_by w p o).book w.book
+grows_publish : (w : World) (p : Publication) (o : Option PublishError) → Includes (publish_by w p o).book w.book
 grows_publish w p None = λ q i. inr i
 grows_publish w p (Some refusal) = λ q i. i
 
@@ -152,13 +151,13 @@ pub on_err_of : {T E : Type 0} (r : Result T E) (P : Type 0) → P → OnErr r P
 on_err_of (Ok x) P p = tt
 on_err_of (Err e) P p = p
 
-pub begun : (entries : List Entry) (clients : List Client) (server : Server) (sent : ℕ) → entries ≡ [] → clients ≡ [] → IsAt server 0 0 [] → sent ≡ 0 → Runs start [] [] entries clients × IsState (after_all start [] entries) server sent
+pub begun : (entries : List Entry) (clients : List Client) (server : ServerState) (sent : ℕ) → entries ≡ [] → clients ≡ [] → server ≡ server_of start → sent ≡ 0 → Runs start [] [] entries clients × IsState (after_all start [] entries) server sent
 begun entries clients server sent none no_clients at zero_sent =
     let P : List Entry → Type 0 = λ ns. Runs start [] [] ns clients in
-    (subst P (sym none) no_clients, record { server_at = record { epoch_is = at.epoch_is; count_is = at.count_is; files = at.files }; sent_is = zero_sent })
+    (subst P (sym none) no_clients, record { server_at = at; sent_is = zero_sent })
 
 -- a run with one more event
-pub more : (events : List Event) (i : ℕ) (ns : List Entry) (cs new : List Client) (e : Event) (n : Entry) (entries : List Entry) (server : Server) (sent : ℕ) → i < length events → e ≡ get_or events i e → entries ≡ ns ++ n ∷ []
+pub more : (events : List Event) (i : ℕ) (ns : List Entry) (cs new : List Client) (e : Event) (n : Entry) (entries : List Entry) (server : ServerState) (sent : ℕ) → i < length events → e ≡ get_or events i e → entries ≡ ns ++ n ∷ []
     → Runs start [] (take i events) ns cs → Does (after_all start (take i events) ns) cs e n new server sent
     → Runs start [] (take (i + 1) events) entries new × IsState (after_all start (take (i + 1) events) entries) server sent
 more events i ns cs new e n entries server sent inside is added runs does =
@@ -173,27 +172,20 @@ more events i ns cs new e n entries server sent inside is added runs does =
 
 -- ---- a publication
 
-published_at : (w : World) (p : Publication) (o : Option Refusal) (s : Server) (sent : ℕ) → sent ≡ w.sent → IsAtAfter o w.epoch w.count w.catalogue p s → IsState (publish_by w p o) s sent
+published_at : (w : World) (p : Publication) (o : Option PublishError) (s : ServerState) (sent : ℕ) → sent ≡ w.sent → IsAtAfter o p (server_of w) s → IsState (publish_by w p o) s sent
 published_at w p None s sent same at = record { server_at = at; sent_is = same }
 published_at w p (Some refusal) s sent same at = record { server_at = at; sent_is = same }
 
-pub does_publish : (w : World) (old new : Server) (sent : ℕ) (cs : List Client) (name file : Vec ℕ Global) (n : Entry) → Publishes name.items file.items n old new → IsState w old sent → Does w cs (Publish name file) n cs new sent
+pub does_publish : (w : World) (old new : ServerState) (sent : ℕ) (cs : List Client) (name file : Vec ℕ Global) (n : Entry) → Publishes name.items file.items n old new → IsState w old sent → Does w cs (Publish name file) n cs new sent
 does_publish w old new sent cs name file n h s =
-    let at = s.server_at in
-    let P : ℕ → Type 0 = λ e. IsAtAfter (refusal_of (catalogue_of old) (count_of old) name.items file.items) e (count_of old) (catalogue_of old) (record { name = name.items; tag = publication_tag e (count_of old + 1); file = file.items }) new in
-    let Q : ℕ → Type 0 = λ c. IsAtAfter (refusal_of (catalogue_of old) c name.items file.items) w.epoch c (catalogue_of old) (record { name = name.items; tag = publication_tag w.epoch (c + 1); file = file.items }) new in
-    let R : Catalogue → Type 0 = λ k. IsAtAfter (refusal_of k w.count name.items file.items) w.epoch w.count k (record { name = name.items; tag = publication_tag w.epoch (w.count + 1); file = file.items }) new in
+    let P : ServerState → Type 0 = λ x. Publishes name.items file.items n x new in
+    let here : Publishes name.items file.items n (server_of w) new = subst P s.server_at h in
     record {
-      step = record {
-        done = h.done ∙ (λ i. publish_effect (publication_tag (at.epoch_is i) (at.count_is i + 1)) (refusal_of (at.files i) (at.count_is i) name.items file.items));
-        report = h.report;
-        same = refl;
-      };
-      state = published_at w (next_of w name.items file.items) (refused_at w name.items file.items) new sent s.sent_is
-          (subst R at.files (subst Q at.count_is (subst P at.epoch_is h.server_at)));
+      step = record { done = here.done; report = here.report; same = refl };
+      state = published_at w (next_of w name.items file.items) (refused_at w name.items file.items) new sent s.sent_is here.server_at;
     }
 
-pub ok_publish : (r : Result Entry Memory) (old new : Server) (sent : ℕ) (cs : List Client) (event : Event) (name file : Vec ℕ Global) (name' file' : List ℕ) → event ≡ Publish name file → name' ≡ name.items → file' ≡ file.items
+pub ok_publish : (r : Result Entry Memory) (old new : ServerState) (sent : ℕ) (cs : List Client) (event : Event) (name file : Vec ℕ Global) (name' file' : List ℕ) → event ≡ Publish name file → name' ≡ name.items → file' ≡ file.items
     → IfOk r (λ n. Publishes name' file' n old new) → IfOk r (λ n. (w : World) → IsState w old sent → Does w cs event n cs new sent)
 ok_publish (Err e) old new sent cs event name file name' file' is named filed h = tt
 ok_publish (Ok n) old new sent cs event name file name' file' is named filed h = λ w s.

@@ -4,7 +4,6 @@ pub mod Walked
 pub mod Asked
 pub mod Client
 pub mod Calls
-pub mod Server
 pub mod Numbers
 pub mod World
 pub mod Run

@@ -5,8 +5,7 @@ use Rattle.std.specs.Bool.{MatchBool}
 use Rattle.tiff_dir.specs.declared.query.Query.{Query}
 use Rattle.http_range.specs.Book.{Publication, Catalogue, publish, publication_tag}
 use Rattle.http_range.specs.Response.{Response, text_of, IsAnswer}
-use Rattle.world.specs.declared.server.Refusal.{Refusal}
-use Rattle.world.specs.declared.server.Server.{Server}
+use Rattle.cog_server.specs.declared.error.PublishError.{PublishError}
 use Rattle.world.specs.declared.client.Client.{Client}
 use Rattle.world.specs.declared.client.ClientError.{ClientError}
 use Rattle.world.specs.declared.event.Event.{Event}
@@ -18,8 +17,8 @@ use Rattle.world.specs.declared.event.Entry.{Entry}
 use Rattle.world.specs.Report.{Told}
 use Rattle.world.specs.Client.{client_refusal, name_of, query_of, asked_of, revision_of, report_of}
 use Rattle.world.specs.Calls.{Starts, Opens, Requests, Delivers, Stands}
-use Rattle.world.specs.Server.{refusal_of, IsAt, catalogue_of, count_of, epoch_of, ShowsAnswer}
-use Rattle.world.specs.World.{World, Seen, host, start, next_of, publish_effect, refused_at, after, told_of, AllTrue, AreAlike}
+use Rattle.cog_server.specs.Server.{ServerState, ShowsAnswer, refusal_of}
+use Rattle.world.specs.World.{World, Seen, host, start, next_of, publish_effect, refused_at, server_of, after, told_of, AllTrue, AreAlike}
 
 abbrev pub seen : Client → Seen
 seen c = record { name = name_of c; query = query_of c }
@@ -61,21 +60,21 @@ AtClient (Some c) R i n old new = Changes R i c n old new
 -- ---- the events
 
 -- the server has published the file, or has not changed
-abbrev pub IsAtAfter : Option Refusal → ℕ → ℕ → Catalogue → Publication → Server → Type 0
-IsAtAfter None epoch count catalogue p s = IsAt s epoch (count + 1) (publish p catalogue)
-IsAtAfter (Some refusal) epoch count catalogue p s = IsAt s epoch count catalogue
+abbrev pub IsAtAfter : Option PublishError → Publication → ServerState → ServerState → Type 0
+IsAtAfter None p old new = new ≡ record { epoch = old.epoch; count = old.count + 1; catalogue = publish p old.catalogue }
+IsAtAfter (Some refusal) p old new = new ≡ old
 
-pub record Publishes (name file : List ℕ) (n : Entry) (old new : Server) : Type 0 where
-  pub done : n.effect ≡ publish_effect (publication_tag (epoch_of old) (count_of old + 1)) (refusal_of (catalogue_of old) (count_of old) name file)
+pub record Publishes (name file : List ℕ) (n : Entry) (old new : ServerState) : Type 0 where
+  pub done : n.effect ≡ publish_effect (publication_tag old.epoch (old.count + 1)) (refusal_of old name file)
   pub report : told_of n ≡ None
-  pub server_at : IsAtAfter (refusal_of (catalogue_of old) (count_of old) name file) (epoch_of old) (count_of old) (catalogue_of old)
-      (record { name = name; tag = publication_tag (epoch_of old) (count_of old + 1); file = file }) new
+  pub server_at : IsAtAfter (refusal_of old name file)
+      (record { name = name; tag = publication_tag old.epoch (old.count + 1); file = file }) old new
 
-pub record Restarts (epoch : ℕ) (n : Entry) (old new : Server) : Type 0 where
-  pub done : n.effect ≡ (if nat_lt (epoch_of old) epoch then effects.Epoch epoch else effects.Skipped)
+pub record Restarts (epoch : ℕ) (n : Entry) (old new : ServerState) : Type 0 where
+  pub done : n.effect ≡ (if nat_lt old.epoch epoch then effects.Epoch epoch else effects.Skipped)
   pub report : told_of n ≡ None
   pub small : epoch < 2 ^ 32
-  pub server_at : MatchBool (nat_lt (epoch_of old) epoch) (IsAt new epoch 0 []) (new ≡ old)
+  pub server_at : MatchBool (nat_lt old.epoch epoch) (new ≡ record { epoch = epoch; count = 0; catalogue = [] }) (new ≡ old)
 
 -- a client is made
 pub record Adds (name : List ℕ) (n : Entry) (old new : List Client) : Type 0 where
@@ -149,10 +148,10 @@ pub record IsBeginning (events : List Event) (entries : List Entry) : Type 0 whe
 -- ---- the code's state
 
 -- the server's state is the world's
-pub record IsState (w : World) (server : Server) (sent : ℕ) : Type 0 where
-  pub server_at : IsAt server w.epoch w.count w.catalogue
+pub record IsState (w : World) (server : ServerState) (sent : ℕ) : Type 0 where
+  pub server_at : server ≡ server_of w
   pub sent_is : sent ≡ w.sent
 
-pub record Does (w : World) (old : List Client) (e : Event) (n : Entry) (new : List Client) (server : Server) (sent : ℕ) : Type 0 where
+pub record Does (w : World) (old : List Client) (e : Event) (n : Entry) (new : List Client) (server : ServerState) (sent : ℕ) : Type 0 where
   pub step : Step w old e n new
   pub state : IsState (after w e n.effect) server sent

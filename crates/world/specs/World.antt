@@ -4,7 +4,7 @@ use Rattle.std.specs.Prelude.{◌≡◌, ℕ, zero, suc, ◌+◌, Bool, nat_lt, 
 use Rattle.std.specs.Option.{option_map}
 use Rattle.tiff_dir.specs.declared.query.Query.{Query}
 use Rattle.http_range.specs.Book.{Publication, Book, Catalogue, publish, publication_tag}
-use Rattle.world.specs.declared.server.Refusal.{Refusal}
+use Rattle.cog_server.specs.declared.error.PublishError.{PublishError}
 use Rattle.world.specs.declared.event.Event.{Event}
 use Rattle.world.specs.declared.event.Event.TheVariants.{Publish, Epoch, NewClient, Open, Exchange}
 use Rattle.world.specs.declared.event.Effect.{Effect}
@@ -13,7 +13,7 @@ use Rattle.world.specs.declared.event.Entry.{Entry}
 use Rattle.world.specs.declared.client.ClientError.{ClientError}
 use Rattle.world.specs.Report.{Said, Samples, Bad, Told, told, IsTrueReport}
 use Rattle.world.specs.Client.{client_refusal}
-use Rattle.world.specs.Server.{refusal_of}
+use Rattle.cog_server.specs.Server.{ServerState, refusal_of}
 
 -- a client, by the name that it was made with and the query of its last opening
 pub record Seen : Type 0 where
@@ -32,6 +32,10 @@ pub record World : Type 0 where
 abbrev pub start : World
 start = record { epoch = 0; count = 0; catalogue = []; book = []; sent = 0; clients = [] }
 
+-- the server of the epoch
+abbrev pub server_of : World → ServerState
+server_of w = record { epoch = w.epoch; count = w.count; catalogue = w.catalogue }
+
 -- the host of every client
 abbrev pub host : List ℕ
 host = codes "cog.test"
@@ -40,16 +44,16 @@ host = codes "cog.test"
 abbrev pub next_of : World → List ℕ → List ℕ → Publication
 next_of w name file = record { name = name; tag = publication_tag w.epoch (w.count + 1); file = file }
 
-abbrev pub publish_by : World → Publication → Option Refusal → World
+abbrev pub publish_by : World → Publication → Option PublishError → World
 publish_by w p None = record { epoch = w.epoch; count = w.count + 1; catalogue = publish p w.catalogue; book = p ∷ w.book; sent = w.sent; clients = w.clients }
 publish_by w p (Some refusal) = w
 
-abbrev pub publish_effect : List ℕ → Option Refusal → Effect
+abbrev pub publish_effect : List ℕ → Option PublishError → Effect
 publish_effect tag None = effects.Published tag
 publish_effect tag (Some refusal) = effects.Refused refusal
 
-abbrev pub refused_at : World → List ℕ → List ℕ → Option Refusal
-refused_at w name file = refusal_of w.catalogue w.count name file
+abbrev pub refused_at : World → List ℕ → List ℕ → Option PublishError
+refused_at w name file = refusal_of (server_of w) name file
 
 -- only a greater epoch changes the epoch; its server has no files
 abbrev pub restart_by : World → ℕ → Bool → World

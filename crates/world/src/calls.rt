@@ -2,17 +2,15 @@
 ghost use Rattle.std.specs.Prelude.{◌≡◌, ◌+◌, ◌<◌, ◌≤◌, ◌^◌, ℕ, List, Option, Some, None, IfOk, IfSome, IsSome, OnOk, OnErr, is_some, slice_get, length};
 ghost use Rattle.std.specs.Option.{option_map};
 ghost use Rattle.world.specs.Report.{told};
-ghost use Rattle.http_range.specs.Ask.{request_text};
-ghost use Rattle.world.specs.Client.{asked_of, client_refusal, host_of, name_of, report_of, revision_of};
-ghost use Rattle.world.specs.Server.{catalogue_of};
+ghost use Rattle.world.specs.Client.{asked_of, client_refusal, report_of, revision_of};
 ghost use Rattle.world.specs.World.{host, sent_after, told_of};
 ghost use Rattle.world.specs.Run.{Acts, AtClient, ExchangesWith, IsExchange, IsExchanged, MakesBy, NewReport, OpensWith, Publishes, Restarts};
 
 use crate::client::{Client, ClientError};
 use crate::event::{Effect, Entry, Exchange};
 use crate::outcome::Report;
-use crate::server::{PublishError, Server};
-use http_range::{Memory, Span, Tag, clients_are_answered};
+use cog_server::{PublishError, Server};
+use http_range::{Memory, Span, Tag};
 use std::alloc::Global;
 use tiff_dir::Query;
 
@@ -38,8 +36,8 @@ pub fn publish(
     let copy = Vec::from_slice(alloc, file)?;
     match server.publish(name, copy) {
         Ok(tag) => Ok(quiet(Effect::Published(tag))),
-        Err(PublishError::Refused(refusal)) => Ok(quiet(Effect::Refused(refusal))),
         Err(PublishError::Memory) => Err(Memory),
+        Err(refusal) => Ok(quiet(Effect::Refused(refusal))),
     }
 }
 
@@ -142,13 +140,11 @@ fn answer_request(
     span: Span,
 ) -> Result<Effect, Memory>
     requires room { sent.old + 1 < 2 ^ 64 }
-    requires own { request.items ≡ request_text (host_of client.old) (name_of client.old) 0 65535 None }
     requires asked { asked_of client.old ≡ Some span }
-    ensures exchanged { IfOk result (λ effect. IsExchange (catalogue_of server.now) sent.old number request.items effect client.old client.new) }
+    ensures exchanged { IfOk result (λ effect. IsExchange server.now.catalogue sent.old number request.items effect client.old client.new) }
     ensures sent { IfOk result (λ effect. sent.new ≡ sent_after effect sent.old) }
     ensures few { sent.new ≤ sent.old + 1 }
 {
-    clients_are_answered();
     let answer = server.answer(&request)?;
     let tag = tag_of(client);
     let delivered = client.deliver(&answer.text)?;
@@ -174,9 +170,8 @@ fn exchange_request(
     request: Option<Vec<u8>>,
 ) -> Result<Effect, Memory>
     requires room { sent.old + 1 < 2 ^ 64 }
-    requires own { IfSome request (λ r. r.items ≡ request_text (host_of client.old) (name_of client.old) 0 65535 None) }
     requires asked { IfSome request (λ _. IsSome (asked_of client.old)) }
-    ensures exchanged { IfOk result (λ effect. IsExchanged (catalogue_of server.now) sent.old number (option_map (λ r. r.items) request) effect client.old client.new) }
+    ensures exchanged { IfOk result (λ effect. IsExchanged server.now.catalogue sent.old number (option_map (λ r. r.items) request) effect client.old client.new) }
     ensures sent { IfOk result (λ effect. sent.new ≡ sent_after effect sent.old) }
     ensures few { sent.new ≤ sent.old + 1 }
 {
@@ -197,7 +192,7 @@ fn exchange_one(
     number: u32,
 ) -> Result<Entry, Memory>
     requires { sent.old + 1 < 2 ^ 64 }
-    ensures acts { IfOk result (λ n. Acts (ExchangesWith (catalogue_of server.now) sent.old number n.effect) n client.old client.new) }
+    ensures acts { IfOk result (λ n. Acts (ExchangesWith server.now.catalogue sent.old number n.effect) n client.old client.new) }
     ensures sent { IfOk result (λ n. sent.new ≡ sent_after n.effect sent.old) }
     ensures few { sent.new ≤ sent.old + 1 }
 {
@@ -216,7 +211,7 @@ pub fn exchange_at(
     number: u32,
 ) -> Result<Entry, Memory>
     requires { sent.old + 1 < 2 ^ 64 }
-    ensures acts { IfOk result (λ n. AtClient (slice_get clients.old.items number) (ExchangesWith (catalogue_of server.now) sent.old number n.effect) number n clients.old.items clients.new.items) }
+    ensures acts { IfOk result (λ n. AtClient (slice_get clients.old.items number) (ExchangesWith server.now.catalogue sent.old number n.effect) number n clients.old.items clients.new.items) }
     ensures sent { IfOk result (λ n. sent.new ≡ sent_after n.effect sent.old) }
     ensures few { sent.new ≤ sent.old + 1 }
 {

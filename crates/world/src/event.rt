@@ -1,6 +1,6 @@
 //! What may happen, and what is logged of it.
 use crate::outcome::Report;
-use crate::server::{Answer, Refusal};
+use cog_server::{Answer, PublishError};
 use http_range::{Span, Tag, Why};
 use tiff_dir::Query;
 
@@ -72,7 +72,7 @@ pub struct Exchange {
 pub enum Effect {
     Skipped,
     Published(Tag),
-    Refused(Refusal),
+    Refused(PublishError),
     Epoch(u32),
     /// The new client's number: clients are counted from 0.
     Made(usize),

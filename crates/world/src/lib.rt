@@ -8,12 +8,10 @@ mod event;
 mod outcome;
 mod pieces;
 mod read;
-mod server;
-mod shelf;
 mod window;
 mod world;
 
+pub use cog_server::{Answer, PublishError};
 pub use event::{Delivered, Effect, Entry, Event, Exchange, Ignored, Log};
 pub use outcome::{Outcome, Report};
-pub use server::{Answer, Refusal};
 pub use world::run;

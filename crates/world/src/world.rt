@@ -7,7 +7,7 @@ ghost use Rattle.world.specs.Run.{Does, IsBeginning, IsRun, IsState};
 use crate::calls::{exchange_at, make_client, open_at, publish, restart};
 use crate::client::Client;
 use crate::event::{Entry, Event, Log};
-use crate::server::Server;
+use cog_server::Server;
 use http_range::{
     Memory, clients_are_answered, honesty_is_kept, publications_replace, tags_tell_publications,
 };

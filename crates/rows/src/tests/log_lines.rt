@@ -5,7 +5,9 @@ use std::alloc::Global;
 use std::process::Abort;
 use std::test::Fail;
 use tiff_dir::{FileFault, Pick, Query};
-use world::{Answer, Delivered, Effect, Entry, Exchange, Ignored, Log, Outcome, Refusal, Report};
+use world::{
+    Answer, Delivered, Effect, Entry, Exchange, Ignored, Log, Outcome, PublishError, Report,
+};
 
 const QUERY: Query = Query::Window {
     x: 3,
@@ -75,11 +77,11 @@ fn effects(rt: HostRuntime) -> Result<(), Fail> {
             Effect::Published(publication_tag(4294967295, 4294967295)),
             "published \"4294967295-4294967295\"\n",
         ),
-        (Effect::Refused(Refusal::Name), "refused 1\n"),
-        (Effect::Refused(Refusal::Empty), "refused 2\n"),
-        (Effect::Refused(Refusal::TooLarge), "refused 3\n"),
-        (Effect::Refused(Refusal::TooManyNames), "refused 4\n"),
-        (Effect::Refused(Refusal::Exhausted), "refused 5\n"),
+        (Effect::Refused(PublishError::Name), "refused 1\n"),
+        (Effect::Refused(PublishError::Empty), "refused 2\n"),
+        (Effect::Refused(PublishError::TooLarge), "refused 3\n"),
+        (Effect::Refused(PublishError::TooManyNames), "refused 4\n"),
+        (Effect::Refused(PublishError::Exhausted), "refused 5\n"),
         (Effect::Epoch(0), "epoch 0\n"),
         (Effect::Made(10), "client 10\n"),
         (Effect::Opened(0), "opened 0\n"),

@@ -1,0 +1,3 @@
+pub mod CatalogueLemmas
+pub mod PlaceLemmas
+pub mod PublishLemmas

@@ -1,0 +1,139 @@
+//! The answer to a message, before its text is written.
+ghost use Rattle.std.specs.Prelude.{◌≡◌, Some, length, map};
+ghost use Rattle.http_range.specs.Reply.{status_of};
+ghost use Rattle.http_range.specs.Response.{IsAnswer, answer_by, refused, serve_file, serve_head, serve_part, serve_tag};
+ghost use Rattle.cog_server.specs.Catalogue.{publication};
+ghost use Rattle.cog_server.specs.Place.{IsInside};
+ghost use Rattle.cog_server.specs.Prepared.{response_of};
+
+use crate::cases::{
+    announces_body, asks_close, fails_precondition, has_other_method, has_other_version, is_head,
+    is_unmodified, lacks_host, lacks_origin_form, part_to_serve,
+};
+use crate::catalogue::find_file;
+use crate::published::Published;
+use http_parts::bytes::past;
+use http_range::{Reply, Request, Resolved, read_request};
+
+/// An answer: its reply, whether the connection ends with it, the name of the file whose tag it carries, and its body
+/// where it stands in the file.
+#[derive(Drop)]
+pub struct Prepared<'f> {
+    pub reply: Reply,
+    pub close: bool,
+    pub name: Option<&'f [u8]>,
+    pub body: &'f [u8],
+}
+
+/// The number of the reply's status.
+pub fn status(reply: &Reply) -> u16
+    ensures { result ≡ status_of reply.now }
+{
+    match reply {
+        Reply::R200(_, _) => 200,
+        Reply::R206(_, _, _, _) => 206,
+        Reply::R304(_) => 304,
+        Reply::R400 => 400,
+        Reply::R404 => 404,
+        Reply::R405 => 405,
+        Reply::R412 => 412,
+        Reply::R416(_) => 416,
+    }
+}
+
+/// The answer to the head at the front of a message.
+pub fn prepare<'f>(files: &'f [Published], message: &[u8]) -> Prepared<'f>
+    ensures { IsAnswer (map publication files.now) message.now (response_of result) }
+{
+    match read_request(message) {
+        None => refuse(Reply::R400, true),
+        Some(request) => answer_request(files, &request),
+    }
+}
+
+/// An answer without a body and without a tag.
+fn refuse<'f>(reply: Reply, close: bool) -> Prepared<'f>
+    ensures { response_of result ≡ refused reply close }
+{
+    Prepared {
+        reply,
+        close,
+        name: None,
+        body: &[],
+    }
+}
+
+fn answer_request<'f>(files: &'f [Published], request: &Request<'_>) -> Prepared<'f>
+    ensures { response_of result ≡ answer_by (map publication files.now) (Some request.now) }
+{
+    if has_other_version(request) || lacks_host(request) || announces_body(request) {
+        return refuse(Reply::R400, true);
+    }
+    if has_other_method(request) {
+        return refuse(Reply::R405, asks_close(request));
+    }
+    if lacks_origin_form(request) {
+        return refuse(Reply::R400, true);
+    }
+    match find_file(files, past(request.target(), 1)) {
+        None => refuse(Reply::R404, asks_close(request)),
+        Some(file) => serve_file(file, request),
+    }
+}
+
+/// The answer to a request for a file that the server has.
+fn serve_file<'f>(file: &'f Published, request: &Request<'_>) -> Prepared<'f>
+    ensures { response_of result ≡ serve_file (Some (publication file.now)) request.now }
+{
+    let close = asks_close(request);
+    if fails_precondition(request, &file.tag) {
+        return refuse(Reply::R412, close);
+    }
+    if is_unmodified(request, &file.tag) {
+        return serve(file, Reply::R304(file.tag.copy()), close, &[]);
+    }
+    let length = file.file.len() as u64;
+    if is_head(request) {
+        return serve(file, Reply::R200(file.tag.copy(), length), close, &[]);
+    }
+    serve_part(file, part_to_serve(request, &file.tag, length), close)
+}
+
+/// An answer that carries the file's tag.
+fn serve<'f>(file: &'f Published, reply: Reply, close: bool, body: &'f [u8]) -> Prepared<'f>
+    ensures { response_of result
+        ≡ record { reply = reply; close = close; name = Some file.now.name.items; body = body.now } }
+{
+    Prepared {
+        reply,
+        close,
+        name: Some(&file.name),
+        body,
+    }
+}
+
+/// The part that was asked for, or the whole file.
+fn serve_part<'f>(file: &'f Published, part: Resolved, close: bool) -> Prepared<'f>
+    requires { IsInside part (length file.now.file.items) }
+    ensures { response_of result ≡ serve_part part (publication file.now) close }
+{
+    let length = file.file.len() as u64;
+    match part {
+        Resolved::Whole => serve(
+            file,
+            Reply::R200(file.tag.copy(), length),
+            close,
+            &file.file,
+        ),
+        Resolved::Part(first, last) => {
+            let body = &file.file[first as usize..last as usize + 1];
+            serve(
+                file,
+                Reply::R206(file.tag.copy(), first, last, length),
+                close,
+                body,
+            )
+        }
+        Resolved::Unsatisfiable => refuse(Reply::R416(length), close),
+    }
+}

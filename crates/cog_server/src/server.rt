@@ -1,0 +1,147 @@
+//! The server of one epoch.
+ghost use Rattle.std.specs.Prelude.{◌≡◌, ◌+◌, ◌<◌, [], None, IfOk, IfErr, OnOk, OnErr, option_map, option_copied};
+ghost use Rattle.http_range.specs.Book.{publish, published, publication_tag};
+ghost use Rattle.cog_server.specs.Server.{IsAnswered, IsRefusal, OthersStay, refusal_of};
+
+use crate::catalogue::{find_file, is_crowded, place_of, put};
+use crate::error::PublishError;
+use crate::prepared::{prepare, status};
+use crate::published::Published;
+use http_range::{Memory, Tag, is_name, publication_tag, publications_replace, write_head};
+use std::alloc::Global;
+use std::marker::Model;
+
+/// An answer: its text, whether the connection ends with it, the name of the file whose tag it carries, its
+/// status, and how many of its bytes are body.
+#[derive(Drop)]
+pub struct Answer {
+    pub text: Vec<u8>,
+    pub close: bool,
+    pub name: Option<Vec<u8>>,
+    pub status: u16,
+    pub body: u64,
+}
+
+/// The files of one epoch, the last publication of each name.
+#[derive(Drop)]
+pub struct Server {
+    alloc: Global,
+    epoch: u32,
+    count: u32,
+    files: Vec<Published>,
+}
+
+impl Model for Server {
+    ghost use Rattle.cog_server.specs.Server.{ServerState};
+    ghost use Rattle.cog_server.specs.Inside.{state_of};
+
+    ghost Value = { ServerState };
+
+    ghost view = { state_of };
+}
+
+impl Server {
+    /// A server without files.
+    pub fn new(alloc: Global, epoch: u32) -> Self
+        ensures { result ≡ record { epoch = epoch; count = 0; catalogue = [] } }
+    {
+        Server {
+            alloc,
+            epoch,
+            count: 0,
+            files: Vec::new(alloc),
+        }
+    }
+
+    pub fn epoch(&self) -> u32
+        ensures { result ≡ self.now.epoch }
+    {
+        self.epoch
+    }
+
+    /// The bytes published last under a name.
+    pub fn file(&self, name: &[u8]) -> Option<&[u8]>
+        ensures { option_copied result ≡ option_map (λ p. p.file) (published name.now self.now.catalogue) }
+    {
+        match find_file(&self.files, name) {
+            Some(file) => Some(&file.file),
+            None => None,
+        }
+    }
+
+    /// Publishes a file under a name, and gives the tag under which it is served. A refusal changes nothing.
+    pub fn publish(&mut self, name: &[u8], file: Vec<u8>) -> Result<Tag, PublishError>
+        // It is refused by the first rule that holds, and by want of memory only where none does.
+        ensures accepted { OnOk result (refusal_of self.old name.now file.items ≡ None) }
+        ensures refused { IfErr result (IsRefusal (refusal_of self.old name.now file.items)) }
+
+        // The tag has the epoch and the number of the publication, and the file takes the place of the one of its name.
+        ensures tag { IfOk result (λ tag. tag ≡ publication_tag self.old.epoch (self.old.count + 1)) }
+        ensures ok { IfOk result (λ tag. self.new ≡ record {
+          epoch = self.old.epoch;
+          count = self.old.count + 1;
+          catalogue = publish (record { name = name.now; tag = tag; file = file.items }) self.old.catalogue;
+        }) }
+        ensures err { OnErr result (self.new ≡ self.old) }
+
+        // The files and the answers under every other name are as they were.
+        ensures others { OthersStay name.now self.old.catalogue self.new.catalogue }
+    {
+        publications_replace();
+        if let Some(refusal) = self.refusal(name, &file) {
+            return Err(refusal);
+        }
+        let place = place_of(&self.files, name);
+        let tag = publication_tag(self.epoch, self.count + 1);
+        let Ok(name) = Vec::from_slice(self.alloc, name) else {
+            return Err(PublishError::Memory);
+        };
+        let kept = tag.copy();
+        put(&mut self.files, place, Published { name, tag, file })?;
+        self.count += 1;
+        Ok(kept)
+    }
+
+    /// Why the file isn't published.
+    fn refusal(&self, name: &[u8], file: &[u8]) -> Option<PublishError>
+        ensures first { result ≡ refusal_of self.now name.now file.now }
+        ensures room { result ≡ None → self.now.count < 4294967295 }
+    {
+        if !is_name(name) {
+            return Some(PublishError::Name);
+        }
+        if file.is_empty() {
+            return Some(PublishError::Empty);
+        }
+        if file.len() > 67108864 {
+            return Some(PublishError::TooLarge);
+        }
+        if is_crowded(&self.files, name) {
+            return Some(PublishError::TooManyNames);
+        }
+        if self.count == u32::MAX {
+            return Some(PublishError::Exhausted);
+        }
+        None
+    }
+
+    /// The answer to the head at the front of a message.
+    pub fn answer(&self, message: &[u8]) -> Result<Answer, Memory>
+        ensures { IfOk result (IsAnswered self.now.catalogue message.now) }
+    {
+        let prepared = prepare(&self.files, message);
+        let mut text = write_head(self.alloc, &prepared.reply, prepared.close)?;
+        text.extend_from_slice(prepared.body)?;
+        let name = match prepared.name {
+            Some(name) => Some(Vec::from_slice(self.alloc, name)?),
+            None => None,
+        };
+        Ok(Answer {
+            text,
+            close: prepared.close,
+            name,
+            status: status(&prepared.reply),
+            body: prepared.body.len() as u64,
+        })
+    }
+}

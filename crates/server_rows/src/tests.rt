@@ -1,0 +1,3 @@
+mod answers;
+mod publications;
+mod refusals;
