@@ -2,3 +2,4 @@ pub mod PaintLemmas
 pub mod WorkLemmas
 pub mod SampleLemmas
 pub mod WindowSamples
+pub mod SoundLemmas

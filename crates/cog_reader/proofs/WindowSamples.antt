@@ -1,7 +1,8 @@
 -- A picture on which all tiles are is the window.
 use Rattle.std.proofs.Common.{◌≡◌, ℕ, ◌+◌, ◌*◌, ◌/◌, ◌%◌, ◌<◌, ◌≤◌, inl, inr, List, length, get_or, Some, refl, sym, subst, ap, ◌∙◌, arith}
 use Rattle.std.specs.Prelude.{◌==◌, nat_lt}
-use Rattle.std.specs.List.{All}
+use Rattle.std.specs.List.{All, IsAmong}
+use Rattle.tile_plan.specs.Plan.{tiles_of}
 use Rattle.std.proofs.Math.Nat.{mul-le-mul_right}
 use Rattle.std.proofs.lemmas.Bool.{le-leb, ltb-true, and_parts}
 use Rattle.std.proofs.lemmas.Nat.{div-mul-add, mul-add-lt, mod_below}
@@ -134,6 +135,13 @@ filled f n order p new is level same turned =
         ltb-true 0 l.tile_length (and_parts (nat_lt 0 l.tile_length) (l.tile_length % 16 == 0) l.tile_sides.1).0,
       )
 
+-- each tile of the window is on the picture
+pub painted_all : (f : List ℕ) (q : Query) (a : Arrays) (w : Work) → IsUnderway f q a w → w.taken ≡ length w.groups → (t : ℕ) → IsAmong (tiles_of a.level w.picture.rectangle) t
+    → IsPainted f w.picture.rectangle.level w.picture t
+painted_all f q a w u done t among =
+    let all = subst (All (IsPainted f w.picture.rectangle.level w.picture)) (ap tiles_in (take_all w.taken w.groups (omega (arith, done))) ∙ u.are.tiles) u.painted in
+    subst (IsPainted f w.picture.rectangle.level w.picture) (sym among.1.1) (all among.0 t among.1.0)
+
 pub window_is : (f : List ℕ) (q : Query) (a : Arrays) (w : Work) (new : List ℕ) → TilesCover → IsUnderway f q a w → w.taken ≡ length w.groups → length new ≡ length w.picture.bytes
     → ((k : ℕ) → k * sample_bytes a.level.bits + sample_bytes a.level.bits ≤ length w.picture.bytes
     → sample_at a.level.bits new k ≡ number_in a.order (k * sample_bytes a.level.bits) (sample_bytes a.level.bits) w.picture.bytes)
@@ -141,7 +149,6 @@ pub window_is : (f : List ℕ) (q : Query) (a : Arrays) (w : Work) (new : List �
 window_is f q a w new cover u done same turned =
     let p = w.picture in
     let r = p.rectangle in
-    let all = subst (All (IsPainted f r.level p)) (ap tiles_in (take_all w.taken w.groups (omega (arith, done))) ∙ u.are.tiles) u.painted in
     let Turned : Level → Type 0 = λ l. (k : ℕ) → k * sample_bytes l.bits + sample_bytes l.bits ≤ length p.bytes → sample_at l.bits new k ≡ number_in a.order (k * sample_bytes l.bits) (sample_bytes l.bits) p.bytes in
     let is : Filled f r.level a.order p = record {
       order_is = u.planned.order_is;
@@ -149,8 +156,7 @@ window_is f q a w new cover u done same turned =
       size = subst (λ l. length p.bytes ≡ picture_size l r) (sym u.level) u.size;
       painted = λ i j wide tall. (
           let tile = tile_at (grid_of a.level) (r.x + i) (r.y + j) in
-          let among = cover a.level r i j u.small.inside wide tall in
-          let here : IsPainted f r.level p tile = subst (IsPainted f r.level p) (sym among.1.1) (all among.0 tile among.1.0) in
+          let here = painted_all f q a w u done tile (cover a.level r i j u.small.inside wide tall) in
           subst (λ l. IsPainted f r.level p (tile_at (grid_of l) (r.x + i) (r.y + j))) (sym u.level) here
           );
     } in

@@ -108,7 +108,7 @@ underway_more f q a w g new u is level rectangle size painted = record {
 
 -- ---- a damaged tile
 
-window_is : (f : List ℕ) (q : Query) (a : Arrays) (r : Rectangle) → IsPlanned f q a.order a.level r (length f) a.offsets.items a.counts.items → window_tiles f q ≡ tiles_of a.level r
+pub window_is : (f : List ℕ) (q : Query) (a : Arrays) (r : Rectangle) → IsPlanned f q a.order a.level r (length f) a.offsets.items a.counts.items → window_tiles f q ≡ tiles_of a.level r
 unfolding window_tiles
 window_is f q a r p = rw (p.good, p.rectangle_is, p.described.grid) refl
 

@@ -69,7 +69,9 @@ impl Model for Mosaic {
 impl Mosaic {
     ghost use Rattle.std.specs.Prelude.{◌≡◌, ◌+◌, ℕ, List, IfOk, IfErr, OnOk, MatchOption, Some, slice_get, IsSomeAnd, length};
     ghost use Rattle.tiff_dir.specs.declared.query.Query.{Query};
-    ghost use Rattle.tiff_dir.specs.Faulty.{IsFaultOfWindow};
+    ghost use Rattle.tiff_dir.specs.Faulty.{IsFaultOfWindow, IsWindow};
+    ghost use Rattle.tiff_dir.specs.declared.fault.FileFault.{FileFault as Fault};
+    ghost use Rattle.tiff_dir.specs.Fault.{IsFaultOfDirectories};
     ghost use Rattle.tiff_dir.specs.Window.{HasSamples};
     ghost use Rattle.tile_plan.specs.Levels.{IsSmall, rectangle_of};
     ghost use Rattle.cog_reader.specs.Samples.{samples_in};
@@ -150,8 +152,11 @@ impl Mosaic {
 
     /// The bytes of the window's samples, row by row, each sample with its most significant byte first. All groups were given.
     pub fn into_pixels(self, arrays: &Arrays) -> Vec<u8>
-        ensures { (f : List ℕ) (q : Query) → IsUnderway f q arrays.now self → self.taken ≡ length self.groups
+        ensures samples { (f : List ℕ) (q : Query) → IsUnderway f q arrays.now self → self.taken ≡ length self.groups
             → HasSamples f (rectangle_of self.picture.rectangle) (samples_in arrays.now.level.bits result.items) }
+        // Of a file whose directories are without fault they are the query's window: no other fault stands.
+        ensures window { (f : List ℕ) (q : Query) → IsUnderway f q arrays.now self → self.taken ≡ length self.groups
+            → ((fault : Fault) → IsFaultOfDirectories f fault → ⊥) → IsWindow f q (samples_in arrays.now.level.bits result.items) }
     {
         tiles_cover();
         let mut bytes = self.canvas.into_data();

@@ -6,11 +6,13 @@ use Rattle.tiff_dir.specs.Window.{HasSamples}
 use Rattle.tile_plan.specs.Levels.{rectangle_of}
 use Rattle.cog_reader.specs.Mosaic.{Work}
 use Rattle.cog_reader.specs.Samples.{samples_in}
-use Rattle.cog_reader.proofs.WindowSamples.{window_is}
+use Rattle.cog_reader.proofs.WindowSamples.{painted_all, window_is}
+use Rattle.cog_reader.proofs.SoundLemmas.{whole_window}
+use Rattle.tiff_dir.specs.Faulty.{IsWindow}
 use Rattle.cog_reader.proofs.mosaic.Mosaic.into_pixels.Goals as goal
 
-pub returns : goal.returns
-returns c f q u done =
+pub returns-clause-samples : goal.returns-clause-samples
+returns-clause-samples c f q u done =
     let a = c.args.arrays.now in
     let old = c.into_data-bytes.result in
     let new = c.big_first.new.bytes in
@@ -20,3 +22,16 @@ returns c f q u done =
     (window_is f q a c.args.self new c.tiles_cover.ensures u done (c.big_first.ensures.len ∙ ap length bytes)
     (λ k fits. c.big_first.ensures.samples k (subst (λ l. k * sample_bytes a.level.bits + sample_bytes a.level.bits ≤ length l) (sym bytes) fits)
     ∙ ap (number_in a.order (k * sample_bytes a.level.bits) (sample_bytes a.level.bits)) bytes))
+
+pub returns-clause-window : goal.returns-clause-window
+returns-clause-window c f q u done clean =
+    let a = c.args.arrays.now in
+    let old = c.into_data-bytes.result in
+    let new = c.big_first.new.bytes in
+    let whole = with_items_is old new (c.big_first.ensures.len ∙ ap length c.deref_mut.ensures.value ∙ sym old.ok.0) in
+    let bytes : c.deref_mut.result.now ≡ c.args.self.picture.bytes = c.deref_mut.ensures.value ∙ c.into_data-bytes.ensures ∙ ap (λ (w : Work). w.picture.bytes) c.self.view_is in
+    subst (λ l. IsWindow f q (samples_in a.level.bits l)) (sym whole)
+    (whole_window f q a c.args.self (samples_in a.level.bits new) u (painted_all f q a c.args.self u done) clean
+    (window_is f q a c.args.self new c.tiles_cover.ensures u done (c.big_first.ensures.len ∙ ap length bytes)
+    (λ k fits. c.big_first.ensures.samples k (subst (λ l. k * sample_bytes a.level.bits + sample_bytes a.level.bits ≤ length l) (sym bytes) fits)
+    ∙ ap (number_in a.order (k * sample_bytes a.level.bits) (sample_bytes a.level.bits)) bytes)))

@@ -1,0 +1,171 @@
+-- No fault stands for a window of which all tiles are on the picture.
+use Rattle.std.proofs.Common.{◌≡◌, ℕ, ◌+◌, ◌-◌, ◌*◌, ◌%◌, ◌<◌, inl, inr, Bool, true, false, List, length, take, drop, min, map, Option, Some, None, refl, sym, subst, ap, ◌∙◌, arith, length-drop}
+use Rattle.std.specs.Prelude.{◌||◌, ◌==◌, nat_lt}
+use Rattle.std.specs.List.{list_any, IsAmong}
+use Rattle.std.proofs.Math.Nat.{mul-le-mul_left}
+use Rattle.std.proofs.lemmas.Bool.{le-ltb, ltb-true, and_parts, false≢true}
+use Rattle.std.proofs.lemmas.Nat.{le-div}
+use Rattle.std.proofs.lemmas.List.{length-take}
+use Rattle.std.proofs.lemmas.List.Folds.{list_any-append}
+use Rattle.std.proofs.lemmas.Option.{none-some}
+use Rattle.tiff_dir.specs.declared.level.Kind.{Kind}
+use Rattle.tiff_dir.specs.declared.level.Kind.TheVariants as kind
+use Rattle.tiff_dir.specs.declared.level.Level.{Level}
+use Rattle.tiff_dir.specs.declared.level.Place.{Place}
+use Rattle.tiff_dir.specs.declared.level.Compression.{Compression}
+use Rattle.tiff_dir.specs.declared.level.Compression.TheVariants.{PackBits}
+use Rattle.tiff_dir.specs.declared.query.Query.{Query}
+use Rattle.tiff_dir.specs.declared.query.Query.TheVariants.{Window, Info}
+use Rattle.tiff_dir.specs.declared.fault.FileFault.{FileFault}
+use Rattle.tiff_dir.specs.declared.fault.FileFault.TheVariants.{PastEnd, TileSize, Packet, Outside, TooLarge}
+use Rattle.tiff_dir.specs.File.{◌>>=◌, field, value, size_of}
+use Rattle.tiff_dir.specs.Level.{segment, Grid, Layout, level_directory, level_layout, layout_at, grid_at, compression_of, place_of, plain_row, plain_size}
+use Rattle.tiff_dir.specs.Profile.{tiles_along}
+use Rattle.tiff_dir.specs.Needs.{ends_past, field_range, range_of_place}
+use Rattle.tiff_dir.specs.Described.{layout_of}
+use Rattle.tiff_dir.specs.Walk.{IsArrayOf}
+use Rattle.tiff_dir.specs.Fault.{IsFaultOfDirectories}
+use Rattle.tiff_dir.specs.Faulty.{level_compression, level_plain_row, level_plain_size, HasBadPackets, IsFaultOfWindow, IsFaulty, IsWindow}
+use Rattle.tiff_dir.specs.Query as asked
+use Rattle.tiff_dir.specs.Query.{array_range, array_ranges, needs_of_query, rectangle, is_outside, is_too_large}
+use Rattle.tiff_dir.specs.Window.{HasSamples, IsUnpacked, IsUnpackedBy}
+use Rattle.tiff_dir.specs.Packets.{Packs}
+use Rattle.tile_plan.specs.Levels.{rectangle_of}
+use Rattle.tile_plan.specs.Plan.{tiles_of}
+use Rattle.cog_reader.specs.declared.arrays.Arrays.{Arrays}
+use Rattle.cog_reader.specs.Mosaic.{Work, IsPainted, IsUnderway}
+use Rattle.cog_reader.proofs.WorkLemmas.{window_is}
+
+-- ---- the arrays are in the file
+
+at_directory : (f : List ℕ) (k : ℕ) (l : Layout) → layout_at f k ≡ Some l → ((field f k 324 >>= place_of f) ≡ Some l.offsets) × ((field f k 325 >>= place_of f) ≡ Some l.counts)
+unfolding layout_at
+at_directory f k l is = go (grid_at f k) (value f k 277 0) (value f k 258 0) (value f k 259 0 >>= compression_of) (field f k 324 >>= place_of f) (field f k 325 >>= place_of f) is where
+  go : (g : Option Grid) (s b : Option ℕ) (c : Option Compression) (o n : Option Place)
+      → (g >>= λ grid. s >>= λ samples. b >>= λ bits. c >>= λ compression. o >>= λ offsets. n >>= λ counts.
+      Some (record { grid = grid; samples = samples; bits = bits; compression = compression; offsets = offsets; counts = counts })) ≡ Some l
+      → (o ≡ Some l.offsets) × (n ≡ Some l.counts)
+  go None s b c o n is = absurd (none-some l is)
+  go (Some g) None b c o n is = absurd (none-some l is)
+  go (Some g) (Some s) None c o n is = absurd (none-some l is)
+  go (Some g) (Some s) (Some b) None o n is = absurd (none-some l is)
+  go (Some g) (Some s) (Some b) (Some c) None n is = absurd (none-some l is)
+  go (Some g) (Some s) (Some b) (Some c) (Some o) None is = absurd (none-some l is)
+  go (Some g) (Some s) (Some b) (Some c) (Some o) (Some n) is =
+      let same : record { grid = g; samples = s; bits = b; compression = c; offsets = o; counts = n } ≡ l = cc in
+      (ap (λ (m : Layout). Some m.offsets) same, ap (λ (m : Layout). Some m.counts) same)
+
+ranges_are : (f : List ℕ) (n : ℕ) (l : Layout) → level_layout f n ≡ Some l → (array_range f n 324 ≡ Some (range_of_place l.offsets)) × (array_range f n 325 ≡ Some (range_of_place l.counts))
+unfolding level_layout array_range field_range
+ranges_are f n l is = at (level_directory f n) is where
+  at : (o : Option ℕ) → (o >>= layout_at f) ≡ Some l → ((o >>= λ k. field f k 324 >>= place_of f >>= λ p. Some (range_of_place p)) ≡ Some (range_of_place l.offsets))
+      × ((o >>= λ k. field f k 325 >>= place_of f >>= λ p. Some (range_of_place p)) ≡ Some (range_of_place l.counts))
+  at None is = absurd (none-some l is)
+  at (Some k) is = (let parts = at_directory f k l is in (ap (λ o. o >>= λ p. Some (range_of_place p)) parts.0, ap (λ o. o >>= λ p. Some (range_of_place p)) parts.1))
+
+some_size_of : (k : Kind) → 0 < size_of k
+some_size_of kind.Byte = omega arith
+some_size_of kind.Ascii = omega arith
+some_size_of kind.Short = omega arith
+some_size_of kind.Long = omega arith
+some_size_of kind.Rational = omega arith
+some_size_of kind.SignedByte = omega arith
+some_size_of kind.Undefined = omega arith
+some_size_of kind.SignedShort = omega arith
+some_size_of kind.SignedLong = omega arith
+some_size_of kind.SignedRational = omega arith
+some_size_of kind.Float = omega arith
+some_size_of kind.Double = omega arith
+
+some_product : (a b : ℕ) → 0 < a → 0 < b → 0 < a * b
+some_product a b x y = omega (arith, mul-le-mul_left a y, x)
+
+some_along : (side tile : ℕ) → 0 < side → 0 < tile → 0 < tiles_along side tile
+some_along side tile some some_tile = le-div 1 (side + tile - 1) tile some_tile (omega arith)
+
+inside_array : (f : List ℕ) (p : Place) (bytes : List ℕ) → IsArrayOf f p bytes → length bytes ≡ p.len → 0 < p.len → ends_past f (range_of_place p) ≡ false
+inside_array f p bytes is size some =
+    let cut : length (take (p.first + p.len - p.first) (drop p.first f)) ≡ min (p.first + p.len - p.first) (length (drop p.first f)) = length-take (p.first + p.len - p.first) (drop p.first f) in
+    le-ltb (length f) (p.first + p.len) (omega (arith, cut, length-drop p.first f, ap length is, size))
+
+tile_sides : (l : Level) → (0 < l.tile_width) × (0 < l.tile_length)
+tile_sides l = (
+  ltb-true 0 l.tile_width (and_parts (nat_lt 0 l.tile_width) (l.tile_width % 16 == 0) l.tile_sides.0).0,
+  ltb-true 0 l.tile_length (and_parts (nat_lt 0 l.tile_length) (l.tile_length % 16 == 0) l.tile_sides.1).0,
+)
+
+-- both arrays of a level end in the file
+arrays_inside : (f : List ℕ) (q : Query) (a : Arrays) (w : Work) → IsUnderway f q a w
+    → (ends_past f (range_of_place a.level.offsets) ≡ false) × (ends_past f (range_of_place a.level.counts) ≡ false)
+arrays_inside f q a w u =
+    let l = a.level in
+    let sides = tile_sides l in
+    let tiles = some_product (tiles_along l.width l.tile_width) (tiles_along l.length l.tile_length) (some_along l.width l.tile_width l.sides.0 sides.0) (some_along l.length l.tile_length l.sides.1 sides.1) in
+    let offsets = some_product l.offsets.count (size_of l.offsets.kind) (omega (arith, tiles, l.offset_of_each)) (some_size_of l.offsets.kind) in
+    let counts = some_product l.counts.count (size_of l.counts.kind) (omega (arith, tiles, l.count_of_each)) (some_size_of l.counts.kind) in (
+      inside_array f l.offsets a.offsets.items u.planned.offsets_are a.offsets_whole (omega (arith, offsets, l.lens.0)),
+      inside_array f l.counts a.counts.items u.planned.counts_are a.counts_whole (omega (arith, counts, l.lens.1)),
+    )
+
+-- ---- each fault
+
+no_past : (f : List ℕ) (q : Query) (a : Arrays) (w : Work) → IsUnderway f q a w → list_any (ends_past f) (needs_of_query f q) ≡ false
+unfolding needs_of_query array_ranges rectangle
+no_past f Info a w u = absurd (none-some (rectangle_of w.picture.rectangle) u.planned.rectangle_is)
+no_past f (Window x y wide tall p) a w u =
+    let q : Query = Window x y wide tall p in
+    let r = w.picture.rectangle in
+    let parts = ranges_are f r.level (layout_of a.level) u.planned.layout_is in
+    let inside = arrays_inside f q a w u in
+    list_any-append (ends_past f) (array_ranges f q) (map (λ (g : asked.Group). g.range) (asked.groups f q))
+    ∙ ap (λ b. list_any (ends_past f) (array_ranges f q) || b) u.needed.inside ∙ last (list_any (ends_past f) (array_ranges f q)) (two f q a w u parts.0 parts.1 inside.0 inside.1) where
+      last : (b : Bool) → b ≡ false → (b || false) ≡ false
+      last true is = is
+      last false is = refl
+
+      two : (f : List ℕ) (q : Query) (a : Arrays) (w : Work) → IsUnderway f q a w → array_range f w.picture.rectangle.level 324 ≡ Some (range_of_place a.level.offsets)
+          → array_range f w.picture.rectangle.level 325 ≡ Some (range_of_place a.level.counts)
+          → ends_past f (range_of_place a.level.offsets) ≡ false → ends_past f (range_of_place a.level.counts) ≡ false → list_any (ends_past f) (array_ranges f q) ≡ false
+      two f q a w u first second x y = rw (u.planned.good, u.planned.rectangle_is, first, second, x, y) refl
+
+both_false : (a b : Bool) → (a || b) ≡ false → (a ≡ false) × (b ≡ false)
+both_false true b is = absurd (false≢true (sym is))
+both_false false b is = (refl, is)
+
+no_damage : (f : List ℕ) (q : Query) (a : Arrays) (w : Work) → IsUnderway f q a w → ((t : ℕ) → IsAmong (tiles_of a.level w.picture.rectangle) t → IsPainted f w.picture.rectangle.level w.picture t)
+    → HasBadPackets f q → ⊥
+no_damage f q a w u painted h =
+    let r = w.picture.rectangle in
+    let l = a.level in
+    let asked_same : h.of_window.asked ≡ rectangle_of r = cc (h.of_window.asked_is, u.planned.rectangle_is) in
+    let level : h.level ≡ r.level = sym h.of_window.level_is ∙ ap (λ (s : asked.Rectangle). s.level) asked_same in
+    let among = subst (λ ts. IsAmong ts h.tile) (window_is f q a r u.planned) h.of_window.among in
+    let here = painted h.tile among in
+    let bytes_are = subst (λ n. segment f n h.tile ≡ Some h.bytes) level h.bytes_are in
+    let bytes : here.bytes ≡ h.bytes = cc (here.bytes_are, bytes_are) in
+    let packed : l.compression ≡ PackBits = cc (u.planned.described.compression, subst (λ n. level_compression f n ≡ Some PackBits) level h.packed) in
+    let row : plain_row (layout_of l) ≡ h.row = cc (u.planned.described.plain_row, subst (λ n. level_plain_row f n ≡ Some h.row) level h.row_is) in
+    let size : plain_size (layout_of l) ≡ h.size = cc (u.planned.described.plain_size, subst (λ n. level_plain_size f n ≡ Some h.size) level h.size_is) in
+    let unpacked = subst (λ m. IsUnpacked (layout_of m) here.bytes here.plain) u.level here.unpacked in
+    let packs = subst (λ c. IsUnpackedBy c (plain_row (layout_of l)) (plain_size (layout_of l)) here.bytes here.plain) packed unpacked in
+    h.wrong here.plain (packs.0 ∙ size) (subst (λ b. Packs h.row b here.plain) bytes (subst (λ n. Packs n here.bytes here.plain) row packs.1))
+
+no_fault_of_window : (f : List ℕ) (q : Query) (a : Arrays) (w : Work) (fault : FileFault) → IsUnderway f q a w
+    → ((t : ℕ) → IsAmong (tiles_of a.level w.picture.rectangle) t → IsPainted f w.picture.rectangle.level w.picture t) → IsFaultOfWindow f q fault → ⊥
+no_fault_of_window f q a w PastEnd u painted bad = false≢true (sym (no_past f q a w u) ∙ bad)
+no_fault_of_window f q a w TileSize u painted bad = u.needed.right bad
+no_fault_of_window f q a w Packet u painted bad = no_damage f q a w u painted bad
+no_fault_of_window f q a w Outside u painted bad = false≢true (sym (both_false (is_outside f q) (is_too_large f q) u.planned.good).0 ∙ bad)
+no_fault_of_window f q a w TooLarge u painted bad = false≢true (sym (both_false (is_outside f q) (is_too_large f q) u.planned.good).1 ∙ bad)
+no_fault_of_window f q a w _ u painted bad = absurd bad
+
+pub whole_window : (f : List ℕ) (q : Query) (a : Arrays) (w : Work) (v : List ℕ) → IsUnderway f q a w → ((t : ℕ) → IsAmong (tiles_of a.level w.picture.rectangle) t → IsPainted f w.picture.rectangle.level w.picture t)
+    → ((fault : FileFault) → IsFaultOfDirectories f fault → ⊥) → HasSamples f (rectangle_of w.picture.rectangle) v → IsWindow f q v
+unfolding IsFaulty rectangle
+whole_window f Info a w v u painted clean samples = absurd (none-some (rectangle_of w.picture.rectangle) u.planned.rectangle_is)
+whole_window f (Window x y wide tall p) a w v u painted clean samples = record {
+  sound = λ fault bad. elim bad [ inl of_file ↦ clean fault of_file | inr of_window ↦ no_fault_of_window f (Window x y wide tall p) a w fault u painted of_window ];
+  asked = rectangle_of w.picture.rectangle;
+  asked_is = u.planned.rectangle_is;
+  samples = samples;
+}
