@@ -1,3 +1,4 @@
 mod answers;
+mod memory;
 mod publications;
 mod refusals;
