@@ -1,5 +1,5 @@
 -- What the entries of the geo fields tell of the file.
-use Rattle.std.proofs.Common.{◌≡◌, ℕ, zero, suc, ◌+◌, ◌*◌, ◌<◌, ◌^◌, ◌⊎◌, inl, inr, ◌%◌, ◌&&◌, ◌==◌, Bool, true, false, not, if◌then◌else◌, List, length, get_or, Option, Some, None, Ok, Err, IsSomeAnd, IfSome, refl, sym, subst, ◌∙◌, arith, lit<}
+use Rattle.std.proofs.Common.{◌≡◌, ℕ, zero, suc, ◌+◌, ◌*◌, ◌<◌, ◌^◌, ◌⊎◌, inl, inr, ◌%◌, ◌&&◌, ◌==◌, Bool, true, false, not, if◌then◌else◌, List, length, get_or, Option, Some, None, Ok, Err, IsSomeAnd, IfSome, refl, sym, subst, ap, ◌∙◌, arith, lit<}
 use Rattle.std.specs.Prelude.{nat_lt, nat_le}
 use Rattle.std.specs.Option.{option_map}
 use Rattle.std.proofs.lemmas.Bool.{and_parts, ltb-true, ltb-false, eqb-true, le-leb, false≢true}
@@ -28,7 +28,7 @@ use Rattle.tiff_dir.specs.GeoEntries.{geo_in, place_by, ArePlacesBy, IsFaultBy}
 use Rattle.tiff_dir.specs.Known.{HasGeo}
 use Rattle.tiff_dir.specs.Stage.{range_of, AgreesAt, HasTable, IsPart}
 use Rattle.tiff_dir.specs.Table.{allows, counts_one, entries, field_of, found, kind_in, len_of, keeps, place_in}
-use Rattle.tiff_dir.specs.Walk.{AreGeoPlaces, IsGeoPlace}
+use Rattle.tiff_dir.specs.Walk.{AreGeoPlaces, IsGeoFieldAt, IsGeoPlace}
 use Rattle.tiff_dir.proofs.Chain.{some_and_at, some_and_from}
 use Rattle.tiff_dir.proofs.Fields.{IsKind, has_table, field_told, kind_is, typed, rule_fault, no_rule_fault}
 use Rattle.tiff_dir.proofs.Levels.{place_entry}
@@ -78,14 +78,18 @@ len_known e kind = rw (kind_known e.kind kind) refl
 entry_kind : (r : Rule) (e : Entry) → allows r e ≡ true → IsKind e.kind
 entry_kind r e ok = kind_is r.typing e.kind (typed r e ok)
 
-place_told : (f : List ℕ) (es : List Entry) (r : Rule) (p : Option Place) → HasTable f 0 es → place_by r (found r.tag es) ≡ Ok p → geo_place f r.tag ≡ p
+place_told : (f : List ℕ) (es : List Entry) (r : Rule) (p : Option Place) → HasTable f 0 es → place_by r (found r.tag es) ≡ Ok p → IsGeoFieldAt f r.tag p
 unfolding geo_place
-place_told f es r p has is = rw (field_told f 0 es r.tag has) (at (found r.tag es) refl is) where
-  at : (o : Option Entry) → found r.tag es ≡ o → place_by r o ≡ Ok p → (option_map field_of o >>= place_of f) ≡ p
-  at None there is = cc
+place_told f es r p has is = at (found r.tag es) refl is where
+  at : (o : Option Entry) → found r.tag es ≡ o → place_by r o ≡ Ok p → IsGeoFieldAt f r.tag p
+  at None there is =
+      let none : None ≡ p = cc in
+      subst (IsGeoFieldAt f r.tag) none (field_told f 0 es r.tag has ∙ ap (option_map field_of) there)
   at (Some e) there is =
       let h = placed r e p is in
-      place_entry f e (has.long r.tag e there) (entry_kind r e h.allowed) ∙ sym h.place
+      subst (IsGeoFieldAt f r.tag) (sym h.place)
+      (ap (λ o. o >>= place_of f) (field_told f 0 es r.tag has ∙ ap (option_map field_of) there)
+      ∙ place_entry f e (has.long r.tag e there) (entry_kind r e h.allowed))
 
 met : (es : List Entry) (r : Rule) (p : Option Place) → r.required ≡ false → place_by r (found r.tag es) ≡ Ok p → keeps es r ≡ true
 met es r p optional is = at (found r.tag es) refl is where
@@ -136,6 +140,7 @@ places_told f g p has by =
     let P : GeoEntries → Type 0 = λ x. ArePlacesBy x p in
     let are : ArePlacesBy (geo_in has.entries) p = subst P has.are by in
     record {
+      whole = has.told.whole;
       directory = place_told f has.entries (geo_rule 0) p.directory has.told are.directory;
       doubles = place_told f has.entries (geo_rule 1) p.doubles has.told are.doubles;
       ascii = place_told f has.entries (geo_rule 2) p.ascii has.told are.ascii;

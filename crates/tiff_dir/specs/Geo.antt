@@ -12,7 +12,7 @@ use Rattle.tiff_dir.specs.Profile.{geo_profile, max_geo_bytes}
 use Rattle.tiff_dir.specs.Level.{place_of}
 use Rattle.tiff_dir.specs.Needs.{Range, field_range}
 use Rattle.tiff_dir.specs.Fault.{IsRuleFault}
-use Rattle.tiff_dir.specs.Keys.{KeySource, IsFaultOfKeys}
+use Rattle.tiff_dir.specs.Keys.{KeySource, is_key_field, IsFaultOfKeys}
 
 -- where the values of a geo field stand, if it is there
 unfoldable pub geo_place : List ℕ → ℕ → Option Place
@@ -50,7 +50,7 @@ abbrev pub key_source : List ℕ → KeySource
 key_source f = record {
   value = value f 0 34735;
   count = field f 0 34735 >>= λ e. e.count;
-  items = item_count f;
+  items = λ tag. if is_key_field tag then item_count f tag else None;
 }
 
 -- What is wrong with the key directory.

@@ -1,9 +1,13 @@
 -- The key directory (OGC 19-008, section 7.1.1): four numbers, then four for each key.
-use Rattle.std.specs.Prelude.{◌≡◌, ◌≢◌, ℕ, ◌+◌, ◌*◌, ◌<◌, ◌⊎◌, nat_lt, ◌==◌, if◌then◌else◌, Option, Some, None, IsSomeAnd}
+use Rattle.std.specs.Prelude.{◌≡◌, ◌≢◌, ℕ, ◌+◌, ◌*◌, ◌<◌, ◌⊎◌, Bool, ◌||◌, nat_lt, ◌==◌, if◌then◌else◌, Option, Some, None, IsSomeAnd}
 use Rattle.tiff_dir.specs.declared.fault.FileFault.{FileFault}
 use Rattle.tiff_dir.specs.declared.fault.FileFault.TheVariants.{KeyHead, KeyOrder, KeyPlace}
 use Rattle.tiff_dir.specs.File.{◌>>=◌}
 use Rattle.tiff_dir.specs.Fault.{IsMisfit}
+
+-- a field that a key may point into: GeoDoubleParams or GeoAsciiParams
+abbrev pub is_key_field : ℕ → Bool
+is_key_field tag = tag == 34736 || tag == 34737
 
 -- What keys are read from: the numbers of the directory (GeoKeyDirectory), how many there are, and how many items the fields
 -- 34736 (GeoDoubleParams) and 34737 (GeoAsciiParams) have. What can't be told of a file is None.

@@ -1,5 +1,5 @@
 -- The words for what callers see of a walk over a file's directories, which is given one range of the file after another.
-use Rattle.std.specs.Prelude.{◌≡◌, ℕ, ◌+◌, ◌-◌, ◌<◌, ◌≤◌, ◌^◌, ⊤, List, drop, slice_range, Option, Some, None, Result, Ok, Err, IsSomeAnd}
+use Rattle.std.specs.Prelude.{◌≡◌, ℕ, ◌+◌, ◌-◌, ◌<◌, ◌≤◌, ◌^◌, ⊤, true, List, drop, slice_range, Option, Some, None, Result, Ok, Err, IsSomeAnd}
 use Rattle.tiff_dir.specs.declared.level.Level.{Level}
 use Rattle.tiff_dir.specs.declared.level.Place.{Place}
 use Rattle.tiff_dir.specs.declared.level.Kind.{Kind}
@@ -9,6 +9,7 @@ use Rattle.tiff_dir.specs.declared.span.Span.{Span}
 use Rattle.tiff_dir.specs.declared.fault.FileFault.{FileFault}
 use Rattle.tiff_dir.specs.declared.fault.WalkError.{WalkError}
 use Rattle.tiff_dir.specs.declared.fault.WalkError.TheVariants as errors
+use Rattle.tiff_dir.specs.File.{field, has_all_tags}
 use Rattle.tiff_dir.specs.Level.{level_grid, level_value, plain_row, plain_size}
 use Rattle.tiff_dir.specs.Described.{grid_of, layout_of}
 use Rattle.tiff_dir.specs.Faulty.{level_compression, level_plain_size, level_plain_row}
@@ -28,6 +29,10 @@ HasEnded w = wanted w ≡ None
 -- How many ranges the walk has taken.
 unfoldable pub given_of : Known → ℕ
 given_of w = w.given
+
+-- The levels that it has read.
+unfoldable pub levels_of : Known → List Level
+levels_of w = w.levels
 
 -- as many bytes as the walk wants
 abbrev pub IsWanted : Known → ℕ → Type 0
@@ -81,14 +86,20 @@ IfFile (Err errors.Memory) P = Unit {0}
 abbrev pub IsArrayOf : List ℕ → Place → List ℕ → Type 0
 IsArrayOf f p bytes = bytes ≡ bytes_in f (range_of_place p)
 
+-- the values of a geo field stand at the place, or the field is absent
+abbrev pub IsGeoFieldAt : List ℕ → ℕ → Option Place → Type 0
+IsGeoFieldAt f tag None = field f 0 tag ≡ None
+IsGeoFieldAt f tag (Some p) = geo_place f tag ≡ Some p
+
 -- the geo fields that are there stand at these places
 pub record AreGeoPlaces (f : List ℕ) (p : GeoPlaces) : Type 0 where
-  pub directory : geo_place f 34735 ≡ p.directory
-  pub doubles : geo_place f 34736 ≡ p.doubles
-  pub ascii : geo_place f 34737 ≡ p.ascii
-  pub scale : geo_place f 33550 ≡ p.scale
-  pub tiepoints : geo_place f 33922 ≡ p.tiepoints
-  pub transformation : geo_place f 34264 ≡ p.transformation
+  pub whole : has_all_tags f 0 ≡ true
+  pub directory : IsGeoFieldAt f 34735 p.directory
+  pub doubles : IsGeoFieldAt f 34736 p.doubles
+  pub ascii : IsGeoFieldAt f 34737 p.ascii
+  pub scale : IsGeoFieldAt f 33550 p.scale
+  pub tiepoints : IsGeoFieldAt f 33922 p.tiepoints
+  pub transformation : IsGeoFieldAt f 34264 p.transformation
   -- nothing is wrong with their types, counts and lengths
   pub sound : (fault : FileFault) → IsGeoFault f fault → ⊥
 

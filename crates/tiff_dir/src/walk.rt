@@ -9,7 +9,7 @@ ghost use Rattle.tiff_dir.specs.Needs.{needs_of_directories, range_of_place};
 ghost use Rattle.tiff_dir.specs.Query.{array_range};
 ghost use Rattle.tiff_dir.specs.declared.fault.FileFault.{FileFault as Fault};
 ghost use Rattle.tiff_dir.specs.declared.level.Level.{Level as Described};
-ghost use Rattle.tiff_dir.specs.Walk.{given_of, to_come, wanted, Agrees, AreGeoPlaces, AreTyped, HasEnded, IfFile, IsDescribed, IsWanted, IsWantedOf, Wants};
+ghost use Rattle.tiff_dir.specs.Walk.{given_of, levels_of, to_come, wanted, Agrees, AreGeoPlaces, AreTyped, HasEnded, IfFile, IsDescribed, IsWanted, IsWantedOf, Wants};
 
 use crate::geo::{GeoEntries, GeoPlaces};
 use crate::stage::Stage;
@@ -105,6 +105,7 @@ impl Walk {
     pub fn levels(&self) -> &[Level]
         requires { HasEnded self.now }
         ensures levels { (f : List ℕ) → Agrees self.now f → AreLevels f result.now }
+        ensures held { result.now ≡ levels_of self.now }
         ensures some { 0 < length result.now }
         // The file's directories are without fault.
         ensures clean { (f : List ℕ) → Agrees self.now f → (fault : Fault) → IsFaultOfDirectories f fault → ⊥ }

@@ -4,6 +4,7 @@ use Rattle.tiff_dir.specs.declared.level.Level.{Level}
 use Rattle.tiff_dir.specs.Stage.{range_of}
 use Rattle.tiff_dir.specs.Described.{AreLevels, layout_of}
 use Rattle.tiff_dir.specs.Known.{Known}
+use Rattle.tiff_dir.specs.Walk.{levels_of}
 use Rattle.tiff_dir.proofs.Bounds.{ended_some}
 use Rattle.tiff_dir.proofs.Told.{wanted_as, ended_clean, ended_levels, layout_number, offsets_at, counts_at}
 use Rattle.tiff_dir.proofs.TileValues.{described_by}
@@ -48,3 +49,7 @@ returns-clause-values c = λ f told n l is.
     let same : c.as_slice.result.now ≡ c.args.self.now.levels = c.as_slice.ensures.value ∙ ap (λ (w : Known). w.levels) c.self.view_is in
     let P : List Level → Type 0 = λ ls. AreLevels f ls in
     described_by f n l (layout_number f c.as_slice.result.now n (subst P (sym same) (ended_levels c.args.self.now f c.requires told)) ∙ ap (option_map layout_of) is)
+
+pub returns-clause-held : goal.returns-clause-held
+unfolding levels_of
+returns-clause-held c = c.as_slice.ensures.value ∙ ap (λ (w : Known). w.levels) c.self.view_is

@@ -1,0 +1,39 @@
+//! What a query is answered with.
+use geokeys::Geo;
+use tiff_dir::FileFault;
+
+/// The samples of a window: `w` columns and `h` rows, pixel by pixel, row by row. A sample of 16 bits has two bytes, the most
+/// significant one first.
+#[derive(Debug, Drop, PartialEq, Eq)]
+pub struct Window {
+    pub w: u32,
+    pub h: u32,
+    /// How many samples a pixel has, 1 or 3.
+    pub samples: u16,
+    /// How many bits a sample has, 8 or 16.
+    pub bits: u16,
+    pub pixels: Vec<u8>,
+}
+
+/// What georeferences an image (OGC 19-008). Numbers of eight bytes have their most significant byte first.
+#[derive(Debug, Drop, PartialEq, Eq)]
+pub struct Info {
+    /// The width and the length of each level.
+    pub sides: Vec<(u32, u32)>,
+    pub geo: Geo,
+    /// ModelPixelScale (33550).
+    pub scale: Option<Vec<[u8; 8]>>,
+    /// ModelTiepoint (33922).
+    pub tiepoints: Option<Vec<[u8; 8]>>,
+    /// ModelTransformation (34264).
+    pub transformation: Option<Vec<[u8; 8]>>,
+}
+
+/// The answer to a query of a file.
+#[derive(Debug, Drop, PartialEq, Eq)]
+pub enum Outcome {
+    Window(Window),
+    Info(Info),
+    /// This is wrong with the file, or with what is asked of it.
+    Fault(FileFault),
+}
