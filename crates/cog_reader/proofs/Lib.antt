@@ -3,3 +3,6 @@ pub mod WorkLemmas
 pub mod SampleLemmas
 pub mod WindowSamples
 pub mod SoundLemmas
+pub mod KeptLemmas
+pub mod FieldLemmas
+pub mod TurnLemmas

@@ -55,7 +55,7 @@ at_directory f k l is = go (grid_at f k) (value f k 277 0) (value f k 258 0) (va
       let same : record { grid = g; samples = s; bits = b; compression = c; offsets = o; counts = n } ≡ l = cc in
       (ap (λ (m : Layout). Some m.offsets) same, ap (λ (m : Layout). Some m.counts) same)
 
-ranges_are : (f : List ℕ) (n : ℕ) (l : Layout) → level_layout f n ≡ Some l → (array_range f n 324 ≡ Some (range_of_place l.offsets)) × (array_range f n 325 ≡ Some (range_of_place l.counts))
+pub ranges_are : (f : List ℕ) (n : ℕ) (l : Layout) → level_layout f n ≡ Some l → (array_range f n 324 ≡ Some (range_of_place l.offsets)) × (array_range f n 325 ≡ Some (range_of_place l.counts))
 unfolding level_layout array_range field_range
 ranges_are f n l is = at (level_directory f n) is where
   at : (o : Option ℕ) → (o >>= layout_at f) ≡ Some l → ((o >>= λ k. field f k 324 >>= place_of f >>= λ p. Some (range_of_place p)) ≡ Some (range_of_place l.offsets))
@@ -83,7 +83,7 @@ some_product a b x y = omega (arith, mul-le-mul_left a y, x)
 some_along : (side tile : ℕ) → 0 < side → 0 < tile → 0 < tiles_along side tile
 some_along side tile some some_tile = le-div 1 (side + tile - 1) tile some_tile (omega arith)
 
-inside_array : (f : List ℕ) (p : Place) (bytes : List ℕ) → IsArrayOf f p bytes → length bytes ≡ p.len → 0 < p.len → ends_past f (range_of_place p) ≡ false
+pub inside_array : (f : List ℕ) (p : Place) (bytes : List ℕ) → IsArrayOf f p bytes → length bytes ≡ p.len → 0 < p.len → ends_past f (range_of_place p) ≡ false
 inside_array f p bytes is size some =
     let cut : length (take (p.first + p.len - p.first) (drop p.first f)) ≡ min (p.first + p.len - p.first) (length (drop p.first f)) = length-take (p.first + p.len - p.first) (drop p.first f) in
     le-ltb (length f) (p.first + p.len) (omega (arith, cut, length-drop p.first f, ap length is, size))
@@ -94,17 +94,22 @@ tile_sides l = (
   ltb-true 0 l.tile_length (and_parts (nat_lt 0 l.tile_length) (l.tile_length % 16 == 0) l.tile_sides.1).0,
 )
 
--- both arrays of a level end in the file
-arrays_inside : (f : List ℕ) (q : Query) (a : Arrays) (w : Work) → IsUnderway f q a w
-    → (ends_past f (range_of_place a.level.offsets) ≡ false) × (ends_past f (range_of_place a.level.counts) ≡ false)
-arrays_inside f q a w u =
-    let l = a.level in
+-- both arrays of a level have bytes
+pub array_some : (l : Level) → (0 < l.offsets.len) × (0 < l.counts.len)
+array_some l =
     let sides = tile_sides l in
     let tiles = some_product (tiles_along l.width l.tile_width) (tiles_along l.length l.tile_length) (some_along l.width l.tile_width l.sides.0 sides.0) (some_along l.length l.tile_length l.sides.1 sides.1) in
     let offsets = some_product l.offsets.count (size_of l.offsets.kind) (omega (arith, tiles, l.offset_of_each)) (some_size_of l.offsets.kind) in
-    let counts = some_product l.counts.count (size_of l.counts.kind) (omega (arith, tiles, l.count_of_each)) (some_size_of l.counts.kind) in (
-      inside_array f l.offsets a.offsets.items u.planned.offsets_are a.offsets_whole (omega (arith, offsets, l.lens.0)),
-      inside_array f l.counts a.counts.items u.planned.counts_are a.counts_whole (omega (arith, counts, l.lens.1)),
+    let counts = some_product l.counts.count (size_of l.counts.kind) (omega (arith, tiles, l.count_of_each)) (some_size_of l.counts.kind) in
+    (omega (arith, offsets, l.lens.0), omega (arith, counts, l.lens.1))
+
+-- they end in the file
+arrays_inside : (f : List ℕ) (q : Query) (a : Arrays) (w : Work) → IsUnderway f q a w
+    → (ends_past f (range_of_place a.level.offsets) ≡ false) × (ends_past f (range_of_place a.level.counts) ≡ false)
+arrays_inside f q a w u =
+    let some = array_some a.level in (
+      inside_array f a.level.offsets a.offsets.items u.planned.offsets_are a.offsets_whole some.0,
+      inside_array f a.level.counts a.counts.items u.planned.counts_are a.counts_whole some.1,
     )
 
 -- ---- each fault

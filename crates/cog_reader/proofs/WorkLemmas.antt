@@ -52,23 +52,23 @@ here_and : {X : Type 0} (o : Option X) (x : X) (P : X → Type 0) → o ≡ Some
 here_and None x P is some = absurd (none-some x is)
 here_and (Some y) x P is some = (let same : y ≡ x = cc in subst P same some)
 
-plain_len : (a : Arrays) (w : Work) (g : Group) (t : ℕ) → IsPlan a w → slice_get w.groups w.taken ≡ Some g → IsAmong g.tiles.items t → a.level.compression ≡ Plain → (range_of a t).len ≡ plain_size (layout_of a.level)
-plain_len a w g t plan is among plain =
+plain_len : (n : ℕ) (a : Arrays) (w : Work) (g : Group) (t : ℕ) → IsPlan n a w → slice_get w.groups w.taken ≡ Some g → IsAmong g.tiles.items t → a.level.compression ≡ Plain → (range_of a t).len ≡ plain_size (layout_of a.level)
+plain_len n a w g t plan is among plain =
     let of_window = subst (λ l. IsAmong l t) plan.are.tiles (among_group w.groups w.taken g t is among) in
     elim (cases_Bool ((range_of a t).len == plain_size (layout_of a.level))) [
       | inl h ↦ eqb-true (range_of a t).len (plain_size (layout_of a.level)) h
       | inr h ↦ absurd (plan.are.sound t of_window TileSize (inr (plain, h)))
     ]
 
-pub whole_group : (a : Arrays) (w : Work) (g : Group) (ts : List ℕ) (len : ℕ) → IsPlan a w → slice_get w.groups w.taken ≡ Some g → ts ≡ g.tiles.items → IsNext w len → IsWhole a ts len
-whole_group a w g ts len plan is same next =
-    let group = subst (λ h. IsGroup (range_of a) a.level plan.complete (group_of h)) (get_or_from_slice_get w.groups w.taken g g is) (plan.are.each w.taken g (slice_get_within w.groups w.taken g is)) in
+pub whole_group : (n : ℕ) (a : Arrays) (w : Work) (g : Group) (ts : List ℕ) (len : ℕ) → IsPlan n a w → slice_get w.groups w.taken ≡ Some g → ts ≡ g.tiles.items → IsNext w len → IsWhole a ts len
+whole_group n a w g ts len plan is same next =
+    let group = subst (λ h. IsGroup (range_of a) a.level n (group_of h)) (get_or_from_slice_get w.groups w.taken g g is) (plan.are.each w.taken g (slice_get_within w.groups w.taken g is)) in
     let size = here_and (slice_get w.groups w.taken) g (λ h. len ≡ (range_of_span h.span).len) is next in
     subst (λ l. IsWhole a l len) (sym same) (record {
       within = group.tiles;
-      plain = λ k d less plain. plain_len a w g (get_or g.tiles.items k d) plan is (k, (less, among_same g.tiles.items k d less)) plain;
+      plain = λ k d less plain. plain_len n a w g (get_or g.tiles.items k d) plan is (k, (less, among_same g.tiles.items k d less)) plain;
       first = g.span.first;
-      adjoin = subst (λ n. Adjoin (range_of a) g.span.first g.tiles.items (g.span.first + n)) (sym size) group.adjoin;
+      adjoin = subst (λ m. Adjoin (range_of a) g.span.first g.tiles.items (g.span.first + m)) (sym size) group.adjoin;
     }) where
       among_same : (xs : List ℕ) (k d : ℕ) → k < length xs → get_or xs k d ≡ get_or xs k (get_or xs k d)
       among_same [] k d less = absurd (omega (arith, less))
@@ -85,7 +85,7 @@ next_bytes f q a w g bytes u is next of_file =
         are = are ∙ ap (λ n. slice_range f g.span.first (g.span.first + n)) (sym size);
         inside = omega (arith, group.inside, size);
       },
-      subst (λ n. Adjoin (range_of a) g.span.first g.tiles.items (g.span.first + n)) (sym size) group.adjoin,
+      subst (λ m. Adjoin (range_of a) g.span.first g.tiles.items (g.span.first + m)) (sym size) group.adjoin,
     )
 
 pub arrays_of : (f : List ℕ) (q : Query) (a : Arrays) (w : Work) → IsUnderway f q a w → AreArraysOf f w.picture.rectangle.level a

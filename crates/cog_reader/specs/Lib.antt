@@ -1,3 +1,9 @@
+pub mod Fields
+pub mod Kept
 pub mod Mosaic
+pub mod Next
+pub mod Outcome
 pub mod Paint
+pub mod Reader
 pub mod Samples
+pub mod Turn

@@ -52,10 +52,12 @@ pub record AreArraysOf (f : List ℕ) (n : ℕ) (a : Arrays) : Type 0 where
   pub counts_are : IsArrayOf f a.level.counts a.counts.items
 
 -- the groups are those that the arrays give for the picture's rectangle, in a file of so many bytes
-pub record IsPlan (a : Arrays) (w : Work) : Type 0 where
-  pub complete : ℕ
+pub record IsPlan (complete : ℕ) (a : Arrays) (w : Work) : Type 0 where
   pub level : w.picture.level ≡ a.level
   pub are : AreGroups (range_of a) a.level w.picture.rectangle complete w.groups
+
+abbrev pub HasPlan : Arrays → Work → Type 0
+HasPlan a w = (complete : ℕ) × IsPlan complete a w
 
 -- The work is the query's in this file: its groups are those that the query needs, and the tiles of those that were taken
 -- are on the picture.

@@ -3,15 +3,17 @@
 
 mod arrays;
 mod fields;
+mod info;
 mod kept;
 mod mosaic;
 mod outcome;
 mod paint;
-mod reader;
 mod samples;
 mod task;
+mod turn;
 
 pub use arrays::Arrays;
+pub use fields::Fields;
+pub use kept::Kept;
 pub use mosaic::Mosaic;
 pub use outcome::{Info, Outcome, Window};
-pub use reader::Reader;

@@ -6,7 +6,7 @@ ghost use Rattle.tiff_dir.specs.Level.{plain_size};
 ghost use Rattle.tile_plan.specs.Plan.{Adjoin};
 ghost use Rattle.cog_reader.specs.Mosaic.{range_of, IsPainted, AreArraysOf, IsWhole, AreBytesOf, HasDamage};
 
-use crate::Arrays;
+use crate::{Arrays, Window};
 use crate::paint::{paint, plain_size};
 use crate::samples::big_first;
 use std::alloc::Global;
@@ -47,6 +47,7 @@ fn paint_tiles(
 /// A window of a level, put together from its tiles as their groups come.
 #[derive(Drop)]
 pub struct Mosaic {
+    rect: Rectangle,
     groups: Vec<Group>,
     taken: usize,
     canvas: Canvas,
@@ -63,7 +64,7 @@ impl Model for Mosaic {
 
     ghost view = { λ m. record { groups = m.groups.items; taken = m.taken; picture = m.canvas } };
 
-    ghost invariant = { λ m. (m.taken ≤ length m.groups.items) × (length m.plain.items ≡ plain_size (layout_of m.canvas.level)) };
+    ghost invariant = { λ m. (m.rect ≡ m.canvas.rectangle) × (m.taken ≤ length m.groups.items) × (length m.plain.items ≡ plain_size (layout_of m.canvas.level)) };
 }
 
 impl Mosaic {
@@ -76,7 +77,8 @@ impl Mosaic {
     ghost use Rattle.tile_plan.specs.Levels.{IsSmall, rectangle_of};
     ghost use Rattle.cog_reader.specs.Samples.{samples_in};
     ghost use Rattle.tile_plan.specs.Plan.{IsPlanned, IsErrorOf};
-    ghost use Rattle.cog_reader.specs.Mosaic.{IsPlan, IsUnderway, IsNext, IsNextOf};
+    ghost use Rattle.cog_reader.specs.Mosaic.{HasPlan, IsPlan, IsUnderway, IsNext, IsNextOf};
+    ghost use Rattle.cog_reader.specs.Outcome.{IsWindowOf};
 
     /// The window of a rectangle, in a file of `complete` bytes: nothing of it is there yet. The rectangle lies in the arrays'
     /// level and is small. Where a tile of it has a wrong byte count or ends past the file, that fault is told.
@@ -87,7 +89,7 @@ impl Mosaic {
         complete: u64,
     ) -> Result<Mosaic, PlanError>
         requires { IsSmall arrays.now.level rect }
-        ensures plan { IfOk result (IsPlan arrays.now) }
+        ensures plan { IfOk result (IsPlan complete arrays.now) }
         ensures none { IfOk result (λ w. (w.taken ≡ 0) × (w.picture.rectangle ≡ rect)) }
         ensures underway { (f : List ℕ) (q : Query) → length f ≡ complete
             → IsPlanned f q arrays.now.order arrays.now.level rect complete arrays.now.offsets.items arrays.now.counts.items
@@ -109,6 +111,7 @@ impl Mosaic {
         let canvas = Canvas::new(alloc, level, rect)?;
         let plain = vec![in alloc; 0u8; plain_size(level)].map_err(|_| PlanError::Memory)?;
         Ok(Mosaic {
+            rect,
             groups,
             taken: 0,
             canvas,
@@ -127,9 +130,9 @@ impl Mosaic {
 
     /// Takes the bytes of the next group. After a fault the work is of no use.
     pub fn give(&mut self, arrays: &Arrays, bytes: &[u8]) -> Result<(), FileFault>
-        requires plan { IsPlan arrays.now self.old }
+        requires plan { HasPlan arrays.now self.old }
         requires wanted { IsNext self.old (length bytes.now) }
-        ensures plan { IsPlan arrays.now self.new }
+        ensures plan { (complete : ℕ) → IsPlan complete arrays.now self.old → IsPlan complete arrays.now self.new }
         ensures taken { OnOk result ((self.new.groups ≡ self.old.groups) × (self.new.taken ≡ self.old.taken + 1)) }
         ensures underway { (f : List ℕ) (q : Query) → IsUnderway f q arrays.now self.old → IsNextOf f self.old bytes.now
             → OnOk result (IsUnderway f q arrays.now self.new) }
@@ -150,8 +153,9 @@ impl Mosaic {
         Ok(())
     }
 
-    /// The bytes of the window's samples, row by row, each sample with its most significant byte first. All groups were given.
-    pub fn into_pixels(self, arrays: &Arrays) -> Vec<u8>
+    /// The bytes of the window's samples, row by row, each sample with its most significant byte first.
+    fn into_pixels(self, arrays: &Arrays) -> Vec<u8>
+        ensures size { (f : List ℕ) (q : Query) → IsUnderway f q arrays.now self → length result.items ≡ length self.picture.bytes }
         ensures samples { (f : List ℕ) (q : Query) → IsUnderway f q arrays.now self → self.taken ≡ length self.groups
             → HasSamples f (rectangle_of self.picture.rectangle) (samples_in arrays.now.level.bits result.items) }
         // Of a file whose directories are without fault they are the query's window: no other fault stands.
@@ -162,5 +166,20 @@ impl Mosaic {
         let mut bytes = self.canvas.into_data();
         big_first(arrays.order, arrays.level.bits, &mut bytes);
         bytes
+    }
+
+    /// The window, when all groups were given.
+    pub fn into_window(self, arrays: &Arrays) -> Window
+        ensures { (f : List ℕ) (q : Query) → IsUnderway f q arrays.now self → self.taken ≡ length self.groups
+            → ((fault : Fault) → IsFaultOfDirectories f fault → ⊥) → IsWindowOf f q result }
+    {
+        let Rectangle { w, h, .. } = self.rect;
+        Window {
+            w,
+            h,
+            samples: arrays.level.samples,
+            bits: arrays.level.bits,
+            pixels: self.into_pixels(arrays),
+        }
     }
 }

@@ -201,7 +201,8 @@ typed_by r k (Some e) p kind some is near =
     let Q : Option Place → Type 0 = λ x. IfSome x (λ y. y.first < 2 ^ 33) in
     let first : (place_in e).first < 2 ^ 33 = subst Q h.place near in
     let len : 0 < len_of e = mul-pos (some e.count parts.1) (size_some e.kind (entry_kind r e h.allowed)) in
-    subst P (sym h.place) (kind e.kind parts.0, len, ltb-false max_geo_bytes (len_of e) h.short, first)
+    let size : len_of e ≡ e.count * size_of k = ap (λ x. e.count * size_of x) (kind e.kind parts.0) in
+    subst P (sym h.place) (kind e.kind parts.0, size, len, ltb-false max_geo_bytes (len_of e) h.short, first)
 
 pub is_double : (n : ℕ) → (n == 12) ≡ true → kind_in n ≡ kinds.Double
 is_double n is = let e = eqb-true n 12 is in rw e refl

@@ -1,5 +1,5 @@
 -- The words for what callers see of a walk over a file's directories, which is given one range of the file after another.
-use Rattle.std.specs.Prelude.{◌≡◌, ℕ, ◌+◌, ◌-◌, ◌<◌, ◌≤◌, ◌^◌, ⊤, true, List, drop, slice_range, Option, Some, None, Result, Ok, Err, IsSomeAnd}
+use Rattle.std.specs.Prelude.{◌≡◌, ℕ, ◌+◌, ◌-◌, ◌*◌, ◌<◌, ◌≤◌, ◌^◌, ⊤, true, List, drop, slice_range, Option, Some, None, Result, Ok, Err, IsSomeAnd}
 use Rattle.tiff_dir.specs.declared.level.Level.{Level}
 use Rattle.tiff_dir.specs.declared.level.Place.{Place}
 use Rattle.tiff_dir.specs.declared.level.Kind.{Kind}
@@ -9,7 +9,7 @@ use Rattle.tiff_dir.specs.declared.span.Span.{Span}
 use Rattle.tiff_dir.specs.declared.fault.FileFault.{FileFault}
 use Rattle.tiff_dir.specs.declared.fault.WalkError.{WalkError}
 use Rattle.tiff_dir.specs.declared.fault.WalkError.TheVariants as errors
-use Rattle.tiff_dir.specs.File.{field, has_all_tags}
+use Rattle.tiff_dir.specs.File.{field, has_all_tags, size_of}
 use Rattle.tiff_dir.specs.Level.{level_grid, level_value, plain_row, plain_size}
 use Rattle.tiff_dir.specs.Described.{grid_of, layout_of}
 use Rattle.tiff_dir.specs.Faulty.{level_compression, level_plain_size, level_plain_row}
@@ -106,7 +106,8 @@ pub record AreGeoPlaces (f : List ℕ) (p : GeoPlaces) : Type 0 where
 -- if there is a place, it is of values of this type, and of at most 65,536 bytes; it begins below 2^33
 abbrev pub IsGeoPlace : Kind → Option Place → Type 0
 IsGeoPlace k None = ⊤
-IsGeoPlace k (Some p) = (p.kind ≡ k) × (0 < p.len) × (p.len ≤ max_geo_bytes) × (p.first < 2 ^ 33)
+IsGeoPlace k (Some p) =
+    (p.kind ≡ k) × (p.len ≡ p.count * size_of k) × (0 < p.len) × (p.len ≤ max_geo_bytes) × (p.first < 2 ^ 33)
 
 pub record AreTyped (p : GeoPlaces) : Type 0 where
   pub directory : IsGeoPlace kind.Short p.directory

@@ -11,7 +11,7 @@ use Rattle.cog_reader.proofs.mosaic.Mosaic.give.Goals as goal
 pub paint_tiles-requires-clause-whole : goal.paint_tiles-requires-clause-whole
 paint_tiles-requires-clause-whole c =
     let there = found c.self.inside.groups.items c.deref.result.now c.self.inside.taken c.in-Some.group.now c.deref.ensures.value c.in-Some.ensures.lookup.0 c.in-Some.ensures.lookup.1 in
-    whole_group c.args.arrays.now c.args.self.now c.in-Some.group.now c.deref-2.result.now (length c.args.bytes.now) c.requires.plan
+    whole_group c.requires.plan.0 c.args.arrays.now c.args.self.now c.in-Some.group.now c.deref-2.result.now (length c.args.bytes.now) c.requires.plan.1
     (ap (λ (w : Work). slice_get w.groups w.taken) (sym c.self.view_is) ∙ there) c.deref-2.ensures.value c.requires.wanted
 
 pub returns-in_err-paint_tiles-clause-damaged : goal.returns-in_err-paint_tiles-clause-damaged

@@ -14,7 +14,6 @@ returns-clause-plan c =
     let offsets = subst (λ o. AreGroups (range_in a.order a.level o c.deref-2.result.now) a.level c.args.rect c.args.complete gs) c.deref.ensures.value c.in_ok-groups.ensures.groups in
     let counts = subst (λ n. AreGroups (range_in a.order a.level a.offsets.items n) a.level c.args.rect c.args.complete gs) c.deref-2.ensures.value offsets in
     record {
-      complete = c.args.complete;
       level = ap (λ (p : Picture). p.level) canvas;
       are = subst (λ r. AreGroups (range_of a) a.level r c.args.complete gs) (sym (ap (λ (p : Picture). p.rectangle) canvas)) counts;
     }

@@ -1,0 +1,41 @@
+-- The tile arrays that a reader keeps: those of the level last read, as far as they were read.
+use Rattle.std.specs.Prelude.{◌≡◌, ℕ, ⊤, ◌==◌, if◌then◌else◌, List, length, slice_get, Option, Some, None, IsSomeAnd}
+use Rattle.tiff_dir.specs.declared.level.Level.{Level}
+use Rattle.tiff_dir.specs.declared.level.Place.{Place}
+use Rattle.tiff_dir.specs.Known.{Known}
+use Rattle.tiff_dir.specs.Query.{array_range}
+use Rattle.tiff_dir.specs.Walk.{levels_of, HasEnded, bytes_in}
+use Rattle.cog_reader.specs.declared.kept.Kept.{Kept}
+use Rattle.cog_reader.specs.declared.kept.Kept.TheVariants.{Nothing, Offsets, Both}
+use Rattle.cog_reader.specs.Mosaic.{AreArraysOf}
+
+-- how many arrays of level n are kept
+abbrev pub held : Kept → ℕ → ℕ
+held Nothing n = 0
+held (Offsets k offsets) n = if k == n then 1 else 0
+held (Both k arrays) n = if k == n then 2 else 0
+
+-- where the next array of the level stands that is to be read
+abbrev pub next_array : Kept → ℕ → Level → Option Place
+next_array Nothing n l = Some l.offsets
+next_array (Offsets k offsets) n l = if k == n then Some l.counts else Some l.offsets
+next_array (Both k arrays) n l = if k == n then None else Some l.offsets
+
+-- if the offsets of level n are kept alone, they are as long as the level says
+abbrev pub HoldsOffsets : Kept → ℕ → Level → Type 0
+HoldsOffsets Nothing n l = ⊤
+HoldsOffsets (Offsets k offsets) n l = k ≡ n → length offsets.items ≡ l.offsets.len
+HoldsOffsets (Both k arrays) n l = ⊤
+
+-- they are of a level of a walk that has ended
+abbrev pub IsKeptOf : Known → Kept → Type 0
+IsKeptOf w Nothing = ⊤
+IsKeptOf w (Offsets n offsets) =
+    HasEnded w × IsSomeAnd (slice_get (levels_of w) n) (λ l. length offsets.items ≡ l.offsets.len)
+IsKeptOf w (Both n arrays) = HasEnded w × (slice_get (levels_of w) n ≡ Some arrays.level)
+
+-- they are the file's
+abbrev pub AreKept : List ℕ → Kept → Type 0
+AreKept f Nothing = ⊤
+AreKept f (Offsets n offsets) = IsSomeAnd (array_range f n 324) (λ r. offsets.items ≡ bytes_in f r)
+AreKept f (Both n arrays) = AreArraysOf f n arrays

@@ -1,0 +1,138 @@
+//! The geo fields of the first directory, read one after another.
+ghost use Rattle.std.specs.Prelude.{◌≡◌, ◌+◌, ◌++◌, ◌≤◌, ℕ, List, [], drop, IfOk, IsSomeAnd, None, OnErr, OnOk, length, slice_get, take};
+ghost use Rattle.std.specs.Option.{option_to_list};
+ghost use Rattle.tiff_dir.specs.Walk.{AreTyped, IsArrayOf};
+ghost use Rattle.cog_reader.specs.Fields.{len_of, present_in, AreParts, IsReadOf};
+
+use std::alloc::Global;
+use std::marker::Model;
+use tiff_dir::{GeoPlaces, Memory, Place};
+
+/// The geo fields that a file has: where they stand, how many were read, and the bytes of those, one after the other.
+#[derive(Drop)]
+pub struct Fields {
+    places: GeoPlaces,
+    /// The places of those that are there, in the order in which they are read.
+    present: Vec<Place>,
+    taken: usize,
+    bytes: Vec<u8>,
+}
+
+impl Model for Fields {
+    ghost use Rattle.cog_reader.specs.Fields.{Reading, IsReading};
+
+    ghost Value = { Reading };
+
+    ghost view = { λ x. record { places = x.places; taken = x.taken; bytes = x.bytes.items } };
+
+    ghost invariant = { λ x. IsReading x.places x.present.items x.taken x.bytes.items };
+}
+
+/// The bytes of the six fields; those of an absent one are none.
+#[derive(Clone, Copy)]
+pub struct Parts<'a> {
+    pub directory: &'a [u8],
+    pub doubles: &'a [u8],
+    pub ascii: &'a [u8],
+    pub scale: &'a [u8],
+    pub tiepoints: &'a [u8],
+    pub transformation: &'a [u8],
+}
+
+/// Adds a place, if there is one.
+fn add(present: &mut Vec<Place>, place: Option<Place>) -> Result<(), Memory>
+    ensures { OnOk result (present.new.items ≡ present.old.items ++ option_to_list place) }
+{
+    if let Some(place) = place {
+        present.push(place)?;
+    }
+    Ok(())
+}
+
+/// Cuts a field's bytes off the front.
+fn cut(place: Option<Place>, bytes: &[u8]) -> (&[u8], &[u8])
+    requires { len_of place ≤ length bytes.now }
+    ensures front { result.0.now ≡ take (len_of place) bytes.now }
+    ensures rest { result.1.now ≡ drop (len_of place) bytes.now }
+{
+    match place {
+        Some(place) => bytes.split_at(place.len as usize),
+        None => bytes.split_at(0),
+    }
+}
+
+impl Fields {
+    /// None of them was read.
+    pub fn new(alloc: Global, places: GeoPlaces) -> Result<Fields, Memory>
+        requires { AreTyped places }
+        ensures { IfOk result (λ x. x ≡ record { places = places; taken = 0; bytes = [] }) }
+    {
+        let mut present = Vec::new(alloc);
+        add(&mut present, places.directory)?;
+        add(&mut present, places.doubles)?;
+        add(&mut present, places.ascii)?;
+        add(&mut present, places.scale)?;
+        add(&mut present, places.tiepoints)?;
+        add(&mut present, places.transformation)?;
+        Ok(Fields {
+            places,
+            present,
+            taken: 0,
+            bytes: Vec::new(alloc),
+        })
+    }
+
+    /// Where the fields stand.
+    pub fn places(&self) -> GeoPlaces
+        ensures places { result ≡ self.now.places }
+        ensures typed { AreTyped self.now.places }
+    {
+        self.places
+    }
+
+    /// Where the next field stands that is to be read.
+    pub fn next(&self) -> Option<Place>
+        ensures next { result ≡ slice_get (present_in self.now.places) self.now.taken }
+        ensures typed { AreTyped self.now.places }
+        // There is none exactly where all were read.
+        ensures end { result ≡ None → self.now.taken ≡ length (present_in self.now.places) }
+    {
+        self.present.get(self.taken).copied()
+    }
+
+    /// Takes the bytes of the next field.
+    pub fn give(&mut self, bytes: &[u8]) -> Result<(), Memory>
+        requires { IsSomeAnd (slice_get (present_in self.old.places) self.old.taken) (λ p. length bytes.now ≡ p.len) }
+        ensures given { OnOk result (self.new ≡ record self.old { taken = self.old.taken + 1; bytes = self.old.bytes ++ bytes.now }) }
+        ensures fields { OnOk result ((f : List ℕ) → IsReadOf f self.old
+            → IsSomeAnd (slice_get (present_in self.old.places) self.old.taken) (λ p. IsArrayOf f p bytes.now) → IsReadOf f self.new) }
+        ensures err { OnErr result (self.new ≡ self.old) }
+    {
+        self.bytes.extend_from_slice(bytes)?;
+        self.taken += 1;
+        Ok(())
+    }
+
+    /// The bytes of each field. All were read.
+    pub fn parts(&self) -> Parts<'_>
+        requires { self.now.taken ≡ length (present_in self.now.places) }
+        ensures typed { AreTyped self.now.places }
+        ensures parts { AreParts self.now.places self.now.bytes result.directory.now result.doubles.now result.ascii.now
+            result.scale.now result.tiepoints.now result.transformation.now }
+    {
+        let (directory, rest) = cut(self.places.directory, &self.bytes);
+        let (doubles, rest) = cut(self.places.doubles, rest);
+        let (ascii, rest) = cut(self.places.ascii, rest);
+        let (scale, rest) = cut(self.places.scale, rest);
+        let (tiepoints, rest) = cut(self.places.tiepoints, rest);
+        let (transformation, _) = cut(self.places.transformation, rest);
+        Parts {
+            directory,
+            doubles,
+            ascii,
+            scale,
+            tiepoints,
+            transformation,
+        }
+    }
+}

@@ -1,0 +1,60 @@
+//! What georeferences an image, by the bytes of its geo fields.
+ghost use Rattle.std.specs.Prelude.{◌≡◌, ◌%◌, ℕ, List, Some, IfErr, IfOk, length, map};
+ghost use Rattle.std.specs.Option.{option_map};
+ghost use Rattle.tiff_dir.specs.Walk.{Agrees, HasEnded};
+ghost use Rattle.geokeys.specs.Doubles.{doubles_in};
+ghost use Rattle.cog_reader.specs.Fields.{present_in, IsReadOf};
+ghost use Rattle.cog_reader.specs.Outcome.{sides_of, IsInfoOf};
+ghost use Rattle.cog_reader.specs.Turn.{IsInfoError};
+
+use crate::Info;
+use crate::fields::Fields;
+use geokeys::{Geo, GeoError, doubles};
+use std::alloc::Global;
+use tiff_dir::{Level, Memory, Order, Place, Walk};
+
+/// The sides of the levels.
+fn sides(alloc: Global, levels: &[Level]) -> Result<Vec<(u32, u32)>, Memory>
+    ensures { IfOk result (λ v. v.items ≡ map sides_of levels.now) }
+{
+    Ok(levels
+        .iter()
+        .map(|level| (level.width, level.length))
+        .collect(alloc)?)
+}
+
+/// The items of a field that stands somewhere.
+fn items(
+    alloc: Global,
+    order: Order,
+    place: Option<Place>,
+    bytes: &[u8],
+) -> Result<Option<Vec<[u8; 8]>>, Memory>
+    requires { length bytes.now % 8 ≡ 0 }
+    ensures { IfOk result (λ o. option_map (λ v. v.items) o ≡ option_map (λ _. doubles_in order bytes.now) place) }
+{
+    match place {
+        Some(_) => Ok(Some(doubles(alloc, order, bytes)?)),
+        None => Ok(None),
+    }
+}
+
+/// What the file says, whose geo fields were all read, or what is wrong with its keys.
+pub fn info(alloc: Global, walk: &Walk, fields: &Fields) -> Result<Info, GeoError>
+    requires ended { HasEnded walk.now }
+    requires read { fields.now.taken ≡ length (present_in fields.now.places) }
+    ensures info { IfOk result (λ i. (f : List ℕ) → Agrees walk.now f → IsReadOf f fields.now → IsInfoOf f i) }
+    ensures refused { IfErr result (λ e. (f : List ℕ) → Agrees walk.now f → IsReadOf f fields.now → IsInfoError f e) }
+{
+    let order = walk.order();
+    let parts = fields.parts();
+    let geo = Geo::read(alloc, order, parts.directory, parts.doubles, parts.ascii)?;
+    let places = fields.places();
+    Ok(Info {
+        sides: sides(alloc, walk.levels())?,
+        geo,
+        scale: items(alloc, order, places.scale, parts.scale)?,
+        tiepoints: items(alloc, order, places.tiepoints, parts.tiepoints)?,
+        transformation: items(alloc, order, places.transformation, parts.transformation)?,
+    })
+}
