@@ -7,7 +7,7 @@ ghost use Rattle.tile_plan.specs.Plan.{Adjoin};
 ghost use Rattle.cog_reader.specs.Mosaic.{range_of, IsPainted, AreArraysOf, IsWhole, AreBytesOf, HasDamage};
 
 use crate::Arrays;
-use crate::paint::{paint, plain_size};
+use crate::paint::paint;
 use crate::samples::big_first;
 use std::alloc::Global;
 use std::marker::Model;
@@ -107,7 +107,7 @@ impl Mosaic {
             &arrays.counts,
         )?;
         let canvas = Canvas::new(alloc, level, rect)?;
-        let plain = vec![in alloc; 0u8; plain_size(level)].map_err(|_| PlanError::Memory)?;
+        let plain = vec![in alloc; 0u8; level.plain_size()].map_err(|_| PlanError::Memory)?;
         Ok(Mosaic {
             groups,
             taken: 0,

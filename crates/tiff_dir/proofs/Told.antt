@@ -1,5 +1,5 @@
 -- What a walk knows of a file from one range to the next.
-use Rattle.std.proofs.Common.{◌≡◌, ◌≢◌, ℕ, zero, suc, ◌+◌, ◌-◌, ◌<◌, ◌≤◌, ◌⊎◌, inl, inr, true, false, List, [], ◌∷◌, ◌++◌, map, length, take, drop, Option, Some, None, IsSomeAnd, IfSome, Result, Ok, Err, refl, sym, subst, ap, ◌∙◌, arith}
+use Rattle.std.proofs.Common.{◌≡◌, ◌≢◌, ℕ, zero, suc, ◌+◌, ◌-◌, ◌<◌, ◌≤◌, ◌⊎◌, inl, inr, true, false, List, [], ◌∷◌, ◌++◌, map, length, drop, Option, Some, None, IsSomeAnd, IfSome, Result, Ok, Err, refl, sym, subst, ap, ◌∙◌, arith}
 use Rattle.std.specs.Prelude.{slice_get, IsErrAnd, IsSome}
 use Rattle.tiff_dir.specs.declared.fault.WalkError.{WalkError}
 use Rattle.tiff_dir.specs.declared.fault.WalkError.TheVariants as errors
@@ -25,7 +25,7 @@ use Rattle.tiff_dir.specs.Described.{described, layout_of, AreLevels}
 use Rattle.tiff_dir.specs.Level.{Layout, is_level, place_of, level_directories, previous_level, layout_at, layouts, level_layout, level_directory}
 use Rattle.tiff_dir.specs.Needs.{Range, ends_past, range_of_place, field_range, needs_of_directories, outside_ranges}
 use Rattle.tiff_dir.specs.Fault.{IsFaultOfDirectories}
-use Rattle.tiff_dir.specs.Stage.{range_of, index_of, still, three_shorts, ranges_from, is_past_first, is_first_table, layouts_below, AgreesAt, IsBefore, IsPart, IsOver, StepsOn}
+use Rattle.tiff_dir.specs.Stage.{range_of, index_of, still, three_shorts, ranges_from, is_past_first, is_first_table, layouts_below, AgreesAt, IsBefore, IsOver, StepsOn}
 use Rattle.tiff_dir.specs.declared.geo.GeoEntries.{GeoEntries}
 use Rattle.tiff_dir.specs.GeoEntries.{AreNear}
 use Rattle.tiff_dir.specs.Known.{Known, HasGeo}
@@ -92,21 +92,16 @@ wanted_is w n is = at w.stage is where
   at (stages.Formats p first bits) is = (_, refl, is, omega arith)
   at (stages.Ended o k) is = absurd is
 
-pub wanted_parts : (f bytes : List ℕ) (w : Known) → IsWantedOf f w bytes → IfSome (range_of w.stage) (λ r. IsPart f r bytes)
+pub wanted_parts : (f bytes : List ℕ) (w : Known) → IsWantedOf f w bytes → IfSome (range_of w.stage) (λ r. bytes ≡ bytes_in f r)
 unfolding wanted
 wanted_parts f bytes w given = at (range_of w.stage) given where
-  at : (o : Option Range) → IsSomeAnd o (λ r. bytes ≡ bytes_in f r) → IfSome o (λ r. IsPart f r bytes)
+  at : (o : Option Range) → IsSomeAnd o (λ r. bytes ≡ bytes_in f r) → IfSome o (λ r. bytes ≡ bytes_in f r)
   at None given = absurd given
-  at (Some r) given =
-      let len : r.first + r.len - r.first ≡ r.len = omega arith in
-      given ∙ ap (λ (n : ℕ). take n (drop r.first f)) len
+  at (Some r) given = given
 
 -- the bytes of the file as a part of it
-pub wanted_part : (f bytes : List ℕ) (w : Known) (r : Range) → wanted w ≡ Some r → IsWantedOf f w bytes → IsPart f r bytes
-wanted_part f bytes w r is given =
-    let here : bytes ≡ bytes_in f r = some_and_at (wanted w) (λ x. bytes ≡ bytes_in f x) r is given in
-    let len : r.first + r.len - r.first ≡ r.len = omega arith in
-    here ∙ ap (λ (n : ℕ). take n (drop r.first f)) len
+pub wanted_part : (f bytes : List ℕ) (w : Known) (r : Range) → wanted w ≡ Some r → IsWantedOf f w bytes → bytes ≡ bytes_in f r
+wanted_part f bytes w r is given = some_and_at (wanted w) (λ x. bytes ≡ bytes_in f x) r is given
 
 -- The next range
 
@@ -122,7 +117,7 @@ geo_next f w stage geo told first taken same past = elim (cases_Bool (is_first_t
   ]
 ]
 
-pub told_next : (f bytes : List ℕ) (w : Known) (step : Step) (r : Range) (ls : List Level) (geo : GeoEntries) → Agrees w f → wanted w ≡ Some r → IsPart f r bytes → length bytes ≡ r.len → 0 < r.len → StepsOn f w.stage step
+pub told_next : (f bytes : List ℕ) (w : Known) (step : Step) (r : Range) (ls : List Level) (geo : GeoEntries) → Agrees w f → wanted w ≡ Some r → bytes ≡ bytes_in f r → length bytes ≡ r.len → 0 < r.len → StepsOn f w.stage step
     → ls ≡ w.levels ++ option_to_list step.level → (is_past_first step.stage ≡ true → HasGeo f geo) → Agrees (record { stage = step.stage; levels = ls; geo = geo; given = w.given + 1 }) f
 unfolding Agrees wanted
 told_next f bytes w step r ls geo told is part len some on same has =
