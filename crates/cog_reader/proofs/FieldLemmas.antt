@@ -1,5 +1,5 @@
 -- Geo fields that are read one after another.
-use Rattle.std.proofs.Common.{◌≡◌, ℕ, zero, suc, ◌+◌, ◌<◌, ◌≤◌, length-append, zero-add, ◌++◌, ◌∷◌, [], Bool, true, false, List, length, take, drop, get_or, map, Option, Some, None, refl, sym, subst, ap, ◌∙◌, arith, append-nil, length-take, length-drop}
+use Rattle.std.proofs.Common.{◌≡◌, ℕ, zero, suc, ◌+◌, ◌<◌, ◌≤◌, length-append, zero-add, ◌++◌, ◌∷◌, [], false, List, length, take, drop, map, Option, Some, None, refl, sym, subst, ap, ◌∙◌, arith, append-nil, length-take, length-drop}
 use Rattle.std.specs.Prelude.{slice_get, IsSomeAnd, IfSome}
 use Rattle.std.specs.Option.{option_map}
 use Rattle.std.specs.List.{cons_option, flat_map, list_any}
@@ -11,7 +11,7 @@ use Rattle.std.proofs.lemmas.Option.{none-some, slice_get_within, get_or_from_sl
 use Rattle.tiff_dir.specs.declared.geo.GeoPlaces.{GeoPlaces}
 use Rattle.tiff_dir.specs.declared.level.Kind.{Kind}
 use Rattle.tiff_dir.specs.declared.level.Place.{Place}
-use Rattle.tiff_dir.specs.File.{◌>>=◌, field}
+use Rattle.tiff_dir.specs.File.{◌>>=◌}
 use Rattle.tiff_dir.specs.Level.{place_of}
 use Rattle.tiff_dir.specs.Geo.{geo_place, geo_ranges}
 use Rattle.tiff_dir.specs.Needs.{ends_past, field_range, range_of_place}

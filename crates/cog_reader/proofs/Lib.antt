@@ -6,3 +6,6 @@ pub mod SoundLemmas
 pub mod KeptLemmas
 pub mod FieldLemmas
 pub mod TurnLemmas
+pub mod TakeLemmas
+pub mod ReaderLemmas
+pub mod InfoLemmas

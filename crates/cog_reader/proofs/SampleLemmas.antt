@@ -2,10 +2,9 @@
 use Rattle.std.proofs.Common.{◌≡◌, ℕ, zero, suc, ◌+◌, ◌*◌, ◌<◌, ◌≤◌, ◌⊎◌, inl, inr, Bool, true, false, List, [], ◌∷◌, length, get_or, refl, sym, subst, ap, ◌∙◌, arith}
 use Rattle.std.specs.Prelude.{◌||◌, ◌==◌, IsTrue}
 use Rattle.std.proofs.lemmas.Bool.{cases_Bool, eqb-true}
-use Rattle.byteorder.specs.Endian.{big_from, little_from}
 use Rattle.tiff_dir.specs.declared.order.Order.{Order}
 use Rattle.tiff_dir.specs.declared.order.Order.TheVariants.{Little, Big}
-use Rattle.tiff_dir.specs.Number.{number_in}
+use Rattle.tiff_dir.specs.Number.{big_from, little_from, number_in}
 use Rattle.tiff_dir.specs.Profile.{is_depth, sample_bytes}
 use Rattle.tile_plan.specs.Pairs.{exchanged}
 

@@ -1,13 +1,13 @@
 -- What a task becomes without another byte.
-use Rattle.std.proofs.Common.{◌≡◌, ◌≢◌, ℕ, zero, suc, ◌+◌, ◌-◌, ◌*◌, ◌<◌, ◌≤◌, ◌++◌, ◌∷◌, [], inl, inr, Bool, true, false, if◌then◌else◌, List, length, drop, map, get_or, Option, Some, None, refl, sym, subst, ap, ◌∙◌, arith, length-append, eq-eqb}
-use Rattle.std.specs.Prelude.{Result, Ok, Err, IfOk, ◌||◌, ◌⊎◌, ◌==◌, slice_get, IsSomeAnd, unwrap_or}
+use Rattle.std.proofs.Common.{◌≡◌, ℕ, suc, ◌+◌, ◌*◌, ◌<◌, ◌≤◌, ◌++◌, ◌∷◌, [], inl, inr, Bool, true, false, if◌then◌else◌, List, length, drop, map, get_or, Option, Some, None, refl, sym, subst, ap, ◌∙◌, arith, length-append, eq-eqb}
+use Rattle.std.specs.Prelude.{Result, Ok, Err, IfOk, IfSome, IsSome, MatchOption, ◌||◌, ◌⊎◌, ◌==◌, slice_get, IsSomeAnd, unwrap_or}
 use Rattle.std.specs.Option.{option_map, option_map_or, option_to_list}
 use Rattle.std.specs.List.{cons_option, filter, list_any, range_with_len}
 use Rattle.std.proofs.Math.Nat.{mul-le-mul_left}
-use Rattle.std.proofs.lemmas.Bool.{lt-ltb}
+use Rattle.std.proofs.lemmas.Bool.{lt-ltb, false≢true}
 use Rattle.std.proofs.lemmas.List.{length-map}
 use Rattle.std.proofs.lemmas.List.FromFn.{length-range_with_len}
-use Rattle.std.proofs.lemmas.Option.{none-some, get_or_from_slice_get, slice_get_within, slice_get-map}
+use Rattle.std.proofs.lemmas.Option.{none-some, get_or_from_slice_get, slice_get_past, slice_get_within, slice_get-map}
 use Rattle.std.proofs.lemmas.List.Folds.{list_any_at}
 use Rattle.tiff_dir.specs.declared.level.Kind.{Kind}
 use Rattle.tiff_dir.specs.declared.level.Kind.TheVariants as kind
@@ -19,9 +19,9 @@ use Rattle.tiff_dir.specs.declared.query.Query.TheVariants.{Window, Info}
 use Rattle.tiff_dir.specs.declared.span.Span.{Span}
 use Rattle.tiff_dir.specs.declared.fault.FileFault.{FileFault}
 use Rattle.tiff_dir.specs.declared.fault.FileFault.TheVariants.{PastEnd, FieldType, TooLarge}
-use Rattle.tiff_dir.specs.File.{◌>>=◌, order_of, size_of}
+use Rattle.tiff_dir.specs.File.{◌>>=◌, size_of}
 use Rattle.tiff_dir.specs.Known.{Known}
-use Rattle.tiff_dir.specs.Level.{Grid, level_layout, tile_total}
+use Rattle.tiff_dir.specs.Level.{level_layout, tile_total}
 use Rattle.tiff_dir.specs.Described.{grid_of, layout_of}
 use Rattle.tiff_dir.specs.Fault.{IsFaultOfDirectories}
 use Rattle.tiff_dir.specs.Faulty.{IsFaulty, IsFaultOfInfo, IsFaultOfWindow}
@@ -35,7 +35,7 @@ use Rattle.tile_plan.specs.declared.asked.Rectangle.{Rectangle}
 use Rattle.cog_reader.specs.declared.mosaic.Mosaic.{Mosaic}
 use Rattle.tile_plan.specs.declared.plan.Group.{Group}
 use Rattle.tile_plan.specs.Levels.{rectangle_of, HasLevels, IsAsked, IsSmall}
-use Rattle.tile_plan.specs.Plan.{group_of, tiles_of, AreGroups, IsGroup, IsPlanned}
+use Rattle.tile_plan.specs.Plan.{group_of, tiles_of, IsGroup, IsPlanned}
 use Rattle.cog_reader.specs.declared.arrays.Arrays.{Arrays}
 use Rattle.cog_reader.specs.declared.fields.Fields.{Fields}
 use Rattle.cog_reader.specs.declared.kept.Kept.{Kept}
@@ -49,10 +49,14 @@ use Rattle.cog_reader.specs.Fields.{present_in, IsReadOf, Reading}
 use Rattle.cog_reader.specs.Kept.{held, next_array, AreKept}
 use Rattle.cog_reader.specs.Mosaic.{range_of, IsPlan, IsUnderway, Work, AreArraysOf}
 use Rattle.cog_reader.specs.Outcome.{IsTrueOf, IsWindowOf}
-use Rattle.cog_reader.specs.Reader.{outcome_in, wanted_by, HasBoth, IsClean, IsTask, IsTaskOf}
-use Rattle.cog_reader.specs.Turn.{Becomes, IsBase, IsFair, IsReady, IsSettled}
+use Rattle.cog_reader.specs.Reader.{outcome_in, own_taken, wanted_by, HasBoth, IsClean, IsTask, IsTaskOf}
+use Rattle.cog_reader.specs.Turn.{Becomes, IsBase, IsFair, IsReady, IsSettled, IsWantedBy}
 use Rattle.cog_reader.proofs.FieldLemmas.{geo_ranges_are, few_bytes, some_bytes}
 use Rattle.cog_reader.proofs.SoundLemmas.{ranges_are, array_some}
+
+-- nothing of the directories is still to come
+abbrev pub IsOver : Known → Type 0
+IsOver w = (f : List ℕ) → walk.Agrees w f → walk.to_come w f ≡ []
 
 -- ---- a query that is done
 
@@ -62,18 +66,23 @@ becomes_done complete w k q old o true_of = record {
   same = true_of;
   come = λ f base here none. absurd (none-some o (sym none));
   steps = omega arith;
+  done = λ done. refl;
 }
 
-pub becomes_more : (complete : ℕ) (w : Known) (k : Kept) (q : Query) (a b c : Task) → Becomes complete w k q a b → Becomes complete w k q b c → (outcome_in b ≡ None) → Becomes complete w k q a c
-becomes_more complete w k q a b c x y undone = record {
+pub becomes_more : (complete : ℕ) (w : Known) (k : Kept) (q : Query) (a b c : Task) → Becomes complete w k q a b → Becomes complete w k q b c → Becomes complete w k q a c
+becomes_more complete w k q a b c x y = record {
   sound = y.sound;
   same = λ f base here. y.same f base (x.same f base here);
-  come = λ f base here none. y.come f base (x.same f base here) none ∙ x.come f base here undone;
+  come = λ f base here none. y.come f base (x.same f base here) none ∙ x.come f base here (undone (outcome_in b) refl none);
   steps = omega (arith, x.steps, y.steps);
-}
+  done = λ done. y.done (x.done done);
+} where
+  undone : (o : Option Outcome) → outcome_in b ≡ o → outcome_in c ≡ None → outcome_in b ≡ None
+  undone None is none = is
+  undone (Some o) is none = absurd (false≢true (subst IsSome none (y.done (subst IsSome (sym is) refl))))
 
 pub becomes_same : (complete : ℕ) (w : Known) (k : Kept) (q : Query) (a : Task) → IsTask complete w k a → Becomes complete w k q a a
-becomes_same complete w k q a sound = record { sound = sound; same = λ f base here. here; come = λ f base here none. refl; steps = omega arith }
+becomes_same complete w k q a sound = record { sound = sound; same = λ f base here. here; come = λ f base here none. refl; steps = omega arith; done = λ done. done }
 
 -- ---- a level of the walk
 
@@ -214,7 +223,7 @@ groups_few complete a m plan =
 pub both_held : (k : Kept) (n : ℕ) (a : Arrays) → k ≡ kept.Both n a → held k n ≡ 2
 both_held k n a is = ap (λ x. held x n) is ∙ (let same : (n == n) ≡ true = eq-eqb n n refl in rw same refl)
 
-has_both : (k : Kept) (n : ℕ) (a : Arrays) (P : Arrays → Type 0) → k ≡ kept.Both n a → P a → HasBoth k P
+pub has_both : (k : Kept) (n : ℕ) (a : Arrays) (P : Arrays → Type 0) → k ≡ kept.Both n a → P a → HasBoth k P
 has_both k n a P is good = subst (λ x. HasBoth x P) (sym is) good
 
 -- the arrays of a level of the walk, of which the groups of a window are planned
@@ -238,8 +247,9 @@ pub becomes_tiles : (complete : ℕ) (w : Known) (k : Kept) (q : Query) (r : Rec
 becomes_tiles complete w k q r l a m ended of_level is same plan none underway = record {
   sound = (ended, has_both k r.level a (λ b. IsPlan complete b m) is plan);
   same = λ f base here. (has_both k r.level a (λ b. IsUnderway f q b m) is (underway f base.size (planned f q complete w k r l a base here of_level is same)), of_level.clean f base.walked);
-  come = λ f base here undone. ap (λ n. walk.to_come w f ++ drop n (needs_of_query f q)) (omega (arith, none, both_held k r.level a is));
+  come = λ f base here undone. ap (λ n. drop n (needs_of_query f q)) (omega (arith, none, both_held k r.level a is));
   steps = (let few = groups_few complete a m plan in let two = both_held k r.level a is in omega (arith, few, two, none));
+  done = λ done. absurd (false≢true done);
 }
 
 -- ---- the geo fields
@@ -277,7 +287,6 @@ wanted_group complete w k a m plan span some = at (slice_get m.groups m.taken) r
 pub fair_field : (complete : ℕ) (g : GeoPlaces) (i : ℕ) (p : Place) → AreTyped g → slice_get (present_in g) i ≡ Some p → (complete < p.first + p.len → ⊥) → IsFair complete (range_of_place p)
 fair_field complete g i p typed is inside = record { some = some_bytes g typed i p is; inside = omega (arith, inside); few = (let few = few_bytes g typed i p is in omega (arith, few)) }
 
-
 pub past_field : (f : List ℕ) (r : Reading) (p : Place) → IsReadOf f r → slice_get (present_in r.places) r.taken ≡ Some p → length f < p.first + p.len → IsFaulty f Info PastEnd
 unfolding needs_of_query
 past_field f r p read is past =
@@ -292,13 +301,14 @@ cons_few (Some p) ps n few = omega (arith, few)
 six_few : (g : GeoPlaces) → length (present_in g) ≤ 6
 six_few g = cons_few g.directory _ 5 (cons_few g.doubles _ 4 (cons_few g.ascii _ 3 (cons_few g.scale _ 2 (cons_few g.tiepoints _ 1 (cons_few g.transformation [] 0 (omega arith))))))
 
-pub becomes_fields : (complete : ℕ) (w : Known) (k : Kept) (g : GeoPlaces) (x : Fields) → HasEnded w → x ≡ record { places = g; taken = 0; bytes = [] } → ((f : List ℕ) → walk.Agrees w f → AreGeoPlaces f g) → Becomes complete w k Info Begin (Geo x)
+pub becomes_fields : (complete : ℕ) (w : Known) (k : Kept) (g : GeoPlaces) (x : Fields) → HasEnded w → x ≡ record { places = g; taken = 0; bytes = [] } → ((f : List ℕ) → walk.Agrees w f → AreGeoPlaces f g) → IsOver w → Becomes complete w k Info Begin (Geo x)
 unfolding rectangle
-becomes_fields complete w k g x ended is places = record {
+becomes_fields complete w k g x ended is places over = record {
   sound = ended;
   same = λ f base here. (refl, subst (IsReadOf f) (sym is) (record { places = places f base.walked; bytes_are = refl; inside = refl }));
-  come = λ f base here undone. ap (λ n. walk.to_come w f ++ drop n (needs_of_query f Info)) (ap (λ (r : Reading). r.taken) is);
+  come = λ f base here undone. ap (λ n. drop n (needs_of_query f Info)) (ap (λ (r : Reading). r.taken) is) ∙ ap (λ l. l ++ needs_of_query f Info) (sym (over f base.walked));
   steps = (let few = six_few g in let same = ap (λ (r : Reading). length (present_in r.places)) is in omega (arith, few, same));
+  done = λ done. absurd (false≢true done);
 }
 
 -- ---- a window that is begun
@@ -307,12 +317,15 @@ pub if_ok : {A E : Type 0} (r : Result A E) (P Q : A → Type 0) → IfOk r P �
 if_ok (Ok a) P Q h more = more a h
 if_ok (Err e) P Q h more = h
 
-pub becomes_window : (complete : ℕ) (w : Known) (k : Kept) (q : Query) (ls : List Level) (r : Rectangle) → HasEnded w → ls ≡ levels_of w → IsAsked ls q r → ((f : List ℕ) → walk.Agrees w f → HasLevels f ls) → Becomes complete w k q Begin (Reads r)
-becomes_window complete w k q ls r ended same asks levels = record {
+pub becomes_window : (complete : ℕ) (w : Known) (k : Kept) (q : Query) (ls : List Level) (r : Rectangle) → HasEnded w → ls ≡ levels_of w → IsAsked ls q r → ((f : List ℕ) → walk.Agrees w f → HasLevels f ls) → IsOver w → Becomes complete w k q Begin (Reads r)
+becomes_window complete w k q ls r ended same asks levels over = record {
   sound = (ended, subst (λ xs. IsSomeAnd (slice_get xs r.level) (λ l. IsSmall l r)) same asks.small);
   same = λ f base here. (asks.rectangle f (levels f base.walked), asks.good f (levels f base.walked));
-  come = λ f base here undone. ap (λ (o : Option asked.Rectangle). walk.to_come w f ++ drop (option_map_or (λ (r : asked.Rectangle). held k r.level) o 0) (needs_of_query f q)) (sym (asks.rectangle f (levels f base.walked)));
+  come = λ f base here undone.
+      ap (λ (o : Option asked.Rectangle). drop (option_map_or (λ (r : asked.Rectangle). held k r.level) o 0) (needs_of_query f q)) (sym (asks.rectangle f (levels f base.walked)))
+      ∙ ap (λ l. l ++ drop (own_taken f q k Begin) (needs_of_query f q)) (sym (over f base.walked));
   steps = omega arith;
+  done = λ done. absurd (false≢true done);
 }
 
 pub own_fault : (f : List ℕ) (q : Query) (fault : FileFault) → (q ≡ Info → ⊥) → IsFaultOfWindow f q fault → IsFaulty f q fault
@@ -339,3 +352,49 @@ pub becomes_window_done : (complete : ℕ) (w : Known) (k : Kept) (n : ℕ) (a :
     → ((f : List ℕ) (q : Query) → IsUnderway f q a m → m.taken ≡ length m.groups → IsClean f → IsWindowOf f q v) → Becomes complete w k q (Tiles m) (Done (outcomes.Window v))
 becomes_window_done complete w k n a q m v is all window =
     becomes_done complete w k q (Tiles m) (outcomes.Window v) (λ f base here. window f q (both_at k n a (λ b. IsUnderway f q b m) is here.0) all here.1)
+
+-- ---- what is answered
+
+settle_becomes_at : (complete : ℕ) (w : Known) (k : Kept) (q : Query) (next : Option Task) (old new : Task) → IsTask complete w k old → IfSome next (Becomes complete w k q old)
+    → (IsTask complete w k (unwrap_or next old) → Becomes complete w k q (unwrap_or next old) new) → Becomes complete w k q old new
+settle_becomes_at complete w k q None old new sound turned finished = finished sound
+settle_becomes_at complete w k q (Some t) old new sound turned finished = becomes_more complete w k q old t new turned (finished turned.sound)
+
+pub settle_becomes : (complete : ℕ) (w : Known) (k : Kept) (q : Query) (next : Option Task) (old task mid new : Task) → task ≡ old → mid ≡ unwrap_or next task → IsTask complete w k old → IfSome next (Becomes complete w k q old)
+    → (IsTask complete w k mid → Becomes complete w k q mid new) → Becomes complete w k q old new
+settle_becomes complete w k q next old task mid new same is sound turned finished =
+    settle_becomes_at complete w k q next old new sound turned (subst (λ t. IsTask complete w k t → Becomes complete w k q t new) (is ∙ ap (unwrap_or next) same) finished)
+
+settle_sound : (complete : ℕ) (w : Known) (k : Kept) (q : Query) (next : Option Task) (old : Task) → IsTask complete w k old → IfSome next (Becomes complete w k q old) → IsTask complete w k (unwrap_or next old)
+settle_sound complete w k q None old sound turned = sound
+settle_sound complete w k q (Some t) old sound turned = turned.sound
+
+pub settle_settled : (complete : ℕ) (w : Known) (k : Kept) (q : Query) (next : Option Task) (old task mid new : Task) → task ≡ old → mid ≡ unwrap_or next task → IsTask complete w k old → IfSome next (Becomes complete w k q old) → IsReady complete w k (unwrap_or next old)
+    → (IsTask complete w k mid → IsReady complete w k mid → IsSettled complete w k new) → IsSettled complete w k new
+settle_settled complete w k q next old task mid new same is sound turned ready finished =
+    let e = is ∙ ap (unwrap_or next) same in
+    finished (subst (IsTask complete w k) (sym e) (settle_sound complete w k q next old sound turned)) (subst (IsReady complete w k) (sym e) ready)
+
+no_array : (o : Option Level) (k : Kept) (n : ℕ) (a : Arrays) (P : Range → Type 0) → k ≡ kept.Both n a → IsSomeAnd (o >>= λ l. option_map range_of_place (next_array k n l)) P → ⊥
+no_array None k n a P is bad = bad
+no_array (Some l) k n a P is some =
+    let none : next_array k n l ≡ None = ap (λ x. next_array x n l) is ∙ (let same : (n == n) ≡ true = eq-eqb n n refl in rw same refl) in
+    subst (λ o. IsSomeAnd (option_map range_of_place o) P) none some
+
+-- where both arrays are kept, none is wanted
+pub both_unsettled : (complete : ℕ) (w : Known) (k : Kept) (r : Rectangle) (a : Arrays) → k ≡ kept.Both r.level a → IsSettled complete w k (Reads r) → ⊥
+both_unsettled complete w k r a is (inl bad) = false≢true bad
+both_unsettled complete w k r a is (inr some) = no_array (slice_get (levels_of w) r.level) k r.level a (IsFair complete) is some
+
+pub tiles_wanted : (complete : ℕ) (w : Known) (k : Kept) (m : Mosaic) (o : Option Span) → MatchOption o (m.taken ≡ length m.groups) (λ span. IsSomeAnd (slice_get m.groups m.taken) (λ g. g.span ≡ span)) → IsSettled complete w k (Tiles m)
+    → MatchOption o (IsSome (outcome_in (Tiles m))) (λ span. IsWantedBy complete w k (Tiles m) (range_of_span span))
+tiles_wanted complete w k m o needs (inl bad) = absurd (false≢true bad)
+tiles_wanted complete w k m None all (inr some) = absurd (subst (λ (x : Option Group). IsSomeAnd (option_map (λ (g : Group). range_of_span g.span) x) (IsFair complete)) (slice_get_past m.groups m.taken (omega (arith, all))) some)
+tiles_wanted complete w k m (Some span) next (inr some) = at (slice_get m.groups m.taken) refl next some where
+  at : (x : Option Group) → slice_get m.groups m.taken ≡ x → IsSomeAnd x (λ g. g.span ≡ span) → IsSomeAnd (option_map (λ (g : Group). range_of_span g.span) x) (IsFair complete) → IsWantedBy complete w k (Tiles m) (range_of_span span)
+  at None is bad fair = absurd bad
+  at (Some g) is same fair = record {
+    is = ap (option_map (λ (g : Group). range_of_span g.span)) is ∙ ap (λ s. Some (range_of_span s)) same;
+    fair = subst (λ s. IsFair complete (range_of_span s)) same fair;
+    undone = refl;
+  }

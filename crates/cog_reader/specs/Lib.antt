@@ -6,4 +6,5 @@ pub mod Outcome
 pub mod Paint
 pub mod Reader
 pub mod Samples
+pub mod Take
 pub mod Turn

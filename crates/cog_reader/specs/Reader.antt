@@ -1,7 +1,6 @@
 -- What is known of a reader, which answers one query of one file, given range by range.
-use Rattle.std.specs.Prelude.{◌≡◌, ℕ, ◌+◌, ◌-◌, ◌*◌, ◌<◌, ◌≤◌, ⊤, ◌⊎◌, false, List, [], ◌++◌, length, drop, slice_get, Option, Some, None, IfSome, IsSome, IsSomeAnd}
+use Rattle.std.specs.Prelude.{◌≡◌, ℕ, ◌+◌, ◌-◌, ◌<◌, ◌≤◌, ⊤, ◌⊎◌, false, List, [], ◌∷◌, ◌++◌, length, drop, slice_get, Option, Some, None, IfSome, IsSome, IsSomeAnd}
 use Rattle.std.specs.Option.{option_map, option_map_or}
-use Rattle.tiff_dir.specs.declared.level.Level.{Level}
 use Rattle.tiff_dir.specs.declared.query.Query.{Query}
 use Rattle.tiff_dir.specs.declared.query.Query.TheVariants as query
 use Rattle.tiff_dir.specs.declared.span.Span.{Span}
@@ -10,10 +9,9 @@ use Rattle.tiff_dir.specs.Fault.{IsFaultOfDirectories}
 use Rattle.tiff_dir.specs.File.{◌>>=◌}
 use Rattle.tiff_dir.specs.Known.{Known}
 use Rattle.tiff_dir.specs.Needs.{Range, range_of_place}
-use Rattle.tiff_dir.specs.Query.{needs, needs_of_query, rectangle, is_refused, max_group_bytes}
+use Rattle.tiff_dir.specs.Query.{needs_of_query, rectangle, is_refused, max_group_bytes}
 use Rattle.tiff_dir.specs.Walk as walk
 use Rattle.tiff_dir.specs.Walk.{HasEnded, bytes_in, given_of, levels_of, range_of_span}
-use Rattle.tile_plan.specs.declared.asked.Rectangle.{Rectangle}
 use Rattle.tile_plan.specs.declared.plan.Group.{Group}
 use Rattle.tile_plan.specs.Levels.{IsSmall, rectangle_of}
 use Rattle.cog_reader.specs.declared.arrays.Arrays.{Arrays}
@@ -76,7 +74,8 @@ own_taken f q k (Done o) = 0
 -- the ranges that a task wants of the file from now on
 abbrev pub come_by : List ℕ → Known → Kept → Query → Task → List Range
 come_by f w k q (Done o) = []
-come_by f w k q task = walk.to_come w f ++ drop (own_taken f q k task) (needs_of_query f q)
+come_by f w k q Begin = walk.to_come w f ++ drop (own_taken f q k Begin) (needs_of_query f q)
+come_by f w k q task = drop (own_taken f q k task) (needs_of_query f q)
 
 -- The ranges of the file that the reader wants from now on.
 unfoldable pub to_come : Held → List ℕ → List Range
@@ -155,7 +154,8 @@ Wants r (Some span) =
     (wanted r ≡ Some (range_of_span span)) × (span.last < complete_of r) × (span.last + 1 ≤ span.first + max_group_bytes)
     × (outcome_of r ≡ None)
 
--- the ranges are the last ones of others
-pub record AreLastOf (few many : List Range) : Type 0 where
-  pub front : List Range
-  pub joined : many ≡ front ++ few
+-- What is to come after the wanted range was given: the ranges but for it, or none where the query is answered.
+abbrev pub GoesOn : List ℕ → Held → Held → Type 0
+GoesOn f old new =
+    (IsSome (outcome_of new) × (to_come new f ≡ []))
+    ⊎ IsSomeAnd (wanted old) (λ r. to_come old f ≡ r ∷ to_come new f)

@@ -1,5 +1,5 @@
 -- What a task becomes without another byte of the file.
-use Rattle.std.specs.Prelude.{◌≡◌, ℕ, ◌+◌, ◌<◌, ◌≤◌, ⊤, ◌⊎◌, List, length, Option, Some, None, IsSome, IsSomeAnd}
+use Rattle.std.specs.Prelude.{◌≡◌, ℕ, ◌+◌, ◌<◌, ◌≤◌, ⊤, ◌⊎◌, List, length, Some, None, IsSome, IsSomeAnd}
 use Rattle.tiff_dir.specs.declared.query.Query.{Query}
 use Rattle.tiff_dir.specs.Faulty.{IsFaulty}
 use Rattle.tiff_dir.specs.declared.query.Query.TheVariants as query
@@ -7,8 +7,8 @@ use Rattle.tiff_dir.specs.Known.{Known}
 use Rattle.tiff_dir.specs.Needs.{Range}
 use Rattle.tiff_dir.specs.Query.{max_group_bytes}
 use Rattle.tiff_dir.specs.Walk as walk
-use Rattle.geokeys.specs.declared.geo.GeoError.{GeoError}
-use Rattle.geokeys.specs.declared.geo.GeoError.TheVariants.{File, Memory}
+use Rattle.tiff_dir.specs.declared.fault.WalkError.{WalkError}
+use Rattle.tiff_dir.specs.declared.fault.WalkError.TheVariants.{File, Memory}
 use Rattle.cog_reader.specs.declared.kept.Kept.{Kept}
 use Rattle.cog_reader.specs.declared.outcome.Outcome.{Outcome}
 use Rattle.cog_reader.specs.declared.task.Task.{Task}
@@ -30,12 +30,19 @@ pub record Becomes (complete : ℕ) (w : Known) (k : Kept) (q : Query) (old new 
   pub same : (f : List ℕ) → IsBase f complete w k → IsTaskOf f q k old → IsTaskOf f q k new
   pub come : (f : List ℕ) → IsBase f complete w k → IsTaskOf f q k old → outcome_in new ≡ None → come_by f w k q new ≡ come_by f w k q old
   pub steps : steps_by w k new ≤ steps_by w k old
+  pub done : IsSome (outcome_in old) → IsSome (outcome_in new)
 
 -- the range isn't empty, ends in a file of so many bytes, and isn't too long
 pub record IsFair (complete : ℕ) (r : Range) : Type 0 where
   pub some : 0 < r.len
   pub inside : r.first + r.len ≤ complete
   pub few : r.len ≤ max_group_bytes
+
+-- the task wants this range, which can be given
+pub record IsWantedBy (complete : ℕ) (w : Known) (k : Kept) (task : Task) (r : Range) : Type 0 where
+  pub is : wanted_by w k task ≡ Some r
+  pub fair : IsFair complete r
+  pub undone : outcome_in task ≡ None
 
 -- the task is done, or wants a range that can be given
 abbrev pub IsSettled : ℕ → Known → Kept → Task → Type 0
@@ -51,6 +58,6 @@ abbrev pub IsEndOfFields : ℕ → Known → Reading → Outcome → Type 0
 IsEndOfFields complete w x o = (f : List ℕ) → length f ≡ complete → walk.Agrees w f → IsReadOf f x → IsTrueOf f query.Info o
 
 -- the fault stands in the file for Info
-abbrev pub IsInfoError : List ℕ → GeoError → Type 0
+abbrev pub IsInfoError : List ℕ → WalkError → Type 0
 IsInfoError f (File fault) = IsFaulty f query.Info fault
 IsInfoError f Memory = ⊤

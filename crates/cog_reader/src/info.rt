@@ -17,10 +17,12 @@ use tiff_dir::{Level, Memory, Order, Place, Walk};
 fn sides(alloc: Global, levels: &[Level]) -> Result<Vec<(u32, u32)>, Memory>
     ensures { IfOk result (λ v. v.items ≡ map sides_of levels.now) }
 {
-    Ok(levels
-        .iter()
-        .map(|level| (level.width, level.length))
-        .collect(alloc)?)
+    Ok(
+        levels
+            .iter()
+            .map(|level| (level.width, level.length))
+            .collect(alloc)?,
+    )
 }
 
 /// The items of a field that stands somewhere.

@@ -3,17 +3,20 @@
 
 mod arrays;
 mod fields;
+mod file;
 mod info;
 mod kept;
 mod mosaic;
 mod outcome;
 mod paint;
+mod reader;
 mod samples;
+mod take;
 mod task;
 mod turn;
 
 pub use arrays::Arrays;
-pub use fields::Fields;
-pub use kept::Kept;
+pub use file::read_file;
 pub use mosaic::Mosaic;
 pub use outcome::{Info, Outcome, Window};
+pub use reader::Reader;

@@ -6,9 +6,9 @@ ghost use Rattle.tiff_dir.specs.Level.{plain_size};
 ghost use Rattle.tile_plan.specs.Plan.{Adjoin};
 ghost use Rattle.cog_reader.specs.Mosaic.{range_of, IsPainted, AreArraysOf, IsWhole, AreBytesOf, HasDamage};
 
-use crate::{Arrays, Window};
-use crate::paint::{paint, plain_size};
+use crate::paint::paint;
 use crate::samples::big_first;
+use crate::{Arrays, Window};
 use std::alloc::Global;
 use std::marker::Model;
 use tiff_dir::{FileFault, Span};
@@ -109,7 +109,7 @@ impl Mosaic {
             &arrays.counts,
         )?;
         let canvas = Canvas::new(alloc, level, rect)?;
-        let plain = vec![in alloc; 0u8; plain_size(level)].map_err(|_| PlanError::Memory)?;
+        let plain = vec![in alloc; 0u8; level.plain_size()].map_err(|_| PlanError::Memory)?;
         Ok(Mosaic {
             rect,
             groups,

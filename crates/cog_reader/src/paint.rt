@@ -2,27 +2,12 @@
 ghost use Rattle.std.specs.Prelude.{◌≡◌, ◌<◌, ◌≤◌, IfErr, OnOk, length};
 ghost use Rattle.tiff_dir.specs.declared.level.Compression.TheVariants as compression;
 ghost use Rattle.tiff_dir.specs.Described.{grid_of, layout_of};
-ghost use Rattle.tiff_dir.specs.Level.{plain_row, plain_size, tile_total};
+ghost use Rattle.tiff_dir.specs.Level.{plain_size, tile_total};
 ghost use Rattle.cog_reader.specs.Paint.{IsPaint, IsBad};
 
 use packbits::unpack;
 use tiff_dir::{Compression, FileFault, Level};
 use tile_plan::Canvas;
-
-/// How many bytes a row of a tile has when it is unpacked.
-pub fn plain_row(level: &Level) -> usize
-    ensures row { result ≡ plain_row (layout_of level.now) }
-    ensures some { 0 < result }
-{
-    level.tile_width as usize * usize::from(level.samples) * usize::from(level.bits / 8)
-}
-
-/// How many bytes a tile has when it is unpacked.
-pub fn plain_size(level: &Level) -> usize
-    ensures { result ≡ plain_size (layout_of level.now) }
-{
-    plain_row(level) * level.tile_length as usize
-}
 
 /// Copies the tile that the bytes of a file stand for onto the canvas. `plain` is room for the tile.
 pub fn paint(
@@ -45,7 +30,7 @@ pub fn paint(
     match level.compression {
         Compression::Plain => canvas.blit(tile, bytes),
         Compression::PackBits => {
-            unpack(bytes, plain_row(level), plain)?;
+            unpack(bytes, level.plain_row(), plain)?;
             canvas.blit(tile, plain);
         }
     }

@@ -20,7 +20,7 @@ use crate::task::{Asked, Task};
 use crate::{Mosaic, Outcome};
 use geokeys::GeoError;
 use std::alloc::Global;
-use tiff_dir::{FileFault, Memory, Place, Query, Walk};
+use tiff_dir::{FileFault, Memory, Place, Query, Walk, what_comes};
 use tile_plan::{PlanError, Rectangle, rect};
 
 /// Whether the values end after a file of `complete` bytes.
@@ -87,15 +87,12 @@ fn end_of_fields(
 }
 
 /// The directories were read, and Info is asked.
-fn begin_info(
-    alloc: Global,
-    complete: u64,
-    walk: &Walk,
-) -> Result<Task, Memory>
+fn begin_info(alloc: Global, complete: u64, walk: &Walk) -> Result<Task, Memory>
     requires ended { HasEnded walk.now }
     ensures becomes { IfOk result (λ new. (k : Keeps) → Becomes complete walk.now k asks.Info task.Begin new) }
     ensures settled { IfOk result (λ new. (k : Keeps) → IsSettled complete walk.now k new) }
 {
+    what_comes();
     let places = match walk.geo_places() {
         Ok(places) => places,
         Err(fault) => return Ok(Task::Done(Outcome::Fault(fault))),
@@ -121,6 +118,7 @@ fn begin_window(
     ensures becomes { IfOk result (Becomes complete walk.now kept.now query task.Begin) }
     ensures settled { IfOk result (IsReady complete walk.now kept.now) }
 {
+    what_comes();
     match rect(walk.levels(), query) {
         Ok(rect) => read_arrays(alloc, complete, walk, kept, rect),
         Err(fault) => Ok(Task::Done(Outcome::Fault(fault))),
@@ -144,9 +142,7 @@ fn begin(
         Err(fault) => Ok(Some(Task::Done(Outcome::Fault(fault)))),
         Ok(None) => match query {
             Query::Info => Ok(Some(begin_info(alloc, complete, walk)?)),
-            Query::Window { .. } => {
-                Ok(Some(begin_window(alloc, complete, walk, kept, query)?))
-            }
+            Query::Window { .. } => { Ok(Some(begin_window(alloc, complete, walk, kept, query)?)) }
         },
     }
 }

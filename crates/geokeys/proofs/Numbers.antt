@@ -12,8 +12,8 @@ use Rattle.tiff_dir.specs.Keys.{KeySource, key_number, IsBadKeyHead, IsKeyDisord
 use Rattle.geokeys.specs.declared.entry.Head.{Head}
 use Rattle.geokeys.specs.declared.entry.Entry.{Entry}
 use Rattle.geokeys.specs.declared.geo.Geo.{Geo}
-use Rattle.geokeys.specs.declared.geo.GeoError.{GeoError}
-use Rattle.geokeys.specs.declared.geo.GeoError.TheVariants.{File, Memory}
+use Rattle.tiff_dir.specs.declared.fault.WalkError.{WalkError as GeoError}
+use Rattle.tiff_dir.specs.declared.fault.WalkError.TheVariants.{File, Memory}
 use Rattle.geokeys.specs.declared.geo.Key.{Key}
 use Rattle.geokeys.specs.Keys.{number_at, key_source, IsValue, IsKey, AreKeys, IsKeyError}
 use Rattle.geokeys.specs.Entry.{IsHead, entry_at, only_items, IsPlaced, IsRefusal}

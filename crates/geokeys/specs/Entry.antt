@@ -6,8 +6,8 @@ use Rattle.tiff_dir.specs.Number.{number_in}
 use Rattle.tiff_dir.specs.Keys.{KeySource, IsMisplaced}
 use Rattle.geokeys.specs.declared.entry.Head.{Head}
 use Rattle.geokeys.specs.declared.entry.Entry.{Entry}
-use Rattle.geokeys.specs.declared.geo.GeoError.{GeoError}
-use Rattle.geokeys.specs.declared.geo.GeoError.TheVariants.{File, Memory}
+use Rattle.tiff_dir.specs.declared.fault.WalkError.{WalkError as GeoError}
+use Rattle.tiff_dir.specs.declared.fault.WalkError.TheVariants.{File, Memory}
 use Rattle.geokeys.specs.Keys.{number_at, item_count}
 
 -- the first four numbers, and as many bytes as they say

@@ -8,8 +8,8 @@ use Rattle.geokeys.specs.declared.geo.Geo.{Geo}
 use Rattle.geokeys.specs.declared.geo.Key.{Key}
 use Rattle.geokeys.specs.declared.geo.KeyValue.{KeyValue}
 use Rattle.geokeys.specs.declared.geo.KeyValue.TheVariants.{Short, Doubles, Ascii}
-use Rattle.geokeys.specs.declared.geo.GeoError.{GeoError}
-use Rattle.geokeys.specs.declared.geo.GeoError.TheVariants.{File, Memory}
+use Rattle.tiff_dir.specs.declared.fault.WalkError.{WalkError as GeoError}
+use Rattle.tiff_dir.specs.declared.fault.WalkError.TheVariants.{File, Memory}
 use Rattle.geokeys.specs.Doubles.{doubles_in}
 
 -- number i of the directory, where its two bytes are there

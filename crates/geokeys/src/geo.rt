@@ -1,11 +1,10 @@
 //! The keys of a file.
 ghost use Rattle.std.specs.Prelude.{◌≡◌};
-ghost use Rattle.geokeys.specs.declared.geo.GeoError.TheVariants.{File, Memory};
 
 use crate::entry::{entry_at, head_of};
 use crate::items::value_of;
-use std::alloc::{AllocError, AllocFailed, Global};
-use tiff_dir::{FileFault, Order};
+use std::alloc::Global;
+use tiff_dir::{FileFault, Order, WalkError as GeoError};
 
 /// The keys of a file, in ascending order of their numbers.
 #[derive(Debug, Drop, PartialEq, Eq)]
@@ -31,47 +30,6 @@ pub enum KeyValue {
     Doubles(Vec<[u8; 8]>),
     /// A text, with the bytes that end it.
     Ascii(Vec<u8>),
-}
-
-/// Why there are no keys.
-#[derive(Clone, Copy, Debug, PartialEq, Eq)]
-pub enum GeoError {
-    /// The directory has this fault.
-    File(FileFault),
-    /// No memory was left.
-    Memory,
-}
-
-impl From<FileFault> for GeoError {
-    ghost from_gives = { λ fault e. e ≡ File fault };
-
-    fn from(fault: FileFault) -> GeoError {
-        GeoError::File(fault)
-    }
-}
-
-impl From<tiff_dir::Memory> for GeoError {
-    ghost from_gives = { λ _ e. e ≡ Memory };
-
-    fn from(_refused: tiff_dir::Memory) -> GeoError {
-        GeoError::Memory
-    }
-}
-
-impl From<AllocError> for GeoError {
-    ghost from_gives = { λ _ e. e ≡ Memory };
-
-    fn from(_refused: AllocError) -> GeoError {
-        GeoError::Memory
-    }
-}
-
-impl<T: Drop> From<AllocFailed<T>> for GeoError {
-    ghost from_gives = { λ _ e. e ≡ Memory };
-
-    fn from(_refused: AllocFailed<T>) -> GeoError {
-        GeoError::Memory
-    }
 }
 
 impl Geo {

@@ -5,7 +5,7 @@ use Rattle.std.specs.Option.{option_map, option_map_or}
 use Rattle.std.specs.List.{cons_option}
 use Rattle.reference.specs.declared.fields.Entry.{Entry}
 use Rattle.reference.specs.Entry.{field_of}
-use Rattle.tiff_dir.specs.File.{Field, field_at, fields_from, with_tag}
+use Rattle.tiff_dir.specs.File.{Field, field_at, fields_from, field_with_tag}
 
 -- the first entry, if its tag is there, and the others
 first_of : (at next n left : ℕ) (f : List ℕ) → next ≡ at + 12 → n ≡ left + 1 → fields_from f at n ≡ cons_option (field_at f at) (fields_from f next left)
@@ -14,7 +14,7 @@ first_of at next n left f e1 e2 =
     let e : n ≡ suc left = omega arith in
     rw (e, e1) refl
 
-pub none_of : (at n : ℕ) (tag : ℕ) (f : List ℕ) → n ≡ 0 → with_tag tag (fields_from f at n) ≡ None
+pub none_of : (at n : ℕ) (tag : ℕ) (f : List ℕ) → n ≡ 0 → field_with_tag tag (fields_from f at n) ≡ None
 unfolding fields_from
 none_of at n tag f e = rw e refl
 
@@ -26,15 +26,15 @@ no_fields at n f e = rw e refl
 abbrev tagged : ℕ → Option Field → Bool
 tagged tag o = option_map_or (λ e. e.tag == tag) o false
 
-pub passed : (at next n left tag : ℕ) (f : List ℕ) (o : Option Field) → next ≡ at + 12 → n ≡ left + 1 → o ≡ field_at f at → tagged tag o ≡ false → with_tag tag (fields_from f next left) ≡ with_tag tag (fields_from f at n)
-passed at next n left tag f o e1 e2 is other = sym (ap (with_tag tag) (first_of at next n left f e1 e2) ∙ ap (λ x. with_tag tag (cons_option x (fields_from f next left))) (sym is) ∙ go o other) where
-  go : (x : Option Field) → tagged tag x ≡ false → with_tag tag (cons_option x (fields_from f next left)) ≡ with_tag tag (fields_from f next left)
+pub passed : (at next n left tag : ℕ) (f : List ℕ) (o : Option Field) → next ≡ at + 12 → n ≡ left + 1 → o ≡ field_at f at → tagged tag o ≡ false → field_with_tag tag (fields_from f next left) ≡ field_with_tag tag (fields_from f at n)
+passed at next n left tag f o e1 e2 is other = sym (ap (field_with_tag tag) (first_of at next n left f e1 e2) ∙ ap (λ x. field_with_tag tag (cons_option x (fields_from f next left))) (sym is) ∙ go o other) where
+  go : (x : Option Field) → tagged tag x ≡ false → field_with_tag tag (cons_option x (fields_from f next left)) ≡ field_with_tag tag (fields_from f next left)
   go None other = refl
   go (Some e) other = rw other refl
 
-pub here : (at n tag : ℕ) (f : List ℕ) (o : Option Field) (left : ℕ) → n ≡ left + 1 → o ≡ field_at f at → tagged tag o ≡ true → o ≡ with_tag tag (fields_from f at n)
-here at n tag f o left e2 is same = sym (ap (with_tag tag) (first_of at (at + 12) n left f refl e2) ∙ ap (λ x. with_tag tag (cons_option x (fields_from f (at + 12) left))) (sym is) ∙ go o same) where
-  go : (x : Option Field) → tagged tag x ≡ true → with_tag tag (cons_option x (fields_from f (at + 12) left)) ≡ x
+pub here : (at n tag : ℕ) (f : List ℕ) (o : Option Field) (left : ℕ) → n ≡ left + 1 → o ≡ field_at f at → tagged tag o ≡ true → o ≡ field_with_tag tag (fields_from f at n)
+here at n tag f o left e2 is same = sym (ap (field_with_tag tag) (first_of at (at + 12) n left f refl e2) ∙ ap (λ x. field_with_tag tag (cons_option x (fields_from f (at + 12) left))) (sym is) ∙ go o same) where
+  go : (x : Option Field) → tagged tag x ≡ true → field_with_tag tag (cons_option x (fields_from f (at + 12) left)) ≡ x
   go None same = absurd (cc)
   go (Some e) same = rw same refl
 

@@ -2,7 +2,7 @@
 ghost use Rattle.std.specs.Prelude.{◌≡◌, ◌<◌, ◌≤◌, ◌^◌, ◌+◌, ◌*◌, ℕ, List, IfSome, false, ◌==◌, length, Option};
 ghost use Rattle.std.specs.Option.{option_map, option_map_or};
 ghost use Rattle.tiff_dir.specs.Level.{place_of};
-ghost use Rattle.tiff_dir.specs.File.{default_of, field, field_at, field_value, fields_from, has_all_tags, kind_of, value, values_at, with_tag};
+ghost use Rattle.tiff_dir.specs.File.{default_of, field, field_at, field_value, fields_from, has_all_tags, kind_of, value, values_at, field_with_tag};
 ghost use Rattle.reference.specs.Entry.{field_of, place_in};
 
 use crate::directories::{directory, entry_count};
@@ -47,7 +47,7 @@ fn has_tag(entry: Option<Entry>, tag: u16) -> bool
 /// The first of the `entries` entries from `first` that has the tag.
 fn find_entry(file: &[u8], first: u64, entries: u16, tag: u16) -> Option<Entry>
     requires { first + 12 * entries < 2 ^ 62 }
-    ensures found { option_map field_of result ≡ with_tag tag (fields_from file.now first entries) }
+    ensures found { option_map field_of result ≡ field_with_tag tag (fields_from file.now first entries) }
     ensures near { IfSome result (λ e. e.place < 2 ^ 62) }
 {
     for i in 0..u64::from(entries) {

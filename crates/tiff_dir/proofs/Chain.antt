@@ -1,5 +1,5 @@
 -- The chain of directories, step by step.
-use Rattle.std.proofs.Common.{[], ◌∷◌, ◌++◌, ◌-◌, ◌≡◌, ◌≢◌, ℕ, zero, suc, ◌+◌, ◌*◌, ◌<◌, ◌≤◌, ◌⊎◌, inl, inr, true, false, List, map, length, take, drop, Option, Some, None, IsSomeAnd, refl, sym, ap, subst, ◌∙◌, arith, add-one}
+use Rattle.std.proofs.Common.{[], ◌∷◌, ◌++◌, ◌-◌, ◌≡◌, ◌≢◌, ℕ, zero, suc, ◌+◌, ◌*◌, ◌<◌, ◌≤◌, ◌⊎◌, inl, inr, true, false, List, map, length, take, Option, Some, None, IsSomeAnd, refl, sym, ap, subst, ◌∙◌, arith, add-one}
 use Rattle.std.proofs.lemmas.Bool.{lt-ltb, eq-eqb, and_from, and_parts, cases_order, cases_lt, false≢true}
 use Rattle.std.specs.Option.{option_to_list}
 use Rattle.tiff_dir.specs.declared.order.Order.{Order}
@@ -7,9 +7,9 @@ use Rattle.tiff_dir.specs.declared.fault.FileFault.{FileFault}
 use Rattle.tiff_dir.specs.declared.fault.FileFault.TheVariants.{Header, DirPlace, DirCount, TooManyDirs}
 use Rattle.tiff_dir.specs.Number.{number_in}
 use Rattle.tiff_dir.specs.File.{order_of, number, directory, has_directory, is_above_zero, entry_count, field_at, fields_from, fields, has_all_tags}
-use Rattle.tiff_dir.specs.Needs.{Range, is_entry_count, count_range, table_range, ranges_of_directory, outside_ranges}
+use Rattle.tiff_dir.specs.Needs.{Range, bytes_in, is_entry_count, count_range, table_range, ranges_of_directory, outside_ranges}
 use Rattle.tiff_dir.specs.Fault.{is_directory_place, IsFaultAt, IsFaultOfDirectories}
-use Rattle.tiff_dir.specs.Table.{entry, entries, field_of}
+use Rattle.tiff_dir.specs.Table.{entry_at, entries_from, field_of}
 use Rattle.tiff_dir.specs.Stage.{ranges_from, IsWalked, Follows, Reaches, Counts, IsOver}
 use Rattle.tiff_dir.proofs.Parts.{part_inside, number_inside, number_part, entries-part}
 use Rattle.tiff_dir.proofs.Ranges.{filter_none}
@@ -105,60 +105,60 @@ goes_on f o k at walked few there place clean =
 
 -- The count
 
-count_is : (f bytes : List ℕ) (o : Order) (k at : ℕ) → Reaches f o k at → bytes ≡ take 2 (drop at f) → length bytes ≡ 2 → number f at 2 ≡ Some (number_in o 0 2 bytes)
+count_is : (f bytes : List ℕ) (o : Order) (k at : ℕ) → Reaches f o k at → bytes ≡ bytes_in f (record { first = at; len = 2 }) → length bytes ≡ 2 → number f at 2 ≡ Some (number_in o 0 2 bytes)
 count_is f bytes o k at reaches part len =
     ap (λ (x : ℕ). number f x 2) (omega arith) ∙ number_part f bytes o at 2 0 2 reaches.walked.named part len (omega arith) (omega arith)
 
-pub bad_count : (f bytes : List ℕ) (o : Order) (k at : ℕ) → Reaches f o k at → bytes ≡ take 2 (drop at f) → length bytes ≡ 2 → is_entry_count (number_in o 0 2 bytes) ≡ false → IsFaultOfDirectories f DirCount
+pub bad_count : (f bytes : List ℕ) (o : Order) (k at : ℕ) → Reaches f o k at → bytes ≡ bytes_in f (record { first = at; len = 2 }) → length bytes ≡ 2 → is_entry_count (number_in o 0 2 bytes) ≡ false → IsFaultOfDirectories f DirCount
 unfolding IsFaultOfDirectories entry_count
 bad_count f bytes o k at reaches part len bad =
     let told : entry_count f k ≡ Some (number_in o 0 2 bytes) = rw reaches.place (count_is f bytes o k at reaches part len) in
     inr (k, (reaches.few, reaches.there), inl (some_and_from _ _ _ told bad))
 
-pub good_count : (f bytes : List ℕ) (o : Order) (k at : ℕ) → Reaches f o k at → bytes ≡ take 2 (drop at f) → length bytes ≡ 2 → is_entry_count (number_in o 0 2 bytes) ≡ true → Counts f o k at (number_in o 0 2 bytes)
+pub good_count : (f bytes : List ℕ) (o : Order) (k at : ℕ) → Reaches f o k at → bytes ≡ bytes_in f (record { first = at; len = 2 }) → length bytes ≡ 2 → is_entry_count (number_in o 0 2 bytes) ≡ true → Counts f o k at (number_in o 0 2 bytes)
 good_count f bytes o k at reaches part len good =
     record { reaches = reaches; count = count_is f bytes o k at reaches part len; good = good }
 
 -- The table
 
-field_there : (f : List ℕ) (o : Order) (at : ℕ) → order_of f ≡ Some o → at + 12 ≤ length f → field_at f at ≡ Some (field_of (entry o 0 at f))
+field_there : (f : List ℕ) (o : Order) (at : ℕ) → order_of f ≡ Some o → at + 12 ≤ length f → field_at f at ≡ Some (field_of (entry_at o 0 at f))
 unfolding field_at
 field_there f o at named inside =
     let e : 0 + at ≡ at = omega arith in
     rw (number_inside f o at 2 named (omega arith), number_inside f o (at + 2) 2 named (omega arith), number_inside f o (at + 4) 4 named (omega arith), e) refl
 
-same_fields : (f : List ℕ) (o : Order) (at n : ℕ) → order_of f ≡ Some o → at + 12 * n ≤ length f → map field_of (entries o 0 at n f) ≡ fields_from f at n
-unfolding entries fields_from
+same_fields : (f : List ℕ) (o : Order) (at n : ℕ) → order_of f ≡ Some o → at + 12 * n ≤ length f → map field_of (entries_from o 0 at n f) ≡ fields_from f at n
+unfolding entries_from fields_from
 same_fields f o at zero named inside = refl
 same_fields f o at (suc n) named inside =
-    let rest : map field_of (entries o 0 (at + 12) n f) ≡ fields_from f (at + 12) n = same_fields f o (at + 12) n named (omega arith) in
+    let rest : map field_of (entries_from o 0 (at + 12) n f) ≡ fields_from f (at + 12) n = same_fields f o (at + 12) n named (omega arith) in
     rw (field_there f o at named (omega arith), rest) refl
 
-length-entries : (o : Order) (base at n : ℕ) (bytes : List ℕ) → length (map field_of (entries o base at n bytes)) ≡ n
-unfolding entries
+length-entries : (o : Order) (base at n : ℕ) (bytes : List ℕ) → length (map field_of (entries_from o base at n bytes)) ≡ n
+unfolding entries_from
 length-entries o base at zero bytes = refl
 length-entries o base at (suc n) bytes = ap suc (length-entries o base (at + 12) n bytes)
 
-pub same_entries : (f bytes : List ℕ) (o : Order) (at n : ℕ) → bytes ≡ take (12 * n + 4) (drop (at + 2) f) → entries o 0 (at + 2) n f ≡ entries o (at + 2) 0 n bytes
+pub same_entries : (f bytes : List ℕ) (o : Order) (at n : ℕ) → bytes ≡ bytes_in f (record { first = at + 2; len = 12 * n + 4 }) → entries_from o 0 (at + 2) n f ≡ entries_from o (at + 2) 0 n bytes
 same_entries f bytes o at n part =
     let place : at + 2 ≡ at + 2 + 0 = omega arith in
-    ap (λ (x : ℕ). entries o 0 x n f) place ∙ sym (rw part (entries-part f o (at + 2) (12 * n + 4) 0 n (omega arith)))
+    ap (λ (x : ℕ). entries_from o 0 x n f) place ∙ sym (rw part (entries-part f o (at + 2) (12 * n + 4) 0 n (omega arith)))
 
-pub fields_are : (f bytes : List ℕ) (o : Order) (k at n : ℕ) → Counts f o k at n → bytes ≡ take (12 * n + 4) (drop (at + 2) f) → length bytes ≡ 12 * n + 4 → fields f k ≡ map field_of (entries o (at + 2) 0 n bytes)
+pub fields_are : (f bytes : List ℕ) (o : Order) (k at n : ℕ) → Counts f o k at n → bytes ≡ bytes_in f (record { first = at + 2; len = 12 * n + 4 }) → length bytes ≡ 12 * n + 4 → fields f k ≡ map field_of (entries_from o (at + 2) 0 n bytes)
 unfolding fields entry_count
 fields_are f bytes o k at n counts part len =
     let inside = part_inside f bytes (at + 2) (12 * n + 4) part len (omega arith) in
-    let same : fields_from f (at + 2) n ≡ map field_of (entries o (at + 2) 0 n bytes) =
+    let same : fields_from f (at + 2) n ≡ map field_of (entries_from o (at + 2) 0 n bytes) =
     sym (same_fields f o (at + 2) n counts.reaches.walked.named (omega arith)) ∙ ap (map field_of) (same_entries f bytes o at n part) in
     rw (counts.reaches.place, counts.count) same
 
-pub all_tags : (f bytes : List ℕ) (o : Order) (k at n : ℕ) → Counts f o k at n → bytes ≡ take (12 * n + 4) (drop (at + 2) f) → length bytes ≡ 12 * n + 4 → has_all_tags f k ≡ true
+pub all_tags : (f bytes : List ℕ) (o : Order) (k at n : ℕ) → Counts f o k at n → bytes ≡ bytes_in f (record { first = at + 2; len = 12 * n + 4 }) → length bytes ≡ 12 * n + 4 → has_all_tags f k ≡ true
 unfolding has_all_tags entry_count
 all_tags f bytes o k at n counts part len =
-    let many : length (map field_of (entries o (at + 2) 0 n bytes)) ≡ n = length-entries o (at + 2) 0 n bytes in
+    let many : length (map field_of (entries_from o (at + 2) 0 n bytes)) ≡ n = length-entries o (at + 2) 0 n bytes in
     rw (fields_are f bytes o k at n counts part len, many, counts.reaches.place, counts.count) (eq-eqb n n refl)
 
-pub next_is : (f bytes : List ℕ) (o : Order) (k at n : ℕ) → Counts f o k at n → bytes ≡ take (12 * n + 4) (drop (at + 2) f) → length bytes ≡ 12 * n + 4 → directory f (suc k) ≡ Some (number_in o (12 * n) 4 bytes)
+pub next_is : (f bytes : List ℕ) (o : Order) (k at n : ℕ) → Counts f o k at n → bytes ≡ bytes_in f (record { first = at + 2; len = 12 * n + 4 }) → length bytes ≡ 12 * n + 4 → directory f (suc k) ≡ Some (number_in o (12 * n) 4 bytes)
 unfolding directory
 next_is f bytes o k at n counts part len =
     rw (counts.reaches.place, counts.count)

@@ -1,5 +1,5 @@
 -- What a file without fault in its directories has: each table, and each level's layout.
-use Rattle.std.proofs.Common.{◌≡◌, ◌≢◌, ℕ, zero, suc, ◌+◌, ◌*◌, ◌<◌, ◌≤◌, ◌⊎◌, inl, inr, Bool, true, false, if◌then◌else◌, List, [], ◌∷◌, ◌++◌, length, get_or, take, drop, Option, Some, None, refl, sym, subst, ap, ◌∙◌, arith}
+use Rattle.std.proofs.Common.{◌-◌, ◌≡◌, ◌≢◌, ℕ, zero, suc, ◌+◌, ◌*◌, ◌<◌, ◌≤◌, ◌⊎◌, inl, inr, Bool, true, false, if◌then◌else◌, List, [], ◌∷◌, ◌++◌, length, get_or, drop, Option, Some, None, refl, sym, subst, ap, ◌∙◌, arith}
 use Rattle.std.specs.Option.{option_to_list}
 use Rattle.std.specs.List.{filter, flat_map, list_any, range_with_len, AllPass}
 use Rattle.std.proofs.lemmas.Bool.{and_parts, cases_Bool, cases_eq, ltb-false, false≢true}
@@ -15,9 +15,9 @@ use Rattle.tiff_dir.specs.Number.{number_in}
 use Rattle.tiff_dir.specs.File.{order_of, number, directory, has_directory, is_above_zero, directories, entry_count, value}
 use Rattle.tiff_dir.specs.Profile.{profile, accepts, samples_fit, is_depth, is_sample_count}
 use Rattle.tiff_dir.specs.Level.{is_level, layout_at}
-use Rattle.tiff_dir.specs.Needs.{Range, ends_past, is_entry_count, header_range, count_range, table_range, outside_range, ranges_of_directory, needs_of_directories, outside_ranges}
+use Rattle.tiff_dir.specs.Needs.{Range, bytes_in, ends_past, is_entry_count, header_range, count_range, table_range, outside_range, ranges_of_directory, needs_of_directories, outside_ranges}
 use Rattle.tiff_dir.specs.Fault.{is_directory_place, IsFaultOfLevel, IsFaultOfDirectories}
-use Rattle.tiff_dir.specs.Table.{entries, found, allows, keeps, short_or, draft_in, long_in, IsEntryFault, HasValues, HasCounts}
+use Rattle.tiff_dir.specs.Table.{entries_from, entry_with_tag, allows, keeps, short_or, draft_in, long_in, IsEntryFault, HasValues, HasCounts}
 use Rattle.tiff_dir.specs.Shape.{has_sides, has_tiles, has_arrays, layout_from}
 use Rattle.tiff_dir.specs.Stage.{three_shorts, IsWalked, Counts, HasTable, IsDrafted}
 use Rattle.tiff_dir.proofs.Parts.{number_inside}
@@ -188,17 +188,17 @@ tabled f o k clean order few there =
     let number_of_entries : entry_count f k ≡ Some n = rw counts.reaches.place counts.count in
     let table = rows_from at n in
     let last = inside f table clean (needed f k table few there (table_needed f k at n counts.reaches.place number_of_entries counts.good)) in
-    let bytes = take (12 * n + 4) (drop (at + 2) f) in
-    let len : length bytes ≡ 12 * n + 4 = omega (arith, length-take (12 * n + 4) (drop (at + 2) f), length-drop (at + 2) f) in
-    record { entries = entries o (at + 2) 0 n bytes; has = has_table f bytes o k at n (counts, refl) len }
+    let bytes = bytes_in f (record { first = at + 2; len = 12 * n + 4 }) in
+    let len : length bytes ≡ 12 * n + 4 = omega (arith, length-take (at + 2 + (12 * n + 4) - (at + 2)) (drop (at + 2) f), length-drop (at + 2) f) in
+    record { entries = entries_from o (at + 2) 0 n bytes; has = has_table f bytes o k at n (counts, refl) len }
 
 -- ---- a level
 
 not_met : (es : List Entry) (r : Rule) → keeps es r ≡ false → (fault : FileFault) × IsEntryFault r es fault
-not_met es r bad = at (found r.tag es) refl where
-  at : (o : Option Entry) → found r.tag es ≡ o → (fault : FileFault) × IsEntryFault r es fault
+not_met es r bad = at (entry_with_tag r.tag es) refl where
+  at : (o : Option Entry) → entry_with_tag r.tag es ≡ o → (fault : FileFault) × IsEntryFault r es fault
   at None is = (Missing r.tag, (refl, not_false r.required (λ optional. false≢true (sym bad ∙ rw (is, optional) refl)), is))
-  at (Some e) is = (FieldType r.tag, (refl, some_and_from (found r.tag es) (λ x. allows r x ≡ false) e is (rw is at bad)))
+  at (Some e) is = (FieldType r.tag, (refl, some_and_from (entry_with_tag r.tag es) (λ x. allows r x ≡ false) e is (rw is at bad)))
 
 -- no fault of the level stands
 abbrev IsSound : List ℕ → ℕ → Type 0

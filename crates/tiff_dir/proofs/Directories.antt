@@ -1,5 +1,5 @@
 -- The faults of every directory, and whether it is a level.
-use Rattle.std.proofs.Common.{◌≡◌, ℕ, suc, ◌+◌, ◌*◌, ◌%◌, inl, inr, true, false, ◌&&◌, ◌||◌, ◌==◌, List, [], ◌∷◌, map, length, Some, None, refl, sym, ap, ◌∙◌, add-one, take, drop}
+use Rattle.std.proofs.Common.{◌≡◌, ℕ, suc, ◌+◌, ◌*◌, ◌%◌, inl, inr, true, false, ◌&&◌, ◌||◌, ◌==◌, List, [], ◌∷◌, map, length, Some, None, refl, sym, ap, ◌∙◌, add-one}
 use Rattle.std.proofs.lemmas.Bool.{and_parts, and_from, eqb-true, eq-eqb, false≢true}
 use Rattle.tiff_dir.specs.declared.order.Order.{Order}
 use Rattle.tiff_dir.specs.declared.table.Entry.{Entry}
@@ -8,7 +8,7 @@ use Rattle.tiff_dir.specs.declared.fault.FileFault.TheVariants.{Missing, DirPlac
 use Rattle.tiff_dir.specs.File.{directory, entry_count, value}
 use Rattle.tiff_dir.specs.Profile.{subfile_rule}
 use Rattle.tiff_dir.specs.Level.{is_level}
-use Rattle.tiff_dir.specs.Needs.{is_entry_count, outside_ranges}
+use Rattle.tiff_dir.specs.Needs.{bytes_in, is_entry_count, outside_ranges}
 use Rattle.tiff_dir.specs.Fault.{is_directory_place, ascends, IsFaultAt, IsFaultOfDirectory, IsFaultOfDirectories}
 use Rattle.tiff_dir.specs.Table.{field_of, keeps, single_or, IsEntryFault}
 use Rattle.tiff_dir.specs.Stage.{Counts, EndsDirectory, Follows, HasTable, IsAt, StepsOn, index_of, ranges_from, still}
@@ -62,7 +62,7 @@ directory_clean f o k at n es counts has tags met shape _ bad = bad
 
 -- A directory that is no level
 
-pub passed_follows : (f bytes : List ℕ) (o : Order) (k at n : ℕ) → Counts f o k at n → bytes ≡ take (12 * n + 4) (drop (at + 2) f) → length bytes ≡ 12 * n + 4 → is_level f k ≡ false → ((fault : FileFault) → IsFaultOfDirectory f k fault → ⊥)
+pub passed_follows : (f bytes : List ℕ) (o : Order) (k at n : ℕ) → Counts f o k at n → bytes ≡ bytes_in f (record { first = at + 2; len = 12 * n + 4 }) → length bytes ≡ 12 * n + 4 → is_level f k ≡ false → ((fault : FileFault) → IsFaultOfDirectory f k fault → ⊥)
     → Follows f o (k + 1) (number_in o (12 * n) 4 bytes)
 passed_follows f bytes o k at n counts part len passed sound =
     let clean : (fault : FileFault) → IsFaultAt f k fault → ⊥ = λ fault bad. elim bad [ inl h ↦ sound fault h | inr h ↦ false≢true (sym passed ∙ h.0) ] in

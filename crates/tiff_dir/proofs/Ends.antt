@@ -22,8 +22,8 @@ use Rattle.tiff_dir.specs.File.{◌>>=◌, Field, kind_of, size_of, values_at, f
 use Rattle.tiff_dir.specs.Profile.{subfile_rule, profile, samples_fit, is_sample_count, is_long, is_short_or_long, is_tile_side, tile_bytes, max_tile_bytes, max_tiles}
 use Rattle.tiff_dir.specs.Described.{described, layout_of}
 use Rattle.tiff_dir.specs.Level.{Grid, Layout, grid_at, previous_level, place_of, compression_of, layout_at}
-use Rattle.tiff_dir.specs.Fault.{is_smaller, sides, plain_bytes, tile_count, IsUnsupported, IsNotSmaller, IsNoTileArray, IsFaultOfLevel, IsFaultAt}
-use Rattle.tiff_dir.specs.Shape.{has_sides, fits_under, has_tiles, tiles_of, has_arrays, layout_from, IsShaped, IsShapeFault}
+use Rattle.tiff_dir.specs.Fault.{is_smaller, sides, plain_bytes, directory_tiles, IsUnsupported, IsNotSmaller, IsNoTileArray, IsFaultOfLevel, IsFaultAt}
+use Rattle.tiff_dir.specs.Shape.{has_sides, fits_under, has_tiles, draft_tiles, has_arrays, layout_from, IsShaped, IsShapeFault}
 use Rattle.tiff_dir.specs.Stage.{index_of, Follows, IsAt, IsBefore, IsBounded, IsDraft, IsDrafted, IsPending, IsSupported, EndsDirectory}
 use Rattle.tiff_dir.proofs.Chain.{some_and_at, some_and_from, goes_on}
 use Rattle.tiff_dir.proofs.GoingOn.{levels_taken}
@@ -163,8 +163,8 @@ no_tiles_fault f k d bits is told good (inr (inr bad)) = false≢true (sym (some
 side_some : (side : ℕ) → is_tile_side side ≡ true → nat_lt 0 side ≡ true
 side_some side good = (and_parts (nat_lt 0 side) (side % 16 == 0) good).0
 
-count_drafted : (f : List ℕ) (k : ℕ) (d : Draft) (bits : ℕ) → IsDrafted f k d → has_tiles d bits ≡ true → tile_count f k ≡ Some (tiles_of d)
-unfolding tile_count
+count_drafted : (f : List ℕ) (k : ℕ) (d : Draft) (bits : ℕ) → IsDrafted f k d → has_tiles d bits ≡ true → directory_tiles f k ≡ Some (draft_tiles d)
+unfolding directory_tiles
 count_drafted f k d bits is good =
     let across = side_some d.tile_width (tiles_parts d bits good).0 in
     let down = side_some d.tile_length (tiles_parts d bits good).1 in
@@ -185,34 +185,34 @@ place_count : (f : List ℕ) (o : Option Field) (p : Place) → (o >>= place_of 
 place_count f None p told = absurd (none-some p told)
 place_count f (Some e) p told = place_parts f e p told
 
-pub arrays_parts : (d : Draft) → has_arrays d ≡ true → (nat_le (tiles_of d) max_tiles ≡ true) × ((tiles_of d == d.offsets.count) ≡ true) × ((tiles_of d == d.counts.count) ≡ true)
+pub arrays_parts : (d : Draft) → has_arrays d ≡ true → (nat_le (draft_tiles d) max_tiles ≡ true) × ((draft_tiles d == d.offsets.count) ≡ true) × ((draft_tiles d == d.counts.count) ≡ true)
 arrays_parts d good =
-    let one = and_parts (nat_le (tiles_of d) max_tiles) ((tiles_of d == d.offsets.count) && (tiles_of d == d.counts.count)) good in
-    let two = and_parts (tiles_of d == d.offsets.count) (tiles_of d == d.counts.count) one.1 in
+    let one = and_parts (nat_le (draft_tiles d) max_tiles) ((draft_tiles d == d.offsets.count) && (draft_tiles d == d.counts.count)) good in
+    let two = and_parts (draft_tiles d == d.offsets.count) (draft_tiles d == d.counts.count) one.1 in
     (one.0, two.0, two.1)
 
-array_fault : (f : List ℕ) (k tag : ℕ) (d : Draft) (bits : ℕ) (p : Place) → IsDrafted f k d → has_tiles d bits ≡ true → (field f k tag >>= place_of f) ≡ Some p → (tiles_of d == p.count) ≡ false → IsNoTileArray f k tag
+array_fault : (f : List ℕ) (k tag : ℕ) (d : Draft) (bits : ℕ) (p : Place) → IsDrafted f k d → has_tiles d bits ≡ true → (field f k tag >>= place_of f) ≡ Some p → (draft_tiles d == p.count) ≡ false → IsNoTileArray f k tag
 array_fault f k tag d bits p is tiles there bad =
-    some_and_from (tile_count f k) (λ n. IsSomeAnd (field f k tag >>= λ e. e.count) (λ c. (n == c) ≡ false)) _ (count_drafted f k d bits is tiles)
-    (some_and_from (field f k tag >>= λ e. e.count) (λ c. (tiles_of d == c) ≡ false) _ (place_count f (field f k tag) p there) bad)
+    some_and_from (directory_tiles f k) (λ n. IsSomeAnd (field f k tag >>= λ e. e.count) (λ c. (n == c) ≡ false)) _ (count_drafted f k d bits is tiles)
+    (some_and_from (field f k tag >>= λ e. e.count) (λ c. (draft_tiles d == c) ≡ false) _ (place_count f (field f k tag) p there) bad)
 
-no_array_fault : (f : List ℕ) (k tag : ℕ) (d : Draft) (bits : ℕ) (p : Place) → IsDrafted f k d → has_tiles d bits ≡ true → (field f k tag >>= place_of f) ≡ Some p → (tiles_of d == p.count) ≡ true → IsNoTileArray f k tag → ⊥
+no_array_fault : (f : List ℕ) (k tag : ℕ) (d : Draft) (bits : ℕ) (p : Place) → IsDrafted f k d → has_tiles d bits ≡ true → (field f k tag >>= place_of f) ≡ Some p → (draft_tiles d == p.count) ≡ true → IsNoTileArray f k tag → ⊥
 no_array_fault f k tag d bits p is tiles there good bad =
-    let one = some_and_at (tile_count f k) (λ n. IsSomeAnd (field f k tag >>= λ e. e.count) (λ c. (n == c) ≡ false)) _ (count_drafted f k d bits is tiles) bad in
-    let two = some_and_at (field f k tag >>= λ e. e.count) (λ c. (tiles_of d == c) ≡ false) _ (place_count f (field f k tag) p there) one in
+    let one = some_and_at (directory_tiles f k) (λ n. IsSomeAnd (field f k tag >>= λ e. e.count) (λ c. (n == c) ≡ false)) _ (count_drafted f k d bits is tiles) bad in
+    let two = some_and_at (field f k tag >>= λ e. e.count) (λ c. (draft_tiles d == c) ≡ false) _ (place_count f (field f k tag) p there) one in
     false≢true (sym two ∙ good)
 
 pub arrays_fault : (f : List ℕ) (k : ℕ) (d : Draft) (bits : ℕ) → IsDrafted f k d → has_tiles d bits ≡ true → has_arrays d ≡ false → IsFaultOfLevel f k TileArray
-arrays_fault f k d bits is tiles bad = elim (and_cases (nat_le (tiles_of d) max_tiles) ((tiles_of d == d.offsets.count) && (tiles_of d == d.counts.count)) bad) [
-  | inl h ↦ inl (some_and_from (tile_count f k) (λ n. nat_le n max_tiles ≡ false) _ (count_drafted f k d bits is tiles) h)
-  | inr h ↦ elim (and_cases (tiles_of d == d.offsets.count) (tiles_of d == d.counts.count) h) [
+arrays_fault f k d bits is tiles bad = elim (and_cases (nat_le (draft_tiles d) max_tiles) ((draft_tiles d == d.offsets.count) && (draft_tiles d == d.counts.count)) bad) [
+  | inl h ↦ inl (some_and_from (directory_tiles f k) (λ n. nat_le n max_tiles ≡ false) _ (count_drafted f k d bits is tiles) h)
+  | inr h ↦ elim (and_cases (draft_tiles d == d.offsets.count) (draft_tiles d == d.counts.count) h) [
     | inl g ↦ inr (inl (array_fault f k 324 d bits d.offsets is tiles is.offsets g))
     | inr g ↦ inr (inr (array_fault f k 325 d bits d.counts is tiles is.counts g))
   ]
 ]
 
 no_arrays_fault : (f : List ℕ) (k : ℕ) (d : Draft) (bits : ℕ) → IsDrafted f k d → has_tiles d bits ≡ true → has_arrays d ≡ true → IsFaultOfLevel f k TileArray → ⊥
-no_arrays_fault f k d bits is tiles good (inl bad) = false≢true (sym (some_and_at (tile_count f k) (λ n. nat_le n max_tiles ≡ false) _ (count_drafted f k d bits is tiles) bad) ∙ (arrays_parts d good).0)
+no_arrays_fault f k d bits is tiles good (inl bad) = false≢true (sym (some_and_at (directory_tiles f k) (λ n. nat_le n max_tiles ≡ false) _ (count_drafted f k d bits is tiles) bad) ∙ (arrays_parts d good).0)
 no_arrays_fault f k d bits is tiles good (inr (inl bad)) = no_array_fault f k 324 d bits d.offsets is tiles is.offsets (arrays_parts d good).1 bad
 no_arrays_fault f k d bits is tiles good (inr (inr bad)) = no_array_fault f k 325 d bits d.counts is tiles is.counts (arrays_parts d good).2 bad
 

@@ -27,7 +27,7 @@ use Rattle.tiff_dir.specs.Query.{Rectangle, Group, groups, tile_range, array_ran
 use Rattle.tiff_dir.specs.Window.{IsUnpackedBy, IsUnpacked, tile_at, place_in_tile, sample_in, IsSample}
 use Rattle.tiff_dir.specs.Fault.{plain_bytes}
 use Rattle.tiff_dir.specs.Faulty.{IsTileOfWindow, level_compression, level_plain_size, level_plain_row, is_byte_count, IsNotPlainSize, IsFaulty, IsWindow}
-use Rattle.tiff_dir.specs.Shape.{tiles_of, has_arrays}
+use Rattle.tiff_dir.specs.Shape.{draft_tiles, has_arrays}
 use Rattle.tiff_dir.proofs.Chain.{some_and_from}
 use Rattle.tiff_dir.proofs.Clean.{In, in_left, in_right, in_option, named, not_false}
 use Rattle.tiff_dir.proofs.Covered.{IsPixelOf, tile_inside, pixel_tile, among_in, covered}
@@ -69,11 +69,11 @@ pub record HasBytes (f : List ℕ) (n t : ℕ) : Type 0 where
   pub count_is : level_value f n 325 t ≡ Some count
   pub inside : first + count ≤ length f
 
-as_many : (d : Draft) → has_arrays d ≡ true → (tiles_of d ≡ d.offsets.count) × (tiles_of d ≡ d.counts.count)
+as_many : (d : Draft) → has_arrays d ≡ true → (draft_tiles d ≡ d.offsets.count) × (draft_tiles d ≡ d.counts.count)
 as_many d good =
-    let (few, same) = and_parts (nat_le (tiles_of d) max_tiles) ((tiles_of d == d.offsets.count) && (tiles_of d == d.counts.count)) good in
-    let (offsets, counts) = and_parts (tiles_of d == d.offsets.count) (tiles_of d == d.counts.count) same in
-    (eqb-true (tiles_of d) d.offsets.count offsets, eqb-true (tiles_of d) d.counts.count counts)
+    let (few, same) = and_parts (nat_le (draft_tiles d) max_tiles) ((draft_tiles d == d.offsets.count) && (draft_tiles d == d.counts.count)) good in
+    let (offsets, counts) = and_parts (draft_tiles d == d.offsets.count) (draft_tiles d == d.counts.count) same in
+    (eqb-true (draft_tiles d) d.offsets.count offsets, eqb-true (draft_tiles d) d.counts.count counts)
 
 values_there : (f : List ℕ) (q : Query) (t : ℕ) (c : IsClear f q) (a : IsAsked f q) → t < tile_total (layout_of_level f a.asked.level a.placed.level).grid
     → (first count : ℕ) × (level_value f a.asked.level 324 t ≡ Some first) × (level_value f a.asked.level 325 t ≡ Some count)

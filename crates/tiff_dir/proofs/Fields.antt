@@ -14,41 +14,41 @@ use Rattle.tiff_dir.specs.declared.rule.Count.TheVariants.{One, Samples, Tiles, 
 use Rattle.tiff_dir.specs.declared.fault.FileFault.{FileFault}
 use Rattle.tiff_dir.specs.declared.fault.FileFault.TheVariants.{Missing, FieldType}
 use Rattle.tiff_dir.specs.Number.{number_in}
-use Rattle.tiff_dir.specs.File.{Field, order_of, number, with_tag, field, values_at, field_value, value, default_of}
+use Rattle.tiff_dir.specs.File.{Field, order_of, number, field_with_tag, field, values_at, field_value, value, default_of}
 use Rattle.tiff_dir.specs.Profile.{has_typing}
 use Rattle.tiff_dir.specs.Fault.{IsMistyped, IsMiscounted, IsRuleFault}
 use Rattle.tiff_dir.specs.Stage.{HasTable, IsTableOf}
-use Rattle.tiff_dir.specs.Table.{entry, entries, field_of, found, allows, counts_one, keeps, IsEntryFault, single_of, single_or, short_or}
+use Rattle.tiff_dir.specs.Table.{entry_at, entries_from, field_of, entry_with_tag, allows, counts_one, keeps, IsEntryFault, single_of, single_or, short_or}
 use Rattle.tiff_dir.proofs.Parts.{part_inside, number_inside}
 use Rattle.tiff_dir.proofs.Chain.{some_and_at, some_and_from, same_entries, fields_are, all_tags}
 
 -- The table of a file
 
-entry_short : (f : List ℕ) (o : Order) (at n tag : ℕ) (e : Entry) → order_of f ≡ Some o → at + 12 * n ≤ length f → found tag (entries o 0 at n f) ≡ Some e → number f (e.place + 8) 2 ≡ Some e.short
-unfolding entries
+entry_short : (f : List ℕ) (o : Order) (at n tag : ℕ) (e : Entry) → order_of f ≡ Some o → at + 12 * n ≤ length f → entry_with_tag tag (entries_from o 0 at n f) ≡ Some e → number f (e.place + 8) 2 ≡ Some e.short
+unfolding entries_from
 entry_short f o at zero tag e named inside found = absurd (none-some e found)
 entry_short f o at (suc n) tag e named inside found =
     elim (cases_Bool (number_in o at 2 f == tag)) [
       | inl same ↦
-          (let is : entry o 0 at f ≡ e = same_Some _ _ (rw same at found) in
+          (let is : entry_at o 0 at f ≡ e = same_Some _ _ (rw same at found) in
           let P : Entry → Type 0 = λ x. number f (x.place + 8) 2 ≡ Some x.short in
           subst P is (rw zero-add (number_inside f o (at + 8) 2 named (omega arith))))
       | inr other ↦ entry_short f o (at + 12) n tag e named (omega arith) (rw other at found)
     ]
 
-entry_long : (f : List ℕ) (o : Order) (at n tag : ℕ) (e : Entry) → order_of f ≡ Some o → at + 12 * n ≤ length f → found tag (entries o 0 at n f) ≡ Some e → number f (e.place + 8) 4 ≡ Some e.long
-unfolding entries
+entry_long : (f : List ℕ) (o : Order) (at n tag : ℕ) (e : Entry) → order_of f ≡ Some o → at + 12 * n ≤ length f → entry_with_tag tag (entries_from o 0 at n f) ≡ Some e → number f (e.place + 8) 4 ≡ Some e.long
+unfolding entries_from
 entry_long f o at zero tag e named inside found = absurd (none-some e found)
 entry_long f o at (suc n) tag e named inside found =
     elim (cases_Bool (number_in o at 2 f == tag)) [
       | inl same ↦
-          (let is : entry o 0 at f ≡ e = same_Some _ _ (rw same at found) in
+          (let is : entry_at o 0 at f ≡ e = same_Some _ _ (rw same at found) in
           let P : Entry → Type 0 = λ x. number f (x.place + 8) 4 ≡ Some x.long in
           subst P is (rw zero-add (number_inside f o (at + 8) 4 named (omega arith))))
       | inr other ↦ entry_long f o (at + 12) n tag e named (omega arith) (rw other at found)
     ]
 
-pub has_table : (f bytes : List ℕ) (o : Order) (k at n : ℕ) → IsTableOf f o k at n bytes → length bytes ≡ 12 * n + 4 → HasTable f k (entries o (at + 2) 0 n bytes)
+pub has_table : (f bytes : List ℕ) (o : Order) (k at n : ℕ) → IsTableOf f o k at n bytes → length bytes ≡ 12 * n + 4 → HasTable f k (entries_from o (at + 2) 0 n bytes)
 has_table f bytes o k at n (counts, part) len =
     let inside = part_inside f bytes (at + 2) (12 * n + 4) part len (omega arith) in
     let named = counts.reaches.walked.named in
@@ -63,25 +63,25 @@ has_table f bytes o k at n (counts, part) len =
 
 -- Fields and values by the entries
 
-with_tag-map : (tag : ℕ) (es : List Entry) → with_tag tag (map field_of es) ≡ option_map field_of (found tag es)
-with_tag-map tag [] = refl
-with_tag-map tag (e ∷ es) =
+field_with_tag-map : (tag : ℕ) (es : List Entry) → field_with_tag tag (map field_of es) ≡ option_map field_of (entry_with_tag tag es)
+field_with_tag-map tag [] = refl
+field_with_tag-map tag (e ∷ es) =
     elim (cases_Bool (e.tag == tag)) [
       | inl same ↦ rw same refl
-      | inr other ↦ rw other (with_tag-map tag es)
+      | inr other ↦ rw other (field_with_tag-map tag es)
     ]
 
-pub field_told : (f : List ℕ) (k : ℕ) (es : List Entry) (tag : ℕ) → HasTable f k es → field f k tag ≡ option_map field_of (found tag es)
+pub field_told : (f : List ℕ) (k : ℕ) (es : List Entry) (tag : ℕ) → HasTable f k es → field f k tag ≡ option_map field_of (entry_with_tag tag es)
 unfolding field
-field_told f k es tag has = rw has.told (with_tag-map tag es)
+field_told f k es tag has = rw has.told (field_with_tag-map tag es)
 
 through : {A : Type 0} (o : Option Entry) (g : Field → A) (d : A) → option_map_or g (option_map field_of o) d ≡ option_map_or (λ e. g (field_of e)) o d
 through None g d = refl
 through (Some e) g d = refl
 
-pub value_told : (f : List ℕ) (k : ℕ) (es : List Entry) (tag i : ℕ) → HasTable f k es → value f k tag i ≡ option_map_or (λ e. field_value f (field_of e) i) (found tag es) (default_of tag)
+pub value_told : (f : List ℕ) (k : ℕ) (es : List Entry) (tag i : ℕ) → HasTable f k es → value f k tag i ≡ option_map_or (λ e. field_value f (field_of e) i) (entry_with_tag tag es) (default_of tag)
 unfolding value
-value_told f k es tag i has = rw (field_told f k es tag has, has.whole) (through (found tag es) (λ x. field_value f x i) (default_of tag))
+value_told f k es tag i has = rw (field_told f k es tag has, has.whole) (through (entry_with_tag tag es) (λ x. field_value f x i) (default_of tag))
 
 -- Types and counts
 
@@ -132,12 +132,12 @@ counted : (r : Rule) (e : Entry) → allows r e ≡ true → counts_one r.count 
 counted r e ok = (and_parts (has_typing r.typing e.kind) (counts_one r.count e.count) ok).1
 
 -- an entry that is there and keeps its rule
-pub met_entry : (es : List Entry) (r : Rule) (e : Entry) → keeps es r ≡ true → found r.tag es ≡ Some e → allows r e ≡ true
+pub met_entry : (es : List Entry) (r : Rule) (e : Entry) → keeps es r ≡ true → entry_with_tag r.tag es ≡ Some e → allows r e ≡ true
 met_entry es r e met is = rw is at met
 
 -- a required field is there
-pub met_there : (es : List Entry) (r : Rule) → keeps es r ≡ true → r.required ≡ true → (e : Entry) × (found r.tag es ≡ Some e)
-met_there es r met required = there (found r.tag es) met where
+pub met_there : (es : List Entry) (r : Rule) → keeps es r ≡ true → r.required ≡ true → (e : Entry) × (entry_with_tag r.tag es ≡ Some e)
+met_there es r met required = there (entry_with_tag r.tag es) met where
   there : (o : Option Entry) → option_map_or (allows r) o (not r.required) ≡ true → (e : Entry) × (o ≡ Some e)
   there None met = absurd (false≢true (sym (not_from_true r.required required) ∙ met))
   there (Some e) met = (e, refl)
@@ -159,8 +159,8 @@ unfolding field_value values_at
 no_value f e i kind count some = let past = le-ltb i 1 (omega arith) in rw (count, kind, past) refl
 
 pub single_told : (f : List ℕ) (k : ℕ) (es : List Entry) (r : Rule) (d : ℕ) → HasTable f k es → keeps es r ≡ true → IsInteger r.typing → r.count ≡ One → (default_of r.tag ≡ Some d) ⊎ (r.required ≡ true) → value f k r.tag 0 ≡ Some (single_or es r.tag d)
-single_told f k es r d has met integer one default = value_told f k es r.tag 0 has ∙ at (found r.tag es) refl default where
-  at : (o : Option Entry) → found r.tag es ≡ o → (default_of r.tag ≡ Some d) ⊎ (r.required ≡ true) → option_map_or (λ e. field_value f (field_of e) 0) o (default_of r.tag) ≡ Some (option_map_or single_of o d)
+single_told f k es r d has met integer one default = value_told f k es r.tag 0 has ∙ at (entry_with_tag r.tag es) refl default where
+  at : (o : Option Entry) → entry_with_tag r.tag es ≡ o → (default_of r.tag ≡ Some d) ⊎ (r.required ≡ true) → option_map_or (λ e. field_value f (field_of e) 0) o (default_of r.tag) ≡ Some (option_map_or single_of o d)
   at None is (inl default) = default
   at None is (inr required) = let (e, there) = met_there es r met required in absurd (none-some e (sym is ∙ there))
   at (Some e) is default =
@@ -168,9 +168,9 @@ single_told f k es r d has met integer one default = value_told f k es r.tag 0 h
       single_value f e (has.short r.tag e is) (has.long r.tag e is) (kind_told r.typing e.kind integer (typed r e ok)) (count_one r.count e.count one (counted r e ok))
 
 pub short_told : (f : List ℕ) (k : ℕ) (es : List Entry) (r : Rule) (d : ℕ) → HasTable f k es → keeps es r ≡ true → r.typing ≡ typing.Short
-    → ((e : Entry) → found r.tag es ≡ Some e → e.count ≡ 1) → (default_of r.tag ≡ Some d) ⊎ (r.required ≡ true) → value f k r.tag 0 ≡ Some (short_or es r.tag d)
-short_told f k es r d has met short one default = value_told f k es r.tag 0 has ∙ at (found r.tag es) refl default where
-  at : (o : Option Entry) → found r.tag es ≡ o → (default_of r.tag ≡ Some d) ⊎ (r.required ≡ true) → option_map_or (λ e. field_value f (field_of e) 0) o (default_of r.tag) ≡ Some (option_map_or (λ e. e.short) o d)
+    → ((e : Entry) → entry_with_tag r.tag es ≡ Some e → e.count ≡ 1) → (default_of r.tag ≡ Some d) ⊎ (r.required ≡ true) → value f k r.tag 0 ≡ Some (short_or es r.tag d)
+short_told f k es r d has met short one default = value_told f k es r.tag 0 has ∙ at (entry_with_tag r.tag es) refl default where
+  at : (o : Option Entry) → entry_with_tag r.tag es ≡ o → (default_of r.tag ≡ Some d) ⊎ (r.required ≡ true) → option_map_or (λ e. field_value f (field_of e) 0) o (default_of r.tag) ≡ Some (option_map_or (λ e. e.short) o d)
   at None is (inl default) = default
   at None is (inr required) = let (e, there) = met_there es r met required in absurd (none-some e (sym is ∙ there))
   at (Some e) is default =
@@ -179,9 +179,9 @@ short_told f k es r d has met short one default = value_told f k es r.tag 0 has 
 
 -- each value of a field of one SHORT is that one
 pub short_only : (f : List ℕ) (k : ℕ) (es : List Entry) (r : Rule) (d : ℕ) → HasTable f k es → keeps es r ≡ true → r.typing ≡ typing.Short
-    → ((e : Entry) → found r.tag es ≡ Some e → e.count ≡ 1) → (default_of r.tag ≡ Some d) ⊎ (r.required ≡ true) → (i v : ℕ) → value f k r.tag i ≡ Some v → v ≡ short_or es r.tag d
-short_only f k es r d has met short one default i v told = at (found r.tag es) refl default (sym (value_told f k es r.tag i has) ∙ told) where
-  at : (o : Option Entry) → found r.tag es ≡ o → (default_of r.tag ≡ Some d) ⊎ (r.required ≡ true) → option_map_or (λ e. field_value f (field_of e) i) o (default_of r.tag) ≡ Some v → v ≡ option_map_or (λ e. e.short) o d
+    → ((e : Entry) → entry_with_tag r.tag es ≡ Some e → e.count ≡ 1) → (default_of r.tag ≡ Some d) ⊎ (r.required ≡ true) → (i v : ℕ) → value f k r.tag i ≡ Some v → v ≡ short_or es r.tag d
+short_only f k es r d has met short one default i v told = at (entry_with_tag r.tag es) refl default (sym (value_told f k es r.tag i has) ∙ told) where
+  at : (o : Option Entry) → entry_with_tag r.tag es ≡ o → (default_of r.tag ≡ Some d) ⊎ (r.required ≡ true) → option_map_or (λ e. field_value f (field_of e) i) o (default_of r.tag) ≡ Some v → v ≡ option_map_or (λ e. e.short) o d
   at None is (inl default) told = sym (same_Some _ _ (sym default ∙ told))
   at None is (inr required) told = let (e, there) = met_there es r met required in absurd (none-some e (sym is ∙ there))
   at (Some e) is default told = which i told where
@@ -193,7 +193,7 @@ short_only f k es r d has met short one default i v told = at (found r.tag es) r
     which (suc j) told = absurd (none-some v (sym (no_value f e (suc j) kind (one e is) (omega arith)) ∙ told))
 
 -- the same of the count that a rule asks for
-pub one_counted : (es : List Entry) (r : Rule) → keeps es r ≡ true → r.count ≡ One → (e : Entry) → found r.tag es ≡ Some e → e.count ≡ 1
+pub one_counted : (es : List Entry) (r : Rule) → keeps es r ≡ true → r.count ≡ One → (e : Entry) → entry_with_tag r.tag es ≡ Some e → e.count ≡ 1
 one_counted es r met one e is = count_one r.count e.count one (counted r e (met_entry es r e met is))
 
 -- Three values outside the entry
@@ -211,7 +211,7 @@ rule_fault f k es r (Missing tag) has bad =
     (bad.0, bad.1, has.whole, rw (← bad.0) none)
 rule_fault f k es r (FieldType tag) has bad =
     let P : ℕ → Type 0 = λ t. IsSomeAnd (field f k t) (λ e. IsMistyped r.typing e ⊎ IsMiscounted f k r.count e) in
-    (bad.0, subst P bad.0 (at (found r.tag es) refl bad.1)) where
+    (bad.0, subst P bad.0 (at (entry_with_tag r.tag es) refl bad.1)) where
       wrong : (c : Count) (e : Entry) → counts_one c e.count ≡ false → IsMiscounted f k c (field_of e)
       wrong One e bad = bad
       wrong Samples e bad = absurd (false≢true (sym bad))
@@ -219,7 +219,7 @@ rule_fault f k es r (FieldType tag) has bad =
       wrong (Exactly n) e bad = bad
       wrong (Multiple n) e bad = bad
 
-      at : (o : Option Entry) → found r.tag es ≡ o → IsSomeAnd o (λ e. allows r e ≡ false) → IsSomeAnd (field f k r.tag) (λ e. IsMistyped r.typing e ⊎ IsMiscounted f k r.count e)
+      at : (o : Option Entry) → entry_with_tag r.tag es ≡ o → IsSomeAnd o (λ e. allows r e ≡ false) → IsSomeAnd (field f k r.tag) (λ e. IsMistyped r.typing e ⊎ IsMiscounted f k r.count e)
       at None is bad = absurd bad
       at (Some e) is bad =
           some_and_from (field f k r.tag) (λ x. IsMistyped r.typing x ⊎ IsMiscounted f k r.count x) (field_of e) (field_told f k es r.tag has ∙ rw is refl)
@@ -228,22 +228,22 @@ rule_fault f k es r _ has bad = absurd bad
 
 -- the field of a rule that is met, and counted where it counts samples
 pub no_rule_fault : (f : List ℕ) (k : ℕ) (es : List Entry) (r : Rule) → HasTable f k es → keeps es r ≡ true
-    → (r.count ≡ Samples → (e : Entry) → found r.tag es ≡ Some e → (s : ℕ) × (value f k 277 0 ≡ Some s) × ((e.count == s) ≡ true)) → (fault : FileFault) → IsRuleFault f k r fault → ⊥
+    → (r.count ≡ Samples → (e : Entry) → entry_with_tag r.tag es ≡ Some e → (s : ℕ) × (value f k 277 0 ≡ Some s) × ((e.count == s) ≡ true)) → (fault : FileFault) → IsRuleFault f k r fault → ⊥
 no_rule_fault f k es r has met right (Missing tag) bad =
     let (e, there) = met_there es r met bad.1 in
     let none : field f k r.tag ≡ None = rw bad.0 bad.3 in
     none-some (field_of e) (sym none ∙ field_told f k es r.tag has ∙ rw there refl)
 no_rule_fault f k es r has met right (FieldType tag) bad =
     let P : ℕ → Type 0 = λ t. IsSomeAnd (field f k t) (λ e. IsMistyped r.typing e ⊎ IsMiscounted f k r.count e) in
-    at (found r.tag es) refl (rw (field_told f k es r.tag has) at (subst P (sym bad.0) bad.1)) where
-      wrong : (c : Count) (e : Entry) → r.count ≡ c → found r.tag es ≡ Some e → counts_one c e.count ≡ true → IsMiscounted f k c (field_of e) → ⊥
+    at (entry_with_tag r.tag es) refl (rw (field_told f k es r.tag has) at (subst P (sym bad.0) bad.1)) where
+      wrong : (c : Count) (e : Entry) → r.count ≡ c → entry_with_tag r.tag es ≡ Some e → counts_one c e.count ≡ true → IsMiscounted f k c (field_of e) → ⊥
       wrong One e is at ok bad = false≢true (sym bad ∙ ok)
       wrong Samples e is at ok bad = let (s, told, same) = right is e at in false≢true (sym (some_and_at _ (λ n. (e.count == n) ≡ false) _ told bad) ∙ same)
       wrong Tiles e is at ok bad = bad
       wrong (Exactly n) e is at ok bad = false≢true (sym bad ∙ ok)
       wrong (Multiple n) e is at ok bad = false≢true (sym bad ∙ ok)
 
-      at : (o : Option Entry) → found r.tag es ≡ o → IsSomeAnd (option_map field_of o) (λ e. IsMistyped r.typing e ⊎ IsMiscounted f k r.count e) → ⊥
+      at : (o : Option Entry) → entry_with_tag r.tag es ≡ o → IsSomeAnd (option_map field_of o) (λ e. IsMistyped r.typing e ⊎ IsMiscounted f k r.count e) → ⊥
       at None is bad = bad
       at (Some e) is (inl h) = false≢true (sym h ∙ typed r e (met_entry es r e met is))
       at (Some e) is (inr h) = wrong r.count e refl is (counted r e (met_entry es r e met is)) h

@@ -26,20 +26,21 @@ use Rattle.tiff_dir.specs.Geo.{field_len, geo_place, IsLargeField, IsGeoFault}
 use Rattle.tiff_dir.specs.Fault.{IsRuleFault}
 use Rattle.tiff_dir.specs.GeoEntries.{geo_in, place_by, ArePlacesBy, IsFaultBy}
 use Rattle.tiff_dir.specs.Known.{HasGeo}
-use Rattle.tiff_dir.specs.Stage.{range_of, AgreesAt, HasTable, IsPart}
-use Rattle.tiff_dir.specs.Table.{allows, counts_one, entries, field_of, found, kind_in, len_of, keeps, place_in}
+use Rattle.tiff_dir.specs.Needs.{bytes_in}
+use Rattle.tiff_dir.specs.Stage.{range_of, AgreesAt, HasTable}
+use Rattle.tiff_dir.specs.Table.{allows, counts_one, entries_from, field_of, entry_with_tag, kind_in, len_of, keeps, place_in}
 use Rattle.tiff_dir.specs.Walk.{AreGeoPlaces, IsGeoFieldAt, IsGeoPlace}
 use Rattle.tiff_dir.proofs.Chain.{some_and_at, some_and_from}
 use Rattle.tiff_dir.proofs.Fields.{IsKind, has_table, field_told, kind_is, typed, rule_fault, no_rule_fault}
 use Rattle.tiff_dir.proofs.Levels.{place_entry}
 
-pub geo_taken : (f bytes : List ℕ) (stage : Stage) (o : Order) (k at n : ℕ) (g : GeoEntries) → stage ≡ Table o k at n → k ≡ 0 → g ≡ geo_in (entries o (at + 2) 0 n bytes) → length bytes ≡ 12 * n + 4
-    → AgreesAt f stage → IfSome (range_of stage) (λ r. IsPart f r bytes) → HasGeo f g
+pub geo_taken : (f bytes : List ℕ) (stage : Stage) (o : Order) (k at n : ℕ) (g : GeoEntries) → stage ≡ Table o k at n → k ≡ 0 → g ≡ geo_in (entries_from o (at + 2) 0 n bytes) → length bytes ≡ 12 * n + 4
+    → AgreesAt f stage → IfSome (range_of stage) (λ r. bytes ≡ bytes_in f r) → HasGeo f g
 geo_taken f bytes stage o k at n g is first are len here part =
     let P : Stage → Type 0 = λ s. AgreesAt f s in
-    let Q : Stage → Type 0 = λ s. IfSome (range_of s) (λ r. IsPart f r bytes) in
-    let R : ℕ → Type 0 = λ x. HasTable f x (entries o (at + 2) 0 n bytes) in
-    record { entries = entries o (at + 2) 0 n bytes; told = subst R first (has_table f bytes o k at n (subst P is here, subst Q is part) len); are = are }
+    let Q : Stage → Type 0 = λ s. IfSome (range_of s) (λ r. bytes ≡ bytes_in f r) in
+    let R : ℕ → Type 0 = λ x. HasTable f x (entries_from o (at + 2) 0 n bytes) in
+    record { entries = entries_from o (at + 2) 0 n bytes; told = subst R first (has_table f bytes o k at n (subst P is here, subst Q is part) len); are = are }
 
 -- ---- one field
 
@@ -78,10 +79,10 @@ len_known e kind = rw (kind_known e.kind kind) refl
 entry_kind : (r : Rule) (e : Entry) → allows r e ≡ true → IsKind e.kind
 entry_kind r e ok = kind_is r.typing e.kind (typed r e ok)
 
-place_told : (f : List ℕ) (es : List Entry) (r : Rule) (p : Option Place) → HasTable f 0 es → place_by r (found r.tag es) ≡ Ok p → IsGeoFieldAt f r.tag p
+place_told : (f : List ℕ) (es : List Entry) (r : Rule) (p : Option Place) → HasTable f 0 es → place_by r (entry_with_tag r.tag es) ≡ Ok p → IsGeoFieldAt f r.tag p
 unfolding geo_place
-place_told f es r p has is = at (found r.tag es) refl is where
-  at : (o : Option Entry) → found r.tag es ≡ o → place_by r o ≡ Ok p → IsGeoFieldAt f r.tag p
+place_told f es r p has is = at (entry_with_tag r.tag es) refl is where
+  at : (o : Option Entry) → entry_with_tag r.tag es ≡ o → place_by r o ≡ Ok p → IsGeoFieldAt f r.tag p
   at None there is =
       let none : None ≡ p = cc in
       subst (IsGeoFieldAt f r.tag) none (field_told f 0 es r.tag has ∙ ap (option_map field_of) there)
@@ -91,14 +92,14 @@ place_told f es r p has is = at (found r.tag es) refl is where
       (ap (λ o. o >>= place_of f) (field_told f 0 es r.tag has ∙ ap (option_map field_of) there)
       ∙ place_entry f e (has.long r.tag e there) (entry_kind r e h.allowed))
 
-met : (es : List Entry) (r : Rule) (p : Option Place) → r.required ≡ false → place_by r (found r.tag es) ≡ Ok p → keeps es r ≡ true
-met es r p optional is = at (found r.tag es) refl is where
-  at : (o : Option Entry) → found r.tag es ≡ o → place_by r o ≡ Ok p → keeps es r ≡ true
+met : (es : List Entry) (r : Rule) (p : Option Place) → r.required ≡ false → place_by r (entry_with_tag r.tag es) ≡ Ok p → keeps es r ≡ true
+met es r p optional is = at (entry_with_tag r.tag es) refl is where
+  at : (o : Option Entry) → entry_with_tag r.tag es ≡ o → place_by r o ≡ Ok p → keeps es r ≡ true
   at None there is = rw (there, optional) refl
   at (Some e) there is = rw there (placed r e p is).allowed
 
-not_large : (f : List ℕ) (es : List Entry) (r : Rule) (p : Option Place) → HasTable f 0 es → place_by r (found r.tag es) ≡ Ok p → IsLargeField f r → ⊥
-not_large f es r p has is bad = at (found r.tag es) is (rw (field_told f 0 es r.tag has) at bad) where
+not_large : (f : List ℕ) (es : List Entry) (r : Rule) (p : Option Place) → HasTable f 0 es → place_by r (entry_with_tag r.tag es) ≡ Ok p → IsLargeField f r → ⊥
+not_large f es r p has is bad = at (entry_with_tag r.tag es) is (rw (field_told f 0 es r.tag has) at bad) where
   at : (o : Option Entry) → place_by r o ≡ Ok p → IsSomeAnd (option_map field_of o) (λ e. IsSomeAnd (field_len e) (λ n. nat_le n max_geo_bytes ≡ false)) → ⊥
   at None is bad = bad
   at (Some e) is bad =
@@ -111,7 +112,7 @@ not_large f es r p has is bad = at (found r.tag es) is (rw (field_told f 0 es r.
 
 record IsGood (es : List Entry) (r : Rule) : Type 0 where
   place : Option Place
-  is : place_by r (found r.tag es) ≡ Ok place
+  is : place_by r (entry_with_tag r.tag es) ≡ Ok place
   optional : r.required ≡ false
   counts : r.count ≡ Samples → ⊥
 
@@ -152,18 +153,18 @@ places_told f g p has by =
 
 -- ---- what is wrong
 
-fault_at : (f : List ℕ) (es : List Entry) (j : ℕ) (fault : FileFault) → j < length geo_profile → HasTable f 0 es → place_by (geo_rule j) (found (geo_rule j).tag es) ≡ Err fault → IsGeoFault f fault
-fault_at f es j fault inside has is = at (found (geo_rule j).tag es) refl is where
-  wrong : (e : Entry) → found (geo_rule j).tag es ≡ Some e → allows (geo_rule j) e ≡ false → IsRuleFault f 0 (geo_rule j) (FieldType (geo_rule j).tag)
-  wrong e there bad = rule_fault f 0 es (geo_rule j) (FieldType (geo_rule j).tag) has (refl, some_and_from (found (geo_rule j).tag es) (λ x. allows (geo_rule j) x ≡ false) e there bad)
+fault_at : (f : List ℕ) (es : List Entry) (j : ℕ) (fault : FileFault) → j < length geo_profile → HasTable f 0 es → place_by (geo_rule j) (entry_with_tag (geo_rule j).tag es) ≡ Err fault → IsGeoFault f fault
+fault_at f es j fault inside has is = at (entry_with_tag (geo_rule j).tag es) refl is where
+  wrong : (e : Entry) → entry_with_tag (geo_rule j).tag es ≡ Some e → allows (geo_rule j) e ≡ false → IsRuleFault f 0 (geo_rule j) (FieldType (geo_rule j).tag)
+  wrong e there bad = rule_fault f 0 es (geo_rule j) (FieldType (geo_rule j).tag) has (refl, some_and_from (entry_with_tag (geo_rule j).tag es) (λ x. allows (geo_rule j) x ≡ false) e there bad)
 
-  large : (e : Entry) → found (geo_rule j).tag es ≡ Some e → allows (geo_rule j) e ≡ true → nat_lt max_geo_bytes (len_of e) ≡ true → IsLargeField f (geo_rule j)
+  large : (e : Entry) → entry_with_tag (geo_rule j).tag es ≡ Some e → allows (geo_rule j) e ≡ true → nat_lt max_geo_bytes (len_of e) ≡ true → IsLargeField f (geo_rule j)
   large e there ok long =
       let past : nat_le (len_of e) max_geo_bytes ≡ false = (let h = ltb-true max_geo_bytes (len_of e) long in grind (arith, nat_tests)) in
       some_and_from (field f 0 (geo_rule j).tag) (λ x. IsSomeAnd (field_len x) (λ n. nat_le n max_geo_bytes ≡ false)) (field_of e) (field_told f 0 es (geo_rule j).tag has ∙ rw there refl)
       (some_and_from (field_len (field_of e)) (λ n. nat_le n max_geo_bytes ≡ false) (len_of e) (len_known e (entry_kind (geo_rule j) e ok)) past)
 
-  at : (o : Option Entry) → found (geo_rule j).tag es ≡ o → place_by (geo_rule j) o ≡ Err fault → IsGeoFault f fault
+  at : (o : Option Entry) → entry_with_tag (geo_rule j).tag es ≡ o → place_by (geo_rule j) o ≡ Err fault → IsGeoFault f fault
   at None there is = absurd (cc)
   at (Some e) there is = elim (refused (geo_rule j) e fault is) [
     | inl h ↦ subst (IsGeoFault f) (sym h.1) (j, geo_rule j, inside, get_or_default geo_profile j _ subfile_rule inside, wrong e there h.0)

@@ -19,7 +19,7 @@ use Rattle.tiff_dir.specs.File.{◌>>=◌, kind_of, size_of, number, field, valu
 use Rattle.tiff_dir.specs.Profile.{subfile_rule, profile, is_depth, accepts, samples_fit, planes_fit}
 use Rattle.tiff_dir.specs.Level.{is_level, place_of, compression_of}
 use Rattle.tiff_dir.specs.Fault.{IsMistyped, IsMiscounted, IsRuleFault, IsUnsupported, IsMisfit, IsFaultOfDirectory, IsFaultOfLevel}
-use Rattle.tiff_dir.specs.Table.{field_of, found, keeps, IsFaultOfEntries, short_or, counts_samples, kind_in, place_in, place_or, draft_in, HasValues, IsValueFault, HasCounts, IsCountFault, IsReadIn, IsReadFault}
+use Rattle.tiff_dir.specs.Table.{field_of, entry_with_tag, keeps, IsFaultOfEntries, short_or, counts_samples, kind_in, place_in, place_or, draft_in, HasValues, IsValueFault, HasCounts, IsCountFault, IsReadIn, IsReadFault}
 use Rattle.tiff_dir.specs.Stage.{HasTable, IsTableOf, IsDrafted, IsPending}
 use Rattle.tiff_dir.proofs.Chain.{some_and_at, some_and_from, next_is}
 use Rattle.tiff_dir.proofs.Fields.{IsKind, field_told, kind_is, typed, met_entry, met_there, single_told, short_told, short_only, one_counted, rule_fault, no_rule_fault}
@@ -86,8 +86,8 @@ value_fault f k es fault has met (inr (inr (inr (is, bad)))) =
 
 -- a field that has another number of values than a pixel has samples
 miscounted : (f : List ℕ) (k : ℕ) (es : List Entry) (r : Rule) → HasTable f k es → AllPass (keeps es) profile → r.count ≡ Samples → counts_samples es r.tag ≡ false → IsRuleFault f k r (FieldType r.tag)
-miscounted f k es r has met counts bad = (refl, at (found r.tag es) refl bad) where
-  at : (o : Option Entry) → found r.tag es ≡ o → option_map_or (λ e. e.count == short_or es 277 1) o true ≡ false → IsSomeAnd (field f k r.tag) (λ e. IsMistyped r.typing e ⊎ IsMiscounted f k r.count e)
+miscounted f k es r has met counts bad = (refl, at (entry_with_tag r.tag es) refl bad) where
+  at : (o : Option Entry) → entry_with_tag r.tag es ≡ o → option_map_or (λ e. e.count == short_or es 277 1) o true ≡ false → IsSomeAnd (field f k r.tag) (λ e. IsMistyped r.typing e ⊎ IsMiscounted f k r.count e)
   at None is bad = absurd (false≢true (sym bad))
   at (Some e) is bad =
       let wrong : IsMiscounted f k Samples (field_of e) = some_and_from (value f k 277 0) (λ s. (e.count == s) ≡ false) _ (samples_told f k es has met) bad in
@@ -125,7 +125,7 @@ profile_counts es right (suc (suc (suc (suc (suc (suc (suc (suc (suc (suc (suc z
 profile_counts es right (suc (suc (suc (suc (suc (suc (suc (suc (suc (suc (suc (suc zero)))))))))))) d inside is = right.1
 profile_counts es right (suc (suc (suc (suc (suc (suc (suc (suc (suc (suc (suc (suc (suc j))))))))))))) d inside is = absurd (omega arith)
 
-pub count_is : (es : List Entry) (tag : ℕ) (e : Entry) → counts_samples es tag ≡ true → found tag es ≡ Some e → (e.count == short_or es 277 1) ≡ true
+pub count_is : (es : List Entry) (tag : ℕ) (e : Entry) → counts_samples es tag ≡ true → entry_with_tag tag es ≡ Some e → (e.count == short_or es 277 1) ≡ true
 count_is es tag e right is = rw is at right
 
 -- no field is missing or has another type or count

@@ -18,7 +18,7 @@ use Rattle.tiff_dir.specs.Profile.{subfile_rule, profile, is_depth, accepts}
 use Rattle.tiff_dir.specs.Level.{is_level, place_of}
 use Rattle.tiff_dir.specs.Needs.{outside_entry, outside_range, outside_ranges}
 use Rattle.tiff_dir.specs.Fault.{IsUnsupported, IsFaultOfLevel, IsFaultOfDirectories}
-use Rattle.tiff_dir.specs.Table.{field_of, found, keeps, short_or, counts_samples, long_in, draft_in, HasValues, HasCounts, IsReadIn}
+use Rattle.tiff_dir.specs.Table.{field_of, entry_with_tag, keeps, short_or, counts_samples, long_in, draft_in, HasValues, HasCounts, IsReadIn}
 use Rattle.tiff_dir.specs.Stage.{HasTable, HasShorts, HasFormats, IsSupported, IsPending, StepsOn, EndsDirectory, ranges_from, three_shorts, still}
 use Rattle.tiff_dir.proofs.Chain.{some_and_from}
 use Rattle.tiff_dir.proofs.Fields.{field_told, value_told, kind_short, typed, met_entry, met_there, short_told, short_only, three_values}
@@ -40,27 +40,27 @@ then_also P R Q (Err e) h more = h
 
 -- A field of SHORT
 
-is_short : (es : List Entry) (r : Rule) (e : Entry) → keeps es r ≡ true → r.typing ≡ typing.Short → found r.tag es ≡ Some e → e.kind ≡ 3
+is_short : (es : List Entry) (r : Rule) (e : Entry) → keeps es r ≡ true → r.typing ≡ typing.Short → entry_with_tag r.tag es ≡ Some e → e.kind ≡ 3
 is_short es r e met short is = kind_short r.typing e.kind short (typed r e (met_entry es r e met is))
 
-is_counted : (es : List Entry) (tag s : ℕ) (e : Entry) → counts_samples es tag ≡ true → short_or es 277 1 ≡ s → found tag es ≡ Some e → e.count ≡ s
+is_counted : (es : List Entry) (tag s : ℕ) (e : Entry) → counts_samples es tag ≡ true → short_or es 277 1 ≡ s → entry_with_tag tag es ≡ Some e → e.count ≡ s
 is_counted es tag s e right samples is = eqb-true e.count (short_or es 277 1) (count_is es tag e right is) ∙ samples
 
-three_told : (f : List ℕ) (k : ℕ) (es : List Entry) (r : Rule) (e : Entry) → HasTable f k es → keeps es r ≡ true → r.typing ≡ typing.Short → e.count ≡ 3 → found r.tag es ≡ Some e → HasShorts f k r.tag e.long
+three_told : (f : List ℕ) (k : ℕ) (es : List Entry) (r : Rule) (e : Entry) → HasTable f k es → keeps es r ≡ true → r.typing ≡ typing.Short → e.count ≡ 3 → entry_with_tag r.tag es ≡ Some e → HasShorts f k r.tag e.long
 three_told f k es r e has met short count is = λ i.
     value_told f k es r.tag i has ∙ rw is (three_values f e i (has.long r.tag e is) (is_short es r e met short is) count)
 
-three_outside : (f : List ℕ) (k : ℕ) (es : List Entry) (r : Rule) (e : Entry) → HasTable f k es → keeps es r ≡ true → r.typing ≡ typing.Short → e.count ≡ 3 → found r.tag es ≡ Some e → outside_range f k r.tag ≡ Some (three_shorts e.long)
+three_outside : (f : List ℕ) (k : ℕ) (es : List Entry) (r : Rule) (e : Entry) → HasTable f k es → keeps es r ≡ true → r.typing ≡ typing.Short → e.count ≡ 3 → entry_with_tag r.tag es ≡ Some e → outside_range f k r.tag ≡ Some (three_shorts e.long)
 unfolding outside_range place_of values_at
 three_outside f k es r e has met short count is =
     let kind = is_short es r e met short is in
     let long = has.long r.tag e is in
     rw (field_told f k es r.tag has) (rw is (rw (kind, count, long) refl))
 
-one_inside : (f : List ℕ) (k : ℕ) (es : List Entry) (r : Rule) → HasTable f k es → keeps es r ≡ true → r.typing ≡ typing.Short → ((e : Entry) → found r.tag es ≡ Some e → e.count ≡ 1) → outside_range f k r.tag ≡ None
+one_inside : (f : List ℕ) (k : ℕ) (es : List Entry) (r : Rule) → HasTable f k es → keeps es r ≡ true → r.typing ≡ typing.Short → ((e : Entry) → entry_with_tag r.tag es ≡ Some e → e.count ≡ 1) → outside_range f k r.tag ≡ None
 unfolding outside_range place_of values_at
-one_inside f k es r has met short one = rw (field_told f k es r.tag has) (at (found r.tag es) refl) where
-  at : (o : Option Entry) → found r.tag es ≡ o → (option_map field_of o >>= place_of f >>= outside_entry) ≡ None
+one_inside f k es r has met short one = rw (field_told f k es r.tag has) (at (entry_with_tag r.tag es) refl) where
+  at : (o : Option Entry) → entry_with_tag r.tag es ≡ o → (option_map field_of o >>= place_of f >>= outside_entry) ≡ None
   at None is = refl
   at (Some e) is = let kind = is_short es r e met short is in let count = one e is in rw (kind, count) refl
 
@@ -69,8 +69,8 @@ one_inside f k es r has met short one = rw (field_told f k es r.tag has) (at (fo
 pub bits_outside : (f : List ℕ) (k : ℕ) (es : List Entry) (first : ℕ) → HasTable f k es → AllPass (keeps es) profile → HasCounts es → short_or es 277 1 ≡ 3 → long_in es 258 ≡ Some first
     → HasShorts f k 258 first × (outside_range f k 258 ≡ Some (three_shorts first))
 unfolding profile
-bits_outside f k es first has met right samples told = at (found 258 es) refl told where
-  at : (o : Option Entry) → found 258 es ≡ o → option_map (λ e. e.long) o ≡ Some first → HasShorts f k 258 first × (outside_range f k 258 ≡ Some (three_shorts first))
+bits_outside f k es first has met right samples told = at (entry_with_tag 258 es) refl told where
+  at : (o : Option Entry) → entry_with_tag 258 es ≡ o → option_map (λ e. e.long) o ≡ Some first → HasShorts f k 258 first × (outside_range f k 258 ≡ Some (three_shorts first))
   at None is e = absurd (none-some first e)
   at (Some x) is e =
       let ok = met 3 subfile_rule (lit< tt) in
@@ -83,11 +83,11 @@ pub formats_outside : (f : List ℕ) (k : ℕ) (es : List Entry) (formats : Opti
 unfolding profile
 formats_outside f k es formats has met right samples told =
     let P : Option ℕ → Type 0 = λ o. HasFormats f k o × (outside_range f k 339 ≡ option_map three_shorts o) in
-    subst P told (at (found 339 es) refl) where
-      at : (o : Option Entry) → found 339 es ≡ o → HasFormats f k (option_map (λ e. e.long) o) × (outside_range f k 339 ≡ option_map three_shorts (option_map (λ e. e.long) o))
+    subst P told (at (entry_with_tag 339 es) refl) where
+      at : (o : Option Entry) → entry_with_tag 339 es ≡ o → HasFormats f k (option_map (λ e. e.long) o) × (outside_range f k 339 ≡ option_map three_shorts (option_map (λ e. e.long) o))
       at None is =
           let ok = met 12 subfile_rule (lit< tt) in
-          let none : (e : Entry) → found 339 es ≡ Some e → e.count ≡ 1 = λ e there. absurd (none-some e (sym is ∙ there)) in
+          let none : (e : Entry) → entry_with_tag 339 es ≡ Some e → e.count ≡ 1 = λ e there. absurd (none-some e (sym is ∙ there)) in
           let default : short_or es 339 1 ≡ 1 = rw is refl in (
             supported_by f k 339 (λ e. absurd (omega arith)) (λ e. absurd (omega arith)) (λ e. absurd (omega arith))
                 (λ i v here. rw (short_only f k es (get_or profile 12 subfile_rule) 1 has ok refl none (inl refl) i v here ∙ default) refl),
@@ -133,7 +133,7 @@ unfolding profile
 bits_inside f k es has met right samples good =
     let r : Rule = get_or profile 3 subfile_rule in
     let ok = met 3 subfile_rule (lit< tt) in
-    let one : (e : Entry) → found 258 es ≡ Some e → e.count ≡ 1 = λ e is. is_counted es 258 1 e right.0 samples is in (
+    let one : (e : Entry) → entry_with_tag 258 es ≡ Some e → e.count ≡ 1 = λ e is. is_counted es 258 1 e right.0 samples is in (
       bits_value f k es has met right samples,
       depth_supported f k (short_or es 258 0) good (short_only f k es r 0 has ok refl one (inr refl)),
       one_inside f k es r has ok refl one,
@@ -145,7 +145,7 @@ unfolding profile
 formats_inside f k es has met right samples good =
     let r : Rule = get_or profile 12 subfile_rule in
     let ok = met 12 subfile_rule (lit< tt) in
-    let one : (e : Entry) → found 339 es ≡ Some e → e.count ≡ 1 = λ e is. is_counted es 339 1 e right.1 samples is in (
+    let one : (e : Entry) → entry_with_tag 339 es ≡ Some e → e.count ≡ 1 = λ e is. is_counted es 339 1 e right.1 samples is in (
       supported_by f k 339 (λ e. absurd (omega arith)) (λ e. absurd (omega arith)) (λ e. absurd (omega arith)) (λ i v here. rw (short_only f k es r 1 has ok refl one (inl refl) i v here ∙ good) refl),
       one_inside f k es r has ok refl one,
     )

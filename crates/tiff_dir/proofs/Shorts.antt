@@ -10,13 +10,14 @@ use Rattle.tiff_dir.specs.Number.{number_in}
 use Rattle.tiff_dir.specs.File.{order_of, value}
 use Rattle.tiff_dir.specs.Fault.{IsUnsupported}
 use Rattle.tiff_dir.specs.Profile.{is_depth, accepts}
-use Rattle.tiff_dir.specs.Stage.{all_are, depth_in, three_shorts, HasShorts, HasBits, IsPart, IsPending, IsSupported, StepsOn, EndsDirectory}
+use Rattle.tiff_dir.specs.Needs.{bytes_in}
+use Rattle.tiff_dir.specs.Stage.{all_are, depth_in, three_shorts, HasShorts, HasBits, IsPending, IsSupported, StepsOn, EndsDirectory}
 use Rattle.tiff_dir.proofs.Chain.{some_and_from}
 use Rattle.tiff_dir.proofs.Parts.{number_part}
 use Rattle.tiff_dir.proofs.Levels.{supported_by, depth_supported, some_and_cases}
 use Rattle.tiff_dir.proofs.GoingOn.{steps_same, ends_on}
 
-short_is : (f bytes : List ℕ) (o : Order) (k tag first i : ℕ) → order_of f ≡ Some o → HasShorts f k tag first → IsPart f (three_shorts first) bytes → length bytes ≡ 6 → i < 3 → value f k tag i ≡ Some (number_in o (i * 2) 2 bytes)
+short_is : (f bytes : List ℕ) (o : Order) (k tag first i : ℕ) → order_of f ≡ Some o → HasShorts f k tag first → bytes ≡ bytes_in f (three_shorts first) → length bytes ≡ 6 → i < 3 → value f k tag i ≡ Some (number_in o (i * 2) 2 bytes)
 short_is f bytes o k tag first i named shorts part len few =
     let test = lt-ltb i 3 few in
     shorts i ∙ rw test (number_part f bytes o first 6 (i * 2) 2 named part len (omega arith) (omega arith))
@@ -26,7 +27,7 @@ no_more f k tag first i v shorts past told =
     let test = le-ltb i 3 past in
     none-some v (sym (shorts i ∙ rw test refl) ∙ told)
 
-all_same : (f bytes : List ℕ) (o : Order) (k tag first w : ℕ) → order_of f ≡ Some o → HasShorts f k tag first → IsPart f (three_shorts first) bytes → length bytes ≡ 6 → all_are o bytes w ≡ true
+all_same : (f bytes : List ℕ) (o : Order) (k tag first w : ℕ) → order_of f ≡ Some o → HasShorts f k tag first → bytes ≡ bytes_in f (three_shorts first) → length bytes ≡ 6 → all_are o bytes w ≡ true
     → (i v : ℕ) → value f k tag i ≡ Some v → v ≡ w
 all_same f bytes o k tag first w named shorts part len all zero v told =
     same_Some _ _ (sym told ∙ short_is f bytes o k tag first 0 named shorts part len (omega arith)) ∙ eqb-true _ w (and_parts (number_in o 0 2 bytes == w) _ all).0
@@ -38,7 +39,7 @@ all_same f bytes o k tag first w named shorts part len all (suc (suc zero)) v to
     same_Some _ _ (sym told ∙ short_is f bytes o k tag first 2 named shorts part len (omega arith)) ∙ eqb-true _ w (and_parts (number_in o 2 2 bytes == w) (number_in o 4 2 bytes == w) rest).1
 all_same f bytes o k tag first w named shorts part len all (suc (suc (suc i))) v told = absurd (no_more f k tag first (suc (suc (suc i))) v shorts (omega arith) told)
 
-one_other : (f bytes : List ℕ) (o : Order) (k tag first w : ℕ) → order_of f ≡ Some o → HasShorts f k tag first → IsPart f (three_shorts first) bytes → length bytes ≡ 6 → all_are o bytes w ≡ false
+one_other : (f bytes : List ℕ) (o : Order) (k tag first w : ℕ) → order_of f ≡ Some o → HasShorts f k tag first → bytes ≡ bytes_in f (three_shorts first) → length bytes ≡ 6 → all_are o bytes w ≡ false
     → (i : ℕ) × IsSomeAnd (value f k tag i) (λ v. (v == w) ≡ false)
 one_other f bytes o k tag first w named shorts part len bad =
     elim (and_cases (number_in o 0 2 bytes == w) ((number_in o 2 2 bytes == w) && (number_in o 4 2 bytes == w)) bad) [
@@ -51,14 +52,14 @@ one_other f bytes o k tag first w named shorts part len bad =
 
 -- BitsPerSample
 
-bits_right : (f bytes : List ℕ) (o : Order) (k first bits : ℕ) → order_of f ≡ Some o → HasShorts f k 258 first → IsPart f (three_shorts first) bytes → length bytes ≡ 6 → is_depth bits ≡ true → all_are o bytes bits ≡ true → HasBits f k (Some bits)
+bits_right : (f bytes : List ℕ) (o : Order) (k first bits : ℕ) → order_of f ≡ Some o → HasShorts f k 258 first → bytes ≡ bytes_in f (three_shorts first) → length bytes ≡ 6 → is_depth bits ≡ true → all_are o bytes bits ≡ true → HasBits f k (Some bits)
 bits_right f bytes o k first bits named shorts part len good all = (
   short_is f bytes o k 258 first 0 named shorts part len (omega arith) ∙ ap Some (eqb-true _ bits (and_parts (number_in o 0 2 bytes == bits) _ all).0),
   good,
   depth_supported f k bits good (all_same f bytes o k 258 first bits named shorts part len all),
 )
 
-bits_wrong : (f bytes : List ℕ) (o : Order) (k first : ℕ) → order_of f ≡ Some o → HasShorts f k 258 first → IsPart f (three_shorts first) bytes → length bytes ≡ 6
+bits_wrong : (f bytes : List ℕ) (o : Order) (k first : ℕ) → order_of f ≡ Some o → HasShorts f k 258 first → bytes ≡ bytes_in f (three_shorts first) → length bytes ≡ 6
     → (is_depth (number_in o 0 2 bytes) && all_are o bytes (number_in o 0 2 bytes)) ≡ false → HasBits f k None
 bits_wrong f bytes o k first named shorts part len bad =
     let bits = number_in o 0 2 bytes in
@@ -73,7 +74,7 @@ bits_wrong f bytes o k first named shorts part len bad =
           inr (inr (inr (refl, (i, 0, misfit)))))
     ]
 
-pub has_bits : (f bytes : List ℕ) (o : Order) (k first : ℕ) → order_of f ≡ Some o → HasShorts f k 258 first → IsPart f (three_shorts first) bytes → length bytes ≡ 6 → HasBits f k (depth_in o bytes)
+pub has_bits : (f bytes : List ℕ) (o : Order) (k first : ℕ) → order_of f ≡ Some o → HasShorts f k 258 first → bytes ≡ bytes_in f (three_shorts first) → length bytes ≡ 6 → HasBits f k (depth_in o bytes)
 has_bits f bytes o k first named shorts part len = at (is_depth (number_in o 0 2 bytes) && all_are o bytes (number_in o 0 2 bytes)) refl where
   at : (b : Bool) → (is_depth (number_in o 0 2 bytes) && all_are o bytes (number_in o 0 2 bytes)) ≡ b → HasBits f k (if b then Some (number_in o 0 2 bytes) else None)
   at true good =
@@ -89,10 +90,10 @@ bits_none f k o is has = let P : Option ℕ → Type 0 = λ x. HasBits f k x in 
 
 -- SampleFormat
 
-pub formats_wrong : (f bytes : List ℕ) (o : Order) (k first : ℕ) → order_of f ≡ Some o → HasShorts f k 339 first → IsPart f (three_shorts first) bytes → length bytes ≡ 6 → all_are o bytes 1 ≡ false → IsUnsupported f k 339
+pub formats_wrong : (f bytes : List ℕ) (o : Order) (k first : ℕ) → order_of f ≡ Some o → HasShorts f k 339 first → bytes ≡ bytes_in f (three_shorts first) → length bytes ≡ 6 → all_are o bytes 1 ≡ false → IsUnsupported f k 339
 formats_wrong f bytes o k first named shorts part len bad = inl (one_other f bytes o k 339 first 1 named shorts part len bad)
 
-pub formats_right : (f bytes : List ℕ) (o : Order) (k first : ℕ) → order_of f ≡ Some o → HasShorts f k 339 first → IsPart f (three_shorts first) bytes → length bytes ≡ 6 → all_are o bytes 1 ≡ true → IsSupported f k 339
+pub formats_right : (f bytes : List ℕ) (o : Order) (k first : ℕ) → order_of f ≡ Some o → HasShorts f k 339 first → bytes ≡ bytes_in f (three_shorts first) → length bytes ≡ 6 → all_are o bytes 1 ≡ true → IsSupported f k 339
 formats_right f bytes o k first named shorts part len all =
     supported_by f k 339 (λ e. absurd (omega arith)) (λ e. absurd (omega arith)) (λ e. absurd (omega arith)) (λ i v told. rw (all_same f bytes o k 339 first 1 named shorts part len all i v told) refl)
 

@@ -1,5 +1,5 @@
 -- The values of a level's arrays, by their bytes.
-use Rattle.std.proofs.Common.{◌≡◌, ℕ, ◌+◌, ◌-◌, ◌*◌, ◌<◌, ◌≤◌, List, length, take, drop, Option, Some, None, refl, subst, ap, ◌∙◌, arith}
+use Rattle.std.proofs.Common.{◌≡◌, ℕ, ◌+◌, ◌*◌, ◌<◌, ◌≤◌, List, length, Option, Some, None, refl, subst, ◌∙◌, arith}
 use Rattle.std.proofs.Math.Nat.{mul-le-mul_right}
 use Rattle.std.proofs.lemmas.Option.{same_Some, none-some}
 use Rattle.std.proofs.lemmas.Bool.{lt-ltb, false≢true}
@@ -84,10 +84,8 @@ field_value_told f k tag t p told less = at (field f k tag) told where
 array_value : (f bytes : List ℕ) (o : Order) (k tag t : ℕ) (p : Place) → order_of f ≡ Some o → (field f k tag >>= place_of f) ≡ Some p → p.len ≡ p.count * size_of p.kind → t < p.count → IsArrayOf f p bytes → length bytes ≡ p.len
     → value f k tag t ≡ Some (number_in o (t * size_of p.kind) (size_of p.kind) bytes)
 array_value f bytes o k tag t p named told len less part whole =
-    let same : p.first + p.len - p.first ≡ p.len = omega arith in
-    let here : bytes ≡ take p.len (drop p.first f) = part ∙ ap (λ (n : ℕ). take n (drop p.first f)) same in
     let fits : t * size_of p.kind + size_of p.kind ≤ p.len = omega (arith, within t p.count (size_of p.kind) less) in
-    field_value_told f k tag t p told less ∙ number_part f bytes o p.first p.len (t * size_of p.kind) (size_of p.kind) named here whole fits (size_some p.kind)
+    field_value_told f k tag t p told less ∙ number_part f bytes o p.first p.len (t * size_of p.kind) (size_of p.kind) named part whole fits (size_some p.kind)
 
 pub level_value_at : (f : List ℕ) (n k tag t v : ℕ) → level_directory f n ≡ Some k → value f k tag t ≡ Some v → level_value f n tag t ≡ Some v
 unfolding level_value

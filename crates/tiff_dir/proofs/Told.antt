@@ -1,5 +1,5 @@
 -- What a walk knows of a file from one range to the next.
-use Rattle.std.proofs.Common.{◌≡◌, ◌≢◌, ℕ, zero, suc, ◌+◌, ◌-◌, ◌<◌, ◌≤◌, ◌⊎◌, inl, inr, true, false, List, [], ◌∷◌, ◌++◌, map, length, take, drop, Option, Some, None, IsSomeAnd, IfSome, Result, Ok, Err, refl, sym, subst, ap, ◌∙◌, arith}
+use Rattle.std.proofs.Common.{◌≡◌, ◌≢◌, ℕ, zero, suc, ◌+◌, ◌-◌, ◌<◌, ◌≤◌, ◌⊎◌, inl, inr, true, false, List, [], ◌∷◌, ◌++◌, map, length, drop, Option, Some, None, IsSomeAnd, IfSome, Result, Ok, Err, refl, sym, subst, ap, ◌∙◌, arith, take}
 use Rattle.std.specs.Prelude.{slice_get, IsErrAnd, IsSome}
 use Rattle.tiff_dir.specs.declared.fault.WalkError.{WalkError}
 use Rattle.tiff_dir.specs.declared.fault.WalkError.TheVariants as errors
@@ -23,11 +23,12 @@ use Rattle.tiff_dir.proofs.Ends.{layout_parts}
 use Rattle.tiff_dir.specs.File.{◌>>=◌, Field, field, order_of, number, has_directory, directories}
 use Rattle.tiff_dir.specs.Described.{described, layout_of, AreLevels}
 use Rattle.tiff_dir.specs.Level.{Layout, is_level, place_of, level_directories, previous_level, layout_at, layouts, level_layout, level_directory}
-use Rattle.tiff_dir.specs.Needs.{Range, ends_past, range_of_place, field_range, needs_of_directories, outside_ranges}
+use Rattle.tiff_dir.specs.Needs.{IsEndOf, Range, ends_past, range_of_place, field_range, needs_of_directories, outside_ranges}
 use Rattle.tiff_dir.specs.Fault.{IsFaultOfDirectories}
-use Rattle.tiff_dir.specs.Stage.{range_of, index_of, still, three_shorts, ranges_from, is_past_first, is_first_table, layouts_below, AgreesAt, IsBefore, IsPart, IsOver, StepsOn}
+use Rattle.tiff_dir.specs.Stage.{range_of, index_of, still, three_shorts, ranges_from, is_past_first, is_first_table, layouts_below, AgreesAt, IsBefore, IsOver, StepsOn}
 use Rattle.tiff_dir.specs.declared.geo.GeoEntries.{GeoEntries}
 use Rattle.tiff_dir.specs.GeoEntries.{AreNear}
+use Rattle.std.proofs.lemmas.List.{take-append-drop}
 use Rattle.tiff_dir.specs.Known.{Known, HasGeo}
 use Rattle.tiff_dir.specs.Walk.{IsWanted, Agrees, given_of, wanted, to_come, bytes_in, IsWantedOf, HasEnded, IfFile}
 use Rattle.tiff_dir.proofs.Chain.{some_and_at, count_wanted, none_after}
@@ -92,21 +93,16 @@ wanted_is w n is = at w.stage is where
   at (stages.Formats p first bits) is = (_, refl, is, omega arith)
   at (stages.Ended o k) is = absurd is
 
-pub wanted_parts : (f bytes : List ℕ) (w : Known) → IsWantedOf f w bytes → IfSome (range_of w.stage) (λ r. IsPart f r bytes)
+pub wanted_parts : (f bytes : List ℕ) (w : Known) → IsWantedOf f w bytes → IfSome (range_of w.stage) (λ r. bytes ≡ bytes_in f r)
 unfolding wanted
 wanted_parts f bytes w given = at (range_of w.stage) given where
-  at : (o : Option Range) → IsSomeAnd o (λ r. bytes ≡ bytes_in f r) → IfSome o (λ r. IsPart f r bytes)
+  at : (o : Option Range) → IsSomeAnd o (λ r. bytes ≡ bytes_in f r) → IfSome o (λ r. bytes ≡ bytes_in f r)
   at None given = absurd given
-  at (Some r) given =
-      let len : r.first + r.len - r.first ≡ r.len = omega arith in
-      given ∙ ap (λ (n : ℕ). take n (drop r.first f)) len
+  at (Some r) given = given
 
 -- the bytes of the file as a part of it
-pub wanted_part : (f bytes : List ℕ) (w : Known) (r : Range) → wanted w ≡ Some r → IsWantedOf f w bytes → IsPart f r bytes
-wanted_part f bytes w r is given =
-    let here : bytes ≡ bytes_in f r = some_and_at (wanted w) (λ x. bytes ≡ bytes_in f x) r is given in
-    let len : r.first + r.len - r.first ≡ r.len = omega arith in
-    here ∙ ap (λ (n : ℕ). take n (drop r.first f)) len
+pub wanted_part : (f bytes : List ℕ) (w : Known) (r : Range) → wanted w ≡ Some r → IsWantedOf f w bytes → bytes ≡ bytes_in f r
+wanted_part f bytes w r is given = some_and_at (wanted w) (λ x. bytes ≡ bytes_in f x) r is given
 
 -- The next range
 
@@ -122,7 +118,7 @@ geo_next f w stage geo told first taken same past = elim (cases_Bool (is_first_t
   ]
 ]
 
-pub told_next : (f bytes : List ℕ) (w : Known) (step : Step) (r : Range) (ls : List Level) (geo : GeoEntries) → Agrees w f → wanted w ≡ Some r → IsPart f r bytes → length bytes ≡ r.len → 0 < r.len → StepsOn f w.stage step
+pub told_next : (f bytes : List ℕ) (w : Known) (step : Step) (r : Range) (ls : List Level) (geo : GeoEntries) → Agrees w f → wanted w ≡ Some r → bytes ≡ bytes_in f r → length bytes ≡ r.len → 0 < r.len → StepsOn f w.stage step
     → ls ≡ w.levels ++ option_to_list step.level → (is_past_first step.stage ≡ true → HasGeo f geo) → Agrees (record { stage = step.stage; levels = ls; geo = geo; given = w.given + 1 }) f
 unfolding Agrees wanted
 told_next f bytes w step r ls geo told is part len some on same has =
@@ -185,6 +181,15 @@ unfolding Agrees wanted
 ended_clean w f ended told =
     let (o, k, over, index, none) = ended_over f w.stage told.here ended in
     over_clean f o k over (told.inside ∙ ap (list_any (ends_past f)) none)
+
+-- nothing is to come when the walk has ended, and what is to come is an end of what the directories need
+pub ended_come : (w : Known) (f : List ℕ) → Agrees w f → HasEnded w → to_come w f ≡ []
+unfolding Agrees wanted to_come
+ended_come w f told ended = (let (o, k, over, index, none) = ended_over f w.stage told.here ended in told.come ∙ none)
+
+pub come_end : (w : Known) (f : List ℕ) → IsEndOf (to_come w f) (needs_of_directories f)
+unfolding to_come
+come_end w f = record { front = take w.given (needs_of_directories f); joined = sym (take-append-drop w.given (needs_of_directories f)) }
 
 pub there_below : (f : List ℕ) (k j : ℕ) → has_directory f k ≡ true → j ≤ k → has_directory f j ≡ true
 unfolding has_directory

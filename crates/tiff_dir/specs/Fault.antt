@@ -8,7 +8,7 @@ use Rattle.tiff_dir.specs.declared.rule.Count.{Count}
 use Rattle.tiff_dir.specs.declared.rule.Count.TheVariants.{One, Samples, Tiles, Exactly, Multiple}
 use Rattle.tiff_dir.specs.declared.fault.FileFault.{FileFault}
 use Rattle.tiff_dir.specs.declared.fault.FileFault.TheVariants.{Header, PastEnd, DirPlace, DirCount, TagOrder, TooManyDirs, Missing, FieldType, Unsupported, LevelShape, TileArray, TileSize}
-use Rattle.tiff_dir.specs.File.{◌>>=◌, order_of, number, directory, has_directory, entry_count, Field, fields, has_all_tags, field, value}
+use Rattle.tiff_dir.specs.File.{max_directories, ◌>>=◌, order_of, number, directory, has_directory, entry_count, Field, fields, has_all_tags, field, value}
 use Rattle.tiff_dir.specs.Profile.{subfile_rule, profile, has_typing, is_multiple, accepts, samples_fit, planes_fit, is_tile_side, tile_bytes, max_tile_bytes, max_tiles}
 use Rattle.tiff_dir.specs.Level.{is_level, previous_level, grid_at, tile_total}
 use Rattle.tiff_dir.specs.Needs.{is_entry_count, ends_past, needs_of_directories}
@@ -93,8 +93,8 @@ plain_bytes f k = do
   Some (tile_bytes tile_width tile_length samples bits)
 
 -- how many tiles a directory has, by its grid
-unfoldable pub tile_count : List ℕ → ℕ → Option ℕ
-tile_count f k = do
+unfoldable pub directory_tiles : List ℕ → ℕ → Option ℕ
+directory_tiles f k = do
   grid ← grid_at f k
   if nat_lt 0 grid.tile_width && nat_lt 0 grid.tile_length then Some (tile_total grid) else None
 
@@ -103,7 +103,7 @@ IsNoTileSide f k tag = IsSomeAnd (value f k tag 0) (λ side. is_tile_side side �
 
 -- an array of tiles has another count than there are tiles
 abbrev pub IsNoTileArray : List ℕ → ℕ → ℕ → Type 0
-IsNoTileArray f k tag = IsMisfit (λ n count. n == count) (tile_count f k) (field f k tag >>= λ e. e.count)
+IsNoTileArray f k tag = IsMisfit (λ n count. n == count) (directory_tiles f k) (field f k tag >>= λ e. e.count)
 
 -- A fault of directory k, whether it is a level or not.
 abbrev pub IsFaultOfDirectory : List ℕ → ℕ → FileFault → Type 0
@@ -124,20 +124,20 @@ IsFaultOfLevel f k LevelShape = HasNoSide f k 256 ⊎ (HasNoSide f k 257 ⊎ IsN
 IsFaultOfLevel f k TileSize =
     IsNoTileSide f k 322 ⊎ (IsNoTileSide f k 323 ⊎ IsSomeAnd (plain_bytes f k) (λ n. nat_le n max_tile_bytes ≡ false))
 IsFaultOfLevel f k TileArray =
-    IsSomeAnd (tile_count f k) (λ n. nat_le n max_tiles ≡ false) ⊎ (IsNoTileArray f k 324 ⊎ IsNoTileArray f k 325)
+    IsSomeAnd (directory_tiles f k) (λ n. nat_le n max_tiles ≡ false) ⊎ (IsNoTileArray f k 324 ⊎ IsNoTileArray f k 325)
 IsFaultOfLevel f k _ = ⊥
 
 -- A fault of the file that is none of one directory alone.
 abbrev pub IsFaultOfChain : List ℕ → FileFault → Type 0
 IsFaultOfChain f Header = IsBadHeader f
 IsFaultOfChain f PastEnd = list_any (ends_past f) (needs_of_directories f) ≡ true
--- the place after 16 directories isn't 0
-IsFaultOfChain f TooManyDirs = has_directory f 16 ≡ true
+-- the place after as many directories as a file may have isn't 0
+IsFaultOfChain f TooManyDirs = has_directory f max_directories ≡ true
 IsFaultOfChain f _ = ⊥
 
 -- k is the number of a directory of the file
 abbrev pub IsDirectory : List ℕ → ℕ → Type 0
-IsDirectory f k = (k < 16) × (has_directory f k ≡ true)
+IsDirectory f k = (k < max_directories) × (has_directory f k ≡ true)
 
 abbrev pub IsFaultAt : List ℕ → ℕ → FileFault → Type 0
 IsFaultAt f k fault = IsFaultOfDirectory f k fault ⊎ ((is_level f k ≡ true) × IsFaultOfLevel f k fault)

@@ -53,7 +53,7 @@ unfoldable pub entry_count : List ℕ → ℕ → Option ℕ
 entry_count f k = directory f k >>= λ at. number f at 2
 
 -- What an entry says of a field: its tag, type and count, and where the entry stands. Type and count are there where
--- their own bytes are.
+-- their own bytes are in the file.
 pub record Field : Type 0 where
   pub tag : ℕ
   pub kind : Option ℕ
@@ -83,11 +83,11 @@ unfoldable pub has_all_tags : List ℕ → ℕ → Bool
 has_all_tags f k = option_map_or (λ n. length (fields f k) == n) (entry_count f k) false
 
 -- the first entry with the tag
-abbrev pub with_tag : ℕ → List Field → Option Field
-with_tag tag fields = find (λ e. e.tag == tag) fields
+abbrev pub field_with_tag : ℕ → List Field → Option Field
+field_with_tag tag fields = find (λ e. e.tag == tag) fields
 
 unfoldable pub field : List ℕ → ℕ → ℕ → Option Field
-field f k tag = with_tag tag (fields f k)
+field f k tag = field_with_tag tag (fields f k)
 
 -- the types 1 to 12
 abbrev pub kinds : List Kind

@@ -8,17 +8,17 @@ use Rattle.tiff_dir.specs.declared.rule.Rule.{Rule}
 use Rattle.tiff_dir.specs.declared.fault.FileFault.{FileFault}
 use Rattle.tiff_dir.specs.declared.fault.FileFault.TheVariants.{FieldType, TooLarge}
 use Rattle.tiff_dir.specs.Profile.{geo_rule, max_geo_bytes}
-use Rattle.tiff_dir.specs.Table.{allows, found, len_of, place_in}
+use Rattle.tiff_dir.specs.Table.{allows, entry_with_tag, len_of, place_in}
 
 -- those among the entries of a table
 abbrev pub geo_in : List Entry → GeoEntries
 geo_in es = record {
-  directory = found 34735 es;
-  doubles = found 34736 es;
-  ascii = found 34737 es;
-  scale = found 33550 es;
-  tiepoints = found 33922 es;
-  transformation = found 34264 es;
+  directory = entry_with_tag 34735 es;
+  doubles = entry_with_tag 34736 es;
+  ascii = entry_with_tag 34737 es;
+  scale = entry_with_tag 33550 es;
+  tiepoints = entry_with_tag 33922 es;
+  transformation = entry_with_tag 34264 es;
 }
 
 -- where the values stand of a rule's entry

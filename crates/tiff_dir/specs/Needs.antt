@@ -1,5 +1,5 @@
 -- The bytes of a file that its reader needs: those of its directories, which every query needs.
-use Rattle.std.specs.Prelude.{ℕ, ◌+◌, ◌*◌, Bool, ◌&&◌, nat_lt, nat_le, if◌then◌else◌, List, [], ◌∷◌, ◌++◌, length, Option, Some, None}
+use Rattle.std.specs.Prelude.{◌≡◌, ℕ, ◌+◌, ◌*◌, Bool, ◌&&◌, nat_lt, nat_le, if◌then◌else◌, List, [], ◌∷◌, ◌++◌, length, slice_range, Option, Some, None}
 use Rattle.std.specs.List.{flat_map}
 use Rattle.std.specs.Option.{option_to_list}
 use Rattle.tiff_dir.specs.declared.level.Place.{Place}
@@ -10,6 +10,14 @@ use Rattle.tiff_dir.specs.Level.{is_level, place_of}
 pub record Range : Type 0 where
   pub first : ℕ
   pub len : ℕ
+
+-- the bytes of the file in a range
+abbrev pub bytes_in : List ℕ → Range → List ℕ
+bytes_in f r = slice_range f r.first (r.first + r.len)
+
+-- the greatest number of bytes of a range that is asked for
+abbrev pub max_range_bytes : ℕ
+max_range_bytes = 1048576
 
 abbrev pub ends_past : List ℕ → Range → Bool
 ends_past f r = nat_lt (length f) (r.first + r.len)
@@ -64,3 +72,8 @@ ranges_of_directory f k =
 -- value that gives its place is in the file.
 unfoldable pub needs_of_directories : List ℕ → List Range
 needs_of_directories f = header_range ∷ flat_map (ranges_of_directory f) (directories f)
+
+-- the ranges are the last ones of others
+pub record IsEndOf (few many : List Range) : Type 0 where
+  pub front : List Range
+  pub joined : many ≡ front ++ few

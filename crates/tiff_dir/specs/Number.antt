@@ -1,6 +1,7 @@
 -- Numbers in bytes (TIFF 6.0, section 2).
 use Rattle.std.specs.Prelude.{ℕ, List}
-use Rattle.byteorder.specs.Endian.{big_from, little_from}
+-- little_from and big_from: the numbers of n bytes with the least and with the most significant byte first
+pub use Rattle.byteorder.specs.Endian.{big_from, little_from}
 use Rattle.tiff_dir.specs.declared.order.Order.{Order}
 use Rattle.tiff_dir.specs.declared.order.Order.TheVariants.{Little, Big}
 

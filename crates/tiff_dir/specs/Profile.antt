@@ -98,6 +98,10 @@ tile_bytes tile_width tile_length samples bits = tile_width * tile_length * samp
 abbrev pub tiles_along : ℕ → ℕ → ℕ
 tiles_along side tile_side = (side + tile_side - 1) / tile_side
 
+-- how many tiles a level of these sides has
+abbrev pub tile_count : ℕ → ℕ → ℕ → ℕ → ℕ
+tile_count width length tile_width tile_length = tiles_along width tile_width * tiles_along length tile_length
+
 -- a pixel has one sample or three
 abbrev pub is_sample_count : ℕ → Bool
 is_sample_count samples = samples == 1 || samples == 3

@@ -7,7 +7,7 @@ use Rattle.tiff_dir.specs.declared.query.Query.TheVariants.{Window, Info}
 use Rattle.tiff_dir.specs.declared.query.Pick.TheVariants as pick
 use Rattle.tiff_dir.specs.File.{◌>>=◌}
 use Rattle.tiff_dir.specs.Level.{Grid, level_directories, level_directory, level_grid, level_value, across, tile_total}
-use Rattle.tiff_dir.specs.Needs.{Range, ends_past, field_range, needs_of_directories}
+use Rattle.tiff_dir.specs.Needs.{Range, ends_past, field_range, needs_of_directories, max_range_bytes}
 use Rattle.tiff_dir.specs.Geo.{geo_ranges}
 
 -- columns from left and rows from top, in the samples of a level
@@ -125,7 +125,7 @@ pub record Group : Type 0 where
   pub range : Range
 
 abbrev pub max_group_bytes : ℕ
-max_group_bytes = 1048576
+max_group_bytes = max_range_bytes
 
 -- the range begins where the group's last tile ends, and the group with it isn't too long
 abbrev pub joins : Group → Range → Bool

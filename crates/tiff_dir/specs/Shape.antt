@@ -8,7 +8,7 @@ use Rattle.tiff_dir.specs.declared.stage.Step.{Step}
 use Rattle.tiff_dir.specs.declared.stage.Stage.{Stage}
 use Rattle.tiff_dir.specs.declared.fault.FileFault.{FileFault}
 use Rattle.tiff_dir.specs.declared.fault.FileFault.TheVariants.{LevelShape, TileSize, TileArray}
-use Rattle.tiff_dir.specs.Profile.{is_tile_side, tile_bytes, tiles_along, max_tile_bytes, max_tiles}
+use Rattle.tiff_dir.specs.Profile.{is_tile_side, tile_bytes, tile_count, max_tile_bytes, max_tiles}
 use Rattle.tiff_dir.specs.Fault.{is_smaller}
 use Rattle.tiff_dir.specs.Level.{Layout}
 use Rattle.tiff_dir.specs.Stage.{index_of, is_past_first, is_first_table, IsKept}
@@ -29,12 +29,12 @@ has_tiles d bits =
     && nat_le (tile_bytes d.tile_width d.tile_length d.samples bits) max_tile_bytes)
 
 -- how many tiles the draft has
-abbrev pub tiles_of : Draft → ℕ
-tiles_of d = tiles_along d.width d.tile_width * tiles_along d.length d.tile_length
+abbrev pub draft_tiles : Draft → ℕ
+draft_tiles d = tile_count d.width d.length d.tile_width d.tile_length
 
 -- there are not too many tiles, and as many offsets and byte counts
 abbrev pub has_arrays : Draft → Bool
-has_arrays d = nat_le (tiles_of d) max_tiles && ((tiles_of d == d.offsets.count) && (tiles_of d == d.counts.count))
+has_arrays d = nat_le (draft_tiles d) max_tiles && ((draft_tiles d == d.offsets.count) && (draft_tiles d == d.counts.count))
 
 -- the draft passes all three tests
 pub record IsShaped (previous : Option Level) (d : Draft) (bits : ℕ) : Type 0 where

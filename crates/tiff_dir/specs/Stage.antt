@@ -1,5 +1,5 @@
 -- What is known of a file at each stage of a walk over its directories.
-use Rattle.std.specs.Prelude.{◌≡◌, ◌≢◌, ℕ, suc, ◌+◌, ◌-◌, ◌*◌, ◌<◌, ◌≤◌, ◌^◌, ⊤, Bool, true, false, ◌&&◌, ◌==◌, nat_lt, if◌then◌else◌, List, [], ◌∷◌, ◌++◌, map, take, drop, Option, Some, None, IfSome}
+use Rattle.std.specs.Prelude.{◌≡◌, ◌≢◌, ℕ, suc, ◌+◌, ◌-◌, ◌*◌, ◌<◌, ◌≤◌, ◌^◌, ⊤, Bool, true, false, ◌&&◌, ◌==◌, nat_lt, if◌then◌else◌, List, [], ◌∷◌, ◌++◌, map, Option, Some, None, IfSome}
 use Rattle.std.specs.Option.{option_map, option_to_list}
 use Rattle.std.specs.List.{filter, flat_map, range_with_len}
 use Rattle.tiff_dir.specs.declared.order.Order.{Order}
@@ -18,9 +18,9 @@ use Rattle.tiff_dir.specs.File.{max_directories, ◌>>=◌, order_of, number, di
 use Rattle.tiff_dir.specs.Profile.{is_depth, is_sample_count, is_long, is_short_or_long}
 use Rattle.tiff_dir.specs.Level.{Layout, is_level, previous_level, place_of, layout_at, compression_of}
 use Rattle.tiff_dir.specs.Described.{described}
-use Rattle.tiff_dir.specs.Needs.{Range, is_entry_count, header_range, outside_ranges, ranges_of_directory}
+use Rattle.tiff_dir.specs.Needs.{Range, bytes_in, max_entries, is_entry_count, header_range, outside_ranges, ranges_of_directory}
 use Rattle.tiff_dir.specs.Fault.{is_directory_place, IsUnsupported, IsFaultAt, IsFaultOfDirectory, IsFaultOfLevel}
-use Rattle.tiff_dir.specs.Table.{field_of, found}
+use Rattle.tiff_dir.specs.Table.{field_of, entry_with_tag}
 
 -- the range that is wanted at a stage
 abbrev pub range_of : Stage → Option Range
@@ -52,10 +52,6 @@ is_past_first (Ended order index) = true
 abbrev pub is_first_table : Stage → Bool
 is_first_table (Table order index at n) = index == 0
 is_first_table _ = false
-
--- these are the bytes of the file in the range
-abbrev pub IsPart : List ℕ → Range → List ℕ → Type 0
-IsPart f r bytes = bytes ≡ take r.len (drop r.first f)
 
 -- the layouts of the levels among the directories below k
 unfoldable pub layouts_below : List ℕ → ℕ → List (Option Layout)
@@ -93,14 +89,14 @@ pub record IsWalked (f : List ℕ) (order : Order) (k : ℕ) : Type 0 where
 -- the directories below k are there, and at is what is told of the place of directory k
 pub record Follows (f : List ℕ) (order : Order) (k at : ℕ) : Type 0 where
   pub walked : IsWalked f order k
-  pub few : k ≤ 16
+  pub few : k ≤ max_directories
   pub before : (j : ℕ) → k ≡ suc j → has_directory f j ≡ true
   pub place : directory f k ≡ Some at
 
 -- directory k is there and begins at a lawful place
 pub record Reaches (f : List ℕ) (order : Order) (k at : ℕ) : Type 0 where
   pub walked : IsWalked f order k
-  pub few : k < 16
+  pub few : k < max_directories
   pub there : has_directory f k ≡ true
   pub place : directory f k ≡ Some at
   pub good : is_directory_place at ≡ true
@@ -129,7 +125,7 @@ pub record IsDrafted (f : List ℕ) (k : ℕ) (d : Draft) : Type 0 where
 -- directory k is a level that is read but for the values of 258 and 339, and next is told of the place behind it
 pub record IsPending (f : List ℕ) (p : Pending) : Type 0 where
   pub walked : IsWalked f p.order p.index
-  pub few : p.index < 16
+  pub few : p.index < max_directories
   pub there : has_directory f p.index ≡ true
   pub next : directory f (suc p.index) ≡ Some p.next
   pub level : is_level f p.index ≡ true
@@ -175,7 +171,7 @@ AgreesAt f (Ended order index) = IsOver f order index
 
 -- the bytes are the table of directory k, with the place of the next one
 abbrev pub IsTableOf : List ℕ → Order → ℕ → ℕ → ℕ → List ℕ → Type 0
-IsTableOf f order k at n bytes = Counts f order k at n × IsPart f (record { first = at + 2; len = 12 * n + 4 }) bytes
+IsTableOf f order k at n bytes = Counts f order k at n × (bytes ≡ bytes_in f (record { first = at + 2; len = 12 * n + 4 }))
 
 -- the walk is at the beginning of directory k, or at the end
 abbrev pub IsAt : List ℕ → ℕ → Stage → Type 0
@@ -214,20 +210,20 @@ pub record IsDraft (d : Draft) : Type 0 where
   pub long : is_long d.offsets.kind ≡ true
   pub whole : is_short_or_long d.counts.kind ≡ true
 
--- how many ranges a walk has taken at most, and that it is at one of 16 directories
+-- how many ranges a walk has taken at most, and that it is at one of the directories that a file may have
 abbrev pub IsKept : Stage → ℕ → Type 0
 IsKept Header given = given ≤ 0
-IsKept (Count order index at) given = (index < 16) × (given ≤ 1 + 4 * index)
-IsKept (Table order index at n) given = (index < 16) × (given ≤ 2 + 4 * index) × (n ≤ 256)
-IsKept (Bits p first formats) given = (p.index < 16) × (given ≤ 3 + 4 * p.index) × IsDraft p.draft
+IsKept (Count order index at) given = (index < max_directories) × (given ≤ 1 + 4 * index)
+IsKept (Table order index at n) given = (index < max_directories) × (given ≤ 2 + 4 * index) × (n ≤ max_entries)
+IsKept (Bits p first formats) given = (p.index < max_directories) × (given ≤ 3 + 4 * p.index) × IsDraft p.draft
 IsKept (Formats p first bits) given =
-    (p.index < 16) × (given ≤ 4 + 4 * p.index) × IsDraft p.draft × IfSome bits (λ n. is_depth n ≡ true)
-IsKept (Ended order index) given = (0 < index) × (index ≤ 16) × (given ≤ 1 + 4 * index)
+    (p.index < max_directories) × (given ≤ 4 + 4 * p.index) × IsDraft p.draft × IfSome bits (λ n. is_depth n ≡ true)
+IsKept (Ended order index) given = (0 < index) × (index ≤ max_directories) × (given ≤ 1 + 4 * index)
 
 -- the table of directory k, with what each entry holds in itself
 pub record HasTable (f : List ℕ) (k : ℕ) (es : List Entry) : Type 0 where
   pub there : has_directory f k ≡ true
   pub whole : has_all_tags f k ≡ true
   pub told : fields f k ≡ map field_of es
-  pub short : (tag : ℕ) (e : Entry) → found tag es ≡ Some e → number f (e.place + 8) 2 ≡ Some e.short
-  pub long : (tag : ℕ) (e : Entry) → found tag es ≡ Some e → number f (e.place + 8) 4 ≡ Some e.long
+  pub short : (tag : ℕ) (e : Entry) → entry_with_tag tag es ≡ Some e → number f (e.place + 8) 2 ≡ Some e.short
+  pub long : (tag : ℕ) (e : Entry) → entry_with_tag tag es ≡ Some e → number f (e.place + 8) 4 ≡ Some e.long

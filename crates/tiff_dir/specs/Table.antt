@@ -1,4 +1,6 @@
--- What a directory's entries hold in themselves, for fields of the profile's types.
+-- What a directory's entries hold in themselves, for fields of the profile's types. An entry here is what the code has of a
+-- field: it is read in the bytes of a table, which are all there, with the numbers in its last four bytes. A field of the
+-- module File is what the file says of it, as far as its bytes are there. `HasTable` in the module Stage joins the two.
 use Rattle.std.specs.Prelude.{◌≡◌, ◌⊎◌, ℕ, zero, suc, ◌+◌, ◌*◌, ◌<◌, Bool, true, false, not, ◌&&◌, nat_le, ◌==◌, if◌then◌else◌, List, [], ◌∷◌, length, get_or, Option, Some, None, IsSomeAnd}
 use Rattle.std.specs.Option.{option_map, option_map_or}
 use Rattle.std.specs.List.{find, AllPass}
@@ -20,8 +22,8 @@ use Rattle.tiff_dir.specs.File.{Field, size_of}
 use Rattle.tiff_dir.specs.Profile.{profile, has_typing, is_multiple, accepts, samples_fit, planes_fit}
 
 -- the entry in the 12 bytes from at, of bytes that stand in the file from base
-abbrev pub entry : Order → ℕ → ℕ → List ℕ → Entry
-entry o base at bytes = record {
+abbrev pub entry_at : Order → ℕ → ℕ → List ℕ → Entry
+entry_at o base at bytes = record {
   tag = number_in o at 2 bytes;
   kind = number_in o (at + 2) 2 bytes;
   count = number_in o (at + 4) 4 bytes;
@@ -31,19 +33,19 @@ entry o base at bytes = record {
 }
 
 -- the n entries from at
-unfoldable pub entries : Order → ℕ → ℕ → ℕ → List ℕ → List Entry
-entries o base at zero bytes = []
-entries o base at (suc n) bytes = entry o base at bytes ∷ entries o base (at + 12) n bytes
+unfoldable pub entries_from : Order → ℕ → ℕ → ℕ → List ℕ → List Entry
+entries_from o base at zero bytes = []
+entries_from o base at (suc n) bytes = entry_at o base at bytes ∷ entries_from o base (at + 12) n bytes
 
 abbrev pub entries_of : Table → List Entry
-entries_of t = entries t.order (t.at + 2) 0 t.entries t.bytes.now
+entries_of t = entries_from t.order (t.at + 2) 0 t.entries t.bytes.now
 
 abbrev pub field_of : Entry → Field
 field_of e = record { tag = e.tag; kind = Some e.kind; count = Some e.count; place = e.place }
 
 -- the first entry with the tag
-abbrev pub found : ℕ → List Entry → Option Entry
-found tag es = find (λ e. e.tag == tag) es
+abbrev pub entry_with_tag : ℕ → List Entry → Option Entry
+entry_with_tag tag es = find (λ e. e.tag == tag) es
 
 -- what is asked of the count before the samples and the tiles are known
 abbrev pub counts_one : Count → ℕ → Bool
@@ -59,12 +61,12 @@ allows r e = has_typing r.typing e.kind && counts_one r.count e.count
 
 -- the entries keep the rule: nothing is wrong with its field
 abbrev pub keeps : List Entry → Rule → Bool
-keeps es r = option_map_or (allows r) (found r.tag es) (not r.required)
+keeps es r = option_map_or (allows r) (entry_with_tag r.tag es) (not r.required)
 
 -- what is wrong with the field of the rule
 abbrev pub IsEntryFault : Rule → List Entry → FileFault → Type 0
-IsEntryFault r es (Missing tag) = (r.tag ≡ tag) × (r.required ≡ true) × (found r.tag es ≡ None)
-IsEntryFault r es (FieldType tag) = (r.tag ≡ tag) × IsSomeAnd (found r.tag es) (λ e. allows r e ≡ false)
+IsEntryFault r es (Missing tag) = (r.tag ≡ tag) × (r.required ≡ true) × (entry_with_tag r.tag es ≡ None)
+IsEntryFault r es (FieldType tag) = (r.tag ≡ tag) × IsSomeAnd (entry_with_tag r.tag es) (λ e. allows r e ≡ false)
 IsEntryFault r es _ = ⊥
 
 -- the field of one of the rules is missing, or has another type
@@ -76,19 +78,19 @@ abbrev pub single_of : Entry → ℕ
 single_of e = if e.kind == 3 then e.short else e.long
 
 abbrev pub single_or : List Entry → ℕ → ℕ → ℕ
-single_or es tag default = option_map_or single_of (found tag es) default
+single_or es tag default = option_map_or single_of (entry_with_tag tag es) default
 
 -- the first value, of a field of SHORT
 abbrev pub short_or : List Entry → ℕ → ℕ → ℕ
-short_or es tag default = option_map_or (λ e. e.short) (found tag es) default
+short_or es tag default = option_map_or (λ e. e.short) (entry_with_tag tag es) default
 
 -- the field has as many values as a pixel has samples, if it is there
 abbrev pub counts_samples : List Entry → ℕ → Bool
-counts_samples es tag = option_map_or (λ e. e.count == short_or es 277 1) (found tag es) true
+counts_samples es tag = option_map_or (λ e. e.count == short_or es 277 1) (entry_with_tag tag es) true
 
 -- the last four bytes of the entry
 abbrev pub long_in : List Entry → ℕ → Option ℕ
-long_in es tag = option_map (λ e. e.long) (found tag es)
+long_in es tag = option_map (λ e. e.long) (entry_with_tag tag es)
 
 -- the types that the profile has
 abbrev pub kind_in : ℕ → Kind
@@ -110,7 +112,7 @@ place_in e = record {
 }
 
 abbrev pub place_or : List Entry → ℕ → Place
-place_or es tag = option_map_or place_in (found tag es) (record { first = 0; len = 0; count = 0; kind = kind.Long })
+place_or es tag = option_map_or place_in (entry_with_tag tag es) (record { first = 0; len = 0; count = 0; kind = kind.Long })
 
 unfoldable pub draft_in : List Entry → Draft
 draft_in es = record {

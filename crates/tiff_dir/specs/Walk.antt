@@ -1,5 +1,5 @@
 -- The words for what callers see of a walk over a file's directories, which is given one range of the file after another.
-use Rattle.std.specs.Prelude.{◌≡◌, ℕ, ◌+◌, ◌-◌, ◌*◌, ◌<◌, ◌≤◌, ◌^◌, ⊤, true, List, drop, slice_range, Option, Some, None, Result, Ok, Err, IsSomeAnd}
+use Rattle.std.specs.Prelude.{◌≡◌, ℕ, ◌+◌, ◌-◌, ◌*◌, ◌<◌, ◌≤◌, ◌^◌, ⊤, true, List, drop, Option, Some, None, Result, Ok, Err, IsSomeAnd}
 use Rattle.tiff_dir.specs.declared.level.Level.{Level}
 use Rattle.tiff_dir.specs.declared.level.Place.{Place}
 use Rattle.tiff_dir.specs.declared.level.Kind.{Kind}
@@ -13,7 +13,8 @@ use Rattle.tiff_dir.specs.File.{field, has_all_tags, size_of}
 use Rattle.tiff_dir.specs.Level.{level_grid, level_value, plain_row, plain_size}
 use Rattle.tiff_dir.specs.Described.{grid_of, layout_of}
 use Rattle.tiff_dir.specs.Faulty.{level_compression, level_plain_size, level_plain_row}
-use Rattle.tiff_dir.specs.Needs.{Range, range_of_place, needs_of_directories}
+use Rattle.tiff_dir.specs.Needs.{Range, range_of_place, max_range_bytes, needs_of_directories}
+pub use Rattle.tiff_dir.specs.Needs.{bytes_in}
 use Rattle.tiff_dir.specs.Profile.{max_geo_bytes}
 use Rattle.tiff_dir.specs.Geo.{geo_place, IsGeoFault}
 use Rattle.tiff_dir.specs.Stage.{range_of}
@@ -38,10 +39,6 @@ levels_of w = w.levels
 abbrev pub IsWanted : Known → ℕ → Type 0
 IsWanted w len = IsSomeAnd (wanted w) (λ r. len ≡ r.len)
 
--- the bytes of the file in a range
-abbrev pub bytes_in : List ℕ → Range → List ℕ
-bytes_in f r = slice_range f r.first (r.first + r.len)
-
 -- the bytes of the file that the walk wants
 abbrev pub IsWantedOf : List ℕ → Known → List ℕ → Type 0
 IsWantedOf f w bytes = IsSomeAnd (wanted w) (λ r. bytes ≡ bytes_in f r)
@@ -61,7 +58,7 @@ range_of_span s = record { first = s.first; len = s.last + 1 - s.first }
 abbrev pub Wants : Known → ℕ → Option Span → Type 0
 Wants w complete None = HasEnded w
 Wants w complete (Some span) =
-    (wanted w ≡ Some (range_of_span span)) × (span.last < complete) × (span.last + 1 ≤ span.first + 1048576)
+    (wanted w ≡ Some (range_of_span span)) × (span.last < complete) × (span.last + 1 ≤ span.first + max_range_bytes)
 
 -- what level n of the file says of itself is what this level has
 pub record IsDescribed (f : List ℕ) (n : ℕ) (l : Level) : Type 0 where

@@ -1,7 +1,7 @@
 ghost use Rattle.std.specs.Prelude.{◌≡◌};
 ghost use Rattle.tiff_dir.specs.declared.fault.WalkError.TheVariants.{File, Memory};
 
-use std::alloc::AllocFailed;
+use std::alloc::{AllocError, AllocFailed};
 
 /// What is wrong with a file, or with what is asked of it. A file may have several.
 #[derive(Clone, Copy, Debug, PartialEq, Eq)]
@@ -86,7 +86,7 @@ impl FileFault {
     }
 }
 
-/// Why a walk refused what it was given.
+/// Why a call that reads bytes of a file refused.
 #[derive(Clone, Copy, Debug, PartialEq, Eq)]
 pub enum WalkError {
     /// The file has this fault.
@@ -100,6 +100,22 @@ impl From<FileFault> for WalkError {
 
     fn from(fault: FileFault) -> WalkError {
         WalkError::File(fault)
+    }
+}
+
+impl From<crate::Memory> for WalkError {
+    ghost from_gives = { λ _ e. e ≡ Memory };
+
+    fn from(_refused: crate::Memory) -> WalkError {
+        WalkError::Memory
+    }
+}
+
+impl From<AllocError> for WalkError {
+    ghost from_gives = { λ _ e. e ≡ Memory };
+
+    fn from(_refused: AllocError) -> WalkError {
+        WalkError::Memory
     }
 }
 

@@ -1,9 +1,13 @@
 //! Laws of the definitions, which upper crates rest on. Each function does nothing: its contract is the law.
-ghost use Rattle.std.specs.Prelude.{◌≡◌, ℕ, List};
+ghost use Rattle.std.specs.Prelude.{◌≡◌, ℕ, List, []};
 ghost use Rattle.tiff_dir.specs.declared.query.Query.{Query};
 ghost use Rattle.tiff_dir.specs.declared.query.Query.TheVariants.{Window};
 ghost use Rattle.tiff_dir.specs.declared.query.Pick.{Pick};
 ghost use Rattle.tiff_dir.specs.declared.fault.FileFault.{FileFault};
+ghost use Rattle.tiff_dir.specs.Fault.{IsFaultOfDirectories};
+ghost use Rattle.tiff_dir.specs.Known.{Known};
+ghost use Rattle.tiff_dir.specs.Needs.{needs_of_directories, IsEndOf};
+ghost use Rattle.tiff_dir.specs.Walk.{to_come, Agrees, HasEnded};
 ghost use Rattle.tiff_dir.specs.Packets.{PacketsAreApart, TextsAreUnique};
 ghost use Rattle.tiff_dir.specs.Faulty.{IsFaulty, IsWindow};
 
@@ -17,6 +21,14 @@ pub fn some_window()
     ensures window { (f : List ℕ) (x y width height : ℕ) (pick : Pick)
         → ((fault : FileFault) → IsFaulty f (Window x y width height pick) fault → ⊥)
         → ((v : List ℕ) → IsWindow f (Window x y width height pick) v → ⊥) → ⊥ }
+{}
+
+/// What a walk has still to take is the end of what the directories need: nothing when it has ended.
+pub fn what_comes()
+    ensures end { (w : Known) (f : List ℕ) → IsEndOf (to_come w f) (needs_of_directories f) }
+    ensures over { (w : Known) (f : List ℕ) → Agrees w f → HasEnded w → to_come w f ≡ [] }
+    // Its directories are then without fault.
+    ensures clean { (w : Known) (f : List ℕ) → Agrees w f → HasEnded w → (fault : FileFault) → IsFaultOfDirectories f fault → ⊥ }
 {}
 
 /// Bytes are packets in one way, and stand for one text.

@@ -1,6 +1,6 @@
 ghost use Rattle.std.specs.Prelude.{◌≡◌, ◌*◌, ◌<◌, ◌≤◌, ◌^◌, ◌&&◌, IsTrue};
 ghost use Rattle.tiff_dir.specs.File.{size_of};
-ghost use Rattle.tiff_dir.specs.Profile.{is_depth, is_long, is_sample_count, is_short_or_long, is_tile_side, max_tile_bytes, max_tiles, tile_bytes, tiles_along};
+ghost use Rattle.tiff_dir.specs.Profile.{is_depth, is_long, is_sample_count, is_short_or_long, is_tile_side, max_tile_bytes, max_tiles, tile_bytes, tile_count, tiles_along};
 
 /// The type of a field's values (TIFF 6.0, section 2), in the order of the types' numbers.
 #[derive(Clone, Copy, Debug, PartialEq, Eq)]
@@ -71,10 +71,58 @@ pub struct Level {
     ghost one_or_three: { IsTrue (is_sample_count samples) },
     ghost depth: { IsTrue (is_depth bits) },
     ghost plain: { tile_bytes tile_width tile_length samples bits ≤ max_tile_bytes },
-    ghost tiles: { tiles_along width tile_width * tiles_along length tile_length ≤ max_tiles },
-    ghost offset_of_each: { offsets.count ≡ tiles_along width tile_width * tiles_along length tile_length },
-    ghost count_of_each: { counts.count ≡ tiles_along width tile_width * tiles_along length tile_length },
+    ghost tiles: { tile_count width length tile_width tile_length ≤ max_tiles },
+    ghost offset_of_each: { offsets.count ≡ tile_count width length tile_width tile_length },
+    ghost count_of_each: { counts.count ≡ tile_count width length tile_width tile_length },
     ghost kinds: { IsTrue (is_long offsets.kind) × IsTrue (is_short_or_long counts.kind) },
     ghost lens: { (offsets.len ≡ offsets.count * size_of offsets.kind) × (counts.len ≡ counts.count * size_of counts.kind) },
     ghost near: { (offsets.first < 2 ^ 33) × (counts.first < 2 ^ 33) },
+}
+
+/// How many tiles cover a side.
+pub(crate) fn tiles_along(side: u32, tile_side: u32) -> u32
+    requires side { 0 < side }
+    requires tile { 0 < tile_side }
+    ensures count { result ≡ tiles_along side tile_side }
+    ensures some { 0 < result }
+{
+    (side - 1) / tile_side + 1
+}
+
+impl Level {
+    ghost use Rattle.tiff_dir.specs.Described.{grid_of, layout_of};
+    ghost use Rattle.tiff_dir.specs.Level.{across, pixel_size, plain_row, plain_size};
+
+    /// How many tiles stand side by side.
+    pub fn tiles_across(&self) -> u32
+        ensures count { result ≡ across (grid_of self.now) }
+        ensures some { 0 < result }
+    {
+        tiles_along(self.width, self.tile_width)
+    }
+
+    /// How many bytes a pixel has.
+    pub fn pixel_size(&self) -> usize
+        ensures size { result ≡ pixel_size (layout_of self.now) }
+        ensures some { 0 < result }
+        ensures few { result ≤ 6 }
+    {
+        usize::from(self.samples) * usize::from(self.bits / 8)
+    }
+
+    /// How many bytes a row of a tile has when it is unpacked.
+    pub fn plain_row(&self) -> usize
+        ensures row { result ≡ plain_row (layout_of self.now) }
+        ensures some { 0 < result }
+    {
+        self.tile_width as usize * self.pixel_size()
+    }
+
+    /// How many bytes a tile has when it is unpacked.
+    pub fn plain_size(&self) -> usize
+        ensures size { result ≡ plain_size (layout_of self.now) }
+        ensures few { result ≤ max_tile_bytes }
+    {
+        self.tile_length as usize * self.plain_row()
+    }
 }

@@ -2,13 +2,14 @@
 ghost use Rattle.std.specs.Prelude.{◌≡◌, ℕ, ◌+◌, ◌*◌, ◌<◌, ◌≤◌, ◌%◌, ◌&&◌, ◌||◌, ◌==◌, List, true, false, Some, IfOk, length, MatchResult};
 ghost use Rattle.std.specs.Option.{ForSome};
 ghost use Rattle.tiff_dir.specs.Number.{number_in};
-ghost use Rattle.tiff_dir.specs.File.{value};
+ghost use Rattle.tiff_dir.specs.File.{max_directories, value};
 ghost use Rattle.tiff_dir.specs.Fault.{IsFaultOfDirectories, IsFaultOfDirectory};
 ghost use Rattle.tiff_dir.specs.Level.{is_level};
 ghost use Rattle.tiff_dir.specs.Described.{layout_of};
+ghost use Rattle.tiff_dir.specs.Needs.{bytes_in};
 ghost use Rattle.tiff_dir.specs.Profile.{is_depth};
 ghost use Rattle.tiff_dir.specs.Shape.{has_arrays, has_sides, has_tiles, layout_from, IsEnd, IsNext};
-ghost use Rattle.tiff_dir.specs.Stage.{depth_in, three_shorts, EndsDirectory, HasBits, HasFormats, HasShorts, IsBefore, IsDraft, IsPart, IsPending, IsSupported, IsTableOf, StepsOn};
+ghost use Rattle.tiff_dir.specs.Stage.{depth_in, three_shorts, EndsDirectory, HasBits, HasFormats, HasShorts, IsBefore, IsDraft, IsPending, IsSupported, IsTableOf, StepsOn};
 ghost use Rattle.tiff_dir.specs.Table.{entries_of, IsReadFault, IsReadIn};
 ghost use Rattle.tiff_dir.specs.declared.fault.FileFault.{FileFault as Fault};
 
@@ -70,7 +71,7 @@ pub(crate) fn after_level(
     table: &Table<'_>,
     previous: Option<Level>,
 ) -> Result<Step, FileFault>
-    requires few { index < 16 }
+    requires few { index < max_directories }
     ensures next { IfOk result (IsNext (Stage.Table table.now.order index table.now.at table.now.entries) (3 + 4 * index)) }
     ensures agrees { (f : List ℕ) → IsTableOf f table.now.order index table.now.at table.now.entries table.now.bytes.now → is_level f index ≡ true
         → ((fault : Fault) → IsFaultOfDirectory f index fault → ⊥) → IsBefore f index previous
@@ -143,12 +144,12 @@ pub(crate) fn after_bits(
     bytes: &[u8],
     previous: Option<Level>,
 ) -> Result<Step, FileFault>
-    requires few { pending.index < 16 }
+    requires few { pending.index < max_directories }
     requires draft { IsDraft pending.draft }
     requires whole { length bytes.now ≡ 6 }
     ensures next { IfOk result (IsNext (Stage.Bits pending first formats) (4 + 4 * pending.index)) }
     ensures agrees { (f : List ℕ) → IsPending f pending → HasShorts f pending.index 258 first → HasFormats f pending.index formats
-        → IsBefore f pending.index previous → IsPart f (three_shorts first) bytes.now
+        → IsBefore f pending.index previous → bytes.now ≡ bytes_in f (three_shorts first)
         → MatchResult result (StepsOn f (Stage.Bits pending first formats)) (IsFaultOfDirectories f) }
 {
     let bits = depth_of(pending.order, bytes);
@@ -174,13 +175,13 @@ pub(crate) fn after_formats(
     bytes: &[u8],
     previous: Option<Level>,
 ) -> Result<Step, FileFault>
-    requires few { pending.index < 16 }
+    requires few { pending.index < max_directories }
     requires draft { IsDraft pending.draft }
     requires whole { length bytes.now ≡ 6 }
     requires depth { ForSome bits (λ n. is_depth n ≡ true) }
     ensures next { IfOk result (IsNext (Stage.Formats pending first bits) (5 + 4 * pending.index)) }
     ensures agrees { (f : List ℕ) → IsPending f pending → HasShorts f pending.index 339 first → HasBits f pending.index bits
-        → IsBefore f pending.index previous → IsPart f (three_shorts first) bytes.now
+        → IsBefore f pending.index previous → bytes.now ≡ bytes_in f (three_shorts first)
         → MatchResult result (StepsOn f (Stage.Formats pending first bits)) (IsFaultOfDirectories f) }
 {
     let Some(bits) = bits else {
@@ -216,7 +217,7 @@ fn level_of(draft: Draft, bits: u16) -> Level
 
 /// Ends a level whose values are all read, and goes to the next directory.
 fn finish(pending: Pending, bits: u16, previous: Option<Level>) -> Result<Step, FileFault>
-    requires few { pending.index < 16 }
+    requires few { pending.index < max_directories }
     requires draft { IsDraft pending.draft }
     requires depth { is_depth bits ≡ true }
     ensures end { IfOk result (IsEnd pending.index) }

@@ -1,8 +1,9 @@
 // Whether the sides of a level, its tiles and their arrays are those of the profile.
 ghost use Rattle.std.specs.Prelude.{◌≡◌, ◌*◌, ◌<◌, ◌≤◌, true, false, nat_le, MatchOption, MatchResult};
-ghost use Rattle.tiff_dir.specs.Profile.{is_tile_side, max_tile_bytes, max_tiles, tile_bytes, tiles_along};
+ghost use Rattle.tiff_dir.specs.Profile.{is_tile_side, max_tile_bytes, max_tiles, tile_bytes};
 ghost use Rattle.tiff_dir.specs.Shape.{fits_under, has_arrays, has_sides, has_tiles, IsShaped, IsShapeFault};
 
+use crate::level::tiles_along;
 use crate::stage::Draft;
 use crate::{FileFault, Level};
 
@@ -59,40 +60,18 @@ fn has_right_tiles(draft: Draft, bits: u16) -> bool
         && is_small(draft.tile_width, draft.tile_length, draft.samples, bits)
 }
 
-/// How many tiles cover a side.
-fn along(side: u32, tile_side: u32) -> u64
-    requires { 0 < tile_side }
-    ensures { result ≡ tiles_along side tile_side }
-{
-    (u64::from(side) + u64::from(tile_side) - 1) / u64::from(tile_side)
-}
-
-/// How many tiles stand in so many columns and rows, if not too many.
-fn total(across: u64, down: u64) -> Option<u64>
-    requires across { 0 < across }
-    requires down { 0 < down }
-    ensures { MatchOption result (nat_le (across * down) max_tiles ≡ false) (λ n. (n ≡ across * down) × (nat_le n max_tiles ≡ true)) }
-{
-    if across > MAX_TILES || down > MAX_TILES || across * down > MAX_TILES {
-        return None;
-    }
-    Some(across * down)
-}
-
 /// There are not too many tiles, and as many offsets and byte counts.
 fn has_right_arrays(draft: Draft) -> bool
     requires sides { has_sides draft ≡ true }
     requires tile_sides { (0 < draft.tile_width) × (0 < draft.tile_length) }
     ensures { result ≡ has_arrays draft }
 {
-    let across = along(draft.width, draft.tile_width);
-    let down = along(draft.length, draft.tile_length);
-    match total(across, down) {
-        None => false,
-        Some(tiles) => {
-            tiles == u64::from(draft.offsets.count) && tiles == u64::from(draft.counts.count)
-        }
-    }
+    let across = tiles_along(draft.width, draft.tile_width);
+    let down = tiles_along(draft.length, draft.tile_length);
+    let tiles = product(across, down);
+    tiles <= MAX_TILES
+        && tiles == u64::from(draft.offsets.count)
+        && tiles == u64::from(draft.counts.count)
 }
 
 /// Whether the level of a draft has the shape that the profile asks for.

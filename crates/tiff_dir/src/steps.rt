@@ -1,13 +1,13 @@
 // One step of the walk for each range that it wants.
 ghost use Rattle.std.specs.Prelude.{◌≡◌, ℕ, ◌+◌, ◌*◌, ◌<◌, ◌≤◌, ◌^◌, List, true, false, IsSomeAnd, IfSome, IfOk, length, MatchResult};
 ghost use Rattle.std.specs.Option.{option_map};
-ghost use Rattle.tiff_dir.specs.File.{order_of};
+ghost use Rattle.tiff_dir.specs.File.{max_directories, order_of};
 ghost use Rattle.tiff_dir.specs.Fault.{IsFaultOfDirectories};
-ghost use Rattle.tiff_dir.specs.Needs.{header_range};
+ghost use Rattle.tiff_dir.specs.Needs.{bytes_in, header_range, max_entries, max_range_bytes};
 ghost use Rattle.tiff_dir.specs.GeoEntries.{AreNear};
 ghost use Rattle.tiff_dir.specs.Known.{HasGeo};
 ghost use Rattle.tiff_dir.specs.Shape.{IsNext};
-ghost use Rattle.tiff_dir.specs.Stage.{index_of, is_first_table, range_of, AgreesAt, IsBefore, IsKept, IsPart, IsTableOf, StepsOn};
+ghost use Rattle.tiff_dir.specs.Stage.{index_of, is_first_table, range_of, AgreesAt, IsBefore, IsKept, IsTableOf, StepsOn};
 
 use crate::geo::GeoEntries;
 use crate::level_steps::{after_bits, after_formats, after_level, check_directory};
@@ -37,7 +37,7 @@ fn order_in(bytes: &[u8]) -> Option<Order>
 fn after_header(bytes: &[u8]) -> Result<Step, FileFault>
     requires { length bytes.now ≡ 8 }
     ensures next { IfOk result (IsNext Stage.Header 1) }
-    ensures agrees { (f : List ℕ) → IsPart f header_range bytes.now → MatchResult result (StepsOn f Stage.Header) (IsFaultOfDirectories f) }
+    ensures agrees { (f : List ℕ) → bytes.now ≡ bytes_in f header_range → MatchResult result (StepsOn f Stage.Header) (IsFaultOfDirectories f) }
 {
     let Some(order) = order_in(bytes) else {
         return Err(FileFault::Header);
@@ -51,10 +51,10 @@ fn after_header(bytes: &[u8]) -> Result<Step, FileFault>
 
 /// The first two bytes of a directory tell how many entries it has.
 fn after_count(order: Order, index: u32, at: u32, bytes: &[u8]) -> Result<Step, FileFault>
-    requires few { index < 16 }
+    requires few { index < max_directories }
     requires whole { length bytes.now ≡ 2 }
     ensures next { IfOk result (IsNext (Stage.Count order index at) (2 + 4 * index)) }
-    ensures agrees { (f : List ℕ) → AgreesAt f (Stage.Count order index at) → IsPart f (record { first = at; len = 2 }) bytes.now
+    ensures agrees { (f : List ℕ) → AgreesAt f (Stage.Count order index at) → bytes.now ≡ bytes_in f (record { first = at; len = 2 })
         → MatchResult result (StepsOn f (Stage.Count order index at)) (IsFaultOfDirectories f) }
 {
     let entries = order.short_at(bytes, 0);
@@ -79,8 +79,8 @@ fn after_table(
     bytes: &[u8],
     previous: Option<Level>,
 ) -> Result<Step, FileFault>
-    requires few { index < 16 }
-    requires short { entries ≤ 256 }
+    requires few { index < max_directories }
+    requires short { entries ≤ max_entries }
     requires whole { length bytes.now ≡ 12 * entries + 4 }
     ensures next { IfOk result (IsNext (Stage.Table order index at entries) (3 + 4 * index)) }
     ensures agrees { (f : List ℕ) → IsTableOf f order index at entries bytes.now → IsBefore f index previous
@@ -109,7 +109,7 @@ pub(crate) fn step(
     requires whole { IsSomeAnd (range_of stage) (λ r. length bytes.now ≡ r.len) }
     requires kept { IsKept stage given }
     ensures next { IfOk result (IsNext stage (given + 1)) }
-    ensures agrees { (f : List ℕ) → AgreesAt f stage → IsBefore f (index_of stage) previous → IfSome (range_of stage) (λ r. IsPart f r bytes.now)
+    ensures agrees { (f : List ℕ) → AgreesAt f stage → IsBefore f (index_of stage) previous → IfSome (range_of stage) (λ r. bytes.now ≡ bytes_in f r)
         → MatchResult result (StepsOn f stage) (IsFaultOfDirectories f) }
 {
     match stage {
@@ -141,7 +141,7 @@ pub(crate) fn geo_after(stage: Stage, bytes: &[u8], geo: GeoEntries) -> GeoEntri
     requires kept { (given : ℕ) × IsKept stage given }
     requires near { AreNear geo }
     ensures near { AreNear result }
-    ensures taken { is_first_table stage ≡ true → (f : List ℕ) → AgreesAt f stage → IfSome (range_of stage) (λ r. IsPart f r bytes.now) → HasGeo f result }
+    ensures taken { is_first_table stage ≡ true → (f : List ℕ) → AgreesAt f stage → IfSome (range_of stage) (λ r. bytes.now ≡ bytes_in f r) → HasGeo f result }
     ensures same { is_first_table stage ≡ false → result ≡ geo }
 {
     match stage {
@@ -162,7 +162,7 @@ pub(crate) fn geo_after(stage: Stage, bytes: &[u8], geo: GeoEntries) -> GeoEntri
 
 /// Where the range begins that a walk wants, and how long it is.
 pub(crate) fn range(stage: Stage) -> Option<(u64, u64)>
-    ensures small { IfSome result (λ p. (0 < p.1) × (p.1 ≤ 1048576) × (p.0 < 2 ^ 33)) }
+    ensures small { IfSome result (λ p. (0 < p.1) × (p.1 ≤ max_range_bytes) × (p.0 < 2 ^ 33)) }
     ensures wanted { range_of stage ≡ option_map (λ p. record { first = p.0; len = p.1 }) result }
 {
     match stage {

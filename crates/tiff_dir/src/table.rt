@@ -1,5 +1,6 @@
 // The entries in the bytes of a directory's table.
 ghost use Rattle.std.specs.Prelude.{◌≡◌, ◌+◌, ◌*◌, ◌≤◌, length};
+ghost use Rattle.tiff_dir.specs.Needs.{max_entries};
 
 use crate::Order;
 
@@ -23,7 +24,7 @@ pub struct Table<'b> {
     pub at: u32,
     pub entries: u16,
     pub bytes: &'b [u8],
-    ghost few: { entries ≤ 256 },
+    ghost few: { entries ≤ max_entries },
     ghost whole: { length bytes.now ≡ 12 * entries + 4 },
 }
 
@@ -31,12 +32,12 @@ impl Table<'_> {
     ghost use Rattle.std.specs.Prelude.{◌<◌, ◌^◌, IfSome, map};
     ghost use Rattle.tiff_dir.specs.Fault.{ascends};
     ghost use Rattle.tiff_dir.specs.Number.{number_in};
-    ghost use Rattle.tiff_dir.specs.Table.{entries_of, entry, field_of, found};
+    ghost use Rattle.tiff_dir.specs.Table.{entries_of, entry_at, field_of, entry_with_tag};
 
     /// The entry in the 12 bytes from `start`.
     fn entry_at(&self, start: usize) -> Entry
         requires { start + 12 ≤ length self.now.bytes.now }
-        ensures { result ≡ entry self.now.order (self.now.at + 2) start self.now.bytes.now }
+        ensures { result ≡ entry_at self.now.order (self.now.at + 2) start self.now.bytes.now }
     {
         Entry {
             tag: self.order.short_at(self.bytes, start),
@@ -51,7 +52,7 @@ impl Table<'_> {
     /// The first entry with the tag.
     pub fn find(&self, tag: u16) -> Option<Entry>
         ensures near { IfSome result (λ e. e.place + 8 < 2 ^ 33) }
-        ensures first { result ≡ found tag (entries_of self.now) }
+        ensures first { result ≡ entry_with_tag tag (entries_of self.now) }
     {
         for i in 0..self.entries as usize {
             if self.order.short_at(self.bytes, 12 * i) == tag {

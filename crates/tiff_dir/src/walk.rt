@@ -145,6 +145,7 @@ impl Walk {
         ensures come { OnOk result ((f : List ℕ) → Agrees self.old f → IsSomeAnd (wanted self.old) (λ r. to_come self.old f ≡ r ∷ to_come self.new f)) }
         ensures fault { IfFile result (λ fault. (f : List ℕ) → Agrees self.old f → IsWantedOf f self.old bytes.now → IsFaultOfDirectories f fault) }
         ensures given { OnOk result (given_of self.new ≡ given_of self.old + 1) }
+        ensures few { OnOk result (given_of self.old ≤ 64) }
         ensures err { OnErr result (self.new ≡ self.old) }
     {
         let previous = self.levels.last().copied();

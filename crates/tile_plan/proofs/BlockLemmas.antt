@@ -257,9 +257,6 @@ in_level l r inside =
       fits_y = leb-true (r.y + r.h) l.length fits_y;
     }
 
-pub level_few : (l : Level) → tiles_along l.width l.tile_width ≤ 65536
-level_few l = factor_few (tiles_along l.width l.tile_width) (tiles_along l.length l.tile_length) 65536 (some_along l.length l.tile_length l.sides.1 (sides l).1) l.tiles
-
 -- the last row's tiles are few
 pub block_few : (l : Level) (top R : ℕ) → top + R ≤ tiles_along l.length l.tile_length → (top + R) * tiles_along l.width l.tile_width ≤ 65536
 block_few l top R tall = omega (arith, l.tiles, mul-le-mul_right (tiles_along l.width l.tile_width) tall)

@@ -1,8 +1,8 @@
 -- The samples of a window as bytes, put together from tiles (TIFF 6.0, section 15).
 use Rattle.std.specs.Prelude.{◌≡◌, ◌≢◌, ℕ, ◌+◌, ◌*◌, ◌%◌, ◌<◌, List, length, slice_index}
 use Rattle.tiff_dir.specs.declared.level.Level.{Level}
-use Rattle.tiff_dir.specs.Profile.{sample_bytes}
-use Rattle.tiff_dir.specs.Described.{grid_of}
+use Rattle.tiff_dir.specs.Level.{pixel_size}
+use Rattle.tiff_dir.specs.Described.{grid_of, layout_of}
 use Rattle.tiff_dir.specs.Window.{tile_at}
 use Rattle.tile_plan.specs.declared.asked.Rectangle.{Rectangle}
 
@@ -14,7 +14,7 @@ pub record Picture : Type 0 where
 
 -- how many bytes a pixel has
 abbrev pub pixel_bytes : Level → ℕ
-pixel_bytes l = l.samples * sample_bytes l.bits
+pixel_bytes l = pixel_size (layout_of l)
 
 -- how many bytes a rectangle has
 abbrev pub picture_size : Level → Rectangle → ℕ

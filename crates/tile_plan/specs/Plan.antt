@@ -18,8 +18,8 @@ use Rattle.tiff_dir.specs.Query as asked
 use Rattle.tiff_dir.specs.Query.{grouped, max_group_bytes, rectangle, is_refused, tiles_in}
 use Rattle.tile_plan.specs.declared.asked.Rectangle.{Rectangle}
 use Rattle.tile_plan.specs.declared.plan.Group.{Group}
-use Rattle.tile_plan.specs.declared.plan.PlanError.{PlanError}
-use Rattle.tile_plan.specs.declared.plan.PlanError.TheVariants.{File, Memory}
+use Rattle.tiff_dir.specs.declared.fault.WalkError.{WalkError as PlanError}
+use Rattle.tiff_dir.specs.declared.fault.WalkError.TheVariants.{File, Memory}
 use Rattle.tile_plan.specs.Levels.{rectangle_of}
 
 -- where a tile stands in the file, as the level's arrays say

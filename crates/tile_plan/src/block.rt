@@ -2,7 +2,6 @@
 ghost use Rattle.std.specs.Prelude.{◌≡◌, ℕ, ◌<◌, ◌≤◌, ◌+◌, ◌-◌, ◌*◌, ◌/◌, ◌^◌, IsTrue, map};
 ghost use Rattle.tiff_dir.specs.Described.{grid_of};
 ghost use Rattle.tiff_dir.specs.Level.{tile_total};
-ghost use Rattle.tiff_dir.specs.Profile.{tiles_along};
 ghost use Rattle.std.specs.List.{range_with_len};
 ghost use Rattle.tile_plan.specs.Levels.{is_inside};
 ghost use Rattle.tile_plan.specs.Plan.{tiles_of};
@@ -21,15 +20,6 @@ pub struct Block {
     ghost some: { (0 < columns) × (0 < rows) },
     ghost side: { left + columns ≤ across },
     ghost few: { (top + rows) * across ≤ 65536 },
-}
-
-/// How many tiles cover a side.
-pub fn tiles_along(side: u32, tile_side: u32) -> u32
-    requires some { 0 < tile_side }
-    requires few { tiles_along side tile_side ≤ 65536 }
-    ensures { result ≡ tiles_along side tile_side }
-{
-    ((u64::from(side) + u64::from(tile_side) - 1) / u64::from(tile_side)) as u32
 }
 
 /// The first tile along a side that has one of `len` pixels from `at`, and how many have.
@@ -53,15 +43,15 @@ impl Block {
         ensures tiles { map (tile_of_block result) (range_with_len 0 (result.columns * result.rows)) ≡ tiles_of level.now rect }
         ensures within { (n : ℕ) → n < result.columns * result.rows → tile_of_block result n < tile_total (grid_of level.now) }
     {
-        // The length is read for its bound alone.
+        // The sides are read for their bounds alone.
         let Level {
-            width,
+            width: _width,
             length: _length,
             tile_width,
             tile_length,
             ..
         } = *level;
-        let across = tiles_along(width, tile_width);
+        let across = level.tiles_across();
         let (left, columns) = touched(rect.x, rect.w, tile_width);
         let (top, rows) = touched(rect.y, rect.h, tile_length);
         Block {

@@ -3,10 +3,9 @@ ghost use Rattle.std.specs.Prelude.{◌≡◌, ◌+◌, ◌*◌, ◌<◌, ◌≤
 ghost use Rattle.tiff_dir.specs.Described.{grid_of, layout_of};
 ghost use Rattle.tiff_dir.specs.Level.{plain_size, tile_total};
 ghost use Rattle.tile_plan.specs.Levels.{IsSmall};
-ghost use Rattle.tile_plan.specs.Canvas.{Picture, IsBlit, picture_size, pixel_bytes};
+ghost use Rattle.tile_plan.specs.Canvas.{Picture, IsBlit, picture_size};
 
 use crate::Rectangle;
-use crate::block::tiles_along;
 use crate::rows::{Rows, copy_rows};
 use std::alloc::Global;
 use std::marker::Model;
@@ -34,14 +33,6 @@ impl Model for Canvas {
     ghost invariant = { λ c. IsSmall c.level c.rect × (length c.bytes.items ≡ picture_size c.level c.rect) };
 }
 
-/// The bytes of a pixel.
-fn pixel_bytes(level: &Level) -> usize
-    ensures size { result ≡ pixel_bytes level.now }
-    ensures few { result ≤ 6 }
-{
-    usize::from(level.samples) * usize::from(level.bits / 8)
-}
-
 /// The numbers that two stretches have in common, each given by its first number and its length.
 fn common(a: usize, a_len: u32, b: usize, b_len: u32) -> Range<usize>
     requires { (a < 2 ^ 62) × (b < 2 ^ 62) }
@@ -57,7 +48,7 @@ impl Canvas {
         requires { IsSmall level.now rect }
         ensures { IfOk result (λ c. c ≡ record { level = level.now; rectangle = rect; bytes = replicate (picture_size level.now rect) 0 }) }
     {
-        let size = rect.w as usize * rect.h as usize * pixel_bytes(level);
+        let size = rect.w as usize * rect.h as usize * level.pixel_size();
         let bytes = vec![in alloc; 0; size]?;
         Ok(Canvas {
             level: *level,
@@ -73,13 +64,12 @@ impl Canvas {
         ensures { IsBlit tile bytes.now self.old self.new }
     {
         let Level {
-            width,
             tile_width,
             tile_length,
             ..
         } = self.level;
         let rect = self.rect;
-        let across = tiles_along(width, tile_width);
+        let across = self.level.tiles_across();
         let x = (tile % across) as usize * tile_width as usize;
         let y = (tile / across) as usize * tile_length as usize;
         let columns = common(rect.x as usize, rect.w, x, tile_width);
@@ -87,7 +77,7 @@ impl Canvas {
         if columns.end <= columns.start || rows.end <= rows.start {
             return;
         }
-        let pixel = pixel_bytes(&self.level);
+        let pixel = self.level.pixel_size();
         let read = Rows::from_pixel(
             tile_width as usize,
             columns.start - x,

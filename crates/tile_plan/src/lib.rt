@@ -12,5 +12,7 @@ mod swap;
 pub use asked::{Rectangle, rect};
 pub use canvas::Canvas;
 pub use laws::tiles_cover;
-pub use plan::{Group, PlanError, groups};
+pub use plan::{Group, groups};
 pub use swap::swap_pairs;
+/// Why there are no groups: a tile of the window has the fault, or no memory was left.
+pub use tiff_dir::WalkError as PlanError;

@@ -7,7 +7,6 @@ ghost use Rattle.tiff_dir.specs.Level.{level_layout, plain_size, tile_total};
 ghost use Rattle.tiff_dir.specs.Query.{joins, with_tile, alone};
 ghost use Rattle.tiff_dir.specs.File.{order_of};
 ghost use Rattle.tiff_dir.specs.Walk.{range_of_span, IsArrayOf};
-ghost use Rattle.tile_plan.specs.declared.plan.PlanError.TheVariants.{File, Memory};
 ghost use Rattle.tile_plan.specs.Levels.{is_inside};
 ghost use Rattle.tile_plan.specs.Plan.{range_in, group_of, IsRangeOf, IsWrongSize, IsTileFault, AreGroups, IsPlanError, IsPlanned, AreNeeded, IsErrorOf};
 ghost use Rattle.tile_plan.specs.Adding.{added};
@@ -15,7 +14,7 @@ ghost use Rattle.tile_plan.specs.Adding.{added};
 use crate::Rectangle;
 use crate::block::Block;
 use std::alloc::Global;
-use tiff_dir::{Compression, FileFault, Level, Order, Span, tile_of};
+use tiff_dir::{Compression, FileFault, Level, Order, Span, WalkError as PlanError, tile_of};
 
 /// The most bytes of a tile, and of a group.
 const MOST: u64 = 1048576;
@@ -25,31 +24,6 @@ const MOST: u64 = 1048576;
 pub struct Group {
     pub tiles: Vec<u32>,
     pub span: Span,
-}
-
-/// Why there are no groups.
-#[derive(Clone, Copy, Debug, PartialEq, Eq)]
-pub enum PlanError {
-    /// A tile of the window has this fault.
-    File(FileFault),
-    /// No memory was left.
-    Memory,
-}
-
-impl From<FileFault> for PlanError {
-    ghost from_gives = { λ fault e. e ≡ File fault };
-
-    fn from(fault: FileFault) -> PlanError {
-        PlanError::File(fault)
-    }
-}
-
-impl From<tiff_dir::Memory> for PlanError {
-    ghost from_gives = { λ _ e. e ≡ Memory };
-
-    fn from(_refused: tiff_dir::Memory) -> PlanError {
-        PlanError::Memory
-    }
 }
 
 impl Group {
@@ -101,23 +75,13 @@ fn add_tile(
     }
 }
 
-/// How many bytes a tile of the level has when it is unpacked.
-fn plain_size(level: &Level) -> u64
-    ensures { result ≡ plain_size (layout_of level.now) }
-{
-    u64::from(level.tile_width)
-        * u64::from(level.tile_length)
-        * u64::from(level.samples)
-        * u64::from(level.bits / 8)
-}
-
 /// Whether a tile of the level may have so many bytes.
 fn is_right_size(level: &Level, len: u64) -> bool
     ensures right { IsTrue result → IsWrongSize level.now len → ⊥ }
     ensures wrong { result ≡ false → IsWrongSize level.now len }
 {
     let fits = match level.compression {
-        Compression::Plain => len == plain_size(level),
+        Compression::Plain => len == level.plain_size() as u64,
         Compression::PackBits => true,
     };
     0 < len && len <= MOST && fits

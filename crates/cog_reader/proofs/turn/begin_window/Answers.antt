@@ -1,5 +1,4 @@
-use Rattle.std.proofs.Common.{inl, inr, refl}
-use Rattle.tile_plan.specs.Levels.{HasLevels}
+use Rattle.std.proofs.Common.{inl, inr}
 use Rattle.cog_reader.specs.declared.task.Task.TheVariants.{Begin, Arrays}
 use Rattle.cog_reader.specs.declared.task.Task.{Task}
 use Rattle.tiff_dir.specs.declared.query.Query.{Query}
@@ -12,9 +11,9 @@ returns-in-Ok-clause-becomes c =
     let w = c.args.walk.now in
     let k = c.args.kept.now in
     let begun = becomes_window c.args.complete w k c.args.query c.levels.result.now c.in-Ok.rect c.requires.ended c.levels.ensures.held c.in-Ok.ensures.asked
-    (λ f told. record { levels = c.levels.ensures.levels f told; each = c.levels.ensures.values f told }) in
+    (λ f told. record { levels = c.levels.ensures.levels f told; each = c.levels.ensures.values f told }) (λ f told. c.what_comes.ensures.over w f told c.requires.ended) in
     if_ok c.read_arrays.result (λ (new : Task). (q : Query) → Becomes c.args.complete w k q (Arrays c.in-Ok.rect) new) (λ (new : Task). Becomes c.args.complete w k c.args.query Begin new) c.read_arrays.ensures.becomes
-    (λ new more. becomes_more c.args.complete w k c.args.query Begin (Arrays c.in-Ok.rect) new begun (more c.args.query) refl)
+    (λ new more. becomes_more c.args.complete w k c.args.query Begin (Arrays c.in-Ok.rect) new begun (more c.args.query))
 
 pub returns-in-Err-clause-becomes : goal.returns-in-Err-clause-becomes
 returns-in-Err-clause-becomes c =

@@ -1,7 +1,6 @@
-use Rattle.std.proofs.Common.{◌≡◌, ◌+◌, ◌<◌, length, refl, sym, subst, ◌∙◌}
+use Rattle.std.proofs.Common.{◌+◌, ◌<◌, refl, sym, subst}
 use Rattle.std.proofs.lemmas.Bool.{false≢true}
 use Rattle.tiff_dir.specs.Needs.{range_of_place}
-use Rattle.cog_reader.specs.Fields.{present_in}
 use Rattle.cog_reader.specs.Turn.{IsFair}
 use Rattle.cog_reader.proofs.KeptLemmas.{from_some}
 use Rattle.cog_reader.proofs.TurnLemmas.{fair_field, past_field}

@@ -1,15 +1,8 @@
-use Rattle.std.proofs.Common.{◌≡◌, ◌+◌, ◌<◌, Some, length, refl, sym, subst, ap, ◌∙◌, inr}
-use Rattle.std.specs.Prelude.{slice_get, IsSomeAnd}
-use Rattle.tiff_dir.specs.declared.level.Level.{Level}
-use Rattle.tiff_dir.specs.File.{◌>>=◌}
-use Rattle.tiff_dir.specs.Needs.{range_of_place}
-use Rattle.std.specs.Option.{option_map}
+use Rattle.std.proofs.Common.{◌≡◌, ◌+◌, ◌<◌, refl, sym, subst, inr}
 use Rattle.std.proofs.lemmas.Bool.{false≢true}
 use Rattle.tile_plan.specs.Levels.{rectangle_of}
 use Rattle.tile_plan.specs.Plan.{IsErrorOf}
-use Rattle.cog_reader.specs.Kept.{next_array, IsKeptOf}
-use Rattle.cog_reader.specs.Turn.{IsFair}
-use Rattle.cog_reader.proofs.KeptLemmas.{from_some}
+use Rattle.cog_reader.specs.Kept.{IsKeptOf}
 use Rattle.cog_reader.proofs.TurnLemmas.{becomes_done, becomes_tiles, fair_array, level_told, past_array, planned, window_fault, wanted_array}
 use Rattle.cog_reader.proofs.turn.read_arrays.Goals as goal
 

@@ -4,7 +4,7 @@ use Rattle.tiff_dir.specs.Level.{tile_total}
 use Rattle.tiff_dir.specs.Described.{grid_of}
 use Rattle.tiff_dir.specs.Query.{grouped}
 use Rattle.tiff_dir.specs.Walk.{range_of_span}
-use Rattle.tile_plan.specs.declared.plan.PlanError.TheVariants.{File}
+use Rattle.tiff_dir.specs.declared.fault.WalkError.TheVariants.{File}
 use Rattle.tile_plan.specs.Block.{tile_of_block}
 use Rattle.tile_plan.specs.Plan.{range_in, group_of, tiles_of, IsRangeOf, IsTileFault, IsPlanError, IsErrorOf}
 use Rattle.tile_plan.specs.Adding.{added}

@@ -1,4 +1,4 @@
-use Rattle.std.proofs.Common.{ap, sym, subst, ◌∙◌, length, take}
+use Rattle.std.proofs.Common.{ap, subst, ◌∙◌, length}
 use Rattle.std.proofs.lemmas.List.{take_all}
 use Rattle.std.proofs.Common.{arith}
 use Rattle.cog_reader.specs.Fields.{Reading, present_in, total, AreParts}

@@ -1,8 +1,8 @@
-use Rattle.std.proofs.Common.{◌≡◌, ◌+◌, Some, true, refl, sym, subst, ap, ◌∙◌, eq-eqb, arith}
+use Rattle.std.proofs.Common.{◌≡◌, true, refl, ap, ◌∙◌, eq-eqb, arith}
 use Rattle.std.specs.Prelude.{◌==◌}
 use Rattle.tiff_dir.specs.declared.level.Place.{Place}
 use Rattle.cog_reader.specs.declared.kept.Kept.{Kept}
-use Rattle.cog_reader.specs.Kept.{held, next_array}
+use Rattle.cog_reader.specs.Kept.{next_array}
 use Rattle.cog_reader.proofs.KeptLemmas.{both_kept, offsets_kept, others, no_offsets, some_at, from_some}
 use Rattle.std.specs.Prelude.{length, slice_get}
 use Rattle.tiff_dir.specs.declared.level.Level.{Level}
@@ -22,7 +22,10 @@ pub returns-in_default : goal.returns-in_default
 returns-in_default c =
     let other = no_offsets c.args.self c.args.number c.args.level.now (λ (p : Place). length c.args.array.items ≡ p.len) c.in_default.not-Offsets c.requires.wanted in record {
       more = let same : (c.args.number == c.args.number) ≡ true = eq-eqb c.args.number c.args.number refl in rw same (omega (arith, other.0));
-      sound = λ w ended there. (ended, from_some (slice_get (levels_of w) c.args.number) c.args.level.now (λ (l : Level). length c.args.array.items ≡ l.offsets.len) there
-          (some_at (next_array c.args.self c.args.number c.args.level.now) c.args.level.now.offsets (λ (p : Place). length c.args.array.items ≡ p.len) other.1 c.requires.wanted));
+      sound = λ w ended there. (
+        ended,
+        from_some (slice_get (levels_of w) c.args.number) c.args.level.now (λ (l : Level). length c.args.array.items ≡ l.offsets.len) there
+            (some_at (next_array c.args.self c.args.number c.args.level.now) c.args.level.now.offsets (λ (p : Place). length c.args.array.items ≡ p.len) other.1 c.requires.wanted),
+      );
       same = λ f order layout kept given. offsets_kept f c.args.number c.args.level.now c.args.self c.args.array.items c.args.array.items layout other.1 refl given;
     }

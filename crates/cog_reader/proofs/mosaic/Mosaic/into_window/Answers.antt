@@ -1,7 +1,6 @@
-use Rattle.std.proofs.Common.{◌≡◌, ◌*◌, ap, sym, subst, ◌∙◌}
+use Rattle.std.proofs.Common.{◌≡◌, ◌*◌, ap, sym, ◌∙◌}
 use Rattle.tiff_dir.specs.Profile.{sample_bytes}
 use Rattle.tile_plan.specs.declared.asked.Rectangle.{Rectangle}
-use Rattle.tile_plan.specs.Canvas.{picture_size}
 use Rattle.tile_plan.specs.Levels.{rectangle_of}
 use Rattle.cog_reader.specs.Mosaic.{Work}
 use Rattle.cog_reader.proofs.mosaic.Mosaic.into_window.Goals as goal

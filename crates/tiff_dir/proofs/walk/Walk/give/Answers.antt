@@ -1,13 +1,15 @@
-use Rattle.std.proofs.Common.{◌≡◌, ◌+◌, ◌-◌, ◌∙◌, List, length, None, sym, ap, subst}
+use Rattle.std.proofs.Common.{◌≡◌, ◌+◌, ◌-◌, ◌≤◌, ◌∙◌, List, length, None, sym, ap, subst}
 use Rattle.std.specs.Prelude.{slice_get}
 use Rattle.std.specs.List.{last_or}
 use Rattle.tiff_dir.specs.declared.level.Level.{Level}
-use Rattle.tiff_dir.specs.Stage.{IsBefore, index_of}
+use Rattle.tiff_dir.specs.Stage.{IsBefore, index_of, range_of}
+use Rattle.std.proofs.lemmas.Option.{none-some}
+use Rattle.tiff_dir.proofs.Bounds.{few_given}
 use Rattle.tiff_dir.specs.Known.{Known}
 use Rattle.tiff_dir.specs.Walk.{Agrees, IsWanted, IsWantedOf, wanted}
 use Rattle.tiff_dir.proofs.Chain.{some_and_from}
 use Rattle.tiff_dir.proofs.Ranges.{last_or-slice_get}
-use Rattle.tiff_dir.proofs.Told.{wanted_len, wanted_is, wanted_parts, wanted_part, here_is, is_before, geo_next, told_next, come_next, if_file, so_far, given_as}
+use Rattle.tiff_dir.proofs.Told.{wanted_len, wanted_is, wanted_parts, wanted_part, here_is, is_before, geo_next, told_next, come_next, if_file, so_far, given_as, wanted_as}
 use Rattle.tiff_dir.proofs.walk.Walk.give.Goals as goal
 
 pub step-requires-clause-whole : goal.step-requires-clause-whole
@@ -56,3 +58,9 @@ returns-clause-come c = λ f t.
 
 pub returns-clause-given : goal.returns-clause-given
 returns-clause-given c = given_as _ ∙ ap (λ (w : Known). w.given + 1) c.self.view_is ∙ ap (λ n. n + 1) (sym (given_as c.args.self.now))
+
+pub returns-clause-few : goal.returns-clause-few
+returns-clause-few c =
+    let (r, is, len, some) = wanted_is c.args.self.now (length c.args.bytes.now) c.requires in
+    subst (λ n. n ≤ 64) (ap (λ (w : Known). w.given) c.self.view_is ∙ sym (given_as c.args.self.now)) (few_given c.self.inside.stage c.self.inside.given c.self.invariant.kept
+    (λ none. none-some r (sym none ∙ ap (λ (w : Known). range_of w.stage) c.self.view_is ∙ sym (wanted_as c.args.self.now) ∙ is)))

@@ -5,11 +5,8 @@ use Rattle.tiff_dir.specs.Profile.{tiles_along}
 use Rattle.tiff_dir.specs.Described.{grid_of}
 use Rattle.tile_plan.specs.Levels.{rectangle_of}
 use Rattle.tile_plan.specs.Plan.{tiles_of}
-use Rattle.tile_plan.proofs.BlockLemmas.{IsBlock, HasRoom, in_level, level_few, block_few, block_room, block_tiles, below_total}
+use Rattle.tile_plan.proofs.BlockLemmas.{IsBlock, HasRoom, in_level, block_few, block_room, block_tiles, below_total}
 use Rattle.tile_plan.proofs.block.Block.of.Goals as goal
-
-pub tiles_along-across-requires-clause-few : goal.tiles_along-across-requires-clause-few
-tiles_along-across-requires-clause-few c = level_few c.args.level.now
 
 pub touched-top-requires-clause-fits : goal.touched-top-requires-clause-fits
 touched-top-requires-clause-fits c = omega (arith, (in_level c.args.level.now c.args.rect c.requires).fits_y)
@@ -27,8 +24,8 @@ invariant_of-result c =
     let room : HasRoom (across (grid_of l)) (tiles_along l.length l.tile_length) left top C R = block_room (grid_of l) (rectangle_of r) left top C R (in_level l r c.requires) is in
     record {
       some = (room.some, room.more);
-      side = omega (arith, room.wide, c.tiles_along-across.ensures);
-      few = subst (λ A. (top + R) * A ≤ 65536) (sym c.tiles_along-across.ensures) (block_few l top R room.tall);
+      side = omega (arith, room.wide, c.tiles_across-across.ensures.count);
+      few = subst (λ A. (top + R) * A ≤ 65536) (sym c.tiles_across-across.ensures.count) (block_few l top R room.tall);
     }
 
 pub returns-clause-tiles : goal.returns-clause-tiles
@@ -41,7 +38,7 @@ returns-clause-tiles c =
     let R = c.touched-top.result.1 in
     let is : IsBlock (grid_of l) (rectangle_of r) left top C R =
     record { left_is = c.touched-left.ensures.0; top_is = c.touched-top.ensures.0; columns = c.touched-left.ensures.1; rows = c.touched-top.ensures.1 } in
-    subst (λ A. map (λ n. (top + n / C) * A + left + n % C) (range_with_len 0 (C * R)) ≡ tiles_of l r) (sym c.tiles_along-across.ensures)
+    subst (λ A. map (λ n. (top + n / C) * A + left + n % C) (range_with_len 0 (C * R)) ≡ tiles_of l r) (sym c.tiles_across-across.ensures.count)
     (block_tiles (grid_of l) (rectangle_of r) left top C R (in_level l r c.requires) is)
 
 pub returns-clause-within : goal.returns-clause-within
@@ -56,4 +53,4 @@ returns-clause-within c n less =
     record { left_is = c.touched-left.ensures.0; top_is = c.touched-top.ensures.0; columns = c.touched-left.ensures.1; rows = c.touched-top.ensures.1 } in
     let room : HasRoom (across (grid_of l)) (tiles_along l.length l.tile_length) left top C R = block_room (grid_of l) (rectangle_of r) left top C R (in_level l r c.requires) is in
     let below = below_total (across (grid_of l)) left top C R (tiles_along l.length l.tile_length) n room.some room.wide room.tall less in
-    subst (λ A. (top + n / C) * A + left + n % C < across (grid_of l) * tiles_along l.length l.tile_length) (sym c.tiles_along-across.ensures) below
+    subst (λ A. (top + n / C) * A + left + n % C < across (grid_of l) * tiles_along l.length l.tile_length) (sym c.tiles_across-across.ensures.count) below
