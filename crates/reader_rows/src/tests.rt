@@ -1,2 +1,16 @@
-mod read;
-mod windows;
+use tiff_dir::{Pick, Query};
+
+mod beside;
+mod image;
+mod worked;
+
+/// A window of a level, by its number.
+fn of_level(x: u32, y: u32, w: u32, h: u32, n: u32) -> Query {
+    Query::Window {
+        x,
+        y,
+        w,
+        h,
+        pick: Pick::Level(n),
+    }
+}

@@ -1,5 +1,5 @@
 -- What the entries of a table tell of the file's fields.
-use Rattle.std.proofs.Common.{◌≡◌, ℕ, zero, suc, ◌+◌, ◌*◌, ◌<◌, ◌≤◌, ◌⊎◌, inl, inr, true, false, not, ◌==◌, nat_lt, if◌then◌else◌, List, [], ◌∷◌, map, length, Option, Some, None, IsSomeAnd, refl, sym, subst, ◌∙◌, arith, add-zero, zero-add}
+use Rattle.std.proofs.Common.{◌≡◌, ℕ, zero, suc, ◌+◌, ◌*◌, ◌<◌, ◌≤◌, ◌⊎◌, inl, inr, true, false, not, ◌==◌, nat_lt, if◌then◌else◌, List, [], ◌∷◌, map, length, Option, Some, None, IsSomeAnd, refl, sym, ap, subst, ◌∙◌, arith, add-zero}
 use Rattle.std.proofs.lemmas.Option.{same_Some, none-some}
 use Rattle.std.proofs.lemmas.Bool.{and_parts, and_cases, or_cases, eqb-true, cases_Bool, false≢true, not_from_true, le-ltb}
 use Rattle.std.specs.Bool.{⊤}
@@ -24,28 +24,19 @@ use Rattle.tiff_dir.proofs.Chain.{some_and_at, some_and_from, same_entries, fiel
 
 -- The table of a file
 
-entry_short : (f : List ℕ) (o : Order) (at n tag : ℕ) (e : Entry) → order_of f ≡ Some o → at + 12 * n ≤ length f → entry_with_tag tag (entries_from o 0 at n f) ≡ Some e → number f (e.place + 8) 2 ≡ Some e.short
+-- the numbers that an entry has in its last four bytes
+entry_part : (f : List ℕ) (o : Order) (size : ℕ) (part : Entry → ℕ) → size ≤ 4 → ((at : ℕ) → part (entry_at o 0 at f) ≡ number_in o (at + 8) size f)
+    → (at n tag : ℕ) (e : Entry) → order_of f ≡ Some o → at + 12 * n ≤ length f → entry_with_tag tag (entries_from o 0 at n f) ≡ Some e → number f (e.place + 8) size ≡ Some (part e)
 unfolding entries_from
-entry_short f o at zero tag e named inside found = absurd (none-some e found)
-entry_short f o at (suc n) tag e named inside found =
+entry_part f o size part few is_part at zero tag e named inside found = absurd (none-some e found)
+entry_part f o size part few is_part at (suc n) tag e named inside found =
     elim (cases_Bool (number_in o at 2 f == tag)) [
       | inl same ↦
           (let is : entry_at o 0 at f ≡ e = same_Some _ _ (rw same at found) in
-          let P : Entry → Type 0 = λ x. number f (x.place + 8) 2 ≡ Some x.short in
-          subst P is (rw zero-add (number_inside f o (at + 8) 2 named (omega arith))))
-      | inr other ↦ entry_short f o (at + 12) n tag e named (omega arith) (rw other at found)
-    ]
-
-entry_long : (f : List ℕ) (o : Order) (at n tag : ℕ) (e : Entry) → order_of f ≡ Some o → at + 12 * n ≤ length f → entry_with_tag tag (entries_from o 0 at n f) ≡ Some e → number f (e.place + 8) 4 ≡ Some e.long
-unfolding entries_from
-entry_long f o at zero tag e named inside found = absurd (none-some e found)
-entry_long f o at (suc n) tag e named inside found =
-    elim (cases_Bool (number_in o at 2 f == tag)) [
-      | inl same ↦
-          (let is : entry_at o 0 at f ≡ e = same_Some _ _ (rw same at found) in
-          let P : Entry → Type 0 = λ x. number f (x.place + 8) 4 ≡ Some x.long in
-          subst P is (rw zero-add (number_inside f o (at + 8) 4 named (omega arith))))
-      | inr other ↦ entry_long f o (at + 12) n tag e named (omega arith) (rw other at found)
+          let P : Entry → Type 0 = λ x. number f (x.place + 8) size ≡ Some (part x) in
+          let place : 0 + at + 8 ≡ at + 8 = omega arith in
+          subst P is (ap (λ (k : ℕ). number f k size) place ∙ number_inside f o (at + 8) size named (omega arith) ∙ ap Some (sym (is_part at))))
+      | inr other ↦ entry_part f o size part few is_part (at + 12) n tag e named (omega arith) (rw other at found)
     ]
 
 pub has_table : (f bytes : List ℕ) (o : Order) (k at n : ℕ) → IsTableOf f o k at n bytes → length bytes ≡ 12 * n + 4 → HasTable f k (entries_from o (at + 2) 0 n bytes)
@@ -57,8 +48,8 @@ has_table f bytes o k at n (counts, part) len =
       there = counts.reaches.there;
       whole = all_tags f bytes o k at n counts part len;
       told = fields_are f bytes o k at n counts part len;
-      short = λ tag e found. entry_short f o (at + 2) n tag e named (omega arith) (rw same found);
-      long = λ tag e found. entry_long f o (at + 2) n tag e named (omega arith) (rw same found);
+      short = λ tag e found. entry_part f o 2 (λ x. x.short) (omega arith) (λ k. refl) (at + 2) n tag e named (omega arith) (rw same found);
+      long = λ tag e found. entry_part f o 4 (λ x. x.long) (omega arith) (λ k. refl) (at + 2) n tag e named (omega arith) (rw same found);
     }
 
 -- Fields and values by the entries

@@ -1,4 +1,5 @@
--- The definitions at small files, by computation.
+-- The definitions at small files, by computation. The bytes of these files are written here and not taken from the crate of
+-- fixtures: that is an aid of tests, and no crate that is proved rests on it.
 use Rattle.std.proofs.Common.{◌≡◌, ℕ, ◌/◌, ◌%◌, false, List, [], ◌∷◌, ◌++◌, take, length, Some, refl}
 use Rattle.std.specs.List.{flat_map, range_with_len}
 use Rattle.tiff_dir.specs.declared.order.Order.{Order}

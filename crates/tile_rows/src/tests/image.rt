@@ -1,16 +1,12 @@
-//! A file in memory, and windows of it by the calls in turn.
-ghost use Rattle.std.specs.Prelude.{◌≡◌, ◌<◌, Some, slice_get, IfOk, IfSome, IsTrue, length};
-ghost use Rattle.std.specs.List.{All};
-ghost use Rattle.tiff_dir.specs.Described.{grid_of, layout_of};
-ghost use Rattle.tiff_dir.specs.Level.{plain_size, tile_total};
+//! A file in memory, and the groups of its windows.
+ghost use Rattle.std.specs.Prelude.{◌≡◌, Some, slice_get, IfOk, IfSome, IsTrue, length};
 ghost use Rattle.tile_plan.specs.Levels.{is_inside};
 
 use file_walk::{Course, walk_over};
-use packbits::unpack;
 use std::alloc::Global;
 use std::test::Fail;
-use tiff_dir::{Compression, FileFault, Level, Order, Place, Query, tile_of};
-use tile_plan::{Canvas, Group, PlanError, Rectangle, groups, rect};
+use tiff_dir::{FileFault, Level, Order, Place, Query};
+use tile_plan::{Group, PlanError, Rectangle, groups, rect};
 
 /// A file whose directories are without fault.
 #[derive(Drop)]
@@ -26,15 +22,6 @@ fn array<'a>(file: &'a [u8], place: &Place) -> Option<&'a [u8]>
 {
     let bytes = file.get(place.first as usize..)?.get(..place.len as usize)?;
     Some(bytes)
-}
-
-/// How many bytes a tile has when it is unpacked, and a row of it.
-fn plain_sizes(level: &Level) -> (usize, usize)
-    ensures size { result.0 ≡ plain_size (layout_of level.now) }
-    ensures row { 0 < result.1 }
-{
-    let row = level.tile_width as usize * usize::from(level.samples) * usize::from(level.bits / 8);
-    (row * level.tile_length as usize, row)
 }
 
 impl Image {
@@ -69,20 +56,6 @@ impl Image {
         let arrays = self.arrays(rect.level)?;
         arrays.groups(alloc, rect, self.file.len() as u64)
     }
-
-    /// The bytes of a window, in the file's order, or the fault that is told.
-    pub fn window(&self, alloc: Global, query: Query) -> Result<Vec<u8>, PlanError> {
-        let rect = rect(&self.levels, query)?;
-        let arrays = self.arrays(rect.level)?;
-        let plan = arrays.groups(alloc, rect, self.file.len() as u64)?;
-        let mut canvas = Canvas::new(alloc, arrays.level, rect)?;
-        let (size, row) = plain_sizes(arrays.level);
-        let mut plain = vec![in alloc; 0u8; size].map_err(|_| PlanError::Memory)?;
-        for group in &plan {
-            arrays.fill(&mut canvas, &self.file, group, row, &mut plain)?;
-        }
-        Ok(canvas.into_data())
-    }
 }
 
 /// Changes a byte of a file.
@@ -107,7 +80,6 @@ impl Arrays<'_> {
     /// The groups of a rectangle, in a file of so many bytes.
     fn groups(&self, alloc: Global, rect: Rectangle, complete: u64) -> Result<Vec<Group>, PlanError>
         requires { IsTrue (is_inside self.now.level.now rect.x rect.y rect.w rect.h) }
-        ensures { IfOk result (λ gs. All (λ g. All (λ t. t < tile_total (grid_of self.now.level.now)) g.tiles.items) gs.items) }
     {
         groups(
             alloc,
@@ -118,37 +90,5 @@ impl Arrays<'_> {
             self.offsets,
             self.counts,
         )
-    }
-
-    /// Copies the tiles of a group onto the canvas.
-    fn fill(
-        &self,
-        canvas: &mut Canvas,
-        file: &[u8],
-        group: &Group,
-        row: usize,
-        plain: &mut [u8],
-    ) -> Result<(), FileFault>
-        requires level { canvas.old.level ≡ self.now.level.now }
-        requires tiles { All (λ t. t < tile_total (grid_of self.now.level.now)) group.now.tiles.items }
-        requires size { length plain.old ≡ plain_size (layout_of self.now.level.now) }
-        requires row { 0 < row }
-        ensures level { canvas.new.level ≡ self.now.level.now }
-    {
-        for tile in &group.tiles {
-            let (first, len) = tile_of(self.order, self.level, *tile, self.offsets, self.counts);
-            let seg = file
-                .get(first as usize..first as usize + len as usize)
-                .ok_or(FileFault::PastEnd)?;
-            match self.level.compression {
-                Compression::Plain if seg.len() == plain.len() => canvas.blit(*tile, seg),
-                Compression::Plain => return Err(FileFault::TileSize),
-                Compression::PackBits => {
-                    unpack(seg, row, plain)?;
-                    canvas.blit(*tile, plain);
-                }
-            }
-        }
-        Ok(())
     }
 }

@@ -1,6 +1,6 @@
 //! The groups of windows.
 use crate::tests::image::{Image, change};
-use crate::tests::windows::of_level;
+use crate::tests::of_level;
 use fixtures::{f3, f5};
 use std::test::Fail;
 use tiff_dir::FileFault;

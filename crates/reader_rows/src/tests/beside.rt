@@ -1,105 +1,13 @@
-//! Windows by the calls in turn, beside worked samples and the plain program's levels.
+//! Windows beside the plain program's levels.
 ghost use Rattle.std.specs.Prelude.{◌<◌};
 
-use crate::tests::image::{Image, change};
-use fixtures::{Numbers, f3, f4, f5, f6, f6m};
+use crate::tests::image::Image;
+use crate::tests::of_level;
+use fixtures::{Numbers, f3, f4, f5};
 use reference::level_samples;
 use std::alloc::Global;
 use std::process::Abort;
 use std::test::Fail;
-use tiff_dir::{FileFault, Order, Pick, Query};
-use tile_plan::{PlanError, swap_pairs};
-
-/// A window of a level, by its number.
-pub fn of_level(x: u32, y: u32, w: u32, h: u32, n: u32) -> Query {
-    Query::Window {
-        x,
-        y,
-        w,
-        h,
-        pick: Pick::Level(n),
-    }
-}
-
-/// The window where three of f4's tiles meet a fourth.
-const CORNER: [u8; 27] = [
-    0x80, 0x80, 0x80, 0x0f, 0x01, 0xff, 0x80, 0x80, 0x80, 0x80, 0x80, 0x80, 0x00, 0x03, 0xff, 0x80,
-    0x80, 0x80, 0x80, 0x80, 0x80, 0x01, 0x03, 0xff, 0x80, 0x80, 0x80,
-];
-
-#[test]
-fn packed_tiles(rt: HostRuntime) -> Result<(), Fail> {
-    let image = Image::new(rt.alloc(), f4(rt.alloc())?)?;
-    let corner = image.window(rt.alloc(), of_level(15, 15, 3, 3, 0));
-    assert_eq!(rt; corner.as_deref(), Ok(CORNER.as_slice()));
-    let outside = image.window(rt.alloc(), of_level(17, 0, 4, 1, 0));
-    assert_eq!(rt; outside, Err(PlanError::File(FileFault::Outside)));
-    Ok(())
-}
-
-/// Where no memory is left, that is what is told, and no window.
-#[test]
-fn refused_memory(rt: HostRuntime) -> Result<(), Fail> {
-    let image = Image::new(rt.alloc(), f4(rt.alloc())?)?;
-    match image.window(rt.alloc(), of_level(15, 15, 3, 3, 0)) {
-        Ok(bytes) => assert_eq!(rt; bytes.as_slice(), CORNER.as_slice()),
-        Err(error) => assert_eq!(rt; error, PlanError::Memory),
-    }
-    Ok(())
-}
-
-/// A byte of f4's first tile changed: a packet crosses its row.
-#[test]
-fn damaged_tile(rt: HostRuntime) -> Result<(), Fail> {
-    let mut file = f4(rt.alloc())?;
-    change(&mut file, 164, 3);
-    let image = Image::new(rt.alloc(), file)?;
-    let damaged = image.window(rt.alloc(), of_level(0, 0, 1, 1, 0));
-    assert_eq!(rt; damaged, Err(PlanError::File(FileFault::Packet)));
-    let next = image.window(rt.alloc(), of_level(16, 0, 1, 1, 0));
-    assert_eq!(rt; next.as_deref(), Ok([0x00, 0x01, 0xff].as_slice()));
-    Ok(())
-}
-
-/// The last packet of f3's second level changed.
-#[test]
-fn damaged_level(rt: HostRuntime) -> Result<(), Fail> {
-    let mut file = f3(rt.alloc())?;
-    change(&mut file, 1454, 0xf2);
-    let image = Image::new(rt.alloc(), file)?;
-    let damaged = image.window(rt.alloc(), of_level(0, 0, 1, 1, 1));
-    assert_eq!(rt; damaged, Err(PlanError::File(FileFault::Packet)));
-    let next = image.window(rt.alloc(), of_level(0, 0, 1, 1, 0));
-    assert_eq!(rt; next.as_deref(), Ok([0x10].as_slice()));
-    Ok(())
-}
-
-#[test]
-fn two_levels(rt: HostRuntime) -> Result<(), Fail> {
-    let image = Image::new(rt.alloc(), f3(rt.alloc())?)?;
-    let middle = image.window(rt.alloc(), of_level(15, 15, 2, 2, 0));
-    assert_eq!(rt; middle.as_deref(), Ok([0x10, 0x11, 0x12, 0x13].as_slice()));
-    Ok(())
-}
-
-/// The samples of 16 bits of f6 and f6m, most significant byte first.
-#[test]
-fn two_bytes(rt: HostRuntime) -> Result<(), Fail> {
-    let want = [
-        0x80, 0x12, 0x80, 0x13, 0x80, 0x14, 0x80, 0x22, 0x80, 0x23, 0x80, 0x24,
-    ];
-    for file in [f6(rt.alloc())?, f6m(rt.alloc())?] {
-        let image = Image::new(rt.alloc(), file)?;
-        let mut bytes = image
-            .window(rt.alloc(), of_level(2, 1, 3, 2, 0))
-            .map_err(|_| Fail::new("no window"))?;
-        if image.order == Order::Little {
-            swap_pairs(&mut bytes);
-        }
-        assert_eq!(rt; bytes.as_slice(), want.as_slice());
-    }
-    Ok(())
-}
 
 /// The rows of a level of 8 bits by the plain program, a byte for each sample.
 fn rows_of(alloc: Global, file: &[u8], n: u32) -> Result<Vec<Vec<u8>>, Fail> {
