@@ -1,3 +1,6 @@
 pub mod CatalogueLemmas
 pub mod PlaceLemmas
 pub mod PublishLemmas
+pub mod ServeLemmas
+pub mod PendingLemmas
+pub mod SentLemmas
