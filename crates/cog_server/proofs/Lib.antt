@@ -4,3 +4,4 @@ pub mod PublishLemmas
 pub mod ServeLemmas
 pub mod PendingLemmas
 pub mod SentLemmas
+pub mod AnswerLemmas

@@ -1,5 +1,5 @@
 -- What a server answers on a stream (RFC 9112, sections 9.3 and 9.6).
-use Rattle.std.specs.Prelude.{◌≡◌, ◌≤◌, ℕ, Bool, true, false, List, length, Result, Ok, Err}
+use Rattle.std.specs.Prelude.{◌≡◌, ◌≤◌, ℕ, Bool, true, false, List, ◌++◌, length, Result, Ok, Err}
 use Rattle.http_parts.specs.declared.limits.TheConstants.{ANSWERS_LIMIT}
 use Rattle.http_range.specs.Book.{Catalogue}
 use Rattle.http_range.specs.Honest.{IsFront}
@@ -18,6 +18,12 @@ use Rattle.cog_server.specs.declared.served.ServeError.TheVariants.{Read, Write,
 pub record AreFirstAnswers (catalogue : Catalogue) (stream : List ℕ) (rs : List Response) : Type 0 where
   pub few : length rs ≤ ANSWERS_LIMIT
   pub answers : AreAnswers catalogue (length rs) stream rs
+
+-- they begin all answers to it
+abbrev pub FirstAnswersBegin : Type 0
+FirstAnswersBegin =
+    (catalogue : Catalogue) (stream : List ℕ) (rs all : List Response) → AreFirstAnswers catalogue stream rs
+    → IsAnswered catalogue stream all → (rest : List Response) × (rs ++ rest ≡ all)
 
 abbrev pub ending_told : Ended → Ending
 ending_told told_closed = Closed

@@ -7,6 +7,7 @@ mod cases;
 mod catalogue;
 mod error;
 mod inlet;
+mod laws;
 mod pending;
 mod prepared;
 mod published;
@@ -18,6 +19,7 @@ mod stream;
 
 pub use error::PublishError;
 pub use inlet::{Failed, Inlet, Outlet};
+pub use laws::first_answers_begin;
 pub use scripted::{AfterBytes, AfterPieces, ScriptedInlet, ScriptedOutlet};
 pub use served::{Ended, ServeError, Served};
 pub use server::{Answer, Server};

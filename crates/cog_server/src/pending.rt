@@ -1,6 +1,7 @@
 //! The bytes of a stream that were read and aren't answered yet.
 ghost use Rattle.std.specs.Prelude.{◌≡◌, ◌+◌, ◌-◌, ◌<◌, ◌≤◌, ◌++◌, false, true, IfOk, IfErr, IfNone, IfSome, OnOk, MatchOption, [], length, take, drop, slice_range};
 ghost use Rattle.std.specs.Io.KnownBytes.{append_known};
+ghost use Rattle.http_parts.specs.declared.limits.TheConstants.{MESSAGE_LIMIT};
 ghost use Rattle.http_range.specs.Stream.{HasNoMessage, IsFirstMessage, IsUnfinished};
 
 use crate::inlet::{Failed, Inlet};
@@ -18,7 +19,7 @@ pub struct Pending {
     pub scanned: usize,
     ghost ordered: { start ≤ end },
     ghost within: { end ≤ length bytes.items },
-    ghost full: { length bytes.items ≡ 8192 },
+    ghost full: { length bytes.items ≡ MESSAGE_LIMIT },
     ghost searched: { scanned ≤ end - start },
     ghost none: { HasNoMessage (slice_range bytes.items start end) scanned },
 }

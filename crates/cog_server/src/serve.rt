@@ -11,7 +11,7 @@ use crate::pending::Pending;
 use crate::prepared::prepare;
 use crate::published::Published;
 use crate::served::{Ended, ServeError, Served};
-use http_range::{Memory, Reply, messages_stay, write_head};
+use http_range::{ANSWERS_LIMIT, Memory, Reply, messages_stay, write_head};
 use std::alloc::Global;
 
 /// The most bytes of the write that has the head of an answer.
@@ -86,7 +86,7 @@ pub fn serve_files<R: Inlet, W: Outlet>(
 {
     messages_stay();
     let mut pending = Pending::new(alloc)?;
-    for answers in 0..100 {
+    for answers in 0..ANSWERS_LIMIT {
         let Some(n) = pending.next_message(r)? else {
             let ended = Ended::EndOfInput;
             return Ok(Served { answers, ended });
@@ -102,7 +102,7 @@ pub fn serve_files<R: Inlet, W: Outlet>(
         pending.skip(n);
     }
     Ok(Served {
-        answers: 100,
+        answers: ANSWERS_LIMIT,
         ended: Ended::Limit,
     })
 }

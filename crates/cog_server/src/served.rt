@@ -16,7 +16,7 @@ pub enum Ended {
 /// How many answers were written, and what ended them.
 #[derive(Clone, Copy, Debug, PartialEq, Eq)]
 pub struct Served {
-    pub answers: u32,
+    pub answers: usize,
     pub ended: Ended,
 }
 

@@ -39,7 +39,7 @@ pub fn expect_served(
     Ok(())
 }
 
-fn served(answers: u32, ended: Ended) -> Served {
+fn served(answers: usize, ended: Ended) -> Served {
     Served { answers, ended }
 }
 
