@@ -1,13 +1,15 @@
-//! How fast the loops over bytes go. Without a word it checks what they give; with the word `measure` it prints how many
-//! GB a second each writes on hot tiles.
+//! How fast the loops over bytes go, and the server. Without a word it checks what they give; with the word `measure` it
+//! prints how many GB a second each loop writes on hot tiles, and how many answers a second are served from memory.
 #![tactic(auto)]
 
 mod picture;
+mod serving;
 mod tiles;
 
 use anyhow::{Result, bail, ensure};
 use packbits::unpack;
 use picture::Picture;
+use serving::{check_serving, measure_serving};
 use std::alloc::Global;
 use std::env;
 use std::rt::{Clock, Env};
@@ -39,7 +41,7 @@ fn check(rt: &impl Print, alloc: Global) -> Result<()> {
     swap_pairs(&mut pairs);
     let same = pairs.as_slice() == b"1032547698badcfehgjilknmporqtsvuxwzy".as_slice();
     println!(rt; "swap_pairs: {same}")?;
-    Ok(())
+    check_serving(rt, alloc)
 }
 
 /// Whether four tiles become the picture of their samples.
@@ -122,7 +124,7 @@ fn measure_mebibyte(rt: &(impl Print + Clock), alloc: Global) -> Result<()> {
     let seconds = start.elapsed(rt)?.as_secs_f64();
     ensure!(good, "copy");
     println!(rt; "copy: {:.2} GB/s", 16.0 * rate(seconds))?;
-    Ok(())
+    measure_serving(rt, alloc)
 }
 
 fn main(rt: HostRuntime) -> Result<()> {

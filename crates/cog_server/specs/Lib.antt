@@ -3,3 +3,8 @@ pub mod Place
 pub mod Prepared
 pub mod Server
 pub mod Inside
+pub mod Moved
+pub mod Serve
+pub mod Pending
+pub mod Sent
+pub mod Scripted

@@ -6,9 +6,21 @@
 mod cases;
 mod catalogue;
 mod error;
+mod inlet;
+mod laws;
+mod pending;
 mod prepared;
 mod published;
+mod scripted;
+mod serve;
+mod served;
 mod server;
+mod stream;
 
 pub use error::PublishError;
+pub use inlet::{Failed, Inlet, Outlet};
+pub use laws::first_answers_begin;
+pub use scripted::{AfterBytes, AfterPieces, ScriptedInlet, ScriptedOutlet};
+pub use served::{Ended, ServeError, Served};
 pub use server::{Answer, Server};
+pub use stream::Stream;

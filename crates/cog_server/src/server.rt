@@ -1,12 +1,17 @@
 //! The server of one epoch.
-ghost use Rattle.std.specs.Prelude.{◌≡◌, ◌+◌, ◌<◌, [], None, IfOk, IfErr, OnOk, OnErr, option_map, option_copied};
+ghost use Rattle.std.specs.Prelude.{◌≡◌, ◌+◌, ◌<◌, [], ℕ, List, None, false, IfOk, IfErr, OnOk, OnErr, option_map, option_copied};
 ghost use Rattle.http_range.specs.Book.{publish, published, publication_tag};
+ghost use Rattle.std.specs.Io.KnownBytes.{append_known};
+ghost use Rattle.cog_server.specs.Serve.{Serves, read_failed, write_failed};
 ghost use Rattle.cog_server.specs.Server.{IsAnswered, IsRefusal, OthersStay, refusal_of};
 
 use crate::catalogue::{find_file, is_crowded, place_of, put};
 use crate::error::PublishError;
+use crate::inlet::{Inlet, Outlet};
 use crate::prepared::{prepare, status};
 use crate::published::Published;
+use crate::serve::serve_files;
+use crate::served::{ServeError, Served};
 use http_range::{Memory, Tag, is_name, publication_tag, publications_replace, write_head};
 use std::alloc::Global;
 use std::marker::Model;
@@ -143,5 +148,23 @@ impl Server {
             status: status(&prepared.reply),
             body: prepared.body.len() as u64,
         })
+    }
+
+    /// Answers the messages of a stream in order, up to and with the first answer that closes or the hundredth. A message that
+    /// isn't whole when the input ends gets no answer.
+    pub fn serve<R: Inlet, W: Outlet>(&self, r: &mut R, w: &mut W) -> Result<Served, ServeError>
+        requires reads { R.has_failed r.old ≡ false }
+        requires writes { W.has_failed w.old ≡ false }
+
+        // What is written are the answers to what is read, however that was cut.
+        ensures served { (stream : List ℕ) × (text : List ℕ) × (R.given r.new ≡ append_known (R.given r.old) stream)
+            × (W.taken w.new ≡ append_known (W.taken w.old) text)
+            × Serves self.now.catalogue stream text (R.is_over r.new) result }
+
+        // Read and Write come where a read or a write failed, and only there.
+        ensures read { R.has_failed r.new ≡ read_failed result }
+        ensures write { W.has_failed w.new ≡ write_failed result }
+    {
+        serve_files(self.alloc, &self.files, r, w)
     }
 }

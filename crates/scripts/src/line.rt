@@ -1,6 +1,7 @@
 //! The lines of a script.
 use crate::number::number;
 use crate::source::{LoadError, Source};
+use hex::FromHexError;
 use std::alloc::{AllocError, AllocFailed, Global};
 use tiff_dir::{Pick, Query};
 use world::Event;
@@ -88,6 +89,15 @@ fn window(level: &[u8], sides: &[&[u8]; 4]) -> Result<Query, LineError> {
     })
 }
 
+/// The bytes of hexadecimal digits, two each, in either case.
+fn bytes_of(alloc: Global, digits: &[u8]) -> Result<Vec<u8>, LineError> {
+    match hex::decode(alloc, digits) {
+        Ok(bytes) => Ok(bytes),
+        Err(FromHexError::OutOfMemory) => Err(LineError::Memory),
+        Err(_) => Err(LineError::NotAnEvent),
+    }
+}
+
 /// The event of a line of these words.
 fn event_of<S: Source>(alloc: Global, words: &[&[u8]], source: &mut S) -> Result<Event, LineError> {
     match words {
@@ -101,6 +111,7 @@ fn event_of<S: Source>(alloc: Global, words: &[&[u8]], source: &mut S) -> Result
             client: wanted(client)?,
             query: window(level, &[*x, *y, *w, *h])?,
         }),
+        [b"ask", digits] => Ok(Event::Ask(bytes_of(alloc, digits)?)),
         [b"exchange", client] => Ok(Event::Exchange(wanted(client)?)),
         _ => Err(LineError::NotAnEvent),
     }

@@ -4,7 +4,7 @@ use http_range::{Memory, Span, Why};
 use itoa::{Buffer, Integer};
 use std::alloc::{AllocError, Global};
 use tiff_dir::FileFault;
-use world::{Delivered, Effect, Entry, Exchange, Ignored, Log, Outcome, Report};
+use world::{Answer, Delivered, Effect, Entry, Exchange, Ignored, Log, Outcome, Report};
 
 /// The text of a log: a line for each entry, and one more for its report.
 pub fn log_text(alloc: Global, log: &Log) -> Result<Vec<u8>, Memory> {
@@ -48,6 +48,7 @@ fn push_effect(text: &mut Text, effect: &Effect) -> Result<(), AllocError> {
             push_counted(text, b"asked", *client)?;
             text.word(b"nothing")
         }
+        Effect::Answered { number, answer } => push_answer(text, *number, answer),
         Effect::Exchanged(exchange) => push_exchange(text, exchange),
     }
 }
@@ -58,6 +59,13 @@ fn push_counted<I: Integer>(text: &mut Text, word: &[u8], number: I) -> Result<(
     text.number(number)
 }
 
+/// An answer's number, its status and how many bytes of body it has.
+fn push_answer(text: &mut Text, number: usize, answer: &Answer) -> Result<(), AllocError> {
+    push_counted(text, b"answer", number)?;
+    text.number(answer.status)?;
+    text.number(answer.body)
+}
+
 fn push_exchange(text: &mut Text, exchange: &Exchange) -> Result<(), AllocError> {
     push_counted(text, b"asked", exchange.client)?;
     push_span(text, exchange.span)?;
@@ -65,9 +73,7 @@ fn push_exchange(text: &mut Text, exchange: &Exchange) -> Result<(), AllocError>
         Some(tag) => text.word(tag.as_bytes())?,
         None => text.word(b"-")?,
     }
-    push_counted(text, b"answer", exchange.number)?;
-    text.number(exchange.answer.status)?;
-    text.number(exchange.answer.body)?;
+    push_answer(text, exchange.number, &exchange.answer)?;
     push_delivered(text, exchange.delivered)
 }
 

@@ -1,4 +1,6 @@
 mod answers;
+mod failures;
 mod memory;
 mod publications;
 mod refusals;
+mod streams;

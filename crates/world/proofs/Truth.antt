@@ -20,7 +20,7 @@ use Rattle.cog_server.specs.declared.error.PublishError.{PublishError}
 use Rattle.world.specs.declared.client.Client.{Client}
 use Rattle.world.specs.declared.client.ClientError.{ClientError}
 use Rattle.world.specs.declared.event.Event.{Event}
-use Rattle.world.specs.declared.event.Event.TheVariants.{Publish, Epoch, NewClient, Open, Exchange}
+use Rattle.world.specs.declared.event.Event.TheVariants.{Publish, Epoch, NewClient, Open, Ask, Exchange}
 use Rattle.world.specs.declared.event.Effect.{Effect}
 use Rattle.world.specs.declared.event.Entry.{Entry}
 use Rattle.world.specs.Report.{Told, IsTrueReport}
@@ -363,6 +363,7 @@ module _ (laws : LowerLaws) where
   sound_step w cs (Epoch e) n new g h = sound_quiet (restart_by w e (nat_lt w.epoch e)) cs new None (told_of n) (good_epoch (nat_lt w.epoch e) w cs e refl h.0 g) h.1.same h.1.report
   sound_step w cs (NewClient name blocks) n new g h = sound_made (client_refusal host name.items blocks) w cs new name.items n g h
   sound_step w cs (Open i q) n new g h = sound_open (slice_get cs i) w cs new i q n refl g h
+  sound_step w cs (Ask message) n new g h = sound_quiet (with_sent w (w.sent + 1)) cs new None (told_of n) (good_sent w cs (w.sent + 1) g) h.1 h.0.report
   sound_step w cs (Exchange i) n new g h = sound_exchange (slice_get cs i) w cs new i n refl g h
 
   -- a whole run

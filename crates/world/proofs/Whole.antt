@@ -1,6 +1,6 @@
 -- A run goes on by one event, and a whole run is a log.
 use Rattle.std.proofs.Common.{◌≡◌, ℕ, List, [], ◌∷◌, ◌++◌, length, take, Option, Some, None, Bool, true, false, refl, sym, ap, ◌∙◌, subst, inl, inr, ◌<◌, ◌≤◌, ◌+◌, get_or, Result, Ok, Err}
-use Rattle.std.specs.Prelude.{IfOk, IfSome, OnErr, nat_lt}
+use Rattle.std.specs.Prelude.{IfOk, IfSome, OnErr, OnOk, nat_lt}
 use Rattle.std.proofs.Common.{Vec, Global}
 use Rattle.std.proofs.lemmas.List.{take_more, take_all}
 use Rattle.std.proofs.lemmas.Option.{same_Some}
@@ -13,13 +13,13 @@ use Rattle.cog_server.specs.declared.error.PublishError.{PublishError}
 use Rattle.world.specs.declared.client.Client.{Client}
 use Rattle.world.specs.declared.client.ClientError.{ClientError}
 use Rattle.world.specs.declared.event.Event.{Event}
-use Rattle.world.specs.declared.event.Event.TheVariants.{Publish, Epoch, NewClient, Open, Exchange}
+use Rattle.world.specs.declared.event.Event.TheVariants.{Publish, Epoch, NewClient, Open, Ask, Exchange}
 use Rattle.world.specs.declared.event.Entry.{Entry}
 use Rattle.world.specs.Report.{Said, Samples, Bad, Told, HasShape, IsTrueOf}
 use Rattle.world.specs.Client.{client_refusal}
 use Rattle.cog_server.specs.Server.{ServerState}
 use Rattle.world.specs.World.{World, host, start, next_of, publish_by, refused_at, server_of, restart_by, made_by, after, after_all, told_of, client_of, IsTrueAt, AllTrue, IsToldIn, SaysTheSame, AreAlike}
-use Rattle.world.specs.Run.{IsAtAfter, Publishes, Step, Runs, IsRun, IsBeginning, IsState, Does}
+use Rattle.world.specs.Run.{Answers, IsAtAfter, Publishes, Step, Runs, IsRun, IsBeginning, IsState, Does}
 use Rattle.world.specs.LowerLaws.{LowerLaws}
 use Rattle.world.proofs.Truth.{good_start, true_run}
 
@@ -54,6 +54,7 @@ grows w (Publish name file) n = grows_publish w (next_of w name.items file.items
 grows w (Epoch e) n = grows_epoch (nat_lt w.epoch e) w e
 grows w (NewClient name blocks) n = grows_made w name.items (client_refusal host name.items blocks)
 grows w (Open i q) n = λ q i. i
+grows w (Ask message) n = λ q i. i
 grows w (Exchange i) n = λ q i. i
 
 grows_all : (w : World) (es : List Event) (ns : List Entry) → Includes (after_all w es ns).book w.book
@@ -193,3 +194,24 @@ ok_publish (Ok n) old new sent cs event name file name' file' is named filed h =
     let Q : List ℕ → Type 0 = λ x. Publishes x file' n old new in
     let R : List ℕ → Type 0 = λ x. Publishes name.items x n old new in
     subst P (sym is) (does_publish w old new sent cs name file n (subst R filed (subst Q named h)) s)
+
+-- ---- a message
+
+does_ask : (w : World) (server : ServerState) (sent sent' : ℕ) (cs : List Client) (message : Vec ℕ Global) (n : Entry) → sent' ≡ sent + 1
+    → Answers server.catalogue sent message.items n → IsState w server sent → Does w cs (Ask message) n cs server sent'
+does_ask w server sent sent' cs message n next h s =
+    let P : ServerState → Type 0 = λ x. Answers x.catalogue sent message.items n in
+    let Q : ℕ → Type 0 = λ k. Answers w.catalogue k message.items n in
+    record {
+      step = (subst Q s.sent_is (subst P s.server_at h), refl);
+      state = record { server_at = s.server_at; sent_is = next ∙ ap (λ (k : ℕ). k + 1) s.sent_is };
+    }
+
+pub ok_ask : (r : Result Entry Memory) (server : ServerState) (sent sent' : ℕ) (cs : List Client) (event : Event) (message : Vec ℕ Global) (message' : List ℕ)
+    → event ≡ Ask message → message' ≡ message.items → OnOk r (sent' ≡ sent + 1) → IfOk r (λ n. Answers server.catalogue sent message' n)
+    → IfOk r (λ n. (w : World) → IsState w server sent → Does w cs event n cs server sent')
+ok_ask (Err e) server sent sent' cs event message message' is named next h = tt
+ok_ask (Ok n) server sent sent' cs event message message' is named next h = λ w s.
+    let P : Event → Type 0 = λ x. Does w cs x n cs server sent' in
+    let Q : List ℕ → Type 0 = λ x. Answers server.catalogue sent x n in
+    subst P (sym is) (does_ask w server sent sent' cs message n next (subst Q named h) s)

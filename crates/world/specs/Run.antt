@@ -9,7 +9,7 @@ use Rattle.cog_server.specs.declared.error.PublishError.{PublishError}
 use Rattle.world.specs.declared.client.Client.{Client}
 use Rattle.world.specs.declared.client.ClientError.{ClientError}
 use Rattle.world.specs.declared.event.Event.{Event}
-use Rattle.world.specs.declared.event.Event.TheVariants.{Publish, Epoch, NewClient, Open, Exchange}
+use Rattle.world.specs.declared.event.Event.TheVariants.{Publish, Epoch, NewClient, Open, Ask, Exchange}
 use Rattle.world.specs.declared.event.Exchange as exchange
 use Rattle.world.specs.declared.event.Effect.{Effect}
 use Rattle.world.specs.declared.event.Effect.TheVariants as effects
@@ -17,7 +17,8 @@ use Rattle.world.specs.declared.event.Entry.{Entry}
 use Rattle.world.specs.Report.{Told}
 use Rattle.world.specs.Client.{client_refusal, name_of, query_of, asked_of, revision_of, report_of}
 use Rattle.world.specs.Calls.{Starts, Opens, Requests, Delivers, Stands}
-use Rattle.cog_server.specs.Server.{ServerState, ShowsAnswer, refusal_of}
+use Rattle.cog_server.specs.declared.server.Answer.{Answer}
+use Rattle.cog_server.specs.Server.{ServerState, IsAnswered, ShowsAnswer, refusal_of}
 use Rattle.world.specs.World.{World, Seen, host, start, next_of, publish_effect, refused_at, server_of, after, told_of, AllTrue, AreAlike}
 
 abbrev pub seen : Client → Seen
@@ -76,6 +77,13 @@ pub record Restarts (epoch : ℕ) (n : Entry) (old new : ServerState) : Type 0 w
   pub small : epoch < 2 ^ 32
   pub server_at : MatchBool (nat_lt old.epoch epoch) (new ≡ record { epoch = epoch; count = 0; catalogue = [] }) (new ≡ old)
 
+-- a message is answered from the catalogue
+pub record Answers (catalogue : Catalogue) (sent : ℕ) (message : List ℕ) (n : Entry) : Type 0 where
+  pub answer : Answer
+  pub done : n.effect ≡ effects.Answered sent answer
+  pub report : told_of n ≡ None
+  pub answered : IsAnswered catalogue message answer
+
 -- a client is made
 pub record Adds (name : List ℕ) (n : Entry) (old new : List Client) : Type 0 where
   pub made : Client
@@ -124,6 +132,7 @@ Step w old (Publish name file) n new = Quiet n (publish_effect (next_of w name.i
 Step w old (Epoch e) n new = (e < 2 ^ 32) × Quiet n (if nat_lt w.epoch e then effects.Epoch e else effects.Skipped) old new
 Step w old (NewClient name blocks) n new = MakesBy (client_refusal host name.items blocks) name.items n old new
 Step w old (Open i q) n new = AtClient (slice_get old i) (OpensWith q i n.effect) i n old new
+Step w old (Ask message) n new = Answers w.catalogue w.sent message.items n × (new ≡ old)
 Step w old (Exchange i) n new = AtClient (slice_get old i) (ExchangesWith w.catalogue w.sent i n.effect) i n old new
 
 -- The log of a run has an entry for each event, in order.

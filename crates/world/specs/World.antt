@@ -6,7 +6,7 @@ use Rattle.tiff_dir.specs.declared.query.Query.{Query}
 use Rattle.http_range.specs.Book.{Publication, Book, Catalogue, publish, publication_tag}
 use Rattle.cog_server.specs.declared.error.PublishError.{PublishError}
 use Rattle.world.specs.declared.event.Event.{Event}
-use Rattle.world.specs.declared.event.Event.TheVariants.{Publish, Epoch, NewClient, Open, Exchange}
+use Rattle.world.specs.declared.event.Event.TheVariants.{Publish, Epoch, NewClient, Open, Ask, Exchange}
 use Rattle.world.specs.declared.event.Effect.{Effect}
 use Rattle.world.specs.declared.event.Effect.TheVariants as effects
 use Rattle.world.specs.declared.event.Entry.{Entry}
@@ -89,6 +89,7 @@ after w (Publish name file) effect = publish_by w (next_of w name.items file.ite
 after w (Epoch e) effect = restart_by w e (nat_lt w.epoch e)
 after w (NewClient name blocks) effect = made_by w name.items (client_refusal host name.items blocks)
 after w (Open i q) effect = with_clients w (opened w.clients i q)
+after w (Ask message) effect = with_sent w (w.sent + 1)
 after w (Exchange i) effect = with_sent w (sent_after effect w.sent)
 
 abbrev pub after_all : World → List Event → List Entry → World
@@ -108,6 +109,7 @@ client_of (Publish name file) = None
 client_of (Epoch e) = None
 client_of (NewClient name blocks) = None
 client_of (Open i q) = Some i
+client_of (Ask message) = None
 client_of (Exchange i) = Some i
 
 -- The report is true of what is published, for the client's name and its last query.

@@ -4,7 +4,7 @@ ghost use Rattle.std.specs.Option.{option_map};
 ghost use Rattle.world.specs.Report.{told};
 ghost use Rattle.world.specs.Client.{asked_of, client_refusal, report_of, revision_of};
 ghost use Rattle.world.specs.World.{host, sent_after, told_of};
-ghost use Rattle.world.specs.Run.{Acts, AtClient, ExchangesWith, IsExchange, IsExchanged, MakesBy, NewReport, OpensWith, Publishes, Restarts};
+ghost use Rattle.world.specs.Run.{Acts, Answers, AtClient, ExchangesWith, IsExchange, IsExchanged, MakesBy, NewReport, OpensWith, Publishes, Restarts};
 
 use crate::client::{Client, ClientError};
 use crate::event::{Effect, Entry, Exchange};
@@ -50,6 +50,19 @@ pub fn restart(alloc: Global, server: &mut Server, epoch: u32) -> Entry
     } else {
         quiet(Effect::Skipped)
     }
+}
+
+/// Answers a message from the server's files.
+pub fn ask(server: &Server, sent: &mut usize, message: &[u8]) -> Result<Entry, Memory>
+    requires { sent.old + 1 < 2 ^ 64 }
+    ensures answers { IfOk result (λ n. Answers server.now.catalogue sent.old message.now n) }
+    ensures sent { OnOk result (sent.new ≡ sent.old + 1) }
+    ensures few { sent.new ≤ sent.old + 1 }
+{
+    let answer = server.answer(message)?;
+    let number = *sent;
+    *sent = number + 1;
+    Ok(quiet(Effect::Answered { number, answer }))
 }
 
 fn has_report(client: &Client) -> bool

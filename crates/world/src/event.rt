@@ -15,6 +15,8 @@ pub enum Event {
     NewClient { name: Vec<u8>, blocks: u32 },
     /// Client `client` is asked a query.
     Open { client: u32, query: Query },
+    /// The server is sent a message, whatever its bytes.
+    Ask(Vec<u8>),
     /// Client `client` sends its request, if it has one, and gets the server's answer whole.
     Exchange(u32),
 }
@@ -77,6 +79,8 @@ pub enum Effect {
     /// The new client's number: clients are counted from 0.
     Made(usize),
     Opened(u32),
+    /// The message has this answer, with its number: answers are counted from 0.
+    Answered { number: usize, answer: Answer },
     /// The client had no request.
     Nothing(u32),
     Exchanged(Exchange),

@@ -4,7 +4,7 @@ ghost use Rattle.world.specs.LowerLaws.{LowerLaws};
 ghost use Rattle.world.specs.World.{AllTrue, AreAlike, World, start};
 ghost use Rattle.world.specs.Run.{Does, IsBeginning, IsRun, IsState};
 
-use crate::calls::{exchange_at, make_client, open_at, publish, restart};
+use crate::calls::{ask, exchange_at, make_client, open_at, publish, restart};
 use crate::client::Client;
 use crate::event::{Entry, Event, Log};
 use cog_server::Server;
@@ -72,6 +72,7 @@ fn step(
         Event::Epoch(epoch) => Ok(restart(alloc, server, *epoch)),
         Event::NewClient { name, blocks } => make_client(alloc, clients, name, *blocks),
         Event::Open { client, query } => open_at(alloc, clients, *client, *query),
+        Event::Ask(message) => ask(server, sent, message),
         Event::Exchange(client) => exchange_at(alloc, server, sent, clients, *client),
     }
 }

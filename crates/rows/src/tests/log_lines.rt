@@ -59,6 +59,20 @@ fn exchanged(alloc: Global, tag: Option<Tag>, delivered: Delivered) -> Entry {
     }))
 }
 
+/// An answer with number 7 and status 416.
+fn answered(alloc: Global) -> Effect {
+    Effect::Answered {
+        number: 7,
+        answer: Answer {
+            text: Vec::new(alloc),
+            close: false,
+            name: None,
+            status: 416,
+            body: 0,
+        },
+    }
+}
+
 /// The text of a log of one entry.
 fn text_of(alloc: Global, entry: Entry) -> Result<Vec<u8>, Fail> {
     let mut log = Log {
@@ -86,6 +100,7 @@ fn effects(rt: HostRuntime) -> Result<(), Fail> {
         (Effect::Made(10), "client 10\n"),
         (Effect::Opened(0), "opened 0\n"),
         (Effect::Nothing(3), "asked 3 nothing\n"),
+        (answered(alloc), "answer 7 416 0\n"),
     ];
     for (effect, want) in table {
         let text = text_of(alloc, quiet(effect))?;

@@ -28,9 +28,9 @@ const QUERY: Query = Query::Window {
 #[test]
 fn lines_and_events(rt: HostRuntime) -> Result<(), Fail> {
     let text = b"# a comment\n\nepoch 007\npublish a data/f\nclient b/c 4294967295\n\
-        open 1 level 2 3 4 5 6\n\nexchange 9";
+        open 1 level 2 3 4 5 6\n\nexchange 9\nask 00fFAb";
     let events = events(rt.alloc(), text)?;
-    assert_eq!(rt; events.len(), 5);
+    assert_eq!(rt; events.len(), 6);
     assert!(rt; matches!(events[0], Event::Epoch(7)));
     assert!(rt;
         matches!(&events[1], Event::Publish { name, file } if name.as_slice() == b"a".as_slice() && file.as_slice() == b"FILE".as_slice())
@@ -40,11 +40,14 @@ fn lines_and_events(rt: HostRuntime) -> Result<(), Fail> {
     );
     assert!(rt; matches!(&events[3], Event::Open { client: 1, query } if *query == QUERY));
     assert!(rt; matches!(events[4], Event::Exchange(9)));
+    assert!(rt;
+        matches!(&events[5], Event::Ask(message) if message.as_slice() == b"\x00\xff\xab".as_slice())
+    );
     Ok(())
 }
 
 /// Lines that are no events: of other forms, with other spaces or ends, with greater numbers, and of later stages.
-const NO_EVENTS: [&[u8]; 24] = [
+const NO_EVENTS: [&[u8]; 27] = [
     b"exchange",
     b"exchange 0 0",
     b"exchange 4294967296",
@@ -68,7 +71,10 @@ const NO_EVENTS: [&[u8]; 24] = [
     b"open 0 level 0 1 1 1 1 1",
     b"open 0 info",
     b"open 0 columns 1 1 1 1 1",
-    b"ask 00",
+    b"ask",
+    b"ask 0",
+    b"ask 0x00",
+    b"ask 00 00",
 ];
 
 #[test]

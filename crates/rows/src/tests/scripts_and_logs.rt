@@ -255,6 +255,38 @@ fn epochs_and_replacements(rt: HostRuntime) -> Result<(), Fail> {
     expect(&rt, EPOCHS_AND_REPLACEMENTS.0, EPOCHS_AND_REPLACEMENTS.1)
 }
 
+/// Messages of any bytes, the request for the last byte of `a` among them, and an exchange between them.
+const ASKS: (&str, &str) = (
+    "\
+epoch 1
+publish a f1.tif
+ask 474554202f6120485454502f312e310d0a486f73743a20680d0a52616e67653a2062797465733d3337372d0d0a0d0a
+ask 00
+client a 66
+open 0 level 0 2 1 3 2
+exchange 0
+epoch 2
+ask 474554202F6120485454502F312E310D0A486F73743A20680D0A52616E67653A2062797465733D3337372D0D0A0D0A
+",
+    "\
+epoch 1
+published \"1-1\"
+answer 0 206 1
+answer 1 400 0
+client 0
+opened 0
+asked 0 0-65535 - answer 2 206 378 took 1
+report 0 \"1-1\" window 3 2 1 121314222324
+epoch 2
+answer 3 404 0
+",
+);
+
+#[test]
+fn asks(rt: HostRuntime) -> Result<(), Fail> {
+    expect(&rt, ASKS.0, ASKS.1)
+}
+
 const TWO_NAMES_AND_TWO_CLIENTS: (&str, &str) = (
     "\
 epoch 7

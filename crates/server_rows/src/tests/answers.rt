@@ -1,5 +1,6 @@
 //! Answers to requests for ranges of f1, which is published as `a` in epoch 1.
-use cog_server::{Answer, Server};
+use super::streams::expect_served;
+use cog_server::{Answer, Ended, Served, Server};
 use fixtures::f1;
 use std::alloc::Global;
 use std::process::Abort;
@@ -24,8 +25,40 @@ pub fn server_of_f1(alloc: Global) -> Result<Server, Fail> {
     Ok(server)
 }
 
-/// Expects that a message is answered so.
+/// Expects that a message is answered so, by a call and on a stream of this message alone.
 pub fn expect_answer(
+    rt: &(impl Abort + AllocGlobal),
+    server: &Server,
+    message: &[u8],
+    want: &Want,
+) -> Result<(), Fail> {
+    expect_called(rt, server, message, want)?;
+    let text = text_of(rt.alloc(), want)?;
+    let ended = if want.close {
+        Ended::Closed
+    } else {
+        Ended::EndOfInput
+    };
+    expect_served(
+        rt,
+        server,
+        message,
+        &[],
+        &text,
+        Served { answers: 1, ended },
+    )
+}
+
+/// The bytes of an answer.
+pub fn text_of(alloc: Global, want: &Want) -> Result<Vec<u8>, Fail> {
+    let file = f1(alloc)?;
+    let mut text = Vec::from_slice(alloc, want.head)?;
+    text.extend_from_slice(file.get(want.from..want.to).ok_or("no such part")?)?;
+    Ok(text)
+}
+
+/// Expects that a message is answered so by a call.
+pub fn expect_called(
     rt: &(impl Abort + AllocGlobal),
     server: &Server,
     message: &[u8],
@@ -71,7 +104,7 @@ const ALL: Want = Want {
     to: 378,
 };
 
-const FIRST: Want = Want {
+pub const FIRST: Want = Want {
     head: b"HTTP/1.1 206 Partial Content\r\nETag: \"1-1\"\r\nAccept-Ranges: bytes\r\nContent-Type: image/tiff\r\nContent-Range: bytes 0-0/378\r\nContent-Length: 1\r\n\r\n",
     status: 206,
     close: false,
@@ -80,7 +113,7 @@ const FIRST: Want = Want {
     to: 1,
 };
 
-const LAST: Want = Want {
+pub const LAST: Want = Want {
     head: b"HTTP/1.1 206 Partial Content\r\nETag: \"1-1\"\r\nAccept-Ranges: bytes\r\nContent-Type: image/tiff\r\nContent-Range: bytes 377-377/378\r\nContent-Length: 1\r\n\r\n",
     status: 206,
     close: false,

@@ -1,5 +1,5 @@
 //! Where memory is refused, that is what is told; nothing has changed, and the same call succeeds later.
-use cog_server::Server;
+use cog_server::{Inlet, Outlet, ServeError, Server, Stream};
 use http_range::{Memory, publication_tag};
 use std::process::Abort;
 use std::test::Fail;
@@ -33,5 +33,30 @@ fn refused_memory(rt: HostRuntime) -> Result<(), Fail> {
     };
     assert_eq!(rt; answer.text.as_slice(), TEXT);
     assert_eq!(rt; answer.body, 2);
+    Ok(())
+}
+
+/// Serves one request, a second time where memory was refused: by then nothing is written.
+#[test]
+fn refused_memory_on_a_stream(rt: HostRuntime) -> Result<(), Fail> {
+    let alloc = rt.alloc();
+    let mut server = Server::new(alloc, 1);
+    publish(&rt, &mut server)?;
+    let mut room = [0u8; 512];
+    let mut inlet = Stream::new(REQUEST);
+    let mut outlet = Stream::new(room.as_mut_slice());
+    let served = match server.serve(&mut inlet, &mut outlet) {
+        Ok(served) => served,
+        Err(failure) => {
+            assert_eq!(rt; failure, ServeError::Memory);
+            assert!(rt; !inlet.failed());
+            assert!(rt; !outlet.failed());
+            let mut outlet = Stream::new(room.as_mut_slice());
+            server.serve(&mut Stream::new(REQUEST), &mut outlet)?
+        }
+    };
+    assert_eq!(rt; served.answers, 1);
+    assert!(rt; room.starts_with(TEXT));
+    assert_eq!(rt; room.get(TEXT.len()).copied(), Some(0));
     Ok(())
 }

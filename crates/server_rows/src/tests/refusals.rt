@@ -1,5 +1,7 @@
 //! Answers to requests that aren't served, to HEAD, and to conditions.
-use super::answers::{WHOLE, Want, expect_answer, server_of_f1};
+use super::answers::{WHOLE, Want, expect_answer, expect_called, server_of_f1};
+use super::streams::expect_served;
+use cog_server::{Ended, Served};
 use std::test::Fail;
 
 /// An answer without a body and without a tag.
@@ -14,7 +16,7 @@ fn bare(head: &'static [u8], status: u16, close: bool) -> Want {
     }
 }
 
-fn bad() -> Want {
+pub fn bad() -> Want {
     bare(
         b"HTTP/1.1 400 Bad Request\r\nContent-Length: 0\r\nConnection: close\r\n\r\n",
         400,
@@ -25,9 +27,7 @@ fn bad() -> Want {
 #[test]
 fn bad_requests(rt: HostRuntime) -> Result<(), Fail> {
     let server = server_of_f1(rt.alloc())?;
-    let messages: [&[u8]; 9] = [
-        b"",
-        b"\r\n\r\n",
+    let messages: [&[u8]; 7] = [
         b"GET /a\r\n\r\n",
         b"GET /a HTTP/1.0\r\nHost: h\r\n\r\n",
         b"GET /a HTTP/1.1\r\n\r\n",
@@ -38,6 +38,22 @@ fn bad_requests(rt: HostRuntime) -> Result<(), Fail> {
     ];
     for message in messages {
         expect_answer(&rt, &server, message, &bad())?;
+    }
+    Ok(())
+}
+
+/// Empty lines are no message of a stream, and no head.
+#[test]
+fn no_messages(rt: HostRuntime) -> Result<(), Fail> {
+    let server = server_of_f1(rt.alloc())?;
+    let none = Served {
+        answers: 0,
+        ended: Ended::EndOfInput,
+    };
+    let lines: [&[u8]; 2] = [b"", b"\r\n\r\n"];
+    for line in lines {
+        expect_called(&rt, &server, line, &bad())?;
+        expect_served(&rt, &server, line, &[], b"", none)?;
     }
     Ok(())
 }

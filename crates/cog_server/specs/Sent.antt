@@ -1,0 +1,40 @@
+-- Writing an answer, where want of memory and failures of the outlet may end it.
+use Rattle.std.specs.Prelude.{◌≡◌, Bool, true, false, ℕ, List, Option, Result, Ok, Err, IfOk}
+use Rattle.std.specs.Io.KnownBytes.{append_known}
+use Rattle.http_range.specs.Book.{Catalogue}
+use Rattle.http_range.specs.Honest.{IsFront}
+use Rattle.http_range.specs.Response.{Response, IsAnswer, text_of}
+use Rattle.cog_server.specs.declared.served.ServeError.{ServeError}
+use Rattle.cog_server.specs.declared.served.ServeError.TheVariants.{Read, Write, Memory}
+
+-- a beginning of the text was written, and then writing failed
+pub record IsBroken (taken taken' : Option (List ℕ)) (has_failed : Bool) (text : List ℕ) : Type 0 where
+  pub written : List ℕ
+  pub front : IsFront written text
+  pub took : taken' ≡ append_known taken written
+  pub failed : has_failed ≡ true
+
+-- the text was written whole
+pub record IsWritten (taken taken' : Option (List ℕ)) (has_failed : Bool) (text : List ℕ) : Type 0 where
+  pub took : taken' ≡ append_known taken text
+  pub unfailed : has_failed ≡ false
+
+-- nothing was written
+pub record IsUnwritten (taken taken' : Option (List ℕ)) (has_failed : Bool) : Type 0 where
+  pub same : taken' ≡ taken
+  pub unfailed : has_failed ≡ false
+
+-- a text was written, or a beginning of it where writing failed; want of memory comes before
+abbrev pub Writes : {A : Type 0} → Option (List ℕ) → Option (List ℕ) → Bool → List ℕ → Result A ServeError → Type 0
+Writes taken taken' has_failed text (Ok a) = IsWritten taken taken' has_failed text
+Writes taken taken' has_failed text (Err Read) = ⊥
+Writes taken taken' has_failed text (Err Write) = IsBroken taken taken' has_failed text
+Writes taken taken' has_failed text (Err Memory) = IsUnwritten taken taken' has_failed
+
+-- the answer to the message was written, or a beginning of it; Ok says whether the connection ends with it
+pub record Sends (catalogue : Catalogue) (message : List ℕ) (taken taken' : Option (List ℕ)) (has_failed : Bool)
+    (result : Result Bool ServeError) : Type 0 where
+  pub response : Response
+  pub answers : IsAnswer catalogue message response
+  pub writes : Writes taken taken' has_failed (text_of response) result
+  pub closes : IfOk result (λ close. close ≡ response.close)

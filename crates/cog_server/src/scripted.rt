@@ -1,0 +1,181 @@
+//! A connection by a script, for tests: which pieces its bytes come and go in, and what follows them.
+ghost use Rattle.std.specs.Prelude.{◌≡◌, ◌≤◌, Some, IsErr, true, false, length, take, []};
+
+use crate::inlet::{Failed, Inlet, Outlet};
+use std::alloc::Global;
+
+/// What follows the bytes of an inlet.
+#[derive(Clone, Copy, Debug, PartialEq, Eq)]
+pub enum AfterBytes {
+    End,
+    Failure,
+}
+
+/// What follows the pieces of an outlet.
+#[derive(Clone, Copy, Debug, PartialEq, Eq)]
+pub enum AfterPieces {
+    /// It takes all that it is given.
+    All,
+    /// It takes nothing.
+    Zero,
+    Failure,
+}
+
+/// Gives its bytes in pieces of these sizes, and all others at once. A piece has one byte at least.
+#[derive(Drop)]
+pub struct ScriptedInlet {
+    bytes: Vec<u8>,
+    pieces: Vec<usize>,
+    after: AfterBytes,
+    position: usize,
+    reads: usize,
+    failed: bool,
+    ghost within: { position ≤ length bytes.items },
+}
+
+impl ScriptedInlet {
+    ghost use Rattle.cog_server.specs.Scripted.{inlet_failed, script_bytes, script_given};
+
+    /// One that hasn't given anything.
+    pub fn new(bytes: Vec<u8>, pieces: Vec<usize>, after: AfterBytes) -> Self
+        ensures bytes { script_bytes result ≡ bytes.items }
+        ensures given { script_given result ≡ [] }
+        ensures unfailed { inlet_failed result ≡ false }
+    {
+        ScriptedInlet {
+            bytes,
+            pieces,
+            after,
+            position: 0,
+            reads: 0,
+            failed: false,
+        }
+    }
+
+    /// The size of the next piece.
+    fn size(&self) -> usize
+        ensures { 1 ≤ result }
+    {
+        self.pieces
+            .get(self.reads)
+            .copied()
+            .unwrap_or(usize::MAX)
+            .max(1)
+    }
+}
+
+impl Inlet for ScriptedInlet {
+    ghost use Rattle.cog_server.specs.Scripted.{inlet_failed, script_bytes, script_given};
+
+    ghost given = { λ s. Some (script_given s) };
+
+    ghost is_over = { λ s. script_given s ≡ script_bytes s };
+
+    ghost has_failed = { inlet_failed };
+
+    fn read(&mut self, room: &mut [u8]) -> Result<usize, Failed> {
+        let left = self.bytes.len() - self.position;
+        if left == 0 {
+            return match self.after {
+                AfterBytes::End => Ok(0),
+                AfterBytes::Failure => {
+                    self.failed = true;
+                    Err(Failed)
+                }
+            };
+        }
+        let n = self.size().min(left).min(room.len());
+        let end = self.position + n;
+        room[..n].copy_from_slice(&self.bytes[self.position..end]);
+        self.position = end;
+        self.reads = self.reads.saturating_add(1);
+        Ok(n)
+    }
+
+    fn failed(&self) -> bool {
+        self.failed
+    }
+}
+
+/// Takes bytes in pieces of at most these sizes, and keeps them.
+#[derive(Drop)]
+pub struct ScriptedOutlet {
+    pieces: Vec<usize>,
+    after: AfterPieces,
+    taken: Vec<u8>,
+    writes: usize,
+    failed: bool,
+}
+
+impl ScriptedOutlet {
+    ghost use Rattle.cog_server.specs.Scripted.{outlet_failed, script_taken};
+
+    /// One that hasn't taken anything.
+    pub fn new(alloc: Global, pieces: Vec<usize>, after: AfterPieces) -> Self
+        ensures taken { script_taken result ≡ [] }
+        ensures unfailed { outlet_failed result ≡ false }
+    {
+        ScriptedOutlet {
+            pieces,
+            after,
+            taken: Vec::new(alloc),
+            writes: 0,
+            failed: false,
+        }
+    }
+
+    /// The bytes that it has taken.
+    pub fn taken(&self) -> &[u8]
+        ensures { result.now ≡ script_taken self.now }
+    {
+        &self.taken
+    }
+
+    /// The most bytes that it takes next. None where it fails.
+    fn size(&self) -> Option<usize> {
+        match self.pieces.get(self.writes) {
+            Some(size) => Some(*size),
+            None => match self.after {
+                AfterPieces::All => Some(usize::MAX),
+                AfterPieces::Zero => Some(0),
+                AfterPieces::Failure => None,
+            },
+        }
+    }
+
+    fn fail(&mut self) -> Result<usize, Failed>
+        ensures taken { script_taken self.new ≡ script_taken self.old }
+        ensures failed { outlet_failed self.new ≡ true }
+        ensures err { IsErr result }
+    {
+        self.failed = true;
+        Err(Failed)
+    }
+}
+
+impl Outlet for ScriptedOutlet {
+    ghost use Rattle.cog_server.specs.Scripted.{outlet_failed, script_taken};
+
+    ghost taken = { λ s. Some (script_taken s) };
+
+    ghost has_failed = { outlet_failed };
+
+    fn write(&mut self, bytes: &[u8]) -> Result<usize, Failed> {
+        let Some(size) = self.size() else {
+            return self.fail();
+        };
+        let n = size.min(bytes.len());
+        if self.taken.extend_from_slice(&bytes[..n]).is_err() {
+            return self.fail();
+        }
+        if n == 0 && !bytes.is_empty() {
+            self.failed = true;
+        }
+        self.writes = self.writes.saturating_add(1);
+        Ok(n)
+    }
+
+    fn failed(&self) -> bool {
+        self.failed
+    }
+}
