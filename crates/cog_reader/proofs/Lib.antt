@@ -9,3 +9,4 @@ pub mod TurnLemmas
 pub mod TakeLemmas
 pub mod ReaderLemmas
 pub mod InfoLemmas
+pub mod EndLemmas

@@ -7,7 +7,7 @@ ghost use Rattle.tiff_dir.specs.Level.{level_layout};
 ghost use Rattle.tiff_dir.specs.Walk.{levels_of, HasEnded, IsArrayOf};
 ghost use Rattle.cog_reader.specs.Kept.{held, next_array, AreKept, HoldsOffsets, IsKeptOf};
 
-use crate::Arrays;
+use crate::arrays::Arrays;
 use std::alloc::Global;
 use std::mem;
 use tiff_dir::{Level, Memory, Order, Place};

@@ -6,6 +6,7 @@ mod fields;
 mod file;
 mod info;
 mod kept;
+mod laws;
 mod mosaic;
 mod outcome;
 mod paint;
@@ -15,8 +16,7 @@ mod take;
 mod task;
 mod turn;
 
-pub use arrays::Arrays;
 pub use file::read_file;
-pub use mosaic::Mosaic;
+pub use laws::end_is_wanted;
 pub use outcome::{Info, Outcome, Window};
 pub use reader::Reader;

@@ -6,9 +6,10 @@ ghost use Rattle.tiff_dir.specs.Level.{plain_size};
 ghost use Rattle.tile_plan.specs.Plan.{Adjoin};
 ghost use Rattle.cog_reader.specs.Mosaic.{range_of, IsPainted, AreArraysOf, IsWhole, AreBytesOf, HasDamage};
 
+use crate::Window;
+use crate::arrays::Arrays;
 use crate::paint::paint;
 use crate::samples::big_first;
-use crate::{Arrays, Window};
 use std::alloc::Global;
 use std::marker::Model;
 use tiff_dir::{FileFault, Span};

@@ -9,8 +9,8 @@ ghost use Rattle.cog_reader.specs.Mosaic.{HasPlan, IsNext, IsPlan};
 ghost use Rattle.cog_reader.specs.Reader.{wanted_by, HasBoth, IsTask};
 ghost use Rattle.cog_reader.specs.Take.{Takes, TakesDirectories, TakesOn};
 
-use crate::Mosaic;
 use crate::kept::Kept;
+use crate::mosaic::Mosaic;
 use crate::task::Task;
 use std::alloc::Global;
 use tiff_dir::{FileFault, Memory, Walk, WalkError};

@@ -1,6 +1,7 @@
 //! What a reader does for a query.
+use crate::Outcome;
 use crate::fields::Fields;
-use crate::{Mosaic, Outcome};
+use crate::mosaic::Mosaic;
 use tiff_dir::Query;
 use tile_plan::Rectangle;
 

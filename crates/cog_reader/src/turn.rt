@@ -13,11 +13,12 @@ ghost use Rattle.cog_reader.specs.Kept.{IsKeptOf};
 ghost use Rattle.cog_reader.specs.Reader.{IsTask};
 ghost use Rattle.cog_reader.specs.Turn.{Becomes, IsEndOfFields, IsFair, IsReady, IsSettled};
 
+use crate::Outcome;
 use crate::fields::Fields;
 use crate::info::info;
 use crate::kept::{Kept, Next};
+use crate::mosaic::Mosaic;
 use crate::task::{Asked, Task};
-use crate::{Mosaic, Outcome};
 use geokeys::GeoError;
 use std::alloc::Global;
 use tiff_dir::{FileFault, Memory, Place, Query, Walk, what_comes};

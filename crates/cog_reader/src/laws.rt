@@ -1,0 +1,14 @@
+//! A law of the definitions, for the crates above. The function does nothing: its contract is the law.
+ghost use Rattle.std.specs.Prelude.{ℕ, List, IfSome};
+ghost use Rattle.tiff_dir.specs.Needs.{IsEndOf};
+ghost use Rattle.tiff_dir.specs.Query.{needs};
+ghost use Rattle.cog_reader.specs.Reader.{query_of, to_come, Agrees, Held};
+
+use tiff_dir::what_comes;
+
+/// What a reader still wants for its query is the end of what the query needs of the file.
+pub fn end_is_wanted()
+    ensures { (r : Held) (f : List ℕ) → Agrees r f → IfSome (query_of r) (λ q. IsEndOf (to_come r f) (needs f q)) }
+{
+    what_comes();
+}
