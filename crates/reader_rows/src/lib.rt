@@ -1,4 +1,4 @@
-//! Tests of `cog_reader`: windows read group by group, beside worked samples and the plain program's levels.
+//! Tests of `cog_reader`: queries answered range by range, beside worked rows and the plain program.
 #![tactic(auto)]
 
 #[cfg(test)]

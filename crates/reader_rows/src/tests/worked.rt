@@ -1,10 +1,9 @@
 //! Worked windows of the fixtures.
-use crate::tests::image::{Image, change};
-use crate::tests::of_level;
-use fixtures::{f3, f4, f5, f6, f6m};
+use super::image::{Answer, Image, change};
+use super::{Fixture, Numbers, Want, is_wanted, window};
+use cog_reader::{Outcome, Window, read_file};
 use std::test::Fail;
-use tiff_dir::FileFault;
-use tile_plan::PlanError;
+use tiff_dir::{FileFault, Pick};
 
 /// The window where three of f4's tiles meet a fourth.
 const CORNER: [u8; 27] = [
@@ -12,80 +11,204 @@ const CORNER: [u8; 27] = [
     0x80, 0x80, 0x80, 0x80, 0x80, 0x01, 0x03, 0xff, 0x80, 0x80, 0x80,
 ];
 
-#[test]
-fn packed_tiles(rt: HostRuntime) -> Result<(), Fail> {
-    let image = Image::new(rt.alloc(), f4(rt.alloc())?)?;
-    let corner = image.window(rt.alloc(), of_level(15, 15, 3, 3, 0));
-    assert_eq!(rt; corner.as_deref(), Ok(CORNER.as_slice()));
-    let outside = image.window(rt.alloc(), of_level(17, 0, 4, 1, 0));
-    assert_eq!(rt; outside, Err(PlanError::File(FileFault::Outside)));
-    Ok(())
-}
+/// Samples of 16 bits, most significant byte first.
+const DEEP: [u8; 12] = [
+    0x80, 0x12, 0x80, 0x13, 0x80, 0x14, 0x80, 0x22, 0x80, 0x23, 0x80, 0x24,
+];
 
-/// Where no memory is left, that is what is told, and no window.
+/// Samples of two rows of a file of one tile.
+const SMALL: [u8; 6] = [0x12, 0x13, 0x14, 0x22, 0x23, 0x24];
+
+const LAST_TILE: [u8; 256] = [0xff; 256];
+
+const ZEROS: [u8; 256] = [0; 256];
+
+const OUTSIDE: Want<'static> = Want::Fault(FileFault::Outside);
+
+/// A file, a place in it with a byte that is put there, a window of it, and its outcome.
+type Row = (Fixture, Option<(usize, u8)>, Numbers, Want<'static>);
+
+const ROWS: [Row; 25] = [
+    (
+        Fixture::F1,
+        None,
+        (2, 1, 3, 2, Pick::Level(0)),
+        Want::Window(3, 2, 1, 8, &SMALL),
+    ),
+    (
+        Fixture::F1m,
+        None,
+        (2, 1, 3, 2, Pick::Level(0)),
+        Want::Window(3, 2, 1, 8, &SMALL),
+    ),
+    (
+        Fixture::F1,
+        None,
+        (15, 15, 1, 1, Pick::Level(0)),
+        Want::Window(1, 1, 1, 8, &[0xff]),
+    ),
+    (Fixture::F1, None, (16, 0, 1, 1, Pick::Level(0)), OUTSIDE),
+    (Fixture::F1, None, (0, 0, 0, 1, Pick::Level(0)), OUTSIDE),
+    (
+        Fixture::F1,
+        None,
+        (4294967295, 0, 2, 1, Pick::Level(0)),
+        OUTSIDE,
+    ),
+    (
+        Fixture::F2,
+        None,
+        (240, 240, 16, 16, Pick::Level(0)),
+        Want::Window(16, 16, 1, 8, &LAST_TILE),
+    ),
+    (
+        Fixture::F2b,
+        None,
+        (240, 240, 16, 16, Pick::Level(0)),
+        Want::Window(16, 16, 1, 8, &ZEROS),
+    ),
+    (
+        Fixture::F3,
+        None,
+        (15, 15, 2, 2, Pick::Level(0)),
+        Want::Window(2, 2, 1, 8, &[0x10, 0x11, 0x12, 0x13]),
+    ),
+    (
+        Fixture::F3,
+        None,
+        (5, 0, 3, 1, Pick::Columns(1)),
+        Want::Window(2, 1, 1, 8, &[0, 0]),
+    ),
+    // A tag that isn't named is passed over, whatever its type.
+    (
+        Fixture::F3,
+        Some((118, 0x0f)),
+        (15, 15, 2, 2, Pick::Level(0)),
+        Want::Window(2, 2, 1, 8, &[0x10, 0x11, 0x12, 0x13]),
+    ),
+    // The last packet of the second level: its window is damaged, those of the first level aren't.
+    (
+        Fixture::F3,
+        Some((1454, 0xf2)),
+        (0, 0, 1, 1, Pick::Level(1)),
+        Want::Fault(FileFault::Packet),
+    ),
+    (
+        Fixture::F3,
+        Some((1454, 0xf2)),
+        (0, 0, 1, 1, Pick::Level(0)),
+        Want::Window(1, 1, 1, 8, &[0x10]),
+    ),
+    (Fixture::F3, None, (0, 0, 1, 1, Pick::Level(2)), OUTSIDE),
+    (Fixture::F3, None, (0, 0, 1, 1, Pick::Columns(0)), OUTSIDE),
+    (
+        Fixture::F4,
+        None,
+        (15, 15, 3, 3, Pick::Level(0)),
+        Want::Window(3, 3, 3, 8, &CORNER),
+    ),
+    (Fixture::F4, None, (17, 0, 4, 1, Pick::Level(0)), OUTSIDE),
+    // A packet of the first tile crosses its row.
+    (
+        Fixture::F4,
+        Some((164, 3)),
+        (0, 0, 1, 1, Pick::Level(0)),
+        Want::Fault(FileFault::Packet),
+    ),
+    (
+        Fixture::F4,
+        Some((164, 3)),
+        (16, 0, 1, 1, Pick::Level(0)),
+        Want::Window(1, 1, 3, 8, &[0x00, 0x01, 0xff]),
+    ),
+    // Two groups, each with two of the tiles.
+    (
+        Fixture::F5,
+        None,
+        (255, 767, 2, 2, Pick::Level(0)),
+        Want::Window(2, 2, 1, 8, &[10, 11, 15, 16]),
+    ),
+    (
+        Fixture::F6,
+        None,
+        (2, 1, 3, 2, Pick::Level(0)),
+        Want::Window(3, 2, 1, 16, &DEEP),
+    ),
+    (
+        Fixture::F6m,
+        None,
+        (2, 1, 3, 2, Pick::Level(0)),
+        Want::Window(3, 2, 1, 16, &DEEP),
+    ),
+    (
+        Fixture::F6,
+        None,
+        (15, 15, 1, 1, Pick::Level(0)),
+        Want::Window(1, 1, 1, 16, &[0x80, 0xff]),
+    ),
+    // A compression that isn't read.
+    (
+        Fixture::F1,
+        Some((54, 5)),
+        (0, 0, 1, 1, Pick::Level(0)),
+        Want::Fault(FileFault::Unsupported(259)),
+    ),
+    (
+        Fixture::F6m,
+        Some((55, 5)),
+        (0, 0, 1, 1, Pick::Level(0)),
+        Want::Fault(FileFault::Unsupported(259)),
+    ),
+];
+
 #[test]
-fn refused_memory(rt: HostRuntime) -> Result<(), Fail> {
-    let image = Image::new(rt.alloc(), f4(rt.alloc())?)?;
-    match image.window(rt.alloc(), of_level(15, 15, 3, 3, 0)) {
-        Ok(bytes) => assert_eq!(rt; bytes.as_slice(), CORNER.as_slice()),
-        Err(error) => assert_eq!(rt; error, PlanError::Memory),
+fn rows(rt: HostRuntime) -> Result<(), Fail> {
+    for (fixture, changed, numbers, want) in ROWS {
+        let mut file = fixture.file(rt.alloc())?;
+        if let Some((place, byte)) = changed {
+            change(&mut file, place, &[byte]);
+        }
+        let whole = read_file(rt.alloc(), &file, window(numbers));
+        let whole = whole.ok().ok_or("no memory")?;
+        assert!(rt;
+            is_wanted(Some(&whole), want),
+            "{fixture:?} {changed:?} {numbers:?}: {whole:?}"
+        );
+        let mut image = Image::new(rt.alloc(), file);
+        let Answer { outcome, .. } = image
+            .answer(rt.alloc(), window(numbers))
+            .ok()
+            .ok_or("no memory")?;
+        assert_eq!(rt;
+            outcome,
+            Some(&whole),
+            "{fixture:?} {changed:?} {numbers:?}"
+        );
     }
     Ok(())
 }
 
-/// A byte of f4's first tile changed: a packet crosses its row.
-#[test]
-fn damaged_tile(rt: HostRuntime) -> Result<(), Fail> {
-    let mut file = f4(rt.alloc())?;
-    change(&mut file, 164, 3);
-    let image = Image::new(rt.alloc(), file)?;
-    let damaged = image.window(rt.alloc(), of_level(0, 0, 1, 1, 0));
-    assert_eq!(rt; damaged, Err(PlanError::File(FileFault::Packet)));
-    let next = image.window(rt.alloc(), of_level(16, 0, 1, 1, 0));
-    assert_eq!(rt; next.as_deref(), Ok([0x00, 0x01, 0xff].as_slice()));
-    Ok(())
-}
-
-/// The last packet of f3's second level changed: its window is damaged, those of the first level aren't.
-#[test]
-fn damaged_level(rt: HostRuntime) -> Result<(), Fail> {
-    let mut file = f3(rt.alloc())?;
-    change(&mut file, 1454, 0xf2);
-    let image = Image::new(rt.alloc(), file)?;
-    let damaged = image.window(rt.alloc(), of_level(0, 0, 1, 1, 1));
-    assert_eq!(rt; damaged, Err(PlanError::File(FileFault::Packet)));
-    let good = image.window(rt.alloc(), of_level(0, 0, 1, 1, 0));
-    assert_eq!(rt; good.as_deref(), Ok([0x10].as_slice()));
-    Ok(())
-}
-
-#[test]
-fn two_levels(rt: HostRuntime) -> Result<(), Fail> {
-    let image = Image::new(rt.alloc(), f3(rt.alloc())?)?;
-    let middle = image.window(rt.alloc(), of_level(15, 15, 2, 2, 0));
-    assert_eq!(rt; middle.as_deref(), Ok([0x10, 0x11, 0x12, 0x13].as_slice()));
-    Ok(())
-}
-
-/// Samples of 16 bits in both byte orders, most significant byte first.
-#[test]
-fn two_bytes(rt: HostRuntime) -> Result<(), Fail> {
-    let want = [
-        0x80, 0x12, 0x80, 0x13, 0x80, 0x14, 0x80, 0x22, 0x80, 0x23, 0x80, 0x24,
-    ];
-    for file in [f6(rt.alloc())?, f6m(rt.alloc())?] {
-        let image = Image::new(rt.alloc(), file)?;
-        let pixels = image.window(rt.alloc(), of_level(2, 1, 3, 2, 0));
-        assert_eq!(rt; pixels.as_deref(), Ok(want.as_slice()));
+/// The bytes of the window that is asked of f3.
+fn pixels_of_f3(rt: &impl AllocGlobal, numbers: Numbers) -> Result<Window, Fail> {
+    let file = Fixture::F3.file(rt.alloc())?;
+    match read_file(rt.alloc(), &file, window(numbers)) {
+        Ok(Outcome::Window(window)) => Ok(window),
+        _ => Err(Fail::new("no window")),
     }
-    Ok(())
 }
 
-/// The columns where two tiles of f5's second group meet, with the first group's tiles above: two groups, each taken once.
 #[test]
-fn two_groups(rt: HostRuntime) -> Result<(), Fail> {
-    let image = Image::new(rt.alloc(), f5(rt.alloc())?)?;
-    let pixels = image.window(rt.alloc(), of_level(255, 767, 2, 2, 0));
-    assert_eq!(rt; pixels.as_deref(), Ok([10, 11, 15, 16].as_slice()));
+fn whole_levels(rt: HostRuntime) -> Result<(), Fail> {
+    let small = pixels_of_f3(&rt, (0, 0, 32, 32, Pick::Columns(16)))?;
+    assert_eq!(rt; (small.w, small.h, small.pixels.len()), (16, 16, 256));
+    for (i, byte) in small.pixels.iter().enumerate() {
+        assert_eq!(rt; usize::from(*byte), i / 16, "at {i}");
+    }
+    let large = pixels_of_f3(&rt, (0, 0, 32, 32, Pick::Columns(17)))?;
+    assert_eq!(rt; (large.w, large.h, large.pixels.len()), (32, 32, 1024));
+    for (i, byte) in large.pixels.iter().enumerate() {
+        let tile = i / 512 * 2 + i % 32 / 16;
+        assert_eq!(rt; usize::from(*byte), 16 + tile, "at {i}");
+    }
     Ok(())
 }

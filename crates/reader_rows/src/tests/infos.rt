@@ -1,0 +1,210 @@
+//! What Info says.
+use super::image::{Answer, Image, change};
+use super::{Fixture, Range, are_ranges};
+use cog_reader::{Info, Outcome, read_file};
+use fixtures::{
+    Field, FieldType, Order, Values, push_directory, push_double, push_header, push_short,
+};
+use geokeys::{Geo, Key, KeyValue};
+use std::alloc::{AllocError, Global};
+use std::test::Fail;
+use tiff_dir::Query;
+
+/// The sides of the level of each fixture without geo fields, and what is wanted of it: nothing but the directories.
+const PLAIN: [(Fixture, (u32, u32), &[Range]); 8] = [
+    (Fixture::F1, (16, 16), &[(0, 8), (8, 2), (10, 112)]),
+    (Fixture::F1m, (16, 16), &[(0, 8), (8, 2), (10, 112)]),
+    (Fixture::F2, (256, 256), &[(0, 8), (8, 2), (10, 112)]),
+    (Fixture::F2b, (256, 256), &[(0, 8), (8, 2), (10, 112)]),
+    (
+        Fixture::F4,
+        (20, 18),
+        &[(0, 8), (8, 2), (10, 124), (134, 6)],
+    ),
+    (Fixture::F5, (1280, 1024), &[(0, 8), (8, 2), (10, 112)]),
+    (Fixture::F6, (16, 16), &[(0, 8), (8, 2), (10, 112)]),
+    (Fixture::F6m, (16, 16), &[(0, 8), (8, 2), (10, 112)]),
+];
+
+#[test]
+fn without_geo_fields(rt: HostRuntime) -> Result<(), Fail> {
+    for (fixture, sides, ranges) in PLAIN {
+        let want = Outcome::Info(Info {
+            sides: vec![in rt.alloc(); sides]?,
+            geo: Geo {
+                minor: 0,
+                keys: Vec::new(rt.alloc()),
+            },
+            scale: None,
+            tiepoints: None,
+            transformation: None,
+        });
+        let mut image = Image::new(rt.alloc(), fixture.file(rt.alloc())?);
+        let answer = image.answer(rt.alloc(), Query::Info);
+        let Answer { wanted, outcome } = answer.ok().ok_or("no memory")?;
+        assert!(rt; are_ranges(&wanted, ranges), "{fixture:?}: {wanted:?}");
+        assert_eq!(rt; outcome, Some(&want), "{fixture:?}");
+    }
+    Ok(())
+}
+
+/// The keys of f3.
+fn keys_of_f3(alloc: Global) -> Result<Vec<Key>, AllocError> {
+    let citation = Vec::from_slice(alloc, b"WGS 84|")?;
+    let axis = vec![in alloc; [1, 2, 3, 4, 5, 6, 7, 8]]?;
+    let mut keys = Vec::new(alloc);
+    for (id, value) in [
+        (1024, KeyValue::Short(2)),
+        (1026, KeyValue::Ascii(citation)),
+        (2057, KeyValue::Doubles(axis)),
+    ] {
+        keys.push(Key { id, value })?;
+    }
+    Ok(keys)
+}
+
+/// What Info says of f3, with its scale or without.
+fn info_of_f3(alloc: Global, is_scaled: bool) -> Result<Outcome, AllocError> {
+    let one = [0x3f, 0xf0, 0, 0, 0, 0, 0, 0];
+    let scale = if is_scaled {
+        Some(vec![in alloc; one, one, one]?)
+    } else {
+        None
+    };
+    Ok(Outcome::Info(Info {
+        sides: vec![in alloc; (32, 32), (16, 16)]?,
+        geo: Geo {
+            minor: 0,
+            keys: keys_of_f3(alloc)?,
+        },
+        scale,
+        tiepoints: None,
+        transformation: None,
+    }))
+}
+
+#[test]
+fn two_levels(rt: HostRuntime) -> Result<(), Fail> {
+    let mut file = Fixture::F3.file(rt.alloc())?;
+    let found = read_file(rt.alloc(), &file, Query::Info);
+    let want = info_of_f3(rt.alloc(), true)?;
+    assert_eq!(rt; found.ok().ok_or("no memory")?, want);
+    // An unnamed tag of an unknown type in the place of the scale's.
+    change(&mut file, 118, &[0x0f]);
+    change(&mut file, 120, &[0xff]);
+    let found = read_file(rt.alloc(), &file, Query::Info);
+    let want = info_of_f3(rt.alloc(), false)?;
+    assert_eq!(rt; found.ok().ok_or("no memory")?, want);
+    Ok(())
+}
+
+const fn short(tag: u16, value: u16) -> Field {
+    Field {
+        tag,
+        values: Values::Short(value),
+    }
+}
+
+const fn at(tag: u16, kind: FieldType, count: u32, first: u32) -> Field {
+    Field {
+        tag,
+        values: Values::At { kind, count, first },
+    }
+}
+
+/// The fields of a level in one tile, and each of the geo fields.
+fn fields() -> [Field; 15] {
+    [
+        short(256, 16),
+        short(257, 16),
+        short(258, 8),
+        short(259, 1),
+        short(262, 1),
+        short(322, 16),
+        short(323, 16),
+        Field {
+            tag: 324,
+            values: Values::Long(434),
+        },
+        Field {
+            tag: 325,
+            values: Values::Long(256),
+        },
+        at(33550, FieldType::Double, 3, 194),
+        at(33922, FieldType::Double, 6, 218),
+        at(34264, FieldType::Double, 16, 266),
+        at(34735, FieldType::Short, 12, 394),
+        at(34736, FieldType::Double, 1, 418),
+        at(34737, FieldType::Ascii, 8, 426),
+    ]
+}
+
+/// A file with each of the geo fields, whose doubles have the bits of 0 to 24, and of 25. Its tile isn't there.
+fn file_of_all(alloc: Global, order: Order) -> Result<Vec<u8>, AllocError> {
+    let mut file = Vec::new(alloc);
+    push_header(&mut file, order, 8)?;
+    push_directory(&mut file, order, &fields(), 0)?;
+    for bits in 0..25u64 {
+        push_double(&mut file, order, bits)?;
+    }
+    for number in [1, 1, 7, 2, 1025, 0, 1, 65535, 3073, 34737, 3, 4] {
+        push_short(&mut file, order, number)?;
+    }
+    push_double(&mut file, order, 25)?;
+    file.extend_from_slice(b"abcdefg|")?;
+    Ok(file)
+}
+
+/// Items with the bits of these numbers.
+fn items(alloc: Global, first: u64, end: u64) -> Result<Vec<[u8; 8]>, AllocError> {
+    let mut items = Vec::new(alloc);
+    for bits in first..end {
+        items.push(bits.to_be_bytes())?;
+    }
+    Ok(items)
+}
+
+/// What Info says of it.
+fn info_of_all(alloc: Global) -> Result<Outcome, AllocError> {
+    let text = Vec::from_slice(alloc, b"efg")?;
+    let mut keys = Vec::new(alloc);
+    for (id, value) in [
+        (1025, KeyValue::Short(65535)),
+        (3073, KeyValue::Ascii(text)),
+    ] {
+        keys.push(Key { id, value })?;
+    }
+    Ok(Outcome::Info(Info {
+        sides: vec![in alloc; (16, 16)]?,
+        geo: Geo { minor: 7, keys },
+        scale: Some(items(alloc, 0, 3)?),
+        tiepoints: Some(items(alloc, 3, 9)?),
+        transformation: Some(items(alloc, 9, 25)?),
+    }))
+}
+
+const ALL_RANGES: [Range; 9] = [
+    (0, 8),
+    (8, 2),
+    (10, 184),
+    (394, 24),
+    (418, 8),
+    (426, 8),
+    (194, 24),
+    (218, 48),
+    (266, 128),
+];
+
+#[test]
+fn all_geo_fields(rt: HostRuntime) -> Result<(), Fail> {
+    let want = info_of_all(rt.alloc())?;
+    for order in [Order::Little, Order::Big] {
+        let mut image = Image::new(rt.alloc(), file_of_all(rt.alloc(), order)?);
+        assert_eq!(rt; image.file.len(), 434);
+        let answer = image.answer(rt.alloc(), Query::Info);
+        let Answer { wanted, outcome } = answer.ok().ok_or("no memory")?;
+        assert!(rt; are_ranges(&wanted, &ALL_RANGES), "{order:?}: {wanted:?}");
+        assert_eq!(rt; outcome, Some(&want), "{order:?}");
+    }
+    Ok(())
+}
