@@ -5,7 +5,7 @@ use Rattle.tiff_dir.specs.declared.fault.FileFault.{FileFault}
 use Rattle.tiff_dir.specs.Fault.{IsFaultOfDirectories}
 use Rattle.tiff_dir.specs.Faulty.{IsFaulty}
 use Rattle.tiff_dir.specs.Known.{Known}
-use Rattle.tiff_dir.specs.Needs.{bytes_in}
+use Rattle.tiff_dir.specs.Needs.{Range, bytes_in}
 use Rattle.tiff_dir.specs.Walk as walk
 use Rattle.cog_reader.specs.declared.kept.Kept.{Kept}
 use Rattle.cog_reader.specs.declared.task.Task.{Task}
@@ -33,9 +33,16 @@ pub record State : Type 0 where
   pub kept : Kept
   pub task : Task
 
+-- the range that is wanted next, and all that are still to come
+abbrev pub next_of : State → Option Range
+next_of s = wanted_by s.walk s.kept s.task
+
+abbrev pub come_of : List ℕ → Query → State → List Range
+come_of f q s = come_by f s.walk s.kept q s.task
+
 -- the bytes are those of the file that are wanted
 abbrev pub AreNext : List ℕ → State → List ℕ → Type 0
-AreNext f s bytes = IsSomeAnd (wanted_by s.walk s.kept s.task) (λ r. bytes ≡ bytes_in f r)
+AreNext f s bytes = IsSomeAnd (next_of s) (λ r. bytes ≡ bytes_in f r)
 
 -- The bytes lead from one state to another, which wants one range less.
 pub record TakesOn (complete : ℕ) (bytes : List ℕ) (old new : State) : Type 0 where
@@ -44,14 +51,15 @@ pub record TakesOn (complete : ℕ) (bytes : List ℕ) (old new : State) : Type 
   pub same : (f : List ℕ) (q : Query) → IsBase f complete old.walk old.kept → IsTaskOf f q old.kept old.task → AreNext f old bytes
       → IsBase f complete new.walk new.kept × IsTaskOf f q new.kept new.task
   pub come : (f : List ℕ) (q : Query) → IsBase f complete old.walk old.kept → IsTaskOf f q old.kept old.task
-      → IsSomeAnd (wanted_by old.walk old.kept old.task) (λ r. come_by f old.walk old.kept q old.task ≡ r ∷ come_by f new.walk new.kept q new.task)
+      → IsSomeAnd (next_of old) (λ r. come_of f q old ≡ r ∷ come_of f q new)
   pub steps : steps_by new.walk new.kept new.task < steps_by old.walk old.kept old.task
 
 -- the bytes tell a fault, which stands in the file for the query; the walk and the arrays are as they were
 pub record TellsFault (complete : ℕ) (bytes : List ℕ) (old new : State) (fault : FileFault) : Type 0 where
   pub walk : new.walk ≡ old.walk
   pub kept : new.kept ≡ old.kept
-  pub stands : (f : List ℕ) (q : Query) → IsBase f complete old.walk old.kept → IsTaskOf f q old.kept old.task → AreNext f old bytes → IsFaulty f q fault
+  pub stands : (f : List ℕ) (q : Query) → IsBase f complete old.walk old.kept → IsTaskOf f q old.kept old.task
+      → AreNext f old bytes → IsFaulty f q fault
 
 abbrev pub Takes : ℕ → List ℕ → State → State → Option FileFault → Type 0
 Takes complete bytes old new None = TakesOn complete bytes old new
@@ -64,6 +72,6 @@ pub record Gives (complete : ℕ) (bytes : List ℕ) (q : Query) (old new : Stat
   pub same : (f : List ℕ) → IsBase f complete old.walk old.kept → IsTaskOf f q old.kept old.task → AreNext f old bytes
       → IsBase f complete new.walk new.kept × IsTaskOf f q new.kept new.task
   pub come : (f : List ℕ) → IsBase f complete old.walk old.kept → IsTaskOf f q old.kept old.task
-      → (IsSome (outcome_in new.task) × (come_by f new.walk new.kept q new.task ≡ []))
-      ⊎ IsSomeAnd (wanted_by old.walk old.kept old.task) (λ r. come_by f old.walk old.kept q old.task ≡ r ∷ come_by f new.walk new.kept q new.task)
+      → (IsSome (outcome_in new.task) × (come_of f q new ≡ []))
+      ⊎ IsSomeAnd (next_of old) (λ r. come_of f q old ≡ r ∷ come_of f q new)
   pub steps : steps_by new.walk new.kept new.task < steps_by old.walk old.kept old.task

@@ -28,7 +28,8 @@ pub record IsBase (f : List ℕ) (complete : ℕ) (w : Known) (k : Kept) : Type 
 pub record Becomes (complete : ℕ) (w : Known) (k : Kept) (q : Query) (old new : Task) : Type 0 where
   pub sound : IsTask complete w k new
   pub same : (f : List ℕ) → IsBase f complete w k → IsTaskOf f q k old → IsTaskOf f q k new
-  pub come : (f : List ℕ) → IsBase f complete w k → IsTaskOf f q k old → outcome_in new ≡ None → come_by f w k q new ≡ come_by f w k q old
+  pub come : (f : List ℕ) → IsBase f complete w k → IsTaskOf f q k old → outcome_in new ≡ None
+      → come_by f w k q new ≡ come_by f w k q old
   pub steps : steps_by w k new ≤ steps_by w k old
   pub done : IsSome (outcome_in old) → IsSome (outcome_in new)
 
