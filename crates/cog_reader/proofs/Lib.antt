@@ -10,3 +10,4 @@ pub mod TakeLemmas
 pub mod ReaderLemmas
 pub mod InfoLemmas
 pub mod EndLemmas
+pub mod FirstLemmas

@@ -70,7 +70,7 @@ takes_directories complete bytes w v k keeps some on = record {
 
 -- ---- an array
 
-which_next : (k : Kept) (n : ℕ) (l : Level) (p : Place) → next_array k n l ≡ Some p → ((held k n ≡ 0) × (p ≡ l.offsets)) ⊎ ((held k n ≡ 1) × (p ≡ l.counts))
+pub which_next : (k : Kept) (n : ℕ) (l : Level) (p : Place) → next_array k n l ≡ Some p → ((held k n ≡ 0) × (p ≡ l.offsets)) ⊎ ((held k n ≡ 1) × (p ≡ l.counts))
 which_next kept.Nothing n l p is = inl (refl, cc)
 which_next (kept.Offsets m o) n l p is = at (m == n) is where
   at : (b : Bool) → (if b then Some l.counts else Some l.offsets) ≡ Some p → ((◌≡◌ {A = ℕ} (if b then 1 else 0) 0) × (p ≡ l.offsets)) ⊎ ((◌≡◌ {A = ℕ} (if b then 1 else 0) 1) × (p ≡ l.counts))
@@ -132,7 +132,7 @@ wanted_group w k m P some = at (slice_get m.groups m.taken) refl some where
   at (Some g) is good = (g, is, ap (option_map (λ (g : Group). range_of_span g.span)) is, good)
 
 -- it is among what the query needs
-group_needed : (f : List ℕ) (q : Query) (a : Arrays) (m : Mosaic) (g : Group) → IsUnderway f q a m → slice_get m.groups m.taken ≡ Some g → slice_get (needs_of_query f q) (2 + m.taken) ≡ Some (range_of_span g.span)
+pub group_needed : (f : List ℕ) (q : Query) (a : Arrays) (m : Mosaic) (g : Group) → IsUnderway f q a m → slice_get m.groups m.taken ≡ Some g → slice_get (needs_of_query f q) (2 + m.taken) ≡ Some (range_of_span g.span)
 group_needed f q a m g u is =
     let r = m.picture.rectangle in
     let split = needs_split f q r a.level u.planned.rectangle_is u.planned.good u.planned.layout_is in

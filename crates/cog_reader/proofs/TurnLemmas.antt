@@ -1,13 +1,13 @@
 -- What a task becomes without another byte.
 use Rattle.std.proofs.Common.{◌≡◌, ℕ, suc, ◌+◌, ◌*◌, ◌<◌, ◌≤◌, ◌++◌, ◌∷◌, [], inl, inr, Bool, true, false, if◌then◌else◌, List, length, drop, map, get_or, Option, Some, None, refl, sym, subst, ap, ◌∙◌, arith, length-append, eq-eqb}
-use Rattle.std.specs.Prelude.{Result, Ok, Err, IfOk, IfSome, IsSome, MatchOption, ◌||◌, ◌⊎◌, ◌==◌, slice_get, IsSomeAnd, unwrap_or}
+use Rattle.std.specs.Prelude.{Result, Ok, Err, IfOk, IfSome, IsSome, ◌||◌, ◌⊎◌, ◌==◌, slice_get, IsSomeAnd, unwrap_or}
 use Rattle.std.specs.Option.{option_map, option_map_or, option_to_list}
 use Rattle.std.specs.List.{cons_option, filter, list_any, range_with_len}
 use Rattle.std.proofs.Math.Nat.{mul-le-mul_left}
 use Rattle.std.proofs.lemmas.Bool.{lt-ltb, false≢true}
 use Rattle.std.proofs.lemmas.List.{length-map}
 use Rattle.std.proofs.lemmas.List.FromFn.{length-range_with_len}
-use Rattle.std.proofs.lemmas.Option.{none-some, get_or_from_slice_get, slice_get_past, slice_get_within, slice_get-map}
+use Rattle.std.proofs.lemmas.Option.{none-some, get_or_from_slice_get, slice_get_within, slice_get-map}
 use Rattle.std.proofs.lemmas.List.Folds.{list_any_at}
 use Rattle.tiff_dir.specs.declared.level.Kind.{Kind}
 use Rattle.tiff_dir.specs.declared.level.Kind.TheVariants as kind
@@ -50,7 +50,7 @@ use Rattle.cog_reader.specs.Kept.{held, next_array, AreKept}
 use Rattle.cog_reader.specs.Mosaic.{range_of, IsPlan, IsUnderway, Work, AreArraysOf}
 use Rattle.cog_reader.specs.Outcome.{IsTrueOf, IsWindowOf}
 use Rattle.cog_reader.specs.Reader.{outcome_in, own_taken, wanted_by, HasBoth, IsClean, IsTask, IsTaskOf}
-use Rattle.cog_reader.specs.Turn.{Becomes, IsBase, IsFair, IsReady, IsSettled, IsWantedBy}
+use Rattle.cog_reader.specs.Turn.{Becomes, IsBase, IsFair, IsReady, IsSettled}
 use Rattle.cog_reader.proofs.FieldLemmas.{geo_ranges_are, few_bytes, some_bytes}
 use Rattle.cog_reader.proofs.SoundLemmas.{ranges_are, array_some}
 
@@ -385,16 +385,3 @@ no_array (Some l) k n a P is some =
 pub both_unsettled : (complete : ℕ) (w : Known) (k : Kept) (r : Rectangle) (a : Arrays) → k ≡ kept.Both r.level a → IsSettled complete w k (Reads r) → ⊥
 both_unsettled complete w k r a is (inl bad) = false≢true bad
 both_unsettled complete w k r a is (inr some) = no_array (slice_get (levels_of w) r.level) k r.level a (IsFair complete) is some
-
-pub tiles_wanted : (complete : ℕ) (w : Known) (k : Kept) (m : Mosaic) (o : Option Span) → MatchOption o (m.taken ≡ length m.groups) (λ span. IsSomeAnd (slice_get m.groups m.taken) (λ g. g.span ≡ span)) → IsSettled complete w k (Tiles m)
-    → MatchOption o (IsSome (outcome_in (Tiles m))) (λ span. IsWantedBy complete w k (Tiles m) (range_of_span span))
-tiles_wanted complete w k m o needs (inl bad) = absurd (false≢true bad)
-tiles_wanted complete w k m None all (inr some) = absurd (subst (λ (x : Option Group). IsSomeAnd (option_map (λ (g : Group). range_of_span g.span) x) (IsFair complete)) (slice_get_past m.groups m.taken (omega (arith, all))) some)
-tiles_wanted complete w k m (Some span) next (inr some) = at (slice_get m.groups m.taken) refl next some where
-  at : (x : Option Group) → slice_get m.groups m.taken ≡ x → IsSomeAnd x (λ g. g.span ≡ span) → IsSomeAnd (option_map (λ (g : Group). range_of_span g.span) x) (IsFair complete) → IsWantedBy complete w k (Tiles m) (range_of_span span)
-  at None is bad fair = absurd bad
-  at (Some g) is same fair = record {
-    is = ap (option_map (λ (g : Group). range_of_span g.span)) is ∙ ap (λ s. Some (range_of_span s)) same;
-    fair = subst (λ s. IsFair complete (range_of_span s)) same fair;
-    undone = refl;
-  }

@@ -1,5 +1,5 @@
 -- What a task becomes without another byte of the file.
-use Rattle.std.specs.Prelude.{◌≡◌, ℕ, ◌+◌, ◌<◌, ◌≤◌, ⊤, ◌⊎◌, List, length, Some, None, IsSome, IsSomeAnd}
+use Rattle.std.specs.Prelude.{◌≡◌, ℕ, ◌+◌, ◌<◌, ◌≤◌, ⊤, ◌⊎◌, List, length, slice_get, Some, None, IsSome, IsSomeAnd}
 use Rattle.tiff_dir.specs.declared.query.Query.{Query}
 use Rattle.tiff_dir.specs.Faulty.{IsFaulty}
 use Rattle.tiff_dir.specs.declared.query.Query.TheVariants as query
@@ -39,11 +39,13 @@ pub record IsFair (complete : ℕ) (r : Range) : Type 0 where
   pub inside : r.first + r.len ≤ complete
   pub few : r.len ≤ max_group_bytes
 
--- the task wants this range, which can be given
+-- the task wants this range, which can be given, and which is the first of those that are still to come
 pub record IsWantedBy (complete : ℕ) (w : Known) (k : Kept) (task : Task) (r : Range) : Type 0 where
   pub is : wanted_by w k task ≡ Some r
   pub fair : IsFair complete r
   pub undone : outcome_in task ≡ None
+  pub first : (f : List ℕ) (q : Query) → IsBase f complete w k → IsTaskOf f q k task
+      → slice_get (come_by f w k q task) 0 ≡ Some r
 
 -- the task is done, or wants a range that can be given
 abbrev pub IsSettled : ℕ → Known → Kept → Task → Type 0

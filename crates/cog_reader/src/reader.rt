@@ -121,7 +121,8 @@ impl Model for Reader {
 
 #[tactic(auto, unfolding(crate::specs::Reader::wanted, crate::specs::Reader::outcome_of, crate::specs::Reader::query_of, crate::specs::Reader::complete_of, crate::specs::Reader::to_come, crate::specs::Reader::unread, crate::specs::Reader::steps_of, crate::specs::Reader::Agrees))]
 impl Reader {
-    ghost use Rattle.std.specs.Prelude.{◌≡◌, ◌<◌, ◌≤◌, ℕ, List, [], ◌∷◌, None, Some, IfOk, IfSome, IsSome, IsSomeAnd, MatchOption, OnErr, OnOk, length};
+    ghost use Rattle.std.specs.Prelude.{◌≡◌, ◌<◌, ◌≤◌, ℕ, List, [], ◌∷◌, None, Some, IfOk, IfSome, IsSome, IsSomeAnd, MatchOption, OnErr, OnOk, length, slice_get};
+    ghost use Rattle.tiff_dir.specs.Walk.{range_of_span};
     ghost use Rattle.cog_reader.specs.Outcome.{IsTrueOf};
     ghost use Rattle.cog_reader.specs.Reader.{complete_of, outcome_of, query_of, steps_of, to_come, unread, wanted, Agrees, IsWanted, IsWantedOf, GoesOn, Wants};
 
@@ -161,6 +162,9 @@ impl Reader {
     /// reader as it was.
     pub fn need(&mut self) -> Result<Option<Span>, Memory>
         ensures wants { IfOk result (Wants self.new) }
+        // It is the first of the ranges that are still to come.
+        ensures first { IfOk result (λ o. IfSome o (λ span. (f : List ℕ) → Agrees self.new f
+            → slice_get (to_come self.new f) 0 ≡ Some (range_of_span span))) }
         ensures agrees { (f : List ℕ) → Agrees self.old f → Agrees self.new f }
         // The same ranges are still to come, the wanted one first, or none where the query is answered.
         ensures come { OnOk result ((f : List ℕ) → Agrees self.old f → outcome_of self.new ≡ None → to_come self.new f ≡ to_come self.old f) }
