@@ -11,8 +11,8 @@ use Rattle.std.specs.Map.{lookup_entry, remove_entry}
 use Rattle.std.specs.Option.{option_map_or}
 use Rattle.lru.specs.LruCache.{promoted}
 use Rattle.range_cache.specs.Numbers.{has, missing, IsLed}
-use Rattle.range_cache.specs.Cache.{Block, numbers, present, brought}
-use Rattle.range_cache.proofs.Entries.{is_some-lookup_entry, number_of_entry}
+use Rattle.range_cache.specs.Cache.{Block, block_at, numbers, present, brought}
+use Rattle.range_cache.proofs.Entries.{is_some-lookup_entry, lookup_entry-none, number_of_entry}
 
 -- ranges of numbers
 
@@ -320,3 +320,44 @@ unfolding brought
 All-brought P ns bs all =
     All-append P (reverse (present ns bs)) (filter (λ b. not (has b.0 ns)) bs) (All-reverse P (present ns bs) (All-present P ns bs all))
     (All-filter (λ b. not (has b.0 ns)) P bs all)
+
+-- each block is the same after it
+
+abbrev IsFound : ℕ → List Block → Block → Type 0
+IsFound k bs b = nat_eq k b.0 ≡ true → block_at k bs ≡ Some b
+
+All-present_found : (k : ℕ) (ns : List ℕ) (bs : List Block) → All (IsFound k bs) (present ns bs)
+All-present_found k [] bs = All-nil (IsFound k bs)
+All-present_found k (n ∷ ns) bs =
+    (elim (block_at n bs) as (λ o. block_at n bs ≡ o → All (IsFound k bs) (cons_option o (present ns bs))) [
+      | None ↦ λ _. All-present_found k ns bs
+      | Some b ↦ λ is.
+          let here : IsFound k bs b = λ t. ap (λ m. block_at m bs) (eqb-true k b.0 t ∙ sym (eqb-true n b.0 (number_of_entry n bs b is))) ∙ is in
+          All-cons (IsFound k bs) b (present ns bs) here (All-present_found k ns bs)
+    ]) refl
+
+-- the block is among the first ones, which were found
+block_at-found : (k : ℕ) (bs cs ds : List Block) → All (IsFound k bs) cs → has k (numbers cs) ≡ true → block_at k (cs ++ ds) ≡ block_at k bs
+block_at-found k bs [] ds all h = cc
+block_at-found k bs (c ∷ cs) ds all h =
+    (elim (nat_eq k c.0) as (λ t. nat_eq k c.0 ≡ t → (t || has k (numbers cs)) ≡ true → cond t (Some c) (block_at k (cs ++ ds)) ≡ block_at k bs) [
+      | true ↦ λ t _. sym (All-head (IsFound k bs) c cs all t)
+      | false ↦ λ _ rest. block_at-found k bs cs ds (All-tail (IsFound k bs) c cs all) rest
+    ]) refl h
+
+pub block_at-brought : (k : ℕ) (ns : List ℕ) (bs : List Block) → block_at k (brought ns bs) ≡ block_at k bs
+unfolding brought
+block_at-brought k ns bs =
+    let front : List Block = reverse (present ns bs) in
+    let others : List Block = filter (λ (b : Block). not (has b.0 ns)) bs in
+    let in_front : has k (numbers front) ≡ (has k ns && has k (numbers bs)) = has-reverse k (present ns bs) ∙ has-present k ns bs in
+    (elim (has k (numbers front)) as (λ t. has k (numbers front) ≡ t → block_at k (front ++ others) ≡ block_at k bs) [
+      | true ↦ λ t. block_at-found k bs front others (All-reverse (IsFound k bs) (present ns bs) (All-present_found k ns bs)) t
+      | false ↦ λ t. lookup_entry-append k front others t ∙ (elim (has k ns) as (λ u. has k ns ≡ u → block_at k others ≡ block_at k bs) [
+        | true ↦ λ u.
+            let gone : has k (numbers bs) ≡ false = sym (ap (λ v. v && has k (numbers bs)) u) ∙ sym in_front ∙ t in
+            let gone' : has k (numbers others) ≡ false = has-others k ns bs ∙ ap (λ v. not v && has k (numbers bs)) u in
+            lookup_entry-none k others gone' ∙ sym (lookup_entry-none k bs gone)
+        | false ↦ λ u. lookup_entry-others k ns bs u
+      ]) refl
+    ]) refl

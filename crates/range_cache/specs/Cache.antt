@@ -1,5 +1,5 @@
 -- What a contract sees of a cache: its blocks, the most recently used first, and how many it may have.
-use Rattle.std.specs.Prelude.{◌≡◌, ℕ, ◌+◌, ◌-◌, ◌≤◌, not, ◌==◌, nat_eq, if◌then◌else◌, List, [], ◌∷◌, ◌++◌, length, take, map, reverse}
+use Rattle.std.specs.Prelude.{◌≡◌, ℕ, ◌+◌, ◌-◌, ◌≤◌, not, ◌==◌, nat_eq, if◌then◌else◌, List, [], ◌∷◌, ◌++◌, length, take, map, reverse, Option}
 use Rattle.std.specs.List.{All, filter, filter_map, fold, IsDistinct}
 use Rattle.std.specs.Map.{lookup_entry}
 use Rattle.std.specs.Global.{Vec}
@@ -36,9 +36,13 @@ pub record IsSound (c : Blocks) : Type 0 where
 unfoldable pub Holds : List ℕ → Blocks → Type 0
 Holds f c = All (λ b. b.1 ≡ block_of f b.0) c.entries
 
+-- block n, where it is there
+abbrev pub block_at : ℕ → List Block → Option Block
+block_at n bs = lookup_entry (nat_eq n) bs
+
 -- those of the blocks ns that are there, in their order
 abbrev pub present : List ℕ → List Block → List Block
-present ns bs = filter_map (λ n. lookup_entry (nat_eq n) bs) ns
+present ns bs = filter_map (λ n. block_at n bs) ns
 
 -- The blocks ns that are there, brought to the front one after another, before the others in their order.
 unfoldable pub brought : List ℕ → List Block → List Block

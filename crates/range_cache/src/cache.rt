@@ -3,7 +3,7 @@ ghost use Rattle.std.specs.Prelude.{◌≡◌, ◌+◌, ◌-◌, ◌*◌, ◌<�
 ghost use Rattle.std.specs.List.{range_with_len, slice_range};
 ghost use Rattle.range_cache.specs.Block.{block_size, first_block, blocks};
 ghost use Rattle.range_cache.specs.Numbers.{has, AreThere, IsLed, Stays};
-ghost use Rattle.range_cache.specs.Cache.{Blocks, numbers, Holds, IsSound, brought, stored, stores};
+ghost use Rattle.range_cache.specs.Cache.{Blocks, block_at, numbers, Holds, IsSound, brought, stored, stores};
 ghost use Rattle.range_cache.specs.Piece.{whole_blocks, IsPieceOf, is_wanted};
 ghost use Rattle.range_cache.specs.Missing.{Lacks};
 
@@ -85,7 +85,9 @@ impl Cache {
         ensures slice { OnOk result ((f : List ℕ) → first + length out.old ≤ length f → Holds f self.old →
             out.new ≡ slice_range f first (first + length out.old)) }
 
-        // What follows of the entries: the same blocks are there, each still the file's, and those of the range lead.
+        // What follows of the entries: only their order changes, so the same blocks are there, each still the file's, and
+        // those of the range lead.
+        ensures kept { (k : ℕ) → block_at k self.new.entries ≡ block_at k self.old.entries }
         ensures same { (k : ℕ) → has k (numbers self.new.entries) ≡ has k (numbers self.old.entries) }
         ensures holds { (f : List ℕ) → Holds f self.old → Holds f self.new }
         ensures led { IsLed (numbers self.new.entries) (first_block first) (blocks first (length out.old)) }

@@ -2,9 +2,9 @@ use Rattle.std.proofs.Common.{◌≡◌, ℕ, ◌+◌, ◌-◌, ◌/◌, ◌<◌
 use Rattle.std.specs.List.{All, range_with_len}
 use Rattle.range_cache.specs.Block.{first_block, blocks}
 use Rattle.range_cache.specs.Numbers.{has, AreThere, IsLed}
-use Rattle.range_cache.specs.Cache.{Block, Blocks, kept_blocks, blocks_in, numbers, brought, Holds}
+use Rattle.range_cache.specs.Cache.{Block, Blocks, block_at, kept_blocks, blocks_in, numbers, brought, Holds}
 use Rattle.range_cache.proofs.Bytes.{IsOf, blocks-some}
-use Rattle.range_cache.proofs.Fronts.{has-brought, All-brought, led-brought}
+use Rattle.range_cache.proofs.Fronts.{block_at-brought, has-brought, All-brought, led-brought}
 use Rattle.range_cache.proofs.cache.Cache.read_into.Goals as goal
 
 -- how many blocks are touched, as they are gone over
@@ -19,6 +19,9 @@ brings old new kept first len some view is =
     is ∙ ap (λ k. brought (range_with_len (first / 16384) k) kept) (count_is first len some) ∙ ap (brought (range_with_len (first_block first) (blocks first len))) view
 
 -- what follows of them
+kept : (old new : Blocks) (ns : List ℕ) → new.entries ≡ brought ns old.entries → (k : ℕ) → block_at k new.entries ≡ block_at k old.entries
+kept old new ns is k = ap (block_at k) is ∙ block_at-brought k ns old.entries
+
 same : (old new : Blocks) (ns : List ℕ) → new.entries ≡ brought ns old.entries → (k : ℕ) → has k (numbers new.entries) ≡ has k (numbers old.entries)
 same old new ns is k = ap (λ bs. has k (numbers bs)) is ∙ has-brought k ns old.entries
 
@@ -37,6 +40,11 @@ returns-in-None-clause-slice c = λ f within held.
     let there = subst (AreThere (numbers (blocks_in c.self.inside.blocks.entries)) (first_block first)) (count_is first (length c.args.out.now) c.requires.some) c.in-None.ensures in
     c.copy.ensures f within kept there
 
+pub returns-in-None-clause-kept : goal.returns-in-None-clause-kept
+returns-in-None-clause-kept c = kept c.args.self.now (kept_blocks c.bring.new.blocks) _
+    (brings c.args.self.now (kept_blocks c.bring.new.blocks) (blocks_in c.self.inside.blocks.entries) c.args.first (length c.args.out.now) c.requires.some
+    (ap (λ (v : Blocks). v.entries) c.self.view_is) c.bring.ensures.entries)
+
 pub returns-in-None-clause-same : goal.returns-in-None-clause-same
 returns-in-None-clause-same c = same c.args.self.now (kept_blocks c.bring.new.blocks) _
     (brings c.args.self.now (kept_blocks c.bring.new.blocks) (blocks_in c.self.inside.blocks.entries) c.args.first (length c.args.out.now) c.requires.some
@@ -51,6 +59,11 @@ pub returns-in-None-clause-led : goal.returns-in-None-clause-led
 returns-in-None-clause-led c = led c.args.self.now (kept_blocks c.bring.new.blocks) (first_block c.args.first) (blocks c.args.first (length c.args.out.now))
     (brings c.args.self.now (kept_blocks c.bring.new.blocks) (blocks_in c.self.inside.blocks.entries) c.args.first (length c.args.out.now) c.requires.some
     (ap (λ (v : Blocks). v.entries) c.self.view_is) c.bring.ensures.entries)
+
+pub returns-in-Some-clause-kept : goal.returns-in-Some-clause-kept
+returns-in-Some-clause-kept c = kept c.args.self.now (kept_blocks c.bring-in-Some.new.blocks) _
+    (brings c.args.self.now (kept_blocks c.bring-in-Some.new.blocks) (blocks_in c.self.inside.blocks.entries) c.args.first (length c.args.out.now) c.requires.some
+    (ap (λ (v : Blocks). v.entries) c.self.view_is) c.bring-in-Some.ensures.entries)
 
 pub returns-in-Some-clause-same : goal.returns-in-Some-clause-same
 returns-in-Some-clause-same c = same c.args.self.now (kept_blocks c.bring-in-Some.new.blocks) _
