@@ -123,6 +123,7 @@ impl Model for Reader {
 impl Reader {
     ghost use Rattle.std.specs.Prelude.{◌≡◌, ◌<◌, ◌≤◌, ℕ, List, [], ◌∷◌, None, Some, IfOk, IfSome, IsSome, IsSomeAnd, MatchOption, OnErr, OnOk, length, slice_get};
     ghost use Rattle.tiff_dir.specs.Walk.{range_of_span};
+    ghost use Rattle.tiff_dir.specs.declared.query.Query.{Query};
     ghost use Rattle.cog_reader.specs.Outcome.{IsTrueOf};
     ghost use Rattle.cog_reader.specs.Reader.{complete_of, outcome_of, query_of, steps_of, to_come, unread, wanted, Agrees, IsWanted, IsWantedOf, GoesOn, Wants};
 
@@ -224,6 +225,29 @@ impl Reader {
         match task {
             Task::Done(outcome) => Some(outcome),
             _other => None,
+        }
+    }
+    /// What answers the query, by value, where it is answered: no query is asked then. Otherwise the reader stays as it is.
+    /// It takes no memory.
+    pub fn take_outcome(&mut self) -> Option<Outcome>
+        ensures outcome { result ≡ outcome_of self.old }
+        ensures true_of { (f : List ℕ) → Agrees self.old f → IfSome result (λ o. IsSomeAnd (query_of self.old) (λ q. IsTrueOf f q o)) }
+        // No outcome is left, and with it the query has gone.
+        ensures left { outcome_of self.new ≡ None }
+        ensures query { IsSome result → query_of self.new ≡ None }
+        // What is held of the file stays.
+        ensures agrees { (f : List ℕ) → Agrees self.old f → Agrees self.new f }
+        ensures held { (f : List ℕ) (q : Query) → unread self.new f q ≡ unread self.old f q }
+        ensures complete { complete_of self.new ≡ complete_of self.old }
+        ensures none { result ≡ None → self.new ≡ self.old }
+    {
+        let Asked { query, task } = self.asked.take()?;
+        match task {
+            Task::Done(outcome) => Some(outcome),
+            other => {
+                self.asked = Some(Asked { query, task: other });
+                None
+            }
         }
     }
 }
