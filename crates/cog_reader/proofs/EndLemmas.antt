@@ -1,9 +1,12 @@
 -- What is still to come is an end of what is needed.
 use Rattle.std.proofs.Common.{◌≡◌, ℕ, ◌++◌, ◌⊎◌, inl, inr, [], List, take, drop, Option, Some, None, refl, sym, subst, ap, ◌∙◌, append_assoc, append-nil}
-use Rattle.std.specs.Prelude.{IfSome}
+use Rattle.std.specs.Prelude.{IfSome, IsSome}
 use Rattle.std.specs.Option.{option_map, option_map_or}
+use Rattle.std.proofs.lemmas.Bool.{false≢true}
 use Rattle.std.proofs.lemmas.List.{take-append-drop}
+use Rattle.std.proofs.lemmas.Option.{none-some}
 use Rattle.tiff_dir.specs.declared.query.Query.{Query}
+use Rattle.tiff_dir.specs.File.{◌>>=◌}
 use Rattle.tiff_dir.specs.Known.{Known}
 use Rattle.tiff_dir.specs.Needs.{Range, needs_of_directories, IsEndOf}
 use Rattle.tiff_dir.specs.Query as asked
@@ -15,7 +18,7 @@ use Rattle.cog_reader.specs.declared.task.Asked.{Asked}
 use Rattle.cog_reader.specs.declared.task.Task.{Task}
 use Rattle.cog_reader.specs.declared.task.Task.TheVariants.{Begin, Arrays as Reads, Tiles, Fields as Geo, Done}
 use Rattle.cog_reader.specs.Kept.{held, IsKeptOf}
-use Rattle.cog_reader.specs.Reader.{come_by, own_taken, query_of, to_come, Agrees, Held}
+use Rattle.cog_reader.specs.Reader.{come_by, outcome_in, outcome_of, own_taken, query_of, to_come, Agrees, Held}
 
 end_of_own : (xs ys : List Range) (n : ℕ) → IsEndOf (drop n ys) (xs ++ ys)
 end_of_own xs ys n = record { front = xs ++ take n ys; joined = ap (λ l. xs ++ l) (sym (take-append-drop n ys)) ∙ sym (append_assoc xs (take n ys) (drop n ys)) }
@@ -51,3 +54,26 @@ wanted_end r f agrees over end = at r.asked where
   at : (o : Option Asked) → IfSome (option_map (λ (a : Asked). a.query) o) (λ q. IsEndOf (option_map_or (λ (a : Asked). come_by f r.walk r.kept a.query a.task) o []) (needs f q))
   at None = tt
   at (Some a) = task_end r.walk r.kept f a.query a.task agrees.sound.kept (over agrees.walked) end
+
+-- ---- where nothing is to come
+
+pub unasked_comes : (r : Held) (f : List ℕ) → query_of r ≡ None → to_come r f ≡ []
+unfolding query_of to_come
+unasked_comes r f none = at r.asked none where
+  at : (o : Option Asked) → option_map (λ (a : Asked). a.query) o ≡ None → option_map_or (λ (a : Asked). come_by f r.walk r.kept a.query a.task) o [] ≡ []
+  at None none = refl
+  at (Some a) none = absurd (none-some a.query (sym none))
+
+task_done : (f : List ℕ) (w : Known) (k : Kept) (q : Query) (t : Task) → IsSome (outcome_in t) → come_by f w k q t ≡ []
+task_done f w k q Begin done = absurd (false≢true done)
+task_done f w k q (Reads r) done = absurd (false≢true done)
+task_done f w k q (Tiles m) done = absurd (false≢true done)
+task_done f w k q (Geo x) done = absurd (false≢true done)
+task_done f w k q (Done o) done = refl
+
+pub answered_comes : (r : Held) (f : List ℕ) → IsSome (outcome_of r) → to_come r f ≡ []
+unfolding outcome_of to_come
+answered_comes r f done = at r.asked done where
+  at : (o : Option Asked) → IsSome (o >>= λ a. outcome_in a.task) → option_map_or (λ (a : Asked). come_by f r.walk r.kept a.query a.task) o [] ≡ []
+  at None done = refl
+  at (Some a) done = task_done f r.walk r.kept a.query a.task done

@@ -1,8 +1,8 @@
-//! A law of the definitions, for the crates above. The function does nothing: its contract is the law.
-ghost use Rattle.std.specs.Prelude.{ℕ, List, IfSome};
+//! Laws of the definitions, for the crates above. Each function does nothing: its contract is the law.
+ghost use Rattle.std.specs.Prelude.{◌≡◌, ℕ, List, [], None, IfSome, IsSome};
 ghost use Rattle.tiff_dir.specs.Needs.{IsEndOf};
 ghost use Rattle.tiff_dir.specs.Query.{needs};
-ghost use Rattle.cog_reader.specs.Reader.{query_of, to_come, Agrees, Held};
+ghost use Rattle.cog_reader.specs.Reader.{outcome_of, query_of, to_come, Agrees, Held};
 
 use tiff_dir::what_comes;
 
@@ -12,3 +12,9 @@ pub fn end_is_wanted()
 {
     what_comes();
 }
+
+/// A reader that is asked nothing, or has answered its query, wants nothing of the file.
+pub fn nothing_comes()
+    ensures unasked { (r : Held) (f : List ℕ) → query_of r ≡ None → to_come r f ≡ [] }
+    ensures answered { (r : Held) (f : List ℕ) → IsSome (outcome_of r) → to_come r f ≡ [] }
+{}
