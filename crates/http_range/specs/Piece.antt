@@ -1,5 +1,5 @@
 -- What an answer says to a client: a piece of a file, or why it is not used.
-use Rattle.std.specs.Prelude.{ℕ, Bool, true, false, List, take, Option, Some, None, Result, Ok, Err}
+use Rattle.std.specs.Prelude.{ℕ, ◌+◌, ◌<◌, ◌≤◌, ◌^◌, Bool, true, false, List, length, take, Option, Some, None, Result, Ok, Err}
 use Rattle.http_range.specs.declared.reading.ContentRange.{ContentRange}
 use Rattle.http_range.specs.declared.reading.Why.{Why}
 use Rattle.http_range.specs.declared.reading.Why.TheVariants.{Cut, Head, Status, NoTag, WeakTag, TagTooLong, NoRange, NoLength, Coding}
@@ -16,6 +16,11 @@ pub record SeenPiece : Type 0 where
   pub first : ℕ
   pub complete : ℕ
   pub body : List ℕ
+
+-- The piece lies in its file, whose length is a number of 64 bits.
+pub record IsInside (p : SeenPiece) : Type 0 where
+  pub within : p.first + length p.body ≤ p.complete
+  pub bounded : p.complete < 2 ^ 64
 
 abbrev pub piece_seen : Piece → SeenPiece
 piece_seen p = record { tag = p.tag; whole = p.whole; first = p.first; complete = p.complete; body = p.body.now }

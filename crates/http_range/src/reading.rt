@@ -1,7 +1,7 @@
 //! A client's reading of answers.
-ghost use Rattle.std.specs.Prelude.{◌≡◌, true, false, None, option_copied};
+ghost use Rattle.std.specs.Prelude.{◌≡◌, true, false, None, IfOk, option_copied};
 ghost use Rattle.http_range.specs.AnswerHead.{head_seen};
-ghost use Rattle.http_range.specs.Piece.{piece_seen, reading_seen, result_seen, number_of_why};
+ghost use Rattle.http_range.specs.Piece.{piece_seen, reading_seen, result_seen, number_of_why, IsInside};
 ghost use Rattle.http_range.specs.ContentRange.{range_of, range_of_numbers, IsRange};
 ghost use Rattle.http_range.specs.Reading.{has_other_status, range_named, length_named, piece_by_rows, piece_in, reading_of, ReadsAnswer};
 
@@ -134,7 +134,8 @@ fn length_named(head: &AnswerHead) -> Option<u64>
 }
 
 fn whole_piece<'b>(tag: Tag, length: Option<u64>, rest: &'b [u8]) -> Result<Piece<'b>, Why>
-    ensures { result_seen result ≡ piece_by_rows false tag None length rest.now }
+    ensures value { result_seen result ≡ piece_by_rows false tag None length rest.now }
+    ensures fits { IfOk (result_seen result) IsInside }
 {
     match length {
         None => Err(Why::NoLength),
@@ -155,7 +156,8 @@ fn part_piece<'b>(
     rest: &'b [u8],
 ) -> Result<Piece<'b>, Why>
     requires { IsRange range }
-    ensures { result_seen result ≡ piece_by_rows true tag range length rest.now }
+    ensures value { result_seen result ≡ piece_by_rows true tag range length rest.now }
+    ensures fits { IfOk (result_seen result) IsInside }
 {
     match (range, length) {
         (None, _) => Err(Why::NoRange),
@@ -177,7 +179,8 @@ fn part_piece<'b>(
 }
 
 fn piece_in<'b>(head: &AnswerHead<'b>, tag: Tag) -> Result<Piece<'b>, Why>
-    ensures { result_seen result ≡ piece_in (head_seen head.now) tag }
+    ensures value { result_seen result ≡ piece_in (head_seen head.now) tag }
+    ensures fits { IfOk (result_seen result) IsInside }
 {
     if head.status == 206 {
         part_piece(tag, range_named(head), length_named(head), head.rest)
@@ -194,7 +197,8 @@ pub(crate) fn has_other_status(head: &AnswerHead) -> bool
 }
 
 fn piece_of<'b>(head: &AnswerHead<'b>) -> Result<Piece<'b>, Why>
-    ensures { result_seen result ≡ reading_of (head_seen head.now) }
+    ensures value { result_seen result ≡ reading_of (head_seen head.now) }
+    ensures fits { IfOk (result_seen result) IsInside }
 {
     if has_other_status(head) {
         return Err(Why::Status(head.status));
@@ -204,7 +208,8 @@ fn piece_of<'b>(head: &AnswerHead<'b>) -> Result<Piece<'b>, Why>
 }
 
 fn read(bytes: &[u8]) -> Result<Piece<'_>, Why>
-    ensures { ReadsAnswer bytes.now (result_seen result) }
+    ensures reads { ReadsAnswer bytes.now (result_seen result) }
+    ensures fits { IfOk (result_seen result) IsInside }
 {
     let head = head_of(bytes)?;
     piece_of(&head)
@@ -212,7 +217,9 @@ fn read(bytes: &[u8]) -> Result<Piece<'_>, Why>
 
 /// What an answer, or a front of one, says. The piece's body is what follows the head, as far as the answer's length goes.
 pub fn read_answer(bytes: &[u8]) -> Reading<'_>
-    ensures { ReadsAnswer bytes.now (reading_seen result) }
+    ensures reads { ReadsAnswer bytes.now (reading_seen result) }
+    // A piece that is read lies in its file, also where the answer is not an honest one.
+    ensures fits { IfOk (reading_seen result) IsInside }
 {
     match read(bytes) {
         Ok(piece) => Reading::Piece(piece),

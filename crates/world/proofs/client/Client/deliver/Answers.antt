@@ -18,7 +18,7 @@ returns-in-NotUsed-clause-ok c = record {
   same = record { host = refl; name = refl };
   query = refl;
   reading = Err c.in-NotUsed.why;
-  reads = c.in-NotUsed.ensures;
+  reads = c.in-NotUsed.ensures.reads;
   answers = refl;
   revision = refl;
   ignored = λ _. refl;
@@ -35,7 +35,7 @@ returns-then-is_none-clause-ok c =
       same = record { host = refl; name = refl };
       query = refl;
       reading = Ok piece;
-      reads = c.in-Piece.ensures;
+      reads = c.in-Piece.ensures.reads;
       answers = sym (ap (λ (b : Bool). if b then Ignored NotAsked else Took (blocks_in piece)) none);
       revision = sym (ap (λ (b : Bool). if b then old.revision else Some (record { tag = piece.tag; complete = piece.complete })) none);
       ignored = λ _. refl;
@@ -54,7 +54,7 @@ returns-clause-ok c =
       same = c.adopt.ensures.same;
       query = c.adopt.ensures.query;
       reading = Ok piece;
-      reads = c.in-Piece.ensures;
+      reads = c.in-Piece.ensures.reads;
       answers = ap Took c.blocks_in-stored.ensures ∙ sym (ap (λ (b : Bool). if b then Ignored NotAsked else Took (blocks_in piece)) some);
       revision = c.adopt.ensures.revision ∙ sym (ap (λ (b : Bool). if b then old.revision else Some v) some);
       ignored = λ h. absurd h;
@@ -69,5 +69,5 @@ returns-clause-ok c =
           adopted_agrees c.adopt.new.self (name_of old) (query_of old) book piece (option_map said_of c.in_ok-outcome.outcome) v
           c.adopt.ensures.same.name c.adopt.ensures.query c.adopt.ensures.revision refl refl c.adopt.ensures.report
           (if_some_map said_of c.in_ok-outcome.outcome (IsTrueOfPiece piece (query_of old)) outcome.true_of)
-          (c.fronts_are_read.ensures.answers.book c.args.answer.now (name_of old) book (Ok piece) honest c.in-Piece.ensures);
+          (c.fronts_are_read.ensures.answers.book c.args.answer.now (name_of old) book (Ok piece) honest c.in-Piece.ensures.reads);
     }
