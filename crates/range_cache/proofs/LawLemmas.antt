@@ -3,15 +3,17 @@ use Rattle.std.proofs.Common.{◌≡◌, ◌||◌, ℕ, zero, suc, ◌+◌, ◌-
 use Rattle.std.proofs.lemmas.Bool.{cases_lt, cases_Bool, and_parts}
 use Rattle.std.proofs.lemmas.Bool.Decides.{eqb_tells}
 use Rattle.std.proofs.lemmas.List.{length-map}
+use Rattle.std.proofs.lemmas.List.Elements.{All-take}
 use Rattle.std.specs.List.{filter, range_with_len}
 use Rattle.tiff_dir.specs.declared.span.Span.{Span}
 use Rattle.range_cache.specs.Block.{block_count}
 use Rattle.range_cache.specs.Numbers.{has, missing, IsGap}
-use Rattle.range_cache.specs.Cache.{Block, numbers, put_one, stores}
-use Rattle.range_cache.specs.Piece.{block_in, is_brought, whole_blocks}
+use Rattle.range_cache.specs.Cache.{Block, Blocks, numbers, put_one, stored, stores, Holds}
+use Rattle.range_cache.specs.Piece.{block_in, is_brought, whole_blocks, IsPieceOf}
 use Rattle.range_cache.specs.Laws.{HaveSame}
-use Rattle.range_cache.proofs.Stored.{missing-none, missing-next}
-use Rattle.range_cache.proofs.Whole.{lies_in}
+use Rattle.range_cache.proofs.Bytes.{IsOf}
+use Rattle.range_cache.proofs.Stored.{All-stored, missing-none, missing-next}
+use Rattle.range_cache.proofs.Whole.{all_whole, lies_in}
 
 both : (b : Bool) → b ≡ true → b ≡ false → ⊥
 both b t f = let e : true ≡ false = sym t ∙ f in cc
@@ -115,3 +117,18 @@ whole-few complete first bytes wanted n short =
     let few = length-filter-between p lo hi 0 (block_count complete) inside in
     let same = length-map (filter p (range_with_len 0 (block_count complete))) (block_in complete first bytes) in
     omega (arith, few, same, short)
+
+-- blocks of a piece of f are f's, and so are they where they are stored
+
+pub stored_holds : (f : List ℕ) (c : Blocks) (complete first : ℕ) (bytes : List ℕ) (wanted : Span) → complete ≡ length f → IsPieceOf f first bytes → Holds f c →
+    Holds f (record c { entries = stored c.capacity (whole_blocks complete first bytes wanted) c.entries })
+unfolding Holds
+stored_holds f c complete first bytes wanted whole piece held =
+    All-stored (IsOf f) c.capacity (whole_blocks complete first bytes wanted) c.entries (all_whole f bytes complete first wanted whole piece) held
+
+pub front_holds : (f : List ℕ) (c : Blocks) (complete first : ℕ) (bytes : List ℕ) (wanted : Span) (k : ℕ) → complete ≡ length f → IsPieceOf f first bytes → Holds f c →
+    Holds f (record c { entries = stored c.capacity (take k (whole_blocks complete first bytes wanted)) c.entries })
+unfolding Holds
+front_holds f c complete first bytes wanted k whole piece held =
+    let new : List Block = whole_blocks complete first bytes wanted in
+    All-stored (IsOf f) c.capacity (take k new) c.entries (All-take (IsOf f) k new (all_whole f bytes complete first wanted whole piece)) held

@@ -1,10 +1,10 @@
 -- Laws of these definitions, for the crates above.
-use Rattle.std.specs.Prelude.{◌≡◌, ℕ, ◌+◌, ◌*◌, ◌<◌, ◌≤◌, true, false, List, length}
+use Rattle.std.specs.Prelude.{◌≡◌, ℕ, ◌+◌, ◌*◌, ◌<◌, ◌≤◌, true, false, List, length, take}
 use Rattle.tiff_dir.specs.declared.span.Span.{Span}
 use Rattle.range_cache.specs.Block.{block_size}
 use Rattle.range_cache.specs.Numbers.{has, missing, IsGap}
-use Rattle.range_cache.specs.Cache.{Block, numbers, stores}
-use Rattle.range_cache.specs.Piece.{is_brought, whole_blocks}
+use Rattle.range_cache.specs.Cache.{Block, Blocks, numbers, stored, stores, Holds}
+use Rattle.range_cache.specs.Piece.{is_brought, whole_blocks, IsPieceOf}
 
 -- the same blocks are there
 abbrev pub HaveSame : List ℕ → List ℕ → Type 0
@@ -41,3 +41,15 @@ WholeAreBrought = (complete first : ℕ) (bytes : List ℕ) (wanted : Span) (n :
 abbrev pub WholeAreFew : Type 0
 WholeAreFew = (complete first : ℕ) (bytes : List ℕ) (wanted : Span) (n : ℕ) →
     wanted.last < wanted.first + n * block_size → length (whole_blocks complete first bytes wanted) ≤ n
+
+-- a piece of a file brings blocks of that file: blocks of it stay so where they are stored
+abbrev pub StoredHolds : Type 0
+StoredHolds = (f : List ℕ) (c : Blocks) (complete first : ℕ) (bytes : List ℕ) (wanted : Span) →
+    complete ≡ length f → IsPieceOf f first bytes → Holds f c →
+    Holds f (record c { entries = stored c.capacity (whole_blocks complete first bytes wanted) c.entries })
+
+-- the same where only the first k of them are stored
+abbrev pub FrontHolds : Type 0
+FrontHolds = (f : List ℕ) (c : Blocks) (complete first : ℕ) (bytes : List ℕ) (wanted : Span) (k : ℕ) →
+    complete ≡ length f → IsPieceOf f first bytes → Holds f c →
+    Holds f (record c { entries = stored c.capacity (take k (whole_blocks complete first bytes wanted)) c.entries })

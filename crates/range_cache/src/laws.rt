@@ -1,5 +1,5 @@
 //! Laws of the definitions, which upper crates rest on. Each function does nothing: its contract is the law.
-ghost use Rattle.range_cache.specs.Laws.{GapsAreUnique, MissingIsSame, MissingIsFew, StoresAreFew, StoresAreSome, WholeAreBrought, WholeAreFew};
+ghost use Rattle.range_cache.specs.Laws.{FrontHolds, GapsAreUnique, MissingIsSame, MissingIsFew, StoredHolds, StoresAreFew, StoresAreSome, WholeAreBrought, WholeAreFew};
 
 /// What is missing is said by which blocks are there alone.
 pub fn missing_is_exact()
@@ -18,4 +18,10 @@ pub fn stores_are_counted()
 pub fn pieces_bring_blocks()
     ensures brought { WholeAreBrought }
     ensures few { WholeAreFew }
+{}
+
+/// Blocks of a file stay that file's where the blocks of a piece of it are stored, all of them or the first ones.
+pub fn stored_are_held()
+    ensures all { StoredHolds }
+    ensures front { FrontHolds }
 {}
