@@ -1,8 +1,8 @@
 //! Laws of the definitions, for the crates above. Each function does nothing: its contract is the law.
-ghost use Rattle.std.specs.Prelude.{◌≡◌, ℕ, List, [], None, IfSome, IsSome};
+ghost use Rattle.std.specs.Prelude.{◌≡◌, ℕ, List, [], None, IfSome, IsSome, length};
 ghost use Rattle.tiff_dir.specs.Needs.{IsEndOf};
 ghost use Rattle.tiff_dir.specs.Query.{needs};
-ghost use Rattle.cog_reader.specs.Reader.{outcome_of, query_of, to_come, Agrees, Held};
+ghost use Rattle.cog_reader.specs.Reader.{complete_of, outcome_of, query_of, to_come, Agrees, Held};
 
 use tiff_dir::what_comes;
 
@@ -17,4 +17,9 @@ pub fn end_is_wanted()
 pub fn nothing_comes()
     ensures unasked { (r : Held) (f : List ℕ) → query_of r ≡ None → to_come r f ≡ [] }
     ensures answered { (r : Held) (f : List ℕ) → IsSome (outcome_of r) → to_come r f ≡ [] }
+{}
+
+/// What a reader agrees with has the length that it was made with.
+pub fn lengths_are_known()
+    ensures { (r : Held) (f : List ℕ) → Agrees r f → length f ≡ complete_of r }
 {}

@@ -17,6 +17,6 @@ mod task;
 mod turn;
 
 pub use file::read_file;
-pub use laws::{end_is_wanted, nothing_comes};
+pub use laws::{end_is_wanted, lengths_are_known, nothing_comes};
 pub use outcome::{Info, Outcome, Window};
 pub use reader::Reader;

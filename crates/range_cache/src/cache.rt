@@ -55,6 +55,7 @@ impl Cache {
         ensures made { IfOk result (λ c. c ≡ record { entries = []; capacity = blocks }) }
         ensures fits { OnOk result ((66 ≤ blocks) × (blocks ≤ 4096)) }
         ensures refused { IsErrOf result CacheError.Blocks → 66 ≤ blocks → 4096 < blocks }
+        ensures memory { IsErrOf result CacheError.Memory → (66 ≤ blocks) × (blocks ≤ 4096) }
     {
         if !(LEAST..=MOST).contains(&blocks) {
             return Err(CacheError::Blocks);
@@ -154,8 +155,11 @@ impl Cache {
     }
 
     /// Drops every block.
+    #[tactic(auto, unfolding(crate::specs::Cache::Holds))]
     pub fn clear(&mut self)
-        ensures { self.new ≡ record self.old { entries = [] } }
+        ensures empty { self.new ≡ record self.old { entries = [] } }
+        // Nothing is any file's.
+        ensures holds { (f : List ℕ) → Holds f self.new }
     {
         self.blocks.clear();
     }

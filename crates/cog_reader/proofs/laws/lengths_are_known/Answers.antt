@@ -1,0 +1,6 @@
+use Rattle.cog_reader.specs.Reader.{complete_of, Agrees}
+use Rattle.cog_reader.proofs.laws.lengths_are_known.Goals as goal
+
+pub returns : goal.returns
+unfolding complete_of Agrees
+returns c r f agrees = agrees.size
