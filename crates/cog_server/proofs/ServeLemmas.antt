@@ -1,5 +1,5 @@
 -- Serving a stream, message by message.
-use Rattle.std.proofs.Common.{◌≡◌, ℕ, suc, ◌+◌, ◌-◌, ◌<◌, ◌≤◌, Bool, true, false, List, [], ◌∷◌, ◌++◌, length, drop, Option, Some, None, Result, Ok, Err, refl, sym, ap, ◌∙◌, subst, arith, append_assoc, length-append, inl, inr, ◌==◌}
+use Rattle.std.proofs.Common.{◌≡◌, ℕ, suc, ◌+◌, ◌-◌, ◌<◌, ◌≤◌, Bool, true, false, List, [], ◌∷◌, ◌++◌, length, take, drop, Option, Some, None, Result, Ok, Err, refl, sym, ap, ◌∙◌, subst, arith, append_assoc, length-append, length-take, inl, inr, ◌==◌}
 use Rattle.std.specs.Prelude.{IsErrAnd}
 use Rattle.std.specs.List.{list_any}
 use Rattle.std.specs.Io.KnownBytes.{append_known}
@@ -118,10 +118,10 @@ begins catalogue given taken = record {
   counted = refl;
 }
 
-pub reads : (law : MessagesStay) (catalogue : Catalogue) (given given' given'' taken taken' : Option (List ℕ)) (rest rest' : List ℕ)
-    (count : ℕ) → Going catalogue given given' taken taken' rest count → ReadsOn given' given'' rest rest'
+pub reads : {catalogue : Catalogue} {given given' given'' taken taken' : Option (List ℕ)} {rest rest' : List ℕ} {count : ℕ}
+    → MessagesStay → Going catalogue given given' taken taken' rest count → ReadsOn given' given'' rest rest'
     → Going catalogue given given'' taken taken' rest' count
-reads law catalogue given given' given'' taken taken' rest rest' count going read = record {
+reads {catalogue} {given} {rest} law going read = record {
   stream = going.stream ++ read.more;
   rs = going.rs;
   gave = read.gave ∙ ap (λ (k : Option (List ℕ)). append_known k read.more) going.gave ∙ known_append given going.stream read.more;
@@ -140,18 +140,27 @@ took_more taken taken' taken'' rs r before now =
     now ∙ ap (λ (k : Option (List ℕ)). append_known k (text_of r)) before ∙ known_append taken (answers_text rs) (text_of r)
     ∙ ap (λ (t : List ℕ). append_known taken t) (sym (texts rs r))
 
-pub answers_one : (catalogue : Catalogue) (given given' taken taken' taken'' : Option (List ℕ)) (rest message : List ℕ) (count : ℕ)
-    (r : Response) → Going catalogue given given' taken taken' rest count → IsFirstMessage rest message
+pub answers_one : {catalogue : Catalogue} {given given' taken taken' taken'' : Option (List ℕ)} {rest rest' : List ℕ} {count : ℕ}
+    (message : List ℕ) (r : Response) → Going catalogue given given' taken taken' rest count → IsFirstMessage rest message
     → IsAnswer catalogue message r → r.close ≡ false → taken'' ≡ append_known taken' (text_of r)
-    → Going catalogue given given' taken taken'' (drop (length message) rest) (count + 1)
-answers_one catalogue given given' taken taken' taken'' rest message count r going first answers stays took = record {
+    → drop (length message) rest ≡ rest' → Going catalogue given given' taken taken'' rest' (count + 1)
+answers_one {catalogue} {taken} {taken'} {taken''} {rest} message r going first answers stays took behind = record {
   stream = going.stream;
   rs = going.rs ++ r ∷ [];
   gave = going.gave;
-  goes = goes_on catalogue going.stream going.rs rest message r going.goes first answers stays;
+  goes = subst (λ (xs : List ℕ). Goes catalogue going.stream (going.rs ++ r ∷ []) xs) behind
+      (goes_on catalogue going.stream going.rs rest message r going.goes first answers stays);
   took = took_more taken taken' taken'' going.rs r going.took took;
   counted = let n = going.counted in omega (arith, length-append going.rs (r ∷ []));
 }
+
+-- the first message, which was found to have n bytes
+pub first_found : (rest held : List ℕ) (n : ℕ) → held ≡ rest → (n ≤ length rest) × IsFirstMessage rest (take n rest)
+    → (length (take n held) ≡ n) × IsFirstMessage rest (take n held)
+first_found rest held n same found = (
+  omega (arith, length-take n held, found.0, ap length same),
+  subst (λ (xs : List ℕ). IsFirstMessage rest (take n xs)) (sym same) found.1,
+)
 
 -- ---- the ends
 
@@ -163,11 +172,11 @@ Outcome catalogue given given' taken taken' is_over result =
     × Serves catalogue stream text is_over result
 
 -- the answers so far and the last ones, which are told by their ending
-served : (catalogue : Catalogue) (given given' taken taken' : Option (List ℕ)) (rest : List ℕ) (count : ℕ) (is_over : Type 0)
+served : {catalogue : Catalogue} {given given' taken taken' : Option (List ℕ)} {rest : List ℕ} {count : ℕ} (is_over : Type 0)
     (going : Going catalogue given given' taken taken' rest count) (left : ℕ) → count + left ≡ 100 → AreAnswers catalogue left rest []
     → (ended : Ended) → ending_told ended ≡ ending_of going.rs → (ending_of going.rs ≡ EndOfInput → is_over)
     → Outcome catalogue given given' taken taken' is_over (Ok (record { answers = count; ended = ended }))
-served catalogue given given' taken taken' rest count is_over going left all last ended is over = (
+served {catalogue} {rest} is_over going left all last ended is over = (
   going.stream,
   answers_text going.rs,
   going.gave,
@@ -200,30 +209,30 @@ at_close catalogue stream rs rest r goes closes =
     rw (list_any-append (λ (q : Response). q.close) rs (r ∷ []), none_closes catalogue stream rs rest goes, closes) refl
 
 -- nothing more comes, and no whole message is left
-pub ends_over : (catalogue : Catalogue) (given given' taken taken' : Option (List ℕ)) (rest : List ℕ) (count : ℕ) (is_over : Type 0)
+pub ends_over : {catalogue : Catalogue} {given given' taken taken' : Option (List ℕ)} {rest : List ℕ} {count : ℕ} (is_over : Type 0)
     → Going catalogue given given' taken taken' rest count → count < 100 → IsUnfinished rest → is_over
     → Outcome catalogue given given' taken taken' is_over (Ok (record { answers = count; ended = told_end }))
-ends_over catalogue given given' taken taken' rest count is_over going few none over =
+ends_over {catalogue} {rest} {count} is_over going few none over =
     let n = going.counted in
     let is = still_open catalogue going.stream going.rs rest going.goes (omega arith) in
-    served catalogue given given' taken taken' rest count is_over going (suc (99 - count)) (omega arith)
-    (unfinished (99 - count) rest none) told_end (sym is) (λ _. over)
+    served is_over going (suc (99 - count)) (omega arith) (unfinished (99 - count) rest none) told_end (sym is) (λ _. over)
 
 -- a hundred answers, none of which closes
-pub ends_limit : (catalogue : Catalogue) (given given' taken taken' : Option (List ℕ)) (rest : List ℕ) (is_over : Type 0)
-    → Going catalogue given given' taken taken' rest 100
+pub ends_limit : {catalogue : Catalogue} {given given' taken taken' : Option (List ℕ)} {rest : List ℕ} {count : ℕ} (is_over : Type 0)
+    → Going catalogue given given' taken taken' rest count → count ≡ 100
     → Outcome catalogue given given' taken taken' is_over (Ok (record { answers = 100; ended = told_limit }))
-ends_limit catalogue given given' taken taken' rest is_over going =
+ends_limit {catalogue} {given} {given'} {taken} {taken'} {rest} is_over so_far hundred =
+    let going : Going catalogue given given' taken taken' rest 100 =
+    subst (λ (k : ℕ). Going catalogue given given' taken taken' rest k) hundred so_far in
     let is = at_limit catalogue going.stream going.rs rest going.goes going.counted in
-    served catalogue given given' taken taken' rest 100 is_over going 0 refl (full rest) told_limit (sym is)
-    (λ e. absurd (let no : Limit ≡ EndOfInput = sym is ∙ e in cc))
+    served is_over going 0 refl (full rest) told_limit (sym is) (λ e. absurd (let no : Limit ≡ EndOfInput = sym is ∙ e in cc))
 
 -- the last answer closes
-pub ends_closed : (catalogue : Catalogue) (given given' taken taken' taken'' : Option (List ℕ)) (rest message : List ℕ) (count : ℕ)
-    (r : Response) (is_over : Type 0) → Going catalogue given given' taken taken' rest count → count < 100
+pub ends_closed : {catalogue : Catalogue} {given given' taken taken' taken'' : Option (List ℕ)} {rest : List ℕ} {count : ℕ}
+    (message : List ℕ) (r : Response) (is_over : Type 0) → Going catalogue given given' taken taken' rest count → count < 100
     → IsFirstMessage rest message → IsAnswer catalogue message r → r.close ≡ true → taken'' ≡ append_known taken' (text_of r)
     → Outcome catalogue given given' taken taken'' is_over (Ok (record { answers = count + 1; ended = told_closed }))
-ends_closed catalogue given given' taken taken' taken'' rest message count r is_over going few first answers closes took =
+ends_closed {catalogue} {taken} {taken'} {taken''} {rest} {count} message r is_over going few first answers closes took =
     let is = at_close catalogue going.stream going.rs rest r going.goes closes in
     let n = going.counted in (
       going.stream,
@@ -242,10 +251,10 @@ ends_closed catalogue given given' taken taken' taken'' rest message count r is_
     )
 
 -- a read failed, and no whole message is left
-pub ends_read : (catalogue : Catalogue) (given given' taken taken' : Option (List ℕ)) (rest : List ℕ) (count : ℕ) (is_over : Type 0)
+pub ends_read : {catalogue : Catalogue} {given given' taken taken' : Option (List ℕ)} {rest : List ℕ} {count : ℕ} (is_over : Type 0)
     → Going catalogue given given' taken taken' rest count → count < 100 → IsUnfinished rest
     → Outcome catalogue given given' taken taken' is_over (Err Read)
-ends_read catalogue given given' taken taken' rest count is_over going few none =
+ends_read {catalogue} {rest} {count} is_over going few none =
     let n = going.counted in (
       going.stream,
       answers_text going.rs,
@@ -262,10 +271,10 @@ ends_read catalogue given given' taken taken' rest count is_over going few none 
     )
 
 -- there is no memory for the next answer
-pub ends_memory : (catalogue : Catalogue) (given given' taken taken' : Option (List ℕ)) (rest : List ℕ) (count : ℕ)
+pub ends_memory : {catalogue : Catalogue} {given given' taken taken' : Option (List ℕ)} {rest : List ℕ} {count : ℕ}
     (is_over : Type 0) → Going catalogue given given' taken taken' rest count → count ≤ 100
     → Outcome catalogue given given' taken taken' is_over (Err Memory)
-ends_memory catalogue given given' taken taken' rest count is_over going few =
+ends_memory {catalogue} {rest} is_over going few =
     let n = going.counted in (
       going.stream,
       answers_text going.rs,
@@ -290,11 +299,11 @@ one_answer catalogue rest message r first answers = elim (cases_Bool r.close) [
 ]
 
 -- the next answer was begun, and then writing failed
-pub ends_write : (catalogue : Catalogue) (given given' taken taken' taken'' : Option (List ℕ)) (rest message : List ℕ) (count : ℕ)
-    (r : Response) (is_over : Type 0) (has_failed : Bool) → Going catalogue given given' taken taken' rest count → count < 100
+ends_write : {catalogue : Catalogue} {given given' taken taken' taken'' : Option (List ℕ)} {rest : List ℕ} {count : ℕ}
+    (message : List ℕ) (r : Response) (is_over : Type 0) {has_failed : Bool} → Going catalogue given given' taken taken' rest count → count < 100
     → IsFirstMessage rest message → IsAnswer catalogue message r → IsBroken taken' taken'' has_failed (text_of r)
     → Outcome catalogue given given' taken taken'' is_over (Err Write)
-ends_write catalogue given given' taken taken' taken'' rest message count r is_over has_failed going few first answers broken =
+ends_write {catalogue} {taken} {rest} message r is_over going few first answers broken =
     let n = going.counted in
     let rs = going.rs ++ r ∷ [] in
     let some : length rs ≡ length going.rs + 1 = omega (arith, length-append going.rs (r ∷ [])) in (
@@ -319,18 +328,16 @@ ends_write catalogue given given' taken taken' taken'' rest message count r is_o
     )
 
 -- the next answer wasn't sent whole
-pub ends_unsent : (catalogue : Catalogue) (given given' taken taken' taken'' : Option (List ℕ)) (rest message : List ℕ) (count : ℕ)
-    (r : Response) (is_over : Type 0) (has_failed : Bool) (e : ServeError) → Going catalogue given given' taken taken' rest count
+pub ends_unsent : {catalogue : Catalogue} {given given' taken taken' taken'' : Option (List ℕ)} {rest : List ℕ} {count : ℕ}
+    (message : List ℕ) (r : Response) (is_over : Type 0) (has_failed : Bool) (e : ServeError) → Going catalogue given given' taken taken' rest count
     → count < 100 → IsFirstMessage rest message → IsAnswer catalogue message r
     → Writes {A = Bool} taken' taken'' has_failed (text_of r) (Err e)
     → Outcome catalogue given given' taken taken'' is_over (Err e)
-ends_unsent catalogue given given' taken taken' taken'' rest message count r is_over has_failed Read going few first answers sent =
-    absurd sent
-ends_unsent catalogue given given' taken taken' taken'' rest message count r is_over has_failed Write going few first answers sent =
-    ends_write catalogue given given' taken taken' taken'' rest message count r is_over has_failed going few first answers sent
-ends_unsent catalogue given given' taken taken' taken'' rest message count r is_over has_failed Memory going few first answers sent =
+ends_unsent message r is_over has_failed Read going few first answers sent = absurd sent
+ends_unsent message r is_over has_failed Write going few first answers sent = ends_write message r is_over going few first answers sent
+ends_unsent {catalogue} {given} {given'} {taken} message r is_over has_failed Memory going few first answers sent =
     subst (λ (t : Option (List ℕ)). Outcome catalogue given given' taken t is_over (Err Memory)) (sym sent.same)
-    (ends_memory catalogue given given' taken taken' rest count is_over going (omega arith))
+    (ends_memory is_over going (omega arith))
 
 pub unsent_flag : (taken' taken'' : Option (List ℕ)) (text : List ℕ) (has_failed : Bool) (e : ServeError)
     → Writes {A = Bool} taken' taken'' has_failed text (Err e)

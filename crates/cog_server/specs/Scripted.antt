@@ -1,6 +1,8 @@
 -- What others know of the readers and writers here.
 use Rattle.std.specs.Prelude.{ℕ, Bool, List, take}
 use Rattle.cog_server.specs.declared.stream.Stream.{Stream}
+use Rattle.cog_server.specs.declared.scripted.AfterBytes.{AfterBytes}
+use Rattle.cog_server.specs.declared.scripted.AfterPieces.{AfterPieces}
 use Rattle.cog_server.specs.declared.scripted.ScriptedInlet.{ScriptedInlet}
 use Rattle.cog_server.specs.declared.scripted.ScriptedOutlet.{ScriptedOutlet}
 
@@ -8,9 +10,24 @@ use Rattle.cog_server.specs.declared.scripted.ScriptedOutlet.{ScriptedOutlet}
 abbrev pub stream_failed : {T : Type 0} → Stream T → Bool
 stream_failed s = s.failed
 
+-- the reader or writer of the standard library
+abbrev pub inner_of : {T : Type 0} → Stream T → T
+inner_of s = s.inner
+
+-- a read into some room has given no byte
+abbrev pub stream_ended : {T : Type 0} → Stream T → Bool
+stream_ended s = s.ended
+
 -- the bytes of the script
 abbrev pub script_bytes : ScriptedInlet → List ℕ
 script_bytes s = s.bytes.items
+
+-- the sizes of its pieces, and what follows the bytes
+abbrev pub inlet_pieces : ScriptedInlet → List ℕ
+inlet_pieces s = s.pieces.items
+
+abbrev pub after_bytes : ScriptedInlet → AfterBytes
+after_bytes s = s.after
 
 -- those that were given
 abbrev pub script_given : ScriptedInlet → List ℕ
@@ -18,6 +35,13 @@ script_given s = take s.position s.bytes.items
 
 abbrev pub inlet_failed : ScriptedInlet → Bool
 inlet_failed s = s.failed
+
+-- the sizes of its pieces, and what follows them
+abbrev pub outlet_pieces : ScriptedOutlet → List ℕ
+outlet_pieces s = s.pieces.items
+
+abbrev pub after_pieces : ScriptedOutlet → AfterPieces
+after_pieces s = s.after
 
 -- the bytes that were taken
 abbrev pub script_taken : ScriptedOutlet → List ℕ

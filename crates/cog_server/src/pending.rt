@@ -59,8 +59,10 @@ impl Pending {
     /// The length of the first message, if it is whole. Only bytes that are new are gone through.
     fn whole(&mut self) -> Option<usize>
         ensures held { held self.new ≡ held self.old }
-        ensures found { IfSome result (λ n. (n ≤ length (held self.new)) × IsFirstMessage (held self.new) (take n (held self.new))) }
+        ensures found { IfSome result (λ n. (n ≤ length (held self.new))
+            × IsFirstMessage (held self.new) (take n (held self.new))) }
         ensures none { IfNone result (IsUnfinished (held self.new)) }
+        ensures searched { IfNone result (self.new.scanned ≡ self.new.end - self.new.start) }
     {
         let found = message_length(self.held(), self.scanned);
         if found.is_none() {
@@ -73,6 +75,7 @@ impl Pending {
     fn compact(&mut self)
         ensures held { held self.new ≡ held self.old }
         ensures start { self.new.start ≡ 0 }
+        ensures scanned { self.new.scanned ≡ self.old.scanned }
     {
         if self.start > 0 {
             self.bytes.copy_within(self.start..self.end, 0);
@@ -87,6 +90,7 @@ impl Pending {
         requires unfailed { R.has_failed r.old ≡ false }
         ensures bytes { ReadsOn (R.given r.old) (R.given r.new) (held self.old) (held self.new) }
         ensures ok { IfOk result (λ n. (length (held self.new) ≡ length (held self.old) + n) × (n ≡ 0 → R.is_over r.new)) }
+        ensures scanned { self.new.scanned ≡ self.old.scanned }
         ensures unfailed { OnOk result (R.has_failed r.new ≡ false) }
         ensures err { IfErr result (λ e. (e ≡ ServeError.Read) × (R.has_failed r.new ≡ true) × IsUnfinished (held self.new)) }
     {
@@ -125,7 +129,8 @@ fn read_into<R: Inlet>(r: &mut R, buffer: &mut [u8], from: usize) -> Result<usiz
     ensures ok { IfOk result (λ n. (from + n ≤ length buffer.new) × (n ≡ 0 → R.is_over r.new)
         × (R.given r.new ≡ append_known (R.given r.old) (take n (drop from buffer.new)))) }
     ensures unfailed { OnOk result (R.has_failed r.new ≡ false) }
-    ensures err { IfErr result (λ e. (e ≡ ServeError.Read) × (R.has_failed r.new ≡ true) × (R.given r.new ≡ append_known (R.given r.old) [])) }
+    ensures err { IfErr result (λ e. (e ≡ ServeError.Read) × (R.has_failed r.new ≡ true)
+        × (R.given r.new ≡ append_known (R.given r.old) [])) }
 {
     match r.read(&mut buffer[from..]) {
         Ok(n) => Ok(n),

@@ -34,11 +34,13 @@ pub struct ScriptedInlet {
 }
 
 impl ScriptedInlet {
-    ghost use Rattle.cog_server.specs.Scripted.{inlet_failed, script_bytes, script_given};
+    ghost use Rattle.cog_server.specs.Scripted.{after_bytes, inlet_failed, inlet_pieces, script_bytes, script_given};
 
     /// One that hasn't given anything.
     pub fn new(bytes: Vec<u8>, pieces: Vec<usize>, after: AfterBytes) -> Self
         ensures bytes { script_bytes result ≡ bytes.items }
+        ensures pieces { inlet_pieces result ≡ pieces.items }
+        ensures after { after_bytes result ≡ after }
         ensures given { script_given result ≡ [] }
         ensures unfailed { inlet_failed result ≡ false }
     {
@@ -108,10 +110,12 @@ pub struct ScriptedOutlet {
 }
 
 impl ScriptedOutlet {
-    ghost use Rattle.cog_server.specs.Scripted.{outlet_failed, script_taken};
+    ghost use Rattle.cog_server.specs.Scripted.{after_pieces, outlet_failed, outlet_pieces, script_taken};
 
     /// One that hasn't taken anything.
     pub fn new(alloc: Global, pieces: Vec<usize>, after: AfterPieces) -> Self
+        ensures pieces { outlet_pieces result ≡ pieces.items }
+        ensures after { after_pieces result ≡ after }
         ensures taken { script_taken result ≡ [] }
         ensures unfailed { outlet_failed result ≡ false }
     {

@@ -1,5 +1,5 @@
 //! Answers on a stream.
-ghost use Rattle.std.specs.Prelude.{◌≡◌, ◌≤◌, ◌<◌, ◌++◌, false, true, ℕ, List, IfOk, IfErr, OnOk, length, map, take};
+ghost use Rattle.std.specs.Prelude.{◌≡◌, ◌≤◌, ◌<◌, ◌++◌, false, true, ℕ, List, IfOk, IfErr, OnOk, length, map, max, take};
 ghost use Rattle.std.specs.Io.KnownBytes.{append_known};
 ghost use Rattle.http_range.specs.Reply.{head_text};
 ghost use Rattle.cog_server.specs.Catalogue.{publication};
@@ -21,7 +21,8 @@ const FIRST_WRITE: usize = 16384;
 fn send<W: Outlet>(w: &mut W, bytes: &[u8]) -> Result<(), ServeError>
     requires { W.has_failed w.old ≡ false }
     ensures ok { OnOk result (IsWritten (W.taken w.old) (W.taken w.new) (W.has_failed w.new) bytes.now) }
-    ensures err { IfErr result (λ e. (e ≡ ServeError.Write) × IsBroken (W.taken w.old) (W.taken w.new) (W.has_failed w.new) bytes.now) }
+    ensures err { IfErr result (λ e. (e ≡ ServeError.Write)
+        × IsBroken (W.taken w.old) (W.taken w.new) (W.has_failed w.new) bytes.now) }
 {
     let mut sent = 0;
     while sent < bytes.len() {
@@ -37,14 +38,16 @@ fn send<W: Outlet>(w: &mut W, bytes: &[u8]) -> Result<(), ServeError>
     Ok(())
 }
 
-/// The head of an answer with the beginning of its body, at most 16,384 bytes, and the rest of the body.
+/// The head of an answer with as much of its body as fits into the first write, and the rest of the body.
 fn first_write<'f>(
     alloc: Global,
     reply: &Reply,
     close: bool,
     body: &'f [u8],
 ) -> Result<(Vec<u8>, &'f [u8]), Memory>
-    ensures { IfOk result (λ text. text.0.items ++ text.1.now ≡ head_text reply.now close ++ body.now) }
+    ensures whole { IfOk result (λ text. text.0.items ++ text.1.now ≡ head_text reply.now close ++ body.now) }
+    ensures few { IfOk result (λ text. length text.0.items ≤ max FIRST_WRITE (length (head_text reply.now close))) }
+    ensures full { IfOk result (λ text. 0 < length text.1.now → FIRST_WRITE ≤ length text.0.items) }
 {
     let mut text = write_head(alloc, reply, close)?;
     let (front, rest) = body.split_at(FIRST_WRITE.saturating_sub(text.len()).min(body.len()));

@@ -75,7 +75,8 @@ pub record TextRows : Type 0 where
       ++ codes "Content-Range: bytes 0-65535/67706\r\nContent-Length: 65536\r\nConnection: close\r\n\r\n"
   pub head_length : length (head_text (R206 tag_1 0 65535 67706) true) ≡ 171
   pub whole : head_text (R200 tag_1 378) false
-      ≡ codes "HTTP/1.1 200 OK\r\nETag: \"1-1\"\r\nAccept-Ranges: bytes\r\nContent-Type: image/tiff\r\nContent-Length: 378\r\n\r\n"
+      ≡ codes "HTTP/1.1 200 OK\r\nETag: \"1-1\"\r\nAccept-Ranges: bytes\r\nContent-Type: image/tiff\r\n"
+      ++ codes "Content-Length: 378\r\n\r\n"
   pub bad : head_text R400 true ≡ codes "HTTP/1.1 400 Bad Request\r\nContent-Length: 0\r\nConnection: close\r\n\r\n"
   pub unknown : head_text R404 false ≡ codes "HTTP/1.1 404 Not Found\r\nContent-Length: 0\r\n\r\n"
   pub method : head_text R405 false ≡ codes "HTTP/1.1 405 Method Not Allowed\r\nAllow: GET, HEAD\r\nContent-Length: 0\r\n\r\n"
@@ -209,7 +210,10 @@ case_rows =
     ∷ (gets [], whole_file)
     ∷ (gets_range ((codes "connection", codes "te,\t Close ") ∷ []), with_tag (R206 tag_1 0 0 378) true (73 ∷ []))
     ∷ (asks (codes "GET") (codes "/b") (host ∷ (codes "Connection", codes "closed") ∷ []), plain R404 false)
-    ∷ (asks (codes "PUT") (codes "/b") (host ∷ (codes "Connection", codes "a") ∷ (codes "Connection", codes "close") ∷ []), plain R405 true)
+    ∷ (
+      asks (codes "PUT") (codes "/b") (host ∷ (codes "Connection", codes "a") ∷ (codes "Connection", codes "close") ∷ []),
+      plain R405 true,
+    )
     ∷ []
 
 -- ---- streams, from their bytes

@@ -1,6 +1,6 @@
 -- One packet after another.
 use Rattle.std.proofs.Common.{◌≡◌, ℕ, ◌+◌, ◌-◌, ◌*◌, ◌%◌, ◌<◌, ◌≤◌, List, [], ◌∷◌, ◌++◌, length, take, drop, min, refl, sym, ap, ◌∙◌, subst, arith, append_assoc, append-nil, length-append}
-use Rattle.std.proofs.lemmas.List.{take_at, take-append-drop, length-drop, length-take-le, take-append-le}
+use Rattle.std.proofs.lemmas.List.{take_at, take_rest, take-append-drop, length-drop, length-take-le, take-append-le}
 use Rattle.std.proofs.lemmas.Grind.{flat_map-append}
 use Rattle.std.proofs.Math.Seq.{take-add, take-append-add}
 use borrow.Rule.Slice.PartMut.{put_mid}
@@ -164,3 +164,28 @@ packs_added row packed new at len packs below adds =
     let whole : take (at + len) row ≡ take at row ++ output adds.packet = take-add at len row ∙ ap (λ l. take at row ++ l) adds.text_is in
     subst (λ b. Packs n b (take (at + len) row)) (sym adds.added)
     (subst (Packs n (packed ++ written adds.packet)) (sym whole) (packs_push n packed (take at row) adds.packet packs adds.lawful fits))
+
+-- ---- a loop that unpacks packet after packet
+
+-- the first `at` bytes are packets for the first `done` of the output, in whose row so much room is left
+pub record IsUnpackedTo (row : ℕ) (seg out : List ℕ) (at done room : ℕ) : Type 0 where
+  pub inside : at ≤ length seg
+  pub fits : done ≤ length out
+  pub packs : Packs row (take at seg) (take done out)
+  pub has : HasRoom row done room
+
+-- the next packet is unpacked
+pub unpacked_on : (row : ℕ) (seg out new : List ℕ) (at len done room room' count : ℕ) → IsUnpackedTo row seg out at done room →
+    (len ≤ length (take (length seg - at) (drop at seg))) × (count ≤ room) × (count ≤ length (take (length out - done) (drop done out)))
+    × IsFirst (take (length seg - at) (drop at seg)) len (take count new) →
+    length new ≡ length (take (length out - done) (drop done out)) → HasRoom row (done + count) room' →
+    IsUnpackedTo row seg (put_mid done (length out - done) out new) (at + len) (done + count) room'
+unpacked_on row seg out new at len done room room' count kept first long has =
+    let few : count ≤ length new = omega (arith, first.2, long) in
+    let begins = subst (λ l. IsFirst l len (take count new)) (take_rest seg at) first.3 in
+    record {
+      inside = omega (arith, first.0, ap length (take_rest seg at), length-drop at seg, kept.inside);
+      fits = fits_in out new done (length out - done) count kept.fits few;
+      packs = packs_next row seg out new at len done room (length out - done) count kept.packs kept.has kept.fits few first.1 begins;
+      has = has;
+    }

@@ -1,5 +1,5 @@
 -- One packet after another.
-use Rattle.std.specs.Prelude.{◌≡◌, ℕ, ◌+◌, ◌%◌, ◌≤◌, List, ◌++◌, length}
+use Rattle.std.specs.Prelude.{◌≡◌, ℕ, ◌+◌, ◌%◌, ◌≤◌, List, ◌++◌, length, Option, Some, None}
 use Rattle.tiff_dir.specs.Packets.{Packet, IsPacket, written, output, Packs}
 
 -- The bytes begin with a packet of this length, whose output is added to old and crosses no row.
@@ -15,6 +15,11 @@ pub record IsNextPacket (row : ℕ) (bytes : List ℕ) (len : ℕ) (old new : Li
 -- no packet comes next
 abbrev pub HasNoNextPacket : ℕ → List ℕ → List ℕ → Type 0
 HasNoNextPacket row bytes old = (len : ℕ) (new : List ℕ) → IsNextPacket row bytes len old new → ⊥
+
+-- the output of the next packet, which has this length, is added to old; or none comes next
+abbrev pub PushesNext : ℕ → List ℕ → List ℕ → List ℕ → Option ℕ → Type 0
+PushesNext row bytes old new None = HasNoNextPacket row bytes old
+PushesNext row bytes old new (Some len) = IsNextPacket row bytes len old new
 
 -- The first at bytes are packets for out.
 pub record IsUnpackedTo (row : ℕ) (bytes : List ℕ) (at : ℕ) (out : List ℕ) : Type 0 where

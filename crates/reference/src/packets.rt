@@ -1,7 +1,7 @@
 //! Packed bytes (TIFF 6.0, section 9).
 ghost use Rattle.std.specs.Prelude.{◌≡◌, ◌<◌, ◌≤◌, ◌+◌, ◌%◌, ◌-◌, ◌↔◌, IfOk, IfSome, IfNone, IsSomeAnd, IsTrue, Some, length, slice_get, drop, slice_range};
 ghost use Rattle.tiff_dir.specs.Packets.{Packs};
-ghost use Rattle.reference.specs.Unpacking.{HasNoNextPacket, IsNextPacket, IsNotPacked, IsUnpackedTo};
+ghost use Rattle.reference.specs.Unpacking.{IsNotPacked, PushesNext};
 
 use std::alloc::{AllocError, Global};
 use tiff_dir::one_text;
@@ -14,18 +14,15 @@ fn has_room(len: usize, count: usize, row: usize) -> bool
     used <= row && count <= row - used
 }
 
+/// The length of the packet whose output was appended, if there is one that has room.
+type Pushed = Result<Option<usize>, AllocError>;
+
 /// Appends the `count` bytes after the first one, which says so many, where `out` has room for them in its row.
-fn push_copied(
-    out: &mut Vec<u8>,
-    bytes: &[u8],
-    count: usize,
-    row: usize,
-) -> Result<Option<usize>, AllocError>
+fn push_copied(out: &mut Vec<u8>, bytes: &[u8], count: usize, row: usize) -> Pushed
     requires some { 1 ≤ count }
     requires few { count ≤ 128 }
     requires head { slice_get bytes.now 0 ≡ Some (count - 1) }
-    ensures next { IfOk result (λ o. IfSome o (λ len. IsNextPacket row bytes.now len out.old.items out.new.items)) }
-    ensures none { IfOk result (λ o. IfNone o (HasNoNextPacket row bytes.now out.old.items)) }
+    ensures { IfOk result (PushesNext row bytes.now out.old.items out.new.items) }
 {
     if bytes.len() < count + 1 || !has_room(out.len(), count, row) {
         return Ok(None);
@@ -35,17 +32,11 @@ fn push_copied(
 }
 
 /// Appends the byte after the first one `times` times, where the first one says so and `out` has room for them in its row.
-fn push_repeated(
-    out: &mut Vec<u8>,
-    bytes: &[u8],
-    times: usize,
-    row: usize,
-) -> Result<Option<usize>, AllocError>
+fn push_repeated(out: &mut Vec<u8>, bytes: &[u8], times: usize, row: usize) -> Pushed
     requires some { 2 ≤ times }
     requires few { times ≤ 128 }
     requires head { slice_get bytes.now 0 ≡ Some (257 - times) }
-    ensures next { IfOk result (λ o. IfSome o (λ len. IsNextPacket row bytes.now len out.old.items out.new.items)) }
-    ensures none { IfOk result (λ o. IfNone o (HasNoNextPacket row bytes.now out.old.items)) }
+    ensures { IfOk result (PushesNext row bytes.now out.old.items out.new.items) }
 {
     if !has_room(out.len(), times, row) {
         return Ok(None);
@@ -59,9 +50,8 @@ fn push_repeated(
 }
 
 /// Appends what the first packet of the bytes stands for, and gives its length.
-fn push_packet(out: &mut Vec<u8>, bytes: &[u8], row: usize) -> Result<Option<usize>, AllocError>
-    ensures next { IfOk result (λ o. IfSome o (λ len. IsNextPacket row bytes.now len out.old.items out.new.items)) }
-    ensures none { IfOk result (λ o. IfNone o (HasNoNextPacket row bytes.now out.old.items)) }
+fn push_packet(out: &mut Vec<u8>, bytes: &[u8], row: usize) -> Pushed
+    ensures { IfOk result (PushesNext row bytes.now out.old.items out.new.items) }
 {
     let Some(head) = bytes.first() else {
         return Ok(None);

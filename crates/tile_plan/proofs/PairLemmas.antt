@@ -57,3 +57,29 @@ exchanged_rest old bytes new at n k even within all is new_is =
 pub fits_in : (bytes new : List ℕ) (at n m : ℕ) → at ≤ length bytes → m ≤ length new → at + m ≤ length (put_mid at n bytes new)
 fits_in bytes new at n m within few =
     omega (arith, length-take-le at bytes within, few, length-append (take at bytes) (new ++ drop n (drop at bytes)), length-append new (drop n (drop at bytes)))
+
+-- ---- a loop that exchanges part after part
+
+-- the first bytes, up to a place, are exchanged in whole pairs, and the others are as they were
+pub record IsExchangedTo (old bytes : List ℕ) (at : ℕ) : Type 0 where
+  pub inside : at ≤ length bytes
+  pub pairs : ℕ
+  pub even : at ≡ 2 * pairs
+  pub parts : bytes ≡ exchanged (take at old) ++ drop at old
+
+pub exchanged_none : (bytes : List ℕ) → IsExchangedTo bytes bytes 0
+exchanged_none bytes = record { inside = omega arith; pairs = 0; even = refl; parts = refl }
+
+-- the next bytes, so many pairs, are exchanged
+pub exchanged_on : (old bytes new : List ℕ) (at n part pairs : ℕ) → n ≡ part → part ≡ 2 * pairs → at + part ≤ length bytes → length bytes ≡ length old →
+    IsExchangedTo old bytes at → new ≡ exchanged (take n (drop at bytes)) → IsExchangedTo old (put_mid at n bytes new) (at + part)
+exchanged_on old bytes new at n part pairs count even room same kept is =
+    let place : at + n ≡ at + part = omega arith in
+    let size : length new ≡ part = ap length is ∙ length-exchanged (take n (drop at bytes))
+    ∙ length-take-le n (drop at bytes) (omega (arith, length-drop at bytes)) ∙ count in
+    record {
+      inside = fits_in bytes new at n part kept.inside (omega arith);
+      pairs = kept.pairs + pairs;
+      even = omega (arith, kept.even);
+      parts = exchanged_more old bytes new at n kept.pairs kept.even (omega arith) kept.parts is ∙ ap (λ m. exchanged (take m old) ++ drop m old) place;
+    }

@@ -57,6 +57,7 @@ pub fn ask(server: &Server, sent: &mut usize, message: &[u8]) -> Result<Entry, M
     requires { sent.old + 1 < 2 ^ 64 }
     ensures answers { IfOk result (λ n. Answers server.now.catalogue sent.old message.now n) }
     ensures sent { OnOk result (sent.new ≡ sent.old + 1) }
+    ensures err { OnErr result (sent.new ≡ sent.old) }
     ensures few { sent.new ≤ sent.old + 1 }
 {
     let answer = server.answer(message)?;

@@ -15,7 +15,7 @@ returns-in_err-send g c =
     let response = response_of c.prepare-answer.result in
     let text = c.deref.result.now in
     let rest = c.in_ok-text.rest.now in
-    let whole : text ++ rest ≡ text_of response = ap (λ (t : List ℕ). t ++ rest) c.deref.ensures.value ∙ c.in_ok-text.ensures in
+    let whole : text ++ rest ≡ text_of response = ap (λ (t : List ℕ). t ++ rest) c.deref.ensures.value ∙ c.in_ok-text.ensures.whole in
     sends_broken (map publication c.args.files.now) c.args.message.now _ _ _ response _ _ c.from_residual-in_err-send.ensures.1
     c.in_err-send.ensures.err.0 c.prepare-answer.ensures
     (first_broken (g.W.Outlet.taken c.args.w.now) (g.W.Outlet.taken c.send.new.w) (g.W.Outlet.has_failed c.send.new.w) text rest (text_of response) whole
@@ -26,7 +26,7 @@ returns-in_err-send-2 g c =
     let response = response_of c.prepare-answer.result in
     let text = c.deref.result.now in
     let rest = c.in_ok-text.rest.now in
-    let whole : text ++ rest ≡ text_of response = ap (λ (t : List ℕ). t ++ rest) c.deref.ensures.value ∙ c.in_ok-text.ensures in
+    let whole : text ++ rest ≡ text_of response = ap (λ (t : List ℕ). t ++ rest) c.deref.ensures.value ∙ c.in_ok-text.ensures.whole in
     sends_broken (map publication c.args.files.now) c.args.message.now _ _ _ response _ _ c.from_residual-in_err-send-2.ensures.1
     c.in_err-send-2.ensures.err.0 c.prepare-answer.ensures
     (then_broken (g.W.Outlet.taken c.args.w.now) (g.W.Outlet.taken c.send.new.w) (g.W.Outlet.taken c.send-2.new.w) (g.W.Outlet.has_failed c.send.new.w)
@@ -37,7 +37,7 @@ returns g c =
     let response = response_of c.prepare-answer.result in
     let text = c.deref.result.now in
     let rest = c.in_ok-text.rest.now in
-    let whole : text ++ rest ≡ text_of response = ap (λ (t : List ℕ). t ++ rest) c.deref.ensures.value ∙ c.in_ok-text.ensures in
+    let whole : text ++ rest ≡ text_of response = ap (λ (t : List ℕ). t ++ rest) c.deref.ensures.value ∙ c.in_ok-text.ensures.whole in
     record {
       response = response;
       answers = c.prepare-answer.ensures;

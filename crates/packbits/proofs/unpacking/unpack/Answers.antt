@@ -1,8 +1,8 @@
-use Rattle.std.proofs.Common.{◌≡◌, ◌-◌, ◌≤◌, length, take, drop, min, refl, sym, ap, ◌∙◌, subst, arith, length-drop}
+use Rattle.std.proofs.Common.{◌≡◌, ◌-◌, length, take, drop, min, refl, sym, subst, arith, length-drop}
 use Rattle.std.proofs.lemmas.List.{take_all, take_rest, length-take-le}
 use Rattle.tiff_dir.specs.Packets.{Packs}
-use Rattle.packbits.specs.Unpacking.{IsFirst, HasNoFirst}
-use Rattle.packbits.proofs.PacketLemmas.{HasRoom, room_left, room_next, packs_next, fits_in, not_packed, not_filled}
+use Rattle.packbits.specs.Unpacking.{HasNoFirst}
+use Rattle.packbits.proofs.PacketLemmas.{HasRoom, room_left, room_next, unpacked_on, not_packed, not_filled}
 use Rattle.packbits.proofs.unpacking.unpack.Goals as goal
 
 pub returns-in_default-clause-refused : goal.returns-in_default-clause-refused
@@ -24,35 +24,16 @@ returns-in_default-clause-refused c =
 
 pub loop-at-preserved-then-count-room : goal.loop-at-preserved-then-count-room
 loop-at-preserved-then-count-room c =
-    let out = c.loop-at.out in
-    let kept = c.loop-at.invariant in
-    let first = c.in-Some.ensures.first in
-    let long : length c.unpack_first.new.out ≡ length out - c.loop-at.done = c.unpack_first.auto.out ∙ ap length (take_rest out c.loop-at.done) ∙ length-drop c.loop-at.done out in
-    let few : c.in-Some.count ≤ length c.unpack_first.new.out = omega (arith, first.2, ap length (take_rest out c.loop-at.done), length-drop c.loop-at.done out, long) in
-    let begins = subst (λ l. IsFirst l c.in-Some.len (take c.in-Some.count c.unpack_first.new.out)) (take_rest c.args.seg.now c.loop-at.at) first.3 in
-    record {
-      inside = omega (arith, first.0, ap length (take_rest c.args.seg.now c.loop-at.at), length-drop c.loop-at.at c.args.seg.now, kept.inside);
-      fits = fits_in out c.unpack_first.new.out c.loop-at.done (length out - c.loop-at.done) c.in-Some.count kept.fits few;
-      packs = packs_next c.args.row c.args.seg.now out c.unpack_first.new.out c.loop-at.at c.in-Some.len c.loop-at.done c.loop-at.room (length out - c.loop-at.done) c.in-Some.count
-          kept.packs kept.has kept.fits few first.1 begins;
-      has = room_left c.args.row c.loop-at.done c.loop-at.room c.in-Some.count kept.has c.if-count-room.true;
-    }
+    let l = c.loop-at in
+    unpacked_on c.args.row c.args.seg.now l.out c.unpack_first.new.out l.at c.in-Some.len l.done l.room _ c.in-Some.count l.invariant c.in-Some.ensures.first c.unpack_first.auto.out
+    (room_left c.args.row l.done l.room c.in-Some.count l.invariant.has c.if-count-room.true)
 
 pub loop-at-preserved : goal.loop-at-preserved
 loop-at-preserved c =
-    let out = c.loop-at.out in
-    let kept = c.loop-at.invariant in
+    let l = c.loop-at in
     let first = c.in-Some.ensures.first in
-    let long : length c.unpack_first.new.out ≡ length out - c.loop-at.done = c.unpack_first.auto.out ∙ ap length (take_rest out c.loop-at.done) ∙ length-drop c.loop-at.done out in
-    let few : c.in-Some.count ≤ length c.unpack_first.new.out = omega (arith, first.2, ap length (take_rest out c.loop-at.done), length-drop c.loop-at.done out, long) in
-    let begins = subst (λ l. IsFirst l c.in-Some.len (take c.in-Some.count c.unpack_first.new.out)) (take_rest c.args.seg.now c.loop-at.at) first.3 in
-    record {
-      inside = omega (arith, first.0, ap length (take_rest c.args.seg.now c.loop-at.at), length-drop c.loop-at.at c.args.seg.now, kept.inside);
-      fits = fits_in out c.unpack_first.new.out c.loop-at.done (length out - c.loop-at.done) c.in-Some.count kept.fits few;
-      packs = packs_next c.args.row c.args.seg.now out c.unpack_first.new.out c.loop-at.at c.in-Some.len c.loop-at.done c.loop-at.room (length out - c.loop-at.done) c.in-Some.count
-          kept.packs kept.has kept.fits few first.1 begins;
-      has = room_next c.args.row c.loop-at.done c.loop-at.room c.in-Some.count kept.has first.1 c.if-count-room.false;
-    }
+    unpacked_on c.args.row c.args.seg.now l.out c.unpack_first.new.out l.at c.in-Some.len l.done l.room _ c.in-Some.count l.invariant first c.unpack_first.auto.out
+    (room_next c.args.row l.done l.room c.in-Some.count l.invariant.has first.1 c.if-count-room.false)
 
 pub returns-then-done-out-clause-refused : goal.returns-then-done-out-clause-refused
 returns-then-done-out-clause-refused c =

@@ -3,8 +3,8 @@ use Rattle.tiff_dir.specs.Packets.{Copied}
 use Rattle.reference.proofs.UnpackingLemmas.{copied_begins, has_room, slice_length}
 use Rattle.reference.proofs.packets.push_copied.Goals as goal
 
-pub returns-clause-next : goal.returns-clause-next
-returns-clause-next c =
+pub returns : goal.returns
+returns c =
     let size : length (slice_range c.args.bytes.now 1 (c.args.count + 1)) ≡ c.args.count = slice_length c.args.bytes.now 1 (c.args.count + 1) (omega arith) (omega arith) ∙ omega arith in
     let same : c.len.result ≡ length c.args.out.now.items = omega (arith, c.len.ensures, c.args.out.now.ok) in
     record {

@@ -3,8 +3,8 @@ use Rattle.tiff_dir.specs.Packets.{Passed}
 use Rattle.reference.proofs.UnpackingLemmas.{first_one, has_room}
 use Rattle.reference.proofs.packets.push_packet.Goals as goal
 
-pub returns-then-has_room-clause-next : goal.returns-then-has_room-clause-next
-returns-then-has_room-clause-next c =
+pub returns-then-has_room : goal.returns-then-has_room
+returns-then-has_room c =
     let first = c.in-Some.ensures.item.3 in
     record {
       packet = Passed;

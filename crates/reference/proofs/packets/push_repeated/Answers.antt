@@ -4,8 +4,8 @@ use Rattle.tiff_dir.specs.Packets.{Repeated}
 use Rattle.reference.proofs.UnpackingLemmas.{first_two, has_room, resized}
 use Rattle.reference.proofs.packets.push_repeated.Goals as goal
 
-pub returns-clause-next : goal.returns-clause-next
-returns-clause-next c =
+pub returns : goal.returns
+returns c =
     let same : c.len.result ≡ length c.args.out.now.items = omega (arith, c.len.ensures) in
     let again : c.len-2.result ≡ length c.args.out.now.items = omega (arith, c.len-2.ensures) in
     let second = c.in-Some.ensures.lookup.3 in

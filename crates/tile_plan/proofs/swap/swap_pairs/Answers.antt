@@ -1,30 +1,19 @@
-use Rattle.std.proofs.Common.{◌≡◌, ◌+◌, ◌-◌, ◌≤◌, ◌++◌, ℕ, length, take, drop, ap, ◌∙◌, arith, length-drop}
-use Rattle.std.proofs.lemmas.List.{length-take-le}
-use Rattle.tile_plan.specs.Pairs.{exchanged}
-use Rattle.tile_plan.proofs.PairLemmas.{exchanged_more, exchanged_rest, fits_in, length-exchanged}
+use Rattle.std.proofs.Common.{◌+◌, ◌-◌, length, refl, arith}
+use Rattle.tile_plan.proofs.PairLemmas.{exchanged_rest, exchanged_none, exchanged_on}
 use Rattle.tile_plan.proofs.swap.swap_pairs.Goals as goal
+
+pub loop-bytes-init : goal.loop-bytes-init
+loop-bytes-init c = exchanged_none c.args.bytes.now
 
 pub loop-bytes-preserved : goal.loop-bytes-preserved
 loop-bytes-preserved c =
     let at = c.loop-bytes.at in
-    let bytes = c.loop-bytes.bytes in
-    let old = c.args.bytes.now in
-    let kept = c.loop-bytes.invariant in
-    let n : ℕ = at + 16 - at in
-    let count : n ≡ 16 = omega arith in
-    let place : at + n ≡ at + 16 = omega (arith, count) in
-    let within : at + n ≤ length old = omega (arith, place, c.loop-bytes-test.true, c.loop-bytes.auto.bytes) in
-    let size : length c.swap_lanes.new.bytes ≡ 16 = ap length c.swap_lanes.ensures ∙ length-exchanged (take n (drop at bytes))
-    ∙ length-take-le n (drop at bytes) (omega (arith, count, length-drop at bytes, c.loop-bytes-test.true)) ∙ count in
-    record {
-      inside = fits_in bytes c.swap_lanes.new.bytes at n 16 kept.inside (omega (arith, size));
-      even = (kept.even.0 + 8, omega (arith, kept.even.1));
-      bytes = exchanged_more old bytes c.swap_lanes.new.bytes at n kept.even.0 kept.even.1 within kept.bytes c.swap_lanes.ensures
-          ∙ ap (λ m. exchanged (take m old) ++ drop m old) place;
-    }
+    exchanged_on c.args.bytes.now c.loop-bytes.bytes c.swap_lanes.new.bytes at (at + 16 - at) 16 8 (omega arith) refl
+    (omega (arith, c.loop-bytes-test.true, c.loop-bytes.invariant.inside)) (omega (arith, c.loop-bytes.auto.bytes)) c.loop-bytes.invariant c.swap_lanes.ensures
 
 pub returns : goal.returns
 returns c =
     let at = c.loop-bytes.at in
-    exchanged_rest c.args.bytes.now c.loop-bytes.bytes c.swap_rest.new.bytes at (length c.loop-bytes.bytes - at) c.loop-bytes.invariant.even.0 c.loop-bytes.invariant.even.1
-    (omega (arith, c.loop-bytes.invariant.inside, c.loop-bytes.auto.bytes)) (omega (arith, c.loop-bytes.auto.bytes)) c.loop-bytes.invariant.bytes c.swap_rest.ensures
+    let kept = c.loop-bytes.invariant in
+    exchanged_rest c.args.bytes.now c.loop-bytes.bytes c.swap_rest.new.bytes at (length c.loop-bytes.bytes - at) kept.pairs kept.even
+    (omega (arith, kept.inside, c.loop-bytes.auto.bytes)) (omega (arith, c.loop-bytes.auto.bytes)) kept.parts c.swap_rest.ensures
