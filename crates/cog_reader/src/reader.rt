@@ -231,7 +231,8 @@ impl Reader {
     /// It takes no memory.
     pub fn take_outcome(&mut self) -> Option<Outcome>
         ensures outcome { result ≡ outcome_of self.old }
-        ensures true_of { (f : List ℕ) → Agrees self.old f → IfSome result (λ o. IsSomeAnd (query_of self.old) (λ q. IsTrueOf f q o)) }
+        ensures true_of { (f : List ℕ) → Agrees self.old f
+            → IfSome result (λ o. IsSomeAnd (query_of self.old) (λ q. IsTrueOf f q o)) }
         // No outcome is left, and with it the query has gone.
         ensures left { outcome_of self.new ≡ None }
         ensures query { IsSome result → query_of self.new ≡ None }

@@ -68,6 +68,16 @@ impl Image {
         Ok(())
     }
 
+    /// The range that is wanted next.
+    pub fn need(&mut self) -> Result<Option<Span>, Memory> {
+        self.reader.need()
+    }
+
+    /// What answers the query, taken out of the reader.
+    pub fn take_outcome(&mut self) -> Option<Outcome> {
+        self.reader.take_outcome()
+    }
+
     /// The answer to a query.
     pub fn answer(&mut self, alloc: Global, query: Query) -> Result<Answer<'_>, Memory> {
         self.reader.open(query);

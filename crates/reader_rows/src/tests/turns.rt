@@ -172,3 +172,25 @@ fn after_a_fault(rt: HostRuntime) -> Result<(), Fail> {
     ];
     expect(&rt, &mut image, &rows)
 }
+
+/// Before the end there is no outcome to take, and the query goes on. One that is taken leaves nothing asked, and the
+/// directories and arrays are kept.
+#[test]
+fn taken_out(rt: HostRuntime) -> Result<(), Fail> {
+    let mut image = Image::new(rt.alloc(), Fixture::F3.file(rt.alloc())?);
+    image.begin(window(CORNER), 6).ok().ok_or("no memory")?;
+    assert_eq!(rt; image.take_outcome(), None);
+    let next = image.need().ok().ok_or("no memory")?;
+    assert!(rt;
+        next.is_some_and(|span| are_ranges(&[span], &FIRST[1..])),
+        "{next:?}"
+    );
+    let rest: [&[Range]; 2] = [&FIRST[1..], &ALL_TILES];
+    expect(&rt, &mut image, &[(CORNER, &rest, CORNER_SAMPLES)])?;
+    let outcome = image.take_outcome();
+    assert!(rt; is_wanted(outcome.as_ref(), CORNER_SAMPLES), "{outcome:?}");
+    assert_eq!(rt; image.take_outcome(), None);
+    assert_eq!(rt; image.need().ok().ok_or("no memory")?, None);
+    let again: [&[Range]; 1] = [&ALL_TILES];
+    expect(&rt, &mut image, &[(CORNER, &again, CORNER_SAMPLES)])
+}
