@@ -1,0 +1,276 @@
+-- What the steps of a client keep.
+use Rattle.std.proofs.Common.{◌≡◌, ℕ, List, [], length, Option, Some, None, refl, sym, ap, ◌∙◌, subst}
+use Rattle.std.proofs.lemmas.Bool.{false≢true}
+use Rattle.std.specs.Prelude.{IfSome, IsSome, IsSomeAnd, is_some, if◌then◌else◌}
+use Rattle.std.specs.Option.{option_map, option_map_or}
+use Rattle.tiff_dir.specs.declared.query.Query.{Query}
+use Rattle.tiff_dir.specs.declared.span.Span.{Span}
+use Rattle.tiff_dir.specs.Needs.{IsEndOf}
+use Rattle.tiff_dir.specs.Query.{needs}
+use Rattle.http_range.specs.Book.{Book}
+use Rattle.http_range.specs.Piece.{SeenPiece}
+use Rattle.range_cache.specs.Cache.{Blocks, Holds}
+use Rattle.range_cache.specs.Laws.{FrontHolds}
+use Rattle.cog_reader.specs.Outcome.{IsTrueOf}
+use Rattle.cog_reader.specs.Reader as reader
+use Rattle.cog_reader.specs.Reader.{Held}
+use Rattle.cog_client.specs.declared.report.Report.{Report}
+use Rattle.cog_client.specs.declared.source.Source.{Source}
+use Rattle.cog_client.specs.Case.{Revision}
+use Rattle.cog_client.specs.Take.{emptied, stored_front}
+use Rattle.cog_client.specs.Client.{Known, Knows, KnowsBy, KnowsOne, Agrees, IsClient, IsFew, IsReadingOf, IsReportOf, asked_of, blocks_of, host_of, name_of, query_of, report_of, revision_at, revision_of, tag_of, to_come}
+use Rattle.cog_client.specs.Calls.{GoesOn, Opens, SameClient, StaysOf}
+use Rattle.cog_client.specs.Going as going
+use Rattle.cog_client.specs.Going.{work}
+use Rattle.cog_client.specs.Steps.{Adopts, Concludes, Stores}
+use Rattle.cog_client.proofs.GoingLemmas.{end_nil, end_refl, end_trans, same_refl, same_trans as blocks_trans}
+
+abbrev pub known : List ℕ → List ℕ → Option Query → Option Span → Option Source → Blocks → Option Report → Known
+known h n q a s b r = record { host = h; name = n; query = q; asked = a; source = s; cache = b; report = r }
+
+pub known_is : (h n : List ℕ) (q q' : Option Query) (a : Option Span) (s s' : Option Source) (b : Blocks) (r r' : Option Report) → q ≡ q' → s ≡ s' → r ≡ r' → known h n q a s b r ≡ known h n q' a s' b r'
+known_is h n q q' a s s' b r r' query source report =
+    ap (λ x. known h n x a s b r) query ∙ ap (λ x. known h n q' a x b r) source ∙ ap (known h n q' a s' b) report
+
+-- a client with a revision reads something
+pub by_source : (P : Option Source → Type 0) → ((s : Source) → P (Some s)) → (o : Option Source) → IsSome (revision_at o) → P o
+by_source P h None none = absurd (false≢true none)
+by_source P h (Some s) some = h s
+
+-- the tag is that of what is read
+pub tag_is : (c : Known) (s : Source) → c.source ≡ Some s → tag_of c ≡ Some s.tag
+unfolding revision_of
+tag_is c s is = ap (λ o. option_map (λ (v : Revision). v.tag) (revision_at o)) is
+
+-- ---- agreement goes by files
+
+pub some_knows : (f : List ℕ) (c : Known) (s : Source) → c.source ≡ Some s → Knows f c → KnowsBy f c s
+unfolding Knows
+some_knows f c s is k = subst (λ o. IfSome o (KnowsBy f c)) is k
+
+pub knows_some : (f : List ℕ) (c : Known) (s : Source) → c.source ≡ Some s → KnowsBy f c s → Knows f c
+unfolding Knows
+knows_some f c s is k = subst (λ o. IfSome o (KnowsBy f c)) (sym is) k
+
+agrees_as : (v : Option Revision) (old new : Known) (book : Book) → name_of new ≡ name_of old → ((f : List ℕ) → Knows f old → Knows f new)
+    → IfSome v (KnowsOne old book) → IfSome v (KnowsOne new book)
+agrees_as None old new book name knows k = tt
+agrees_as (Some v) old new book name knows k = record {
+  source = k.source;
+  published = k.published;
+  of_name = k.of_name ∙ sym name;
+  of_tag = k.of_tag;
+  knows = knows k.source.file k.knows;
+}
+
+pub agrees_by : (old new : Known) → name_of new ≡ name_of old → revision_of new ≡ revision_of old → ((f : List ℕ) → Knows f old → Knows f new)
+    → (book : Book) → Agrees old book → Agrees new book
+unfolding Agrees
+agrees_by old new name revision knows book agrees =
+    subst (λ v. IfSome v (KnowsOne new book)) (sym revision) (agrees_as (revision_of old) old new book name knows agrees)
+
+pub goes_by : (old new : Known) → SameClient old new → revision_of new ≡ revision_of old → going.AreSame (blocks_of old) (blocks_of new)
+    → ((f : List ℕ) → Knows f old → StaysOf f old new) → GoesOn old new
+goes_by old new same revision blocks file = record {
+  same = same;
+  revision = revision;
+  blocks = blocks;
+  file = file;
+  agrees = agrees_by old new same.name revision (λ f k. (file f k).knows);
+}
+
+-- ---- the blocks of a piece are stored
+
+module _ (h n : List ℕ) (q : Option Query) (a : Option Span) (s : Source) (b : Blocks) (r : Option Report) where
+  pub stored_sound : (new : Blocks) → IsClient (known h n q a (Some s) b r) → IsClient (known h n q a (Some s) new r)
+  stored_sound new c =
+      record { hosted = c.hosted; named = c.named; alone = tt; reading = c.reading; standing = c.standing; few = c.few }
+
+  pub stores_front : (new : Blocks) (p : SeenPiece) (span : Span) (k : ℕ) → FrontHolds → IsClient (known h n q a (Some s) b r)
+      → new ≡ stored_front k p span b → Stores p span k (known h n q a (Some s) b r) (known h n q a (Some s) new r)
+  unfolding host_of name_of query_of asked_of revision_of report_of blocks_of to_come Knows
+  stores_front new p span k law c is = record {
+    same = record { host = refl; name = refl; query = refl };
+    asked = refl;
+    revision = refl;
+    report = refl;
+    blocks = is;
+    file = λ f size piece knows. record {
+      knows = record {
+        reader = knows.reader;
+        blocks = subst (Holds f) (sym is) (law f b p.complete p.first p.body span k size piece knows.blocks);
+        report = knows.report;
+        sound = stored_sound new c;
+      };
+      come = end_refl (reader.to_come s.reader f);
+    };
+  }
+
+  -- ---- going on
+
+  pub gone_sound : (s' : Source) (new : Blocks) → s'.complete ≡ s.complete → IsClient (known h n q a (Some s) b r)
+      → going.GoesOn (work s.reader b) (work s'.reader new) → IsClient (known h n q a (Some s') new r)
+  gone_sound s' new complete c goes = record {
+    hosted = c.hosted;
+    named = c.named;
+    alone = tt;
+    reading = (complete ∙ c.reading.0 ∙ sym goes.complete, goes.query ∙ c.reading.1);
+    standing = c.standing;
+    few = c.few;
+  }
+
+  gone_report : (f : List ℕ) (s' : Source) (o : Option Report) → s'.tag ≡ s.tag → IfSome o (IsReportOf f s) → IfSome o (IsReportOf f s')
+  gone_report f s' None tag h = tt
+  gone_report f s' (Some x) tag h = (h.0 ∙ sym tag, h.1)
+
+  pub gone : (s' : Source) (new : Blocks) → s'.tag ≡ s.tag → s'.complete ≡ s.complete → IsClient (known h n q a (Some s) b r)
+      → going.GoesOn (work s.reader b) (work s'.reader new) → GoesOn (known h n q a (Some s) b r) (known h n q a (Some s') new r)
+  unfolding host_of name_of query_of revision_of blocks_of to_come Knows
+  gone s' new tag complete c goes =
+      goes_by (known h n q a (Some s) b r) (known h n q a (Some s') new r) (record { host = refl; name = refl; query = refl })
+      (ap Some (ap (λ t. record { tag = t; complete = s'.complete }) tag ∙ ap (λ l. record { tag = s.tag; complete = l }) complete)) goes.blocks
+      (λ f knows.
+      let w = goes.file f knows.reader knows.blocks in
+      record {
+        knows = record { reader = w.reader; blocks = w.cache; report = gone_report f s' r tag knows.report; sound = gone_sound s' new complete c goes };
+        come = w.come;
+      })
+
+-- ---- a report that stands from now on
+
+module _ (h n : List ℕ) (q : Query) (a : Option Span) (s s' : Source) (b : Blocks) where
+  pub concluded_sound : (x : Report) → IsClient (known h n (Some q) a (Some s) b None) → Concludes q s (Some x) s' → IsClient (known h n (Some q) None (Some s') b (Some x))
+  concluded_sound x c d = record {
+    hosted = c.hosted;
+    named = c.named;
+    alone = tt;
+    reading = (d.complete ∙ c.reading.0 ∙ sym d.length, d.unasked refl);
+    standing = (ap Some d.report.0, refl);
+    few = tt;
+  }
+
+  concluded_true : (f : List ℕ) (x : Report) → IsClient (known h n (Some q) a (Some s) b None) → Concludes q s (Some x) s' → reader.Agrees s.reader f → IsReportOf f s' x
+  concluded_true f x c d agrees =
+      let of : IsTrueOf f q x.outcome = subst (λ o. IsSomeAnd o (λ k. IsTrueOf f k x.outcome)) c.reading.1 (d.true_of f agrees) in
+      (d.report.1 ∙ sym d.tag, subst (λ k. IsTrueOf f k x.outcome) d.report.0 of)
+
+  pub concluded : (x : Report) → ((r : Held) (f : List ℕ) → reader.query_of r ≡ None → reader.to_come r f ≡ []) → IsClient (known h n (Some q) a (Some s) b None) → Concludes q s (Some x) s'
+      → GoesOn (known h n (Some q) a (Some s) b None) (known h n (Some q) None (Some s') b (Some x))
+  unfolding host_of name_of query_of revision_of blocks_of to_come Knows
+  concluded x none c d =
+      goes_by (known h n (Some q) a (Some s) b None) (known h n (Some q) None (Some s') b (Some x)) (record { host = refl; name = refl; query = refl })
+      (ap Some (ap (λ t. record { tag = t; complete = s'.complete }) d.tag ∙ ap (λ l. record { tag = s.tag; complete = l }) d.complete)) (same_refl b)
+      (λ f knows. record {
+        knows = record { reader = d.agrees f knows.reader; blocks = knows.blocks; report = concluded_true f x c d knows.reader; sound = concluded_sound x c d };
+        come = subst (λ rs. IsEndOf rs (reader.to_come s.reader f)) (sym (none s'.reader f (d.unasked refl))) (end_nil (reader.to_come s.reader f));
+      })
+
+pub goes_refl : (c : Known) → GoesOn c c
+goes_refl c =
+    goes_by c c (record { host = refl; name = refl; query = refl }) refl (same_refl (blocks_of c)) (λ f knows. record { knows = knows; come = end_refl (to_come c f) })
+
+pub same_trans : (a b c : Known) → SameClient a b → SameClient b c → SameClient a c
+same_trans a b c h k = record { host = k.host ∙ h.host; name = k.name ∙ h.name; query = k.query ∙ h.query }
+
+pub stays_trans : (f : List ℕ) (a b c : Known) → StaysOf f a b → StaysOf f b c → StaysOf f a c
+stays_trans f a b c h k = record { knows = k.knows; come = end_trans (to_come a f) (to_come b f) (to_come c f) h.come k.come }
+
+pub goes_trans : (a b c : Known) → GoesOn a b → GoesOn b c → GoesOn a c
+goes_trans a b c h k = record {
+  same = same_trans a b c h.same k.same;
+  revision = k.revision ∙ h.revision;
+  blocks = blocks_trans (blocks_of a) (blocks_of b) (blocks_of c) h.blocks k.blocks;
+  file = λ f knows. let first = h.file f knows in stays_trans f a b c first (k.file f first.knows);
+  agrees = λ book agrees. k.agrees book (h.agrees book agrees);
+}
+
+-- ---- a query is asked
+
+abbrev pub EndsAreWanted : Type 0
+EndsAreWanted = (r : Held) (f : List ℕ) → reader.Agrees r f → IfSome (reader.query_of r) (λ q. IsEndOf (reader.to_come r f) (needs f q))
+
+module _ (h n : List ℕ) (q : Option Query) (a : Option Span) (b : Blocks) (r : Option Report) (query : Query) where
+  pub opened_alone : Opens query (known h n q a None b r) (known h n (Some query) None None b None)
+  unfolding host_of name_of query_of asked_of revision_of report_of blocks_of to_come Knows Agrees
+  opened_alone = record {
+    host = refl;
+    name = refl;
+    asks = refl;
+    asked = refl;
+    revision = refl;
+    blocks = refl;
+    report = refl;
+    knows = λ f k. tt;
+    come = λ f k. end_nil (needs f query);
+    agrees = λ book k. tt;
+  }
+
+  opened_sound : (s : Source) (x : Held) → reader.complete_of x ≡ reader.complete_of s.reader → reader.query_of x ≡ Some query → IsClient (known h n q a (Some s) b r)
+      → IsClient (known h n (Some query) None (Some (record s { reader = x })) b None)
+  opened_sound s x complete asks c =
+      record { hosted = c.hosted; named = c.named; alone = tt; reading = (c.reading.0 ∙ sym complete, asks); standing = tt; few = tt }
+
+  pub opened : (s : Source) (x : Held) → EndsAreWanted → reader.complete_of x ≡ reader.complete_of s.reader → reader.query_of x ≡ Some query
+      → ((f : List ℕ) → reader.Agrees s.reader f → reader.Agrees x f) → IsClient (known h n q a (Some s) b r)
+      → Opens query (known h n q a (Some s) b r) (known h n (Some query) None (Some (record s { reader = x })) b None)
+  unfolding host_of name_of query_of asked_of revision_of report_of blocks_of to_come Knows
+  opened s x law complete asks agrees c =
+      let knows : (f : List ℕ) → Knows f (known h n q a (Some s) b r) → Knows f (known h n (Some query) None (Some (record s { reader = x })) b None) =
+      λ f k. record { reader = agrees f k.reader; blocks = k.blocks; report = tt; sound = opened_sound s x complete asks c } in
+      record {
+        host = refl;
+        name = refl;
+        asks = refl;
+        asked = refl;
+        revision = refl;
+        blocks = refl;
+        report = refl;
+        knows = knows;
+        come = λ f k. subst (λ o. IfSome o (λ q. IsEndOf (reader.to_come x f) (needs f q))) asks (law x f (agrees f k.reader));
+        agrees = agrees_by (known h n q a (Some s) b r) (known h n (Some query) None (Some (record s { reader = x })) b None) refl refl knows;
+      }
+
+-- ---- a revision is adopted
+
+module _ (h n : List ℕ) (q : Option Query) (a asked : Option Span) (before : Option Source) (s : Source) (b new : Blocks) where
+  pub adopted : (p : SeenPiece) → s.tag ≡ p.tag → s.complete ≡ p.complete → new ≡ emptied b → ((f : List ℕ) → Holds f new)
+      → ((f : List ℕ) → length f ≡ p.complete → reader.Agrees s.reader f) → reader.complete_of s.reader ≡ p.complete → reader.query_of s.reader ≡ q
+      → IfSome asked IsFew → IsClient (known h n q a before b None) → Adopts p asked (known h n q a before b None) (known h n q asked (Some s) new None)
+  unfolding host_of name_of query_of asked_of revision_of report_of blocks_of Knows
+  adopted p tag complete empty holds agrees size query few c = record {
+    same = record { host = refl; name = refl; query = refl };
+    asks = refl;
+    revision = ap Some (ap (λ t. record { tag = t; complete = s.complete }) tag ∙ ap (λ l. record { tag = p.tag; complete = l }) complete);
+    blocks = empty;
+    report = refl;
+    knows = λ f long. record {
+      reader = agrees f long;
+      blocks = holds f;
+      report = tt;
+      sound = record { hosted = c.hosted; named = c.named; alone = tt; reading = (complete ∙ sym size, query); standing = tt; few = few };
+    };
+  }
+
+-- ---- what is still to come
+
+comes_by : (f : List ℕ) (c : Known) (s : Source) → EndsAreWanted → ((r : Held) (g : List ℕ) → reader.query_of r ≡ None → reader.to_come r g ≡ [])
+    → (q : Query) → c.query ≡ Some q → (r : Option Report) → c.report ≡ r → reader.Agrees s.reader f → IsReadingOf c.query c.report s → IsEndOf (reader.to_come s.reader f) (needs f q)
+comes_by f c s ends none q asks None silent agrees reading =
+    let is : reader.query_of s.reader ≡ Some q = reading.1 ∙ ap (λ o. if is_some o then None else c.query) silent ∙ asks in
+    subst (λ o. IfSome o (λ q. IsEndOf (reader.to_come s.reader f) (needs f q))) is (ends s.reader f agrees)
+comes_by f c s ends none q asks (Some r) stands agrees reading =
+    let is : reader.query_of s.reader ≡ None = reading.1 ∙ ap (λ o. if is_some o then None else c.query) stands in
+    subst (λ rs. IsEndOf rs (needs f q)) (sym (none s.reader f is)) (end_nil (needs f q))
+
+pub comes : EndsAreWanted → ((r : Held) (g : List ℕ) → reader.query_of r ≡ None → reader.to_come r g ≡ [])
+    → (c : Known) (f : List ℕ) → Knows f c → IfSome (query_of c) (λ q. IsEndOf (to_come c f) (needs f q))
+unfolding query_of to_come Knows
+comes ends none c f knows = asked c.query refl
+  where
+    read : (q : Query) → c.query ≡ Some q → (o : Option Source) → c.source ≡ o → IfSome o (KnowsBy f c) → IsEndOf (option_map_or (λ (s : Source). reader.to_come s.reader f) o []) (needs f q)
+    read q asks None e k = end_nil (needs f q)
+    read q asks (Some s) e k = comes_by f c s ends none q asks c.report refl k.reader (subst (λ o. IfSome o (IsReadingOf c.query c.report)) e k.sound.reading)
+
+    asked : (o : Option Query) → c.query ≡ o → IfSome o (λ q. IsEndOf (to_come c f) (needs f q))
+    asked None e = tt
+    asked (Some q) e = read q e c.source refl knows

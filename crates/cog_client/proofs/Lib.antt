@@ -1,0 +1,5 @@
+pub mod GoingLemmas
+pub mod ClientLemmas
+pub mod TakeLemmas
+pub mod RequestLemmas
+pub mod DeliverLemmas

@@ -1,0 +1,126 @@
+-- Asking: what is asked for is no part of what is known.
+use Rattle.std.proofs.Common.{◌≡◌, ℕ, ◌+◌, ◌-◌, ◌/◌, ◌≤◌, List, Option, Some, None, true, false, refl, sym, ap, ◌∙◌, subst, arith, cond, inl, inr}
+use Rattle.std.specs.Prelude.{IfSome, is_some}
+use Rattle.std.proofs.lemmas.Option.{none-some}
+use Rattle.std.proofs.lemmas.Bool.{false≢true}
+use Rattle.std.proofs.lemmas.Bool.Decides.{eqb_tells}
+use Rattle.tiff_dir.specs.declared.query.Query.{Query}
+use Rattle.tiff_dir.specs.declared.span.Span.{Span}
+use Rattle.tiff_dir.specs.Needs.{Range}
+use Rattle.range_cache.specs.Block.{blocks}
+use Rattle.range_cache.specs.Cache.{Blocks}
+use Rattle.cog_client.specs.declared.report.Report.{Report}
+use Rattle.cog_client.specs.declared.source.Source.{Source}
+use Rattle.cog_client.specs.Case.{Revision}
+use Rattle.cog_client.specs.Client.{Known, Knows, IsClient, IsFew, IsStanding, asked_of, blocks_of, host_of, name_of, query_of, report_of, revision_of, to_come}
+use Rattle.cog_client.specs.Calls.{Asks, GoesOn, IsFirst, Lacks, Requests, request_for, unless_reported}
+use Rattle.cog_client.specs.Going.{IsMissing}
+use Rattle.cog_client.proofs.GoingLemmas.{end_refl, same_refl}
+use Rattle.cog_client.proofs.ClientLemmas.{goes_by, goes_trans, known}
+
+-- a range of at most 1,048,576 bytes touches at most 65 blocks
+few_blocks : (first len : ℕ) → len ≤ 1048576 → blocks first len ≤ 65
+few_blocks first len small = elim (eqb_tells len 0) [
+  | inl e ↦ let none : blocks first len ≡ 0 = ap (λ t. cond t 0 ((first + len - 1) / 16384 - first / 16384 + 1)) e.0 in omega arith
+  | inr e ↦ let some : blocks first len ≡ (first + len - 1) / 16384 - first / 16384 + 1 = ap (λ t. cond t 0 ((first + len - 1) / 16384 - first / 16384 + 1)) e.0 in omega arith
+]
+
+pub few_missing : (b : Blocks) (complete : ℕ) (r : Range) (span : Span) → IsMissing b complete r span → IsFew span
+few_missing b complete r span m =
+    let count : blocks r.first r.len ≤ 65 = few_blocks r.first r.len m.small in
+    let g = m.lacks.gap in
+    let begins = g.begins in
+    let within = g.within in
+    let some = g.some in
+    let first = m.first ∙ m.lacks.first_is in
+    let last = m.last in
+    let last_is = m.lacks.last_is in
+    omega arith
+
+-- ---- what is asked for changes nothing that is known
+
+module _ (h n : List ℕ) (q : Option Query) (a asked : Option Span) (b : Blocks) (r : Option Report) where
+  reasked_knows : (s : Option Source) → IsClient (known h n q asked s b r) → (f : List ℕ) → Knows f (known h n q a s b r) → Knows f (known h n q asked s b r)
+  unfolding Knows
+  reasked_knows None c f k = tt
+  reasked_knows (Some s) c f k = record { reader = k.reader; blocks = k.blocks; report = k.report; sound = c }
+
+  pub reasked : (s : Option Source) → IsClient (known h n q asked s b r) → GoesOn (known h n q a s b r) (known h n q asked s b r)
+  unfolding host_of name_of query_of revision_of blocks_of to_come
+  reasked s c =
+      goes_by (known h n q a s b r) (known h n q asked s b r) (record { host = refl; name = refl; query = refl }) refl (same_refl b)
+      (λ f k. record { knows = reasked_knows s c f k; come = end_refl (to_come (known h n q a s b r) f) })
+
+-- nothing is asked
+
+standing_still : (q : Option Query) (a : Option Span) (r : Option Report) → IfSome r (IsStanding q a) → IfSome r (IsStanding q None)
+standing_still q a None h = tt
+standing_still q a (Some r) h = (h.0, refl)
+
+module _ (h n : List ℕ) (q : Option Query) (a : Option Span) (s : Option Source) (b : Blocks) (r : Option Report) where
+  unasked_sound : IsClient (known h n q a s b r) → IsClient (known h n q None s b r)
+  unasked_sound c = record { hosted = c.hosted; named = c.named; alone = c.alone; reading = c.reading; standing = standing_still q a r c.standing; few = tt }
+
+  pub unasked : IsClient (known h n q a s b r) → GoesOn (known h n q a s b r) (known h n q None s b r)
+  unasked c = reasked h n q a None b r s (unasked_sound c)
+
+pub none_asked : (r : Option Report) (a b : Option Span) → a ≡ unless_reported r b → b ≡ None → a ≡ None
+none_asked None a b is none = is ∙ none
+none_asked (Some r) a b is none = is
+
+-- where a client asks, its request is for what is missing
+
+same_text : (old new : Known) (span : Span) → host_of new ≡ host_of old → name_of new ≡ name_of old → revision_of new ≡ revision_of old → request_for new (Some span) ≡ request_for old (Some span)
+same_text old new span host name revision = cc
+
+-- the range that is needed next, of what is known before
+lacks_back : (old new : Known) (v : Revision) (span : Span) → blocks_of new ≡ blocks_of old → ((f : List ℕ) → Knows f new → Knows f old) → ((f : List ℕ) → to_come new f ≡ to_come old f)
+    → Lacks old v span → Lacks new v span
+lacks_back old new v span blocks knows come l = record {
+  range = l.range;
+  next = λ f k. subst (IsFirst l.range) (sym (come f)) (l.next f (knows f k));
+  missing = subst (λ b. IsMissing b v.complete l.range span) (sym blocks) l.missing;
+}
+
+asks_back : (old new : Known) (v : Option Revision) (span : Span) → blocks_of new ≡ blocks_of old → ((f : List ℕ) → Knows f new → Knows f old) → ((f : List ℕ) → to_come new f ≡ to_come old f)
+    → Asks old v span → Asks new v span
+asks_back old new None span blocks knows come asks = asks
+asks_back old new (Some v) span blocks knows come l = lacks_back old new v span blocks knows come l
+
+few_asked : (c : Known) (v : Option Revision) (span : Span) → Asks c v span → IsFew span
+few_asked c None span is = let first = ap (λ (s : Span). s.first) is in let last = ap (λ (s : Span). s.last) is in omega arith
+few_asked c (Some v) span l = few_missing (blocks_of c) v.complete l.range span l.missing
+
+module _ (h n : List ℕ) (q : Option Query) (a : Option Span) (s : Option Source) (b : Blocks) (r : Option Report) (span : Span) where
+  -- the same client, before and after it asks for this
+  abbrev pub mid : Known
+  mid = known h n q a s b r
+
+  abbrev pub new : Known
+  new = known h n q (Some span) s b r
+
+  pub asking_sound : IsClient mid → report_of mid ≡ None → Asks mid (revision_of mid) span → IsClient new
+  unfolding report_of
+  asking_sound c none asks = record {
+    hosted = c.hosted;
+    named = c.named;
+    alone = c.alone;
+    reading = c.reading;
+    standing = subst (λ o. IfSome o (IsStanding q (Some span))) (sym none) tt;
+    few = few_asked mid (revision_of mid) span asks;
+  }
+
+  pub requested : (old : Known) (text : List ℕ) → GoesOn old mid → IsClient mid → IsClient new → is_some (query_of old) ≡ true → is_some (report_of old) ≡ false → report_of mid ≡ None
+      → Some text ≡ request_for mid (Some span) → Asks mid (revision_of mid) span → Requests old (Some text) new
+  unfolding host_of name_of query_of asked_of revision_of report_of blocks_of to_come
+  requested old text goes c d query quiet none is asks = record {
+    goes = goes_trans old mid new goes (reasked h n q a (Some span) b r s d);
+    text = is ∙ same_text old mid span goes.same.host goes.same.name goes.revision;
+    asks = asks_back mid new (revision_of mid) span refl (λ f k. ((reasked h n q (Some span) a b r s c).file f k).knows) (λ f. refl) asks;
+    silent = λ none_is. absurd (none-some span (sym none_is));
+    idle = λ idle. absurd (elim idle [
+      | inl none_is ↦ false≢true (sym (ap is_some (sym goes.same.query ∙ none_is)) ∙ query)
+      | inr some ↦ false≢true (sym (ap is_some none) ∙ some)
+    ]);
+    report = λ some. absurd (false≢true (sym quiet ∙ some));
+  }

@@ -1,0 +1,33 @@
+use Rattle.std.proofs.Common.{◌∙◌}
+use Rattle.cog_client.specs.Going.{work}
+use Rattle.cog_client.proofs.GoingLemmas.{goes_trans, needed}
+use Rattle.cog_client.proofs.going.fill.Goals as goal
+
+pub returns-in_err-missing-clause-goes : goal.returns-in_err-missing-clause-goes
+returns-in_err-missing-clause-goes c =
+    let l = c.loop-span in
+    let e = c.in_ok-span.ensures in
+    goes_trans (work c.args.reader.now c.args.cache.now) (work c.need.new.self l.cache) (work c.give_next.new.reader c.give_next.new.cache)
+    (goes_trans (work c.args.reader.now c.args.cache.now) (work l.reader l.cache) (work c.need.new.self l.cache) l.invariant.goes
+    (needed l.reader c.need.new.self l.cache e.complete e.query e.agrees e.come (c.nothing_comes.ensures.answered c.need.new.self)))
+    c.in_err-missing.ensures.goes
+
+pub loop-span-preserved : goal.loop-span-preserved
+loop-span-preserved c =
+    let l = c.loop-span in
+    let e = c.in_ok-span.ensures in
+    record {
+      goes =
+          goes_trans (work c.args.reader.now c.args.cache.now) (work c.need.new.self l.cache) (work c.give_next.new.reader c.give_next.new.cache)
+          (goes_trans (work c.args.reader.now c.args.cache.now) (work l.reader l.cache) (work c.need.new.self l.cache) l.invariant.goes
+          (needed l.reader c.need.new.self l.cache e.complete e.query e.agrees e.come (c.nothing_comes.ensures.answered c.need.new.self)))
+          c.in_ok-missing.ensures.goes;
+      complete = c.in_ok-missing.ensures.goes.complete ∙ e.complete ∙ l.invariant.complete;
+    }
+
+pub returns-clause-goes : goal.returns-clause-goes
+returns-clause-goes c =
+    let l = c.loop-span in
+    let e = c.in_ok-span.ensures in
+    goes_trans (work c.args.reader.now c.args.cache.now) (work l.reader l.cache) (work c.need.new.self l.cache) l.invariant.goes
+    (needed l.reader c.need.new.self l.cache e.complete e.query e.agrees e.come (c.nothing_comes.ensures.answered c.need.new.self))

@@ -1,0 +1,40 @@
+-- A client's check whether the file is still the one that it reads (RFC 9110, section 13.1.2).
+use Rattle.std.specs.Prelude.{◌≡◌, ℕ, if◌then◌else◌, List, Option, Some, None, Result, Ok, Err}
+use Rattle.std.specs.Option.{option_map}
+use Rattle.std.specs.Str.{bytes_eq}
+use Rattle.http_range.specs.declared.reading.Why.{Why}
+use Rattle.http_range.specs.Ask.{check_text}
+use Rattle.http_range.specs.Book.{Publication}
+use Rattle.http_range.specs.Honest.{IsHonestFor, IsNamelessFront}
+use Rattle.http_range.specs.Piece.{number_of_why}
+use Rattle.http_range.specs.Reading.{ReadsCheck}
+use Rattle.cog_client.specs.declared.delivered.Current.{Current}
+use Rattle.cog_client.specs.declared.delivered.Current.TheVariants.{Same, Other, Unknown}
+use Rattle.cog_client.specs.declared.delivered.Unknown as unknown
+use Rattle.cog_client.specs.declared.delivered.Unknown.TheVariants.{NotUsed, NoRevision}
+use Rattle.cog_client.specs.Client.{Known, host_of, name_of, tag_of}
+
+-- the numbers under which unknown answers are told
+abbrev pub number_of_unknown : unknown.Unknown → ℕ
+number_of_unknown (NotUsed w) = number_of_why w
+number_of_unknown NoRevision = 12
+
+-- the text of the client's check, none without a revision
+abbrev pub check_of : Known → Option (List ℕ)
+check_of c = option_map (check_text (host_of c) (name_of c)) (tag_of c)
+
+-- what the answer to a check that is read so says to a client with this tag
+abbrev pub current_by : List ℕ → Result (List ℕ) Why → Current
+current_by tag (Err w) = Unknown (NotUsed w)
+current_by tag (Ok seen) = if bytes_eq tag seen then Same else Other
+
+-- What an answer to the client's check says: nothing without a revision.
+abbrev pub IsCurrent : Option (List ℕ) → List ℕ → Current → Type 0
+IsCurrent None text current = current ≡ Unknown NoRevision
+IsCurrent (Some tag) text current =
+    (reading : Result (List ℕ) Why) × ReadsCheck text reading × (current ≡ current_by tag reading)
+
+-- What an honest answer that says "same" tells: the catalogue that it is of has the client's tag under the name.
+pub record IsStillThere (tag : Option (List ℕ)) (text : List ℕ) : Type 0 where
+  pub there : (p : Publication) → IsHonestFor text p → tag ≡ Some p.tag
+  pub named : IsNamelessFront text → ⊥

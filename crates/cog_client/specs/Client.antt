@@ -1,0 +1,154 @@
+-- The words for what callers know of a client, and when what it holds is of a published file.
+use Rattle.std.specs.Prelude.{◌≡◌, ℕ, ◌+◌, ◌*◌, ◌<◌, not, ◌||◌, nat_lt, IsTrue, if◌then◌else◌, List, [], Option, Some, None, IfSome, is_some, ⊤}
+use Rattle.std.specs.Option.{option_map, option_map_or}
+use Rattle.tiff_dir.specs.declared.query.Query.{Query}
+use Rattle.tiff_dir.specs.declared.span.Span.{Span}
+use Rattle.tiff_dir.specs.Needs.{Range}
+use Rattle.http_range.specs.Names.{is_host, is_name}
+use Rattle.http_range.specs.Book.{Publication, Book, In}
+use Rattle.range_cache.specs.Block.{block_size}
+use Rattle.range_cache.specs.Cache.{Blocks, Holds}
+use Rattle.cog_reader.specs.Outcome.{IsTrueOf}
+use Rattle.cog_reader.specs.Reader as reader
+use Rattle.cog_client.specs.declared.error.ClientError.{ClientError}
+use Rattle.cog_client.specs.declared.error.ClientError.TheVariants.{Host, Name, Blocks as BadBlocks, Memory}
+use Rattle.cog_client.specs.declared.report.Report.{Report}
+use Rattle.cog_client.specs.declared.source.Source.{Source}
+use Rattle.cog_client.specs.Case.{Revision}
+use Rattle.cog_client.specs.Take.{Holding}
+
+-- ---- making a client
+
+-- the numbers under which refusals are told
+abbrev pub number_of_refusal : ClientError → ℕ
+number_of_refusal Host = 1
+number_of_refusal Name = 2
+number_of_refusal BadBlocks = 3
+number_of_refusal Memory = 4
+
+-- why no client is made, the first that holds
+abbrev pub client_refusal : List ℕ → List ℕ → ℕ → Option ClientError
+client_refusal host name blocks =
+    if not (is_host host) then Some Host
+    else if not (is_name name) then Some Name
+    else if nat_lt blocks 66 || nat_lt 4096 blocks then Some BadBlocks
+    else None
+
+-- The client is refused for this, and for want of memory only where nothing else stands against it.
+abbrev pub IsRefusedBy : Option ClientError → ClientError → Type 0
+IsRefusedBy refusal Memory = refusal ≡ None
+IsRefusedBy refusal error = refusal ≡ Some error
+
+-- ---- what callers know of it
+
+-- host and name; the query, what is asked for, the revision that is read, the blocks and the report
+pub record Known : Type 0 where
+  pub host : List ℕ
+  pub name : List ℕ
+  pub query : Option Query
+  pub asked : Option Span
+  pub source : Option Source
+  pub cache : Blocks
+  pub report : Option Report
+
+unfoldable pub host_of : Known → List ℕ
+host_of c = c.host
+
+unfoldable pub name_of : Known → List ℕ
+name_of c = c.name
+
+-- The query of the last opening.
+unfoldable pub query_of : Known → Option Query
+query_of c = c.query
+
+-- The bytes that are asked for, if any are.
+unfoldable pub asked_of : Known → Option Span
+asked_of c = c.asked
+
+abbrev pub revision_in : Source → Revision
+revision_in s = record { tag = s.tag; complete = s.complete }
+
+abbrev pub revision_at : Option Source → Option Revision
+revision_at s = option_map revision_in s
+
+-- The tag and the length of the file that is read.
+unfoldable pub revision_of : Known → Option Revision
+revision_of c = revision_at c.source
+
+-- The blocks, the most recently used first, and how many there may be.
+unfoldable pub blocks_of : Known → Blocks
+blocks_of c = c.cache
+
+-- The report that stands.
+unfoldable pub report_of : Known → Option Report
+report_of c = c.report
+
+-- The ranges of the file that the query still needs, none without a revision.
+unfoldable pub to_come : Known → List ℕ → List Range
+to_come c f = option_map_or (λ (s : Source). reader.to_come s.reader f) c.source []
+
+abbrev pub tag_of : Known → Option (List ℕ)
+tag_of c = option_map (λ (v : Revision). v.tag) (revision_of c)
+
+-- what it holds of a server's file
+abbrev pub holding : Known → Holding
+holding c = record { revision = revision_of c; asked = asked_of c; blocks = blocks_of c }
+
+-- ---- what is true of it
+
+-- where nothing is read, nothing is held
+abbrev pub IsAlone : Option Source → Blocks → Option Report → Type 0
+IsAlone None b r = (b.entries ≡ []) × (r ≡ None)
+IsAlone (Some s) b r = ⊤
+
+-- the reader is asked the query, until its answer is the report that stands
+abbrev pub IsReadingOf : Option Query → Option Report → Source → Type 0
+IsReadingOf q r s =
+    (s.complete ≡ reader.complete_of s.reader) × (reader.query_of s.reader ≡ (if is_some r then None else q))
+
+-- a report that stands answers the query, and ends what is asked for
+abbrev pub IsStanding : Option Query → Option Span → Report → Type 0
+IsStanding q a r = (q ≡ Some r.query) × (a ≡ None)
+
+-- no more than 65 blocks are asked for
+abbrev pub max_blocks : ℕ
+max_blocks = 65
+
+abbrev pub IsFew : Span → Type 0
+IsFew s = s.last < s.first + max_blocks * block_size
+
+pub record IsClient (c : Known) : Type 0 where
+  pub hosted : IsTrue (is_host c.host)
+  pub named : IsTrue (is_name c.name)
+  pub alone : IsAlone c.source c.cache c.report
+  pub reading : IfSome c.source (IsReadingOf c.query c.report)
+  pub standing : IfSome c.report (IsStanding c.query c.asked)
+  pub few : IfSome c.asked IsFew
+
+-- ---- what it knows
+
+-- the report has the tag of what is read, and is true of this file
+abbrev pub IsReportOf : List ℕ → Source → Report → Type 0
+IsReportOf f s r = (r.tag ≡ s.tag) × IsTrueOf f r.query r.outcome
+
+pub record KnowsBy (f : List ℕ) (c : Known) (s : Source) : Type 0 where
+  pub reader : reader.Agrees s.reader f
+  pub blocks : Holds f c.cache
+  pub report : IfSome c.report (IsReportOf f s)
+  pub sound : IsClient c
+
+-- All that the client holds is of this file. A client without a revision holds nothing.
+unfoldable pub Knows : List ℕ → Known → Type 0
+Knows f c = IfSome c.source (KnowsBy f c)
+
+-- it is of one publication of the client's name, which has the revision's tag
+pub record KnowsOne (c : Known) (book : Book) (v : Revision) : Type 0 where
+  pub source : Publication
+  pub published : In source book
+  pub of_name : source.name ≡ name_of c
+  pub of_tag : source.tag ≡ v.tag
+  pub knows : Knows source.file c
+
+-- What the client holds agrees with the book.
+unfoldable pub Agrees : Known → Book → Type 0
+Agrees c book = IfSome (revision_of c) (KnowsOne c book)

@@ -1,0 +1,67 @@
+-- The steps of a client inside its calls.
+use Rattle.std.specs.Prelude.{◌≡◌, ℕ, List, length, Option, Some, None, IfSome, IsSome, IsSomeAnd}
+use Rattle.tiff_dir.specs.declared.query.Query.{Query}
+use Rattle.tiff_dir.specs.declared.span.Span.{Span}
+use Rattle.http_range.specs.Piece.{SeenPiece}
+use Rattle.range_cache.specs.Piece.{IsPieceOf}
+use Rattle.cog_reader.specs.Outcome.{IsTrueOf}
+use Rattle.cog_reader.specs.Reader as reader
+use Rattle.cog_client.specs.declared.report.Report.{Report}
+use Rattle.cog_client.specs.declared.source.Source.{Source}
+use Rattle.cog_client.specs.Take.{asked_or_first, count_of, emptied, revision_of_piece, stored_front, stored_of}
+use Rattle.cog_client.specs.Client.{Known, Knows, asked_of, blocks_of, report_of, revision_of}
+use Rattle.cog_client.specs.Going.{AreSame}
+use Rattle.cog_client.specs.Calls.{Rests, SameClient, StaysOf, unless_reported}
+
+-- the report is the reader's answer to the query, under the tag of what is read
+abbrev pub IsReportBy : Query → Source → Report → Type 0
+IsReportBy q s r = (q ≡ r.query) × (r.tag ≡ s.tag) × (reader.outcome_of s.reader ≡ Some r.outcome)
+
+-- The reader's answer becomes the report, where there is one; else the reader is as it was.
+pub record Concludes (query : Query) (old : Source) (r : Option Report) (new : Source) : Type 0 where
+  pub tag : new.tag ≡ old.tag
+  pub complete : new.complete ≡ old.complete
+  pub length : reader.complete_of new.reader ≡ reader.complete_of old.reader
+  pub report : IfSome r (IsReportBy query old)
+  pub unasked : IsSome r → reader.query_of new.reader ≡ None
+  pub told : IsSome (reader.outcome_of old.reader) → IsSome r
+  pub silent : r ≡ None → new ≡ old
+  pub true_of : (f : List ℕ) → reader.Agrees old.reader f → IfSome r (λ r. IsSomeAnd (reader.query_of old.reader) (λ q. IsTrueOf f q r.outcome))
+  pub agrees : (f : List ℕ) → reader.Agrees old.reader f → reader.Agrees new.reader f
+
+-- A revision is read that nothing is known of but tag and length.
+pub record Adopts (p : SeenPiece) (asked : Option Span) (old new : Known) : Type 0 where
+  pub same : SameClient old new
+  pub asks : asked_of new ≡ asked
+  pub revision : revision_of new ≡ Some (revision_of_piece p)
+  pub blocks : blocks_of new ≡ emptied (blocks_of old)
+  pub report : report_of new ≡ None
+  pub knows : (f : List ℕ) → length f ≡ p.complete → Knows f new
+
+-- The first k of the blocks that a piece brings of what is asked for are stored.
+pub record Stores (p : SeenPiece) (span : Span) (k : ℕ) (old new : Known) : Type 0 where
+  pub same : SameClient old new
+  pub asked : asked_of new ≡ asked_of old
+  pub revision : revision_of new ≡ revision_of old
+  pub report : report_of new ≡ report_of old
+  pub blocks : blocks_of new ≡ stored_front k p span (blocks_of old)
+  pub file : (f : List ℕ) → p.complete ≡ length f → IsPieceOf f p.first p.body → Knows f old → StaysOf f old new
+
+-- A piece of the revision that is read is stored, so many blocks of it, and the client goes on.
+pub record Takes (p : SeenPiece) (old new : Known) (count : ℕ) : Type 0 where
+  pub same : SameClient old new
+  pub asked : asked_of new ≡ unless_reported (report_of new) (asked_of old)
+  pub revision : revision_of new ≡ revision_of old
+  pub blocks : AreSame (stored_of p (asked_or_first (asked_of old)) (blocks_of old)) (blocks_of new)
+  pub counted : count ≡ count_of p (asked_or_first (asked_of old)) (blocks_of old)
+  pub rests : Rests new
+  pub file : (f : List ℕ) → p.complete ≡ length f → IsPieceOf f p.first p.body → Knows f old → StaysOf f old new
+
+-- The same until memory was wanting: a beginning of the blocks is stored.
+pub record StopsStoring (p : SeenPiece) (old new : Known) : Type 0 where
+  pub same : SameClient old new
+  pub asked : asked_of new ≡ asked_of old
+  pub revision : revision_of new ≡ revision_of old
+  pub report : report_of new ≡ None
+  pub blocks : (k : ℕ) × AreSame (stored_front k p (asked_or_first (asked_of old)) (blocks_of old)) (blocks_of new)
+  pub file : (f : List ℕ) → p.complete ≡ length f → IsPieceOf f p.first p.body → Knows f old → StaysOf f old new

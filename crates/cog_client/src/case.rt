@@ -1,0 +1,64 @@
+//! How an answer is taken.
+ghost use Rattle.std.specs.Prelude.{◌≡◌};
+ghost use Rattle.http_range.specs.Piece.{piece_seen, IsInside};
+ghost use Rattle.cog_client.specs.Case.{case_of, case_of_piece, is_beside};
+ghost use Rattle.cog_client.specs.Client.{revision_in, revision_at};
+
+use crate::delivered::Ignored;
+use crate::source::Source;
+use http_range::{Piece, Span};
+
+/// What a piece of a file is to a client.
+#[derive(Clone, Copy, Debug, PartialEq, Eq)]
+pub enum Case {
+    Ignored(Ignored),
+    /// It is of the client's first revision.
+    Adopted,
+    /// It is a whole file of another revision.
+    Restarted,
+    /// It is of the client's revision, and asked for.
+    Taken,
+}
+
+/// Whether no byte of the piece's body is asked for.
+fn is_beside(span: Span, piece: &Piece<'_>) -> bool
+    requires { IsInside (piece_seen piece.now) }
+    ensures { result ≡ is_beside span (piece_seen piece.now) }
+{
+    let end = piece.first + piece.body.len() as u64;
+    end <= piece.first.max(span.first) || span.last < piece.first.max(span.first)
+}
+
+fn case_of_piece(source: &Source, span: Span, piece: &Piece<'_>) -> Case
+    requires { IsInside (piece_seen piece.now) }
+    ensures { result ≡ case_of_piece (revision_in source.now) span (piece_seen piece.now) }
+{
+    if source.tag != piece.tag {
+        return if piece.whole {
+            Case::Restarted
+        } else {
+            Case::Ignored(Ignored::OtherRevision)
+        };
+    }
+    if source.complete != piece.complete {
+        return Case::Ignored(Ignored::OtherLength);
+    }
+    if is_beside(span, piece) {
+        return Case::Ignored(Ignored::NotAsked);
+    }
+    Case::Taken
+}
+
+/// The first case that applies to a piece.
+pub fn case_of(source: &Option<Source>, asked: Option<Span>, piece: &Piece<'_>) -> Case
+    requires { IsInside (piece_seen piece.now) }
+    ensures { result ≡ case_of (revision_at source.now) asked (piece_seen piece.now) }
+{
+    let Some(span) = asked else {
+        return Case::Ignored(Ignored::NotAsked);
+    };
+    match source {
+        None => Case::Adopted,
+        Some(source) => case_of_piece(source, span, piece),
+    }
+}

@@ -1,0 +1,373 @@
+//! The client and its calls.
+ghost use Rattle.std.specs.Prelude.{◌≡◌};
+ghost use Rattle.cog_client.specs.Take.{first_span};
+
+use crate::case::{Case, case_of};
+use crate::delivered::{Current, Delivered, Ignored, Unknown};
+use crate::error::ClientError;
+use crate::going;
+use crate::report::Report;
+use crate::source::Source;
+use cog_reader::{end_is_wanted, lengths_are_known, nothing_comes};
+use http_range::{
+    CheckReading, Piece, Reading, Span, Tag, fronts_are_read, is_host, is_name, read_answer,
+    read_check, write_check, write_request,
+};
+use range_cache::{Cache, CacheError, pieces_bring_blocks, stored_are_held, stores_are_counted};
+use std::alloc::Global;
+use std::marker::Model;
+use tiff_dir::{Memory, Query};
+
+/// What a client asks for that has no revision: the first 65,536 bytes.
+fn first_span() -> Span
+    ensures { result ≡ first_span }
+{
+    Span {
+        first: 0,
+        last: 65535,
+    }
+}
+
+/// A client of one file of a host, by its name. It answers one query after another, by ranges of one revision of the file,
+/// which it keeps from one query to the next: its directories, the tile arrays of the level last read, and blocks of 16,384
+/// bytes in a bounded cache.
+#[derive(Drop)]
+pub struct Client {
+    alloc: Global,
+    host: Vec<u8>,
+    name: Vec<u8>,
+    query: Option<Query>,
+    asked: Option<Span>,
+    source: Option<Source>,
+    cache: Cache,
+    buffer: Vec<u8>,
+    report: Option<Report>,
+}
+
+impl Model for Client {
+    ghost use Rattle.cog_client.specs.Client.{IsClient, Known};
+
+    ghost Value = { Known };
+
+    ghost view = { λ c. record {
+      host = c.host.items;
+      name = c.name.items;
+      query = c.query;
+      asked = c.asked;
+      source = c.source;
+      cache = c.cache;
+      report = c.report;
+    } };
+
+    ghost invariant = { λ c. IsClient (record {
+      host = c.host.items;
+      name = c.name.items;
+      query = c.query;
+      asked = c.asked;
+      source = c.source;
+      cache = c.cache;
+      report = c.report;
+    }) };
+}
+
+#[tactic(auto, unfolding(crate::specs::Client::host_of, crate::specs::Client::name_of, crate::specs::Client::query_of, crate::specs::Client::asked_of, crate::specs::Client::revision_of, crate::specs::Client::blocks_of, crate::specs::Client::report_of, crate::specs::Client::to_come, crate::specs::Client::Knows, crate::specs::Client::Agrees))]
+impl Client {
+    ghost use Rattle.std.specs.Prelude.{◌≡◌, ◌+◌, ◌≤◌, ℕ, List, [], None, Some, IfErr, IfOk, IfSome, IsSome, IsSomeAnd, OnErr, OnOk, length, option_copied};
+    ghost use Rattle.std.specs.Option.{option_map};
+    ghost use Rattle.http_range.specs.Piece.{piece_seen, IsInside};
+    ghost use Rattle.cog_client.specs.declared.delivered.Current.TheVariants.{Same};
+    ghost use Rattle.cog_client.specs.Client.{client_refusal, IsFew, IsRefusedBy, asked_of, blocks_of, query_of, report_of, revision_of, tag_of};
+    ghost use Rattle.cog_client.specs.Take.{brought_by, count_of, revision_of_piece};
+    ghost use Rattle.cog_client.specs.Calls.{Delivers, Forgets, GoesOn, Misses, Opens, Requests, Stands, Starts, StopsAsking, StopsTaking, request_for, unless_reported};
+    ghost use Rattle.cog_reader.specs.Reader.{outcome_of};
+    ghost use Rattle.cog_client.specs.Steps.{Adopts, Stores, StopsStoring, Takes};
+    ghost use Rattle.cog_client.specs.Check.{IsCurrent, IsStillThere, check_of};
+
+    /// A client of a file's name at a host, with a cache of `blocks` blocks of 16,384 bytes.
+    pub fn new(alloc: Global, host: &[u8], name: &[u8], blocks: u32) -> Result<Client, ClientError>
+        ensures starts { IfOk result (Starts host.now name.now blocks) }
+        ensures ok { OnOk result (client_refusal host.now name.now blocks ≡ None) }
+        ensures refused { IfErr result (IsRefusedBy (client_refusal host.now name.now blocks)) }
+    {
+        if !is_host(host) {
+            return Err(ClientError::Host);
+        }
+        if !is_name(name) {
+            return Err(ClientError::Name);
+        }
+        let cache = match Cache::new(alloc, blocks) {
+            Ok(cache) => cache,
+            Err(CacheError::Blocks) => return Err(ClientError::Blocks),
+            Err(CacheError::Memory) => return Err(ClientError::Memory),
+        };
+        Ok(Client {
+            alloc,
+            host: Vec::from_slice(alloc, host)?,
+            name: Vec::from_slice(alloc, name)?,
+            query: None,
+            asked: None,
+            source: None,
+            cache,
+            buffer: Vec::new(alloc),
+            report: None,
+        })
+    }
+
+    /// Asks a query, in the place of the one before. Nothing is asked of the server any more, and no report stands; what is
+    /// known of the file stays. It takes no memory.
+    pub fn open(&mut self, query: Query)
+        ensures { Opens query self.old self.new }
+    {
+        end_is_wanted();
+        self.query = Some(query);
+        self.asked = None;
+        self.report = None;
+        match &mut self.source {
+            None => {}
+            Some(source) => source.reader.open(query),
+        }
+    }
+
+    /// Drops everything but host, name and query. It takes no memory.
+    pub fn forget(&mut self)
+        ensures { Forgets self.old self.new }
+    {
+        self.asked = None;
+        self.source = None;
+        self.report = None;
+        self.cache.clear();
+    }
+
+    /// The report that stands. It takes no memory.
+    pub fn report(&self) -> Option<&Report>
+        ensures { Stands self.now (option_copied result) }
+    {
+        self.report.as_ref()
+    }
+
+    /// What is asked for, in bytes from 0. It takes no memory.
+    pub fn asked(&self) -> Option<Span>
+        ensures { result ≡ asked_of self.now }
+    {
+        self.asked
+    }
+
+    /// The tag of the client's revision. It takes no memory.
+    pub fn tag(&self) -> Option<&Tag>
+        ensures { option_copied result ≡ tag_of self.now }
+    {
+        match &self.source {
+            Some(source) => Some(&source.tag),
+            None => None,
+        }
+    }
+
+    /// Goes on as far as the blocks reach, and makes the next request. There is none without a query, or where a report
+    /// stands. After want of memory nothing is asked.
+    pub fn request(&mut self) -> Result<Option<Vec<u8>>, Memory>
+        ensures ok { IfOk result (λ o. Requests self.old (option_map (λ v. v.items) o) self.new) }
+        ensures err { OnErr result (StopsAsking self.old self.new) }
+    {
+        self.asked = None;
+        if self.query.is_none() || self.report.is_some() {
+            return Ok(None);
+        }
+        let span = self.missing()?;
+        let Some(span) = span else {
+            return Ok(None);
+        };
+        let text = self.request_for(span)?;
+        self.asked = Some(span);
+        Ok(Some(text))
+    }
+
+    /// Goes on, and says what is missing then: of a file that nothing is known of, its first bytes.
+    fn missing(&mut self) -> Result<Option<Span>, Memory>
+        requires { report_of self.old ≡ None }
+        ensures goes { GoesOn self.old self.new }
+        ensures asked { asked_of self.new ≡ unless_reported (report_of self.new) (asked_of self.old) }
+        ensures ok { IfOk result (Misses self.new) }
+        ensures silent { IfOk result (λ o. IsSome o → report_of self.new ≡ None) }
+        ensures err { OnErr result (report_of self.new ≡ None) }
+    {
+        if self.source.is_none() {
+            return Ok(Some(first_span()));
+        }
+        let missing = self.go_on()?;
+        Ok(missing)
+    }
+
+    /// The text of a request.
+    fn request_for(&self, span: Span) -> Result<Vec<u8>, Memory>
+        ensures { IfOk result (λ text. Some text.items ≡ request_for self.now (Some span)) }
+    {
+        match &self.source {
+            None => write_request(self.alloc, &self.host, &self.name, span, None),
+            Some(source) => {
+                write_request(self.alloc, &self.host, &self.name, span, Some(&source.tag))
+            }
+        }
+    }
+
+    /// Goes on as far as the blocks reach, and says what is missing then. Where nothing is, the report stands.
+    fn go_on(&mut self) -> Result<Option<Span>, Memory>
+        requires report { report_of self.old ≡ None }
+        requires reads { IsSome (revision_of self.old) }
+        ensures goes { GoesOn self.old self.new }
+        ensures asked { asked_of self.new ≡ unless_reported (report_of self.new) (asked_of self.old) }
+        ensures ok { IfOk result (Misses self.new) }
+        ensures silent { IfOk result (λ o. IsSome o → report_of self.new ≡ None) }
+        ensures err { OnErr result (report_of self.new ≡ None) }
+    {
+        let Some(source) = &mut self.source else {
+            return Ok(None);
+        };
+        let missing = going::fill(
+            &mut source.reader,
+            &mut self.cache,
+            &mut self.buffer,
+            source.complete,
+        )?;
+        match missing {
+            Some(_) => Ok(missing),
+            None => {
+                self.stand();
+                Ok(None)
+            }
+        }
+    }
+
+    /// Takes the reader's answer for the report, where there is one, which ends what is asked for.
+    fn stand(&mut self)
+        requires { report_of self.old ≡ None }
+        ensures goes { GoesOn self.old self.new }
+        ensures asked { asked_of self.new ≡ unless_reported (report_of self.new) (asked_of self.old) }
+        ensures reports { IsSome (query_of self.old) → IfSome self.old.source (λ s. IsSome (outcome_of s.reader) → IsSome (report_of self.new)) }
+    {
+        nothing_comes();
+        let Some(query) = self.query else {
+            return;
+        };
+        let Some(source) = &mut self.source else {
+            return;
+        };
+        match source.conclude(query) {
+            None => {}
+            Some(report) => {
+                self.report = Some(report);
+                self.asked = None;
+            }
+        }
+    }
+
+    /// Takes an answer, or a front of one, and goes on as far as the blocks reach.
+    pub fn deliver(&mut self, answer: &[u8]) -> Result<Delivered, Memory>
+        ensures ok { IfOk result (λ what. Delivers self.old answer.now what self.new) }
+        ensures err { OnErr result (StopsTaking self.old answer.now self.new) }
+    {
+        fronts_are_read();
+        lengths_are_known();
+        let asked = self.asked;
+        let piece = match read_answer(answer) {
+            Reading::NotUsed(why) => return Ok(Delivered::Ignored(Ignored::NotUsed(why))),
+            Reading::Piece(piece) => piece,
+        };
+        match case_of(&self.source, asked, &piece) {
+            Case::Ignored(why) => Ok(Delivered::Ignored(why)),
+            Case::Adopted => {
+                self.adopt(&piece, asked);
+                let count = self.take(&piece)?;
+                Ok(Delivered::Took(count))
+            }
+            Case::Restarted => {
+                let first = first_span();
+                self.adopt(&piece, Some(first));
+                self.take(&piece)?;
+                Ok(Delivered::Restarted)
+            }
+            Case::Taken => {
+                let count = self.take(&piece)?;
+                Ok(Delivered::Took(count))
+            }
+        }
+    }
+
+    /// Reads the piece's revision from now on, of which nothing is known.
+    fn adopt(&mut self, piece: &Piece<'_>, asked: Option<Span>)
+        requires report { report_of self.old ≡ None }
+        requires few { IfSome asked IsFew }
+        ensures { Adopts (piece_seen piece.now) asked self.old self.new }
+    {
+        self.asked = asked;
+        self.cache.clear();
+        self.source = Some(Source::new(self.alloc, piece, self.query));
+    }
+
+    /// Stores the blocks that a piece brings of what is asked for, and says how many.
+    fn store(&mut self, piece: &Piece<'_>, span: Span) -> Result<u32, Memory>
+        requires inside { IsInside (piece_seen piece.now) }
+        requires few { IsFew span }
+        requires reads { IsSome (revision_of self.old) }
+        ensures ok { IfOk result (λ count. Stores (piece_seen piece.now) span (length (brought_by (piece_seen piece.now) span)) self.old self.new
+            × (count ≡ count_of (piece_seen piece.now) span (blocks_of self.old))) }
+        ensures err { OnErr result ((k : ℕ) × Stores (piece_seen piece.now) span k self.old self.new) }
+    {
+        stores_are_counted();
+        pieces_bring_blocks();
+        stored_are_held();
+        let count = self
+            .cache
+            .put(piece.complete, piece.first, piece.body, span)?;
+        Ok(count)
+    }
+
+    /// Takes a piece of the revision that is read: stores its blocks, and goes on.
+    fn take(&mut self, piece: &Piece<'_>) -> Result<u32, Memory>
+        requires inside { IsInside (piece_seen piece.now) }
+        requires asked { IsSome (asked_of self.old) }
+        requires revision { revision_of self.old ≡ Some (revision_of_piece (piece_seen piece.now)) }
+        ensures ok { IfOk result (Takes (piece_seen piece.now) self.old self.new) }
+        ensures err { OnErr result (StopsStoring (piece_seen piece.now) self.old self.new) }
+    {
+        let Some(span) = self.asked else {
+            return Ok(0);
+        };
+        let count = self.store(piece, span)?;
+        self.go_on()?;
+        Ok(count)
+    }
+
+    /// The check whether the file still has the revision's tag. There is none without a revision.
+    pub fn check(&self) -> Result<Option<Vec<u8>>, Memory>
+        ensures { IfOk result (λ o. option_map (λ v. v.items) o ≡ check_of self.now) }
+    {
+        match &self.source {
+            None => Ok(None),
+            Some(source) => {
+                let text = write_check(self.alloc, &self.host, &self.name, &source.tag)?;
+                Ok(Some(text))
+            }
+        }
+    }
+
+    /// What the answer to a check, or a front of it, says. It takes no memory.
+    pub fn current(&self, answer: &[u8]) -> Current
+        ensures current { IsCurrent (tag_of self.now) answer.now result }
+        ensures same { result ≡ Same → IsStillThere (tag_of self.now) answer.now }
+    {
+        fronts_are_read();
+        let Some(source) = &self.source else {
+            return Current::Unknown(Unknown::NoRevision);
+        };
+        match read_check(answer) {
+            CheckReading::NotUsed(why) => Current::Unknown(Unknown::NotUsed(why)),
+            CheckReading::Seen(tag) => {
+                if source.tag == tag {
+                    Current::Same
+                } else {
+                    Current::Other
+                }
+            }
+        }
+    }
+}

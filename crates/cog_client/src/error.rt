@@ -1,0 +1,46 @@
+//! Why a client isn't made.
+use thiserror::Error;
+
+/// Why a client isn't made.
+#[derive(Debug, Drop, Error)]
+pub enum ClientError {
+    /// The host isn't 1 to 64 letters, digits, `.`, `-`, `:`.
+    #[error("not a host")]
+    Host,
+    /// The name isn't 1 to 200 bytes of `A-Z a-z 0-9 . _ - /`.
+    #[error("not a name of a file")]
+    Name,
+    #[error("a cache has 66 to 4,096 blocks")]
+    Blocks,
+    #[error("out of memory")]
+    Memory,
+}
+
+impl ClientError {
+    ghost use Rattle.std.specs.Prelude.{◌≡◌};
+    ghost use Rattle.cog_client.specs.Client.{number_of_refusal};
+
+    /// The number under which the refusal is told, 1 to 4.
+    pub fn number(&self) -> u8
+        ensures { result ≡ number_of_refusal self.now }
+    {
+        match self {
+            ClientError::Host => 1,
+            ClientError::Name => 2,
+            ClientError::Blocks => 3,
+            ClientError::Memory => 4,
+        }
+    }
+}
+
+impl From<std::alloc::AllocError> for ClientError {
+    ghost use Rattle.cog_client.specs.declared.error.ClientError.TheVariants.{Memory};
+
+    ghost from_gives = { λ _ e. e ≡ Memory };
+
+    ghost use Rattle.std.specs.Prelude.{◌≡◌};
+
+    fn from(_refused: std::alloc::AllocError) -> ClientError {
+        ClientError::Memory
+    }
+}

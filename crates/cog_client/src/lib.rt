@@ -1,0 +1,21 @@
+//! A client that reads windows of a published file over HTTP byte ranges, whatever is replaced, lost, cut, repeated or
+//! reordered on the way: it makes requests and takes answers, and holds of the file's one revision what it was given.
+#![tactic(auto)]
+
+mod case;
+mod client;
+mod delivered;
+mod error;
+mod going;
+mod laws;
+mod report;
+mod source;
+
+pub use client::Client;
+pub use cog_reader::{Info, Outcome, Window};
+pub use delivered::{Current, Delivered, Ignored, Unknown};
+pub use error::ClientError;
+pub use http_range::{Span, Tag, Why};
+pub use laws::end_is_needed;
+pub use report::Report;
+pub use tiff_dir::{Memory, Query};

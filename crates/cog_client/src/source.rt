@@ -1,0 +1,53 @@
+//! The revision that a client reads.
+use crate::report::Report;
+use cog_reader::Reader;
+use http_range::{Piece, Tag};
+use std::alloc::Global;
+use tiff_dir::Query;
+
+/// The revision of the file that is read.
+#[derive(Drop)]
+pub struct Source {
+    pub tag: Tag,
+    /// The length of the file in bytes.
+    pub complete: u64,
+    pub reader: Reader,
+}
+
+impl Source {
+    ghost use Rattle.std.specs.Prelude.{◌≡◌, ℕ, List, length};
+    ghost use Rattle.cog_reader.specs.Reader.{complete_of, query_of, Agrees};
+    ghost use Rattle.cog_client.specs.Steps.{Concludes};
+
+    /// The piece's revision, of which nothing is known yet. It is asked the query, if there is one.
+    pub fn new(alloc: Global, piece: &Piece<'_>, query: Option<Query>) -> Source
+        ensures tag { result.tag ≡ piece.now.tag }
+        ensures complete { result.complete ≡ piece.now.complete }
+        ensures agrees { (f : List ℕ) → length f ≡ piece.now.complete → Agrees result.reader f }
+        ensures length { complete_of result.reader ≡ piece.now.complete }
+        ensures query { query_of result.reader ≡ query }
+    {
+        let mut reader = Reader::new(alloc, piece.complete);
+        match query {
+            None => {}
+            Some(query) => reader.open(query),
+        }
+        Source {
+            tag: piece.tag.copy(),
+            complete: piece.complete,
+            reader,
+        }
+    }
+
+    /// The report of what the reader answers to the query, if it does. The reader is asked nothing then.
+    pub fn conclude(&mut self, query: Query) -> Option<Report>
+        ensures { Concludes query self.old result self.new }
+    {
+        let outcome = self.reader.take_outcome()?;
+        Some(Report {
+            query,
+            tag: self.tag.copy(),
+            outcome,
+        })
+    }
+}
