@@ -7,12 +7,14 @@ use Rattle.std.proofs.lemmas.Bool.Decides.{eqb_tells}
 use Rattle.tiff_dir.specs.declared.query.Query.{Query}
 use Rattle.tiff_dir.specs.declared.span.Span.{Span}
 use Rattle.tiff_dir.specs.Needs.{Range}
+use Rattle.http_range.specs.Ask.{CanAsk}
+use Rattle.std.specs.Option.{option_map}
 use Rattle.range_cache.specs.Block.{blocks}
 use Rattle.range_cache.specs.Cache.{Blocks}
 use Rattle.cog_client.specs.declared.report.Report.{Report}
 use Rattle.cog_client.specs.declared.source.Source.{Source}
 use Rattle.cog_client.specs.Case.{Revision}
-use Rattle.cog_client.specs.Client.{Known, Knows, IsClient, IsFew, IsStanding, asked_of, blocks_of, host_of, name_of, query_of, report_of, revision_of, to_come}
+use Rattle.cog_client.specs.Client.{Known, Knows, IsClient, IsFew, IsStanding, asked_of, blocks_of, host_of, name_of, query_of, report_of, revision_of, tag_of, to_come}
 use Rattle.cog_client.specs.Calls.{Asks, GoesOn, IsFirst, Lacks, Requests, request_for, unless_reported}
 use Rattle.cog_client.specs.Going.{IsMissing}
 use Rattle.cog_client.proofs.GoingLemmas.{end_refl, same_refl}
@@ -73,6 +75,13 @@ none_asked (Some r) a b is none = is
 same_text : (old new : Known) (span : Span) → host_of new ≡ host_of old → name_of new ≡ name_of old → revision_of new ≡ revision_of old → request_for new (Some span) ≡ request_for old (Some span)
 same_text old new span host name revision = cc
 
+same_lawful : (old new : Known) (span : Span) → host_of new ≡ host_of old → name_of new ≡ name_of old → revision_of new ≡ revision_of old
+    → CanAsk (host_of new) (name_of new) span.first span.last (tag_of new) → CanAsk (host_of old) (name_of old) span.first span.last (tag_of old)
+same_lawful old new span host name revision can =
+    let tag : tag_of new ≡ tag_of old = ap (λ o. option_map (λ (v : Revision). v.tag) o) revision in
+    subst (λ t. CanAsk (host_of old) (name_of old) span.first span.last t) tag
+    (subst (λ n. CanAsk (host_of old) n span.first span.last (tag_of new)) name (subst (λ h. CanAsk h (name_of new) span.first span.last (tag_of new)) host can))
+
 -- the range that is needed next, of what is known before
 lacks_back : (old new : Known) (v : Revision) (span : Span) → blocks_of new ≡ blocks_of old → ((f : List ℕ) → Knows f new → Knows f old) → ((f : List ℕ) → to_come new f ≡ to_come old f)
     → Lacks old v span → Lacks new v span
@@ -111,12 +120,13 @@ module _ (h n : List ℕ) (q : Option Query) (a : Option Span) (s : Option Sourc
   }
 
   pub requested : (old : Known) (text : List ℕ) → GoesOn old mid → IsClient mid → IsClient new → is_some (query_of old) ≡ true → is_some (report_of old) ≡ false → report_of mid ≡ None
-      → Some text ≡ request_for mid (Some span) → Asks mid (revision_of mid) span → Requests old (Some text) new
+      → Some text ≡ request_for mid (Some span) → CanAsk (host_of mid) (name_of mid) span.first span.last (tag_of mid) → Asks mid (revision_of mid) span → Requests old (Some text) new
   unfolding host_of name_of query_of asked_of revision_of report_of blocks_of to_come
-  requested old text goes c d query quiet none is asks = record {
+  requested old text goes c d query quiet none is can asks = record {
     goes = goes_trans old mid new goes (reasked h n q a (Some span) b r s d);
     text = is ∙ same_text old mid span goes.same.host goes.same.name goes.revision;
     asks = asks_back mid new (revision_of mid) span refl (λ f k. ((reasked h n q (Some span) a b r s c).file f k).knows) (λ f. refl) asks;
+    lawful = same_lawful old mid span goes.same.host goes.same.name goes.revision can;
     silent = λ none_is. absurd (none-some span (sym none_is));
     idle = λ idle. absurd (elim idle [
       | inl none_is ↦ false≢true (sym (ap is_some (sym goes.same.query ∙ none_is)) ∙ query)

@@ -6,7 +6,7 @@ use Rattle.tiff_dir.specs.declared.span.Span.{Span}
 use Rattle.tiff_dir.specs.Needs.{Range, IsEndOf}
 use Rattle.tiff_dir.specs.Query.{needs}
 use Rattle.http_range.specs.declared.reading.Why.{Why}
-use Rattle.http_range.specs.Ask.{request_text}
+use Rattle.http_range.specs.Ask.{CanAsk, request_text}
 use Rattle.http_range.specs.Book.{Book, HasDistinctTags}
 use Rattle.http_range.specs.Honest.{IsHonest}
 use Rattle.http_range.specs.Piece.{SeenPiece}
@@ -115,6 +115,7 @@ pub record Requests (old : Known) (request : Option (List ℕ)) (new : Known) : 
   pub goes : GoesOn old new
   pub text : request ≡ request_for old (asked_of new)
   pub asks : IfSome (asked_of new) (Asks new (revision_of new))
+  pub lawful : IfSome (asked_of new) (λ s. CanAsk (host_of old) (name_of old) s.first s.last (tag_of old))
   -- there is none exactly where there is no query, or a report stands, from before or from now on
   pub silent : asked_of new ≡ None → IsIdle new
   pub idle : IsIdle new → asked_of new ≡ None

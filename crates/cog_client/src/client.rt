@@ -72,11 +72,13 @@ impl Model for Client {
 
 #[tactic(auto, unfolding(crate::specs::Client::host_of, crate::specs::Client::name_of, crate::specs::Client::query_of, crate::specs::Client::asked_of, crate::specs::Client::revision_of, crate::specs::Client::blocks_of, crate::specs::Client::report_of, crate::specs::Client::to_come, crate::specs::Client::Knows, crate::specs::Client::Agrees))]
 impl Client {
-    ghost use Rattle.std.specs.Prelude.{◌≡◌, ◌+◌, ◌≤◌, ℕ, List, [], None, Some, IfErr, IfOk, IfSome, IsSome, IsSomeAnd, OnErr, OnOk, length, option_copied};
+    ghost use Rattle.std.specs.Prelude.{◌≡◌, ℕ, None, Some, IfErr, IfOk, IfSome, IsSome, IsTrue, OnErr, OnOk, length, option_copied};
     ghost use Rattle.std.specs.Option.{option_map};
+    ghost use Rattle.http_range.specs.Ask.{CanAsk, CanCheck};
     ghost use Rattle.http_range.specs.Piece.{piece_seen, IsInside};
+    ghost use Rattle.http_range.specs.Tag.{is_kept_tag};
     ghost use Rattle.cog_client.specs.declared.delivered.Current.TheVariants.{Same};
-    ghost use Rattle.cog_client.specs.Client.{client_refusal, IsFew, IsRefusedBy, asked_of, blocks_of, query_of, report_of, revision_of, tag_of};
+    ghost use Rattle.cog_client.specs.Client.{client_refusal, IsFew, IsRefusedBy, asked_of, host_of, name_of, blocks_of, query_of, report_of, revision_of, tag_of};
     ghost use Rattle.cog_client.specs.Take.{brought_by, count_of, revision_of_piece};
     ghost use Rattle.cog_client.specs.Calls.{Delivers, Forgets, GoesOn, Misses, Opens, Requests, Stands, Starts, StopsAsking, StopsTaking, request_for, unless_reported};
     ghost use Rattle.cog_reader.specs.Reader.{outcome_of};
@@ -154,10 +156,14 @@ impl Client {
 
     /// The tag of the client's revision. It takes no memory.
     pub fn tag(&self) -> Option<&Tag>
-        ensures { option_copied result ≡ tag_of self.now }
+        ensures tag { option_copied result ≡ tag_of self.now }
+        ensures kept { IfSome (tag_of self.now) (λ t. IsTrue (is_kept_tag t)) }
     {
         match &self.source {
-            Some(source) => Some(&source.tag),
+            Some(source) => {
+                let _text = source.tag.as_bytes();
+                Some(&source.tag)
+            }
             None => None,
         }
     }
@@ -199,14 +205,11 @@ impl Client {
 
     /// The text of a request.
     fn request_for(&self, span: Span) -> Result<Vec<u8>, Memory>
-        ensures { IfOk result (λ text. Some text.items ≡ request_for self.now (Some span)) }
+        ensures text { IfOk result (λ text. Some text.items ≡ request_for self.now (Some span)) }
+        ensures lawful { CanAsk (host_of self.now) (name_of self.now) span.first span.last (tag_of self.now) }
     {
-        match &self.source {
-            None => write_request(self.alloc, &self.host, &self.name, span, None),
-            Some(source) => {
-                write_request(self.alloc, &self.host, &self.name, span, Some(&source.tag))
-            }
-        }
+        let tag = self.tag();
+        write_request(self.alloc, &self.host, &self.name, span, tag)
     }
 
     /// Goes on as far as the blocks reach, and says what is missing then. Where nothing is, the report stands.
@@ -339,12 +342,13 @@ impl Client {
 
     /// The check whether the file still has the revision's tag. There is none without a revision.
     pub fn check(&self) -> Result<Option<Vec<u8>>, Memory>
-        ensures { IfOk result (λ o. option_map (λ v. v.items) o ≡ check_of self.now) }
+        ensures text { IfOk result (λ o. option_map (λ v. v.items) o ≡ check_of self.now) }
+        ensures lawful { IfSome (tag_of self.now) (CanCheck (host_of self.now) (name_of self.now)) }
     {
-        match &self.source {
+        match self.tag() {
             None => Ok(None),
-            Some(source) => {
-                let text = write_check(self.alloc, &self.host, &self.name, &source.tag)?;
+            Some(tag) => {
+                let text = write_check(self.alloc, &self.host, &self.name, tag)?;
                 Ok(Some(text))
             }
         }

@@ -1,6 +1,7 @@
 use Rattle.std.proofs.Common.{◌≡◌, Some, None, true, false, sym, ap, subst, ◌∙◌, refl}
 use Rattle.std.specs.Prelude.{is_some, not}
-use Rattle.cog_client.specs.Client.{Known, asked_of, query_of, report_of, revision_of}
+use Rattle.http_range.specs.Ask.{CanAsk}
+use Rattle.cog_client.specs.Client.{Known, asked_of, host_of, name_of, query_of, report_of, revision_of, tag_of}
 use Rattle.cog_client.specs.Calls.{Asks, GoesOn, Misses, StopsAsking, request_for}
 use Rattle.cog_client.proofs.GoingLemmas.{refused}
 use Rattle.cog_client.proofs.ClientLemmas.{goes_trans, known}
@@ -46,4 +47,5 @@ returns-clause-ok c =
     (subst (GoesOn c.args.self.now) (sym m) (goes_trans c.args.self.now before c.missing.new.self old e.goes)) c.self-2.invariant
     (asking_sound j.host.items j.name.items j.query j.asked j.source j.cache j.report c.in-Some.span c.self-2.invariant silent asks)
     (ap (λ (k : Known). is_some (query_of k)) (sym c.self.view_is) ∙ some) (ap (λ (k : Known). is_some (report_of k)) (sym c.self.view_is) ∙ quiet) silent
-    (c.in_ok-text.ensures ∙ ap (λ k. request_for k (Some c.in-Some.span)) (sym m)) asks
+    (c.in_ok-text.ensures.text ∙ ap (λ k. request_for k (Some c.in-Some.span)) (sym m))
+    (subst (λ k. CanAsk (host_of k) (name_of k) c.in-Some.span.first c.in-Some.span.last (tag_of k)) (sym m) c.request_for.ensures.lawful) asks
