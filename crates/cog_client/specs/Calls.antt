@@ -146,8 +146,8 @@ pub record Delivers (old : Known) (text : List ℕ) (what : Delivered) (new : Kn
   pub ignored : IsIgnored what → new ≡ old
   -- after any other answer it has gone on: its report stands, or something is missing
   pub rests : IsIgnored what ⊎ Rests new
-  pub file : (f : List ℕ) → revision_of new ≡ revision_of old → IfOk reading (λ p. IsPieceOf f p.first p.body) → Knows f old
-      → StaysOf f old new
+  pub file : (f : List ℕ) → revision_of new ≡ revision_of old → IfOk reading (λ p. IsPieceOf f p.first p.body)
+      → Knows f old → StaysOf f old new
   pub agrees : (book : Book) → HasDistinctTags book → Agrees old book → IsHonest text (name_of old) book → Agrees new book
 
 -- After want of memory the revision and what is asked for are those that the answer leaves, and some of its blocks are stored.

@@ -26,7 +26,8 @@ pub record Concludes (query : Query) (old : Source) (r : Option Report) (new : S
   pub unasked : IsSome r → reader.query_of new.reader ≡ None
   pub told : IsSome (reader.outcome_of old.reader) → IsSome r
   pub silent : r ≡ None → new ≡ old
-  pub true_of : (f : List ℕ) → reader.Agrees old.reader f → IfSome r (λ r. IsSomeAnd (reader.query_of old.reader) (λ q. IsTrueOf f q r.outcome))
+  pub true_of : (f : List ℕ) → reader.Agrees old.reader f
+      → IfSome r (λ r. IsSomeAnd (reader.query_of old.reader) (λ q. IsTrueOf f q r.outcome))
   pub agrees : (f : List ℕ) → reader.Agrees old.reader f → reader.Agrees new.reader f
 
 -- A revision is read that nothing is known of but tag and length.

@@ -245,7 +245,8 @@ impl Client {
         requires { report_of self.old ≡ None }
         ensures goes { GoesOn self.old self.new }
         ensures asked { asked_of self.new ≡ unless_reported (report_of self.new) (asked_of self.old) }
-        ensures reports { IsSome (query_of self.old) → IfSome self.old.source (λ s. IsSome (outcome_of s.reader) → IsSome (report_of self.new)) }
+        ensures reports { IsSome (query_of self.old)
+            → IfSome self.old.source (λ s. IsSome (outcome_of s.reader) → IsSome (report_of self.new)) }
     {
         nothing_comes();
         let Some(query) = self.query else {
@@ -311,8 +312,8 @@ impl Client {
         requires inside { IsInside (piece_seen piece.now) }
         requires few { IsFew span }
         requires reads { IsSome (revision_of self.old) }
-        ensures ok { IfOk result (λ count. Stores (piece_seen piece.now) span (length (brought_by (piece_seen piece.now) span)) self.old self.new
-            × (count ≡ count_of (piece_seen piece.now) span (blocks_of self.old))) }
+        ensures ok { IfOk result (λ count. let p = piece_seen piece.now in
+            Stores p span (length (brought_by p span)) self.old self.new × (count ≡ count_of p span (blocks_of self.old))) }
         ensures err { OnErr result ((k : ℕ) × Stores (piece_seen piece.now) span k self.old self.new) }
     {
         stores_are_counted();
