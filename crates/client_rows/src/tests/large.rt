@@ -55,6 +55,18 @@ fn expect_exchange(
     expect_took(rt, client, &answer, blocks)
 }
 
+/// Expects the report of a window of one sample.
+fn expect_sample(
+    rt: &(impl Abort + AllocGlobal),
+    client: &Client,
+    query: Query,
+    tag: &str,
+    sample: u8,
+) -> Result<(), Fail> {
+    let want = Want::Window(1, 1, 1, 8, &[sample]);
+    expect_report(rt, client, query, tag, want)
+}
+
 /// The first 16 tiles are one group of 1,048,576 bytes, the other four are another. The least cache keeps the last 66 blocks.
 #[test]
 fn whole_image(rt: HostRuntime) -> Result<(), Fail> {
@@ -81,8 +93,7 @@ fn whole_image(rt: HostRuntime) -> Result<(), Fail> {
             Some(positions) => expect_exchange(&rt, &mut client, first, positions, blocks)?,
             None => expect_no_request(&rt, &mut client)?,
         }
-        let want = [sample];
-        expect_report(&rt, &client, query, tag, Want::Window(1, 1, 1, 8, &want))?;
+        expect_sample(&rt, &client, query, tag, sample)?;
     }
     Ok(())
 }
@@ -180,32 +191,14 @@ fn windows_of_two_revisions(rt: HostRuntime) -> Result<(), Fail> {
     let mut client = asking(&rt, front)?;
     expect_took(&rt, &mut client, &first.part(rt.alloc(), 0, 65535)?, 4)?;
     expect_exchange(&rt, &mut client, first, (65536, 81919), 1)?;
-    expect_report(
-        &rt,
-        &client,
-        front,
-        first.tag,
-        Want::Window(1, 1, 1, 8, &[0]),
-    )?;
+    expect_sample(&rt, &client, front, first.tag, 0)?;
     client.open(end);
     expect_request(&rt, &mut client, (1261568, 1327103), Some(first.tag))?;
     expect_restarted(&rt, &mut client, &second.whole(rt.alloc())?)?;
     expect_no_report(&rt, &client);
     expect_exchange(&rt, &mut client, second, (1261568, 1327103), 4)?;
-    expect_report(
-        &rt,
-        &client,
-        end,
-        second.tag,
-        Want::Window(1, 1, 1, 8, &[236]),
-    )?;
+    expect_sample(&rt, &client, end, second.tag, 236)?;
     client.open(front);
     expect_exchange(&rt, &mut client, second, (65536, 81919), 1)?;
-    expect_report(
-        &rt,
-        &client,
-        front,
-        second.tag,
-        Want::Window(1, 1, 1, 8, &[255]),
-    )
+    expect_sample(&rt, &client, front, second.tag, 255)
 }
