@@ -24,9 +24,7 @@ fn run_script<R: Print + AllocGlobal, S: Source>(
     source: &mut S,
 ) -> Result<(), Fault> {
     let events = script(rt.alloc(), text, source)?;
-    let mut log = Log {
-        entries: Vec::new(rt.alloc()),
-    };
+    let mut log = Log::new(rt.alloc());
     let ran = run(rt.alloc(), &events, &mut log);
     let text = log_text(rt.alloc(), &log)?;
     io::writer(rt).write_all(&text)?;

@@ -1,3 +1,4 @@
+mod clients;
 mod log_lines;
 mod reports;
 mod script_lines;

@@ -77,11 +77,11 @@ fn publication<S: Source>(
     })
 }
 
-/// The window of a line: its columns, rows and sides, in level `level`.
-fn window(level: &[u8], sides: &[&[u8]; 4]) -> Result<Query, LineError> {
+/// The window of a line: its columns, rows and sides, of the level that is picked.
+fn window(pick: Pick, sides: &[&[u8]; 4]) -> Result<Query, LineError> {
     let [x, y, w, h] = sides;
     Ok(Query::Window {
-        pick: Pick::Level(wanted(level)?),
+        pick,
         x: wanted(x)?,
         y: wanted(y)?,
         w: wanted(w)?,
@@ -109,8 +109,17 @@ fn event_of<S: Source>(alloc: Global, words: &[&[u8]], source: &mut S) -> Result
         }),
         [b"open", client, b"level", level, x, y, w, h] => Ok(Event::Open {
             client: wanted(client)?,
-            query: window(level, &[*x, *y, *w, *h])?,
+            query: window(Pick::Level(wanted(level)?), &[*x, *y, *w, *h])?,
         }),
+        [b"open", client, b"columns", columns, x, y, w, h] => Ok(Event::Open {
+            client: wanted(client)?,
+            query: window(Pick::Columns(wanted(columns)?), &[*x, *y, *w, *h])?,
+        }),
+        [b"open", client, b"info"] => Ok(Event::Open {
+            client: wanted(client)?,
+            query: Query::Info,
+        }),
+        [b"forget", client] => Ok(Event::Forget(wanted(client)?)),
         [b"ask", digits] => Ok(Event::Ask(bytes_of(alloc, digits)?)),
         [b"exchange", client] => Ok(Event::Exchange(wanted(client)?)),
         _ => Err(LineError::NotAnEvent),

@@ -4,7 +4,9 @@ use http_range::{Memory, Span, Why};
 use itoa::{Buffer, Integer};
 use std::alloc::{AllocError, Global};
 use tiff_dir::FileFault;
-use world::{Answer, Delivered, Effect, Entry, Exchange, Ignored, Log, Outcome, Report};
+use world::{
+    Answer, Delivered, Effect, Entry, Exchange, Ignored, Info, Log, Outcome, Report, Window,
+};
 
 /// The text of a log: a line for each entry, and one more for its report.
 pub fn log_text(alloc: Global, log: &Log) -> Result<Vec<u8>, Memory> {
@@ -27,7 +29,7 @@ fn push_entry(text: &mut Text, entry: &Entry) -> Result<(), AllocError> {
 /// The client that the event was about.
 fn client_of(effect: &Effect) -> Option<u32> {
     match effect {
-        Effect::Opened(client) | Effect::Nothing(client) => Some(*client),
+        Effect::Opened(client) | Effect::Forgot(client) | Effect::Nothing(client) => Some(*client),
         Effect::Exchanged(exchange) => Some(exchange.client),
         _ => None,
     }
@@ -44,6 +46,7 @@ fn push_effect(text: &mut Text, effect: &Effect) -> Result<(), AllocError> {
         Effect::Epoch(epoch) => push_counted(text, b"epoch", *epoch),
         Effect::Made(client) => push_counted(text, b"client", *client),
         Effect::Opened(client) => push_counted(text, b"opened", *client),
+        Effect::Forgot(client) => push_counted(text, b"forgot", *client),
         Effect::Nothing(client) => {
             push_counted(text, b"asked", *client)?;
             text.word(b"nothing")
@@ -87,6 +90,7 @@ fn push_span(text: &mut Text, span: Span) -> Result<(), AllocError> {
 fn push_delivered(text: &mut Text, delivered: Delivered) -> Result<(), AllocError> {
     match delivered {
         Delivered::Took(blocks) => push_counted(text, b"took", blocks),
+        Delivered::Restarted => text.word(b"restarted"),
         Delivered::Ignored(ignored) => {
             push_counted(text, b"ignored", ignored.number())?;
             match ignored {
@@ -101,21 +105,25 @@ fn push_report(text: &mut Text, client: u32, report: &Report) -> Result<(), Allo
     push_counted(text, b"report", client)?;
     text.word(report.tag.as_bytes())?;
     match &report.outcome {
-        Outcome::Window {
-            w,
-            h,
-            samples,
-            pixels,
-            ..
-        } => {
-            push_counted(text, b"window", *w)?;
-            text.number(*h)?;
-            text.number(*samples)?;
-            text.hexadecimal(pixels)?;
-        }
+        Outcome::Window(window) => push_window(text, window)?,
+        Outcome::Info(info) => push_info(text, info)?,
         Outcome::Fault(fault) => push_fault(text, *fault)?,
     }
     text.end_line()
+}
+
+/// A window's sides, the samples of a pixel, and the bytes of its samples.
+fn push_window(text: &mut Text, window: &Window) -> Result<(), AllocError> {
+    push_counted(text, b"window", window.w)?;
+    text.number(window.h)?;
+    text.number(window.samples)?;
+    text.hexadecimal(&window.pixels)
+}
+
+/// How many levels and keys there are.
+fn push_info(text: &mut Text, info: &Info) -> Result<(), AllocError> {
+    push_counted(text, b"info", info.sides.len())?;
+    text.number(info.geo.keys.len())
 }
 
 /// A fault's number, and the field that it is about.

@@ -1,9 +1,3 @@
-pub mod Agreement
 pub mod Lists
 pub mod Truth
 pub mod Whole
-pub mod CutLemmas
-pub mod LevelLemmas
-pub mod TileLemmas
-pub mod ReadLemmas
-pub mod AnswerLemmas

@@ -2,10 +2,9 @@
 use Rattle.std.proofs.Common.{◌≡◌, ℕ, suc, zero, List, [], ◌∷◌, ◌++◌, length, map, get_or, Option, Some, None, refl, sym, ap, ◌∙◌, subst, arith, ◌<◌, ◌⊎◌, inl, inr}
 use Rattle.std.specs.Prelude.{slice_get, slice_set, is_some, Bool, if◌then◌else◌}
 use Rattle.std.specs.Option.{option_map}
-use Rattle.world.specs.declared.client.Client.{Client}
 use Rattle.world.specs.declared.event.Entry.{Entry}
-use Rattle.world.specs.Report.{Told}
-use Rattle.world.specs.Client.{report_of}
+use Rattle.cog_client.specs.Report.{Told, told}
+use Rattle.cog_client.specs.Client.{Known, report_of}
 use Rattle.world.specs.Run.{Acts, AtClient, NewReport, Tells}
 
 pub get_there : {A : Type 0} (xs : List A) (i : ℕ) (x : A) → i < length xs → x ≡ get_or xs i x → slice_get xs i ≡ Some x
@@ -48,11 +47,11 @@ map-set f (a ∷ xs) zero x = refl
 map-set f (a ∷ xs) (suc i) x = ap (λ ys. f a ∷ ys) (map-set f xs i x)
 
 -- a call of the client that is there
-pub at_client : (R : Client → Client → Type 0) (old : List Client) (i : ℕ) (c next : Client) (n : Entry) → i < length old → c ≡ get_or old i c → Acts R n c next → AtClient (slice_get old i) R i n old (slice_set old i next)
+pub at_client : (R : Known → Known → Type 0) (old : List Known) (i : ℕ) (c next : Known) (n : Entry) → i < length old → c ≡ get_or old i c → Acts R n c next → AtClient (slice_get old i) R i n old (slice_set old i next)
 at_client R old i c next n inside is acts =
-    let P : Option Client → Type 0 = λ o. AtClient o R i n old (slice_set old i next) in
+    let P : Option Known → Type 0 = λ o. AtClient o R i n old (slice_set old i next) in
     subst P (sym (get_there old i c inside is)) (record { next = next; changed = refl; acts = acts })
 
-pub tells_of : (had : Bool) (old new : Client) (report : Option Told) → had ≡ is_some (report_of old) → NewReport had new report → Tells old new report
+pub tells_of : (had : Bool) (old new : Known) (report : Option Told) → had ≡ is_some (report_of old) → NewReport had new report → Tells old new report
 tells_of had old new report is h =
-    record { standing = h.standing; stands = h.stands; newly = h.newly ∙ ap (λ (b : Bool). if b then None else h.standing) is }
+    record { standing = h.standing; stands = h.stands; newly = h.newly ∙ ap (λ (b : Bool). if b then None else option_map told h.standing) is }

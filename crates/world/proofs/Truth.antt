@@ -12,31 +12,32 @@ use Rattle.tiff_dir.specs.declared.query.Query.{Query}
 use Rattle.http_range.specs.Names.{is_name}
 use Rattle.http_range.specs.Ask.{CanAsk, request_text}
 use Rattle.http_range.specs.Book.{Publication, IsPublication, Book, In, Includes, HasDistinctTags, Catalogue, IsCatalogue, published, Covers, publish, publication_tag}
-use Rattle.http_range.specs.declared.range.Resolved.TheVariants.{Part}
+use Rattle.http_range.specs.declared.range.Resolved.TheVariants.{Part, Whole}
 use Rattle.http_range.specs.declared.reply.Reply.TheVariants.{R416}
-use Rattle.http_range.specs.Response.{Response, IsAnswer, text_of, response_to_client, serve_part, refused}
+use Rattle.http_range.specs.Response.{Response, IsAnswer, text_of, is_current, response_to_client, serve_part, refused}
 use Rattle.http_range.specs.Honest.{IsHonest}
 use Rattle.cog_server.specs.declared.error.PublishError.{PublishError}
-use Rattle.world.specs.declared.client.Client.{Client}
-use Rattle.world.specs.declared.client.ClientError.{ClientError}
+use Rattle.cog_client.specs.declared.error.ClientError.{ClientError}
 use Rattle.world.specs.declared.event.Event.{Event}
-use Rattle.world.specs.declared.event.Event.TheVariants.{Publish, Epoch, NewClient, Open, Ask, Exchange}
+use Rattle.world.specs.declared.event.Event.TheVariants.{Publish, Epoch, NewClient, Open, Forget, Ask, Exchange}
 use Rattle.world.specs.declared.event.Effect.{Effect}
 use Rattle.world.specs.declared.event.Entry.{Entry}
-use Rattle.world.specs.Report.{Told, IsTrueReport}
-use Rattle.world.specs.Client.{client_refusal, host_of, name_of, query_of, report_of, Agrees}
-use Rattle.world.specs.Calls.{Requests, may_ask}
+use Rattle.cog_client.specs.Report.{Told, told, IsTrueReport}
+use Rattle.cog_client.specs.declared.report.Report.{Report}
+use Rattle.tiff_dir.specs.declared.span.Span.{Span}
+use Rattle.cog_client.specs.Client.{Known, Agrees, asked_of, client_refusal, host_of, name_of, query_of, report_of, tag_of}
+use Rattle.cog_client.specs.Calls.{Requests, request_for}
 use Rattle.cog_server.specs.Server.{ServerState, refusal_of}
 use Rattle.world.specs.World.{World, Seen, host, start, next_of, publish_by, refused_at, server_of, restart_by, with_clients, with_sent, made_by, opened, sent_after, after, after_all, told_of, client_of, IsTrueAt, AllTrue}
-use Rattle.world.specs.Run.{seen, Tells, AtClient, MakesBy, OpensWith, IsExchanged, ExchangesWith, Step, Runs}
+use Rattle.world.specs.Run.{seen, Tells, AtClient, MakesBy, OpensWith, ForgetsAll, IsExchanged, ExchangesWith, Step, Runs}
 use Rattle.world.specs.LowerLaws.{LowerLaws}
 use Rattle.world.proofs.Lists.{get-map, get-set, get-set_same, get-push, map-set, set_there}
 
-abbrev AgreesLater : Client → Book → Type 0
+abbrev AgreesLater : Known → Book → Type 0
 AgreesLater c book = (later : Book) → Includes later book → HasDistinctTags later → Agrees c later
 
-abbrev AllAgree : List Client → Book → Type 0
-AllAgree cs book = (i : ℕ) (c : Client) → slice_get cs i ≡ Some c → AgreesLater c book
+abbrev AllAgree : List Known → Book → Type 0
+AllAgree cs book = (i : ℕ) (c : Known) → slice_get cs i ≡ Some c → AgreesLater c book
 
 -- the publication's tag is of an earlier epoch, or of this one with a number that is used
 pub record IsOlder (w : World) (p : Publication) : Type 0 where
@@ -59,7 +60,7 @@ older_in w later p old used = record {
   used = used;
 }
 
-pub record Good (w : World) (cs : List Client) : Type 0 where
+pub record Good (w : World) (cs : List Known) : Type 0 where
   pub epoch_small : w.epoch < 2 ^ 32
   pub count_small : w.count < 2 ^ 32
   pub older : (p : Publication) → In p w.book → IsOlder w p
@@ -111,7 +112,7 @@ accepted s name file e =
 
 module _ (laws : LowerLaws) where
   -- no publication has the next tag
-  unused : (w : World) (cs : List Client) (q : Publication) → Good w cs → w.count + 1 < 2 ^ 32 → In q w.book → q.tag ≡ publication_tag w.epoch (w.count + 1) → ⊥
+  unused : (w : World) (cs : List Known) (q : Publication) → Good w cs → w.count + 1 < 2 ^ 32 → In q w.book → q.tag ≡ publication_tag w.epoch (w.count + 1) → ⊥
   unused w cs q g room i e =
       let old = g.older q i in
       let small = g.epoch_small in
@@ -131,7 +132,7 @@ module _ (laws : LowerLaws) where
             inr (covers name q (sym (laws.replaces.others p catalogue name differ) ∙ found)))
       ]
 
-  good_accepted : (w : World) (cs : List Client) (name file : List ℕ) → refused_at w name file ≡ None → Good w cs → Good (publish_by w (next_of w name file) None) cs
+  good_accepted : (w : World) (cs : List Known) (name file : List ℕ) → refused_at w name file ≡ None → Good w cs → Good (publish_by w (next_of w name file) None) cs
   good_accepted w cs name file none g =
       let p = next_of w name file in
       let ok = accepted (server_of w) name file none in
@@ -162,11 +163,11 @@ module _ (laws : LowerLaws) where
         agree = λ i c e later inc d. g.agree i c e later (λ q j. inc q (inr j)) d;
       }
 
-  good_publish : (w : World) (cs : List Client) (name file : List ℕ) (o : Option PublishError) → refused_at w name file ≡ o → Good w cs → Good (publish_by w (next_of w name file) o) cs
+  good_publish : (w : World) (cs : List Known) (name file : List ℕ) (o : Option PublishError) → refused_at w name file ≡ o → Good w cs → Good (publish_by w (next_of w name file) o) cs
   good_publish w cs name file (Some refusal) e g = g
   good_publish w cs name file None e g = good_accepted w cs name file e g
 
-good_epoch : (b : Bool) (w : World) (cs : List Client) (e : ℕ) → nat_lt w.epoch e ≡ b → e < 2 ^ 32 → Good w cs → Good (restart_by w e b) cs
+good_epoch : (b : Bool) (w : World) (cs : List Known) (e : ℕ) → nat_lt w.epoch e ≡ b → e < 2 ^ 32 → Good w cs → Good (restart_by w e b) cs
 good_epoch false w cs e t small g = g
 good_epoch true w cs e t small g =
     let greater : w.epoch < e = grind (arith, nat_tests) in
@@ -183,7 +184,7 @@ good_epoch true w cs e t small g =
 
 -- ---- clients
 
-good_clients : (w : World) (cs new : List Client) (clients : List Seen) → Good w cs → map seen new ≡ clients → AllAgree new w.book → Good (with_clients w clients) new
+good_clients : (w : World) (cs new : List Known) (clients : List Seen) → Good w cs → map seen new ≡ clients → AllAgree new w.book → Good (with_clients w clients) new
 good_clients w cs new clients g same agree =
     record {
       epoch_small = g.epoch_small;
@@ -196,7 +197,7 @@ good_clients w cs new clients g same agree =
       agree = agree;
     }
 
-good_sent : (w : World) (cs : List Client) (sent : ℕ) → Good w cs → Good (with_sent w sent) cs
+good_sent : (w : World) (cs : List Known) (sent : ℕ) → Good w cs → Good (with_sent w sent) cs
 good_sent w cs sent g =
     record {
       epoch_small = g.epoch_small;
@@ -209,166 +210,189 @@ good_sent w cs sent g =
       agree = g.agree;
     }
 
-agree_set : (cs : List Client) (i : ℕ) (c next : Client) (book : Book) → slice_get cs i ≡ Some c → AllAgree cs book → AgreesLater next book → AllAgree (slice_set cs i next) book
+agree_set : (cs : List Known) (i : ℕ) (c next : Known) (book : Book) → slice_get cs i ≡ Some c → AllAgree cs book → AgreesLater next book → AllAgree (slice_set cs i next) book
 agree_set cs i c next book there all new = λ j d e. elim (get-set cs i j next d c there e) [
-  | inl is ↦ (let P : Client → Type 0 = λ x. AgreesLater x book in subst P (sym is) new)
+  | inl is ↦ (let P : Known → Type 0 = λ x. AgreesLater x book in subst P (sym is) new)
   | inr old ↦ all j d old
 ]
 
-agree_push : (cs : List Client) (next : Client) (book : Book) → AllAgree cs book → AgreesLater next book → AllAgree (cs ++ next ∷ []) book
+agree_push : (cs : List Known) (next : Known) (book : Book) → AllAgree cs book → AgreesLater next book → AllAgree (cs ++ next ∷ []) book
 agree_push cs next book all new = λ j d e. elim (get-push cs j next d e) [
-  | inl is ↦ (let P : Client → Type 0 = λ x. AgreesLater x book in subst P (sym is) new)
+  | inl is ↦ (let P : Known → Type 0 = λ x. AgreesLater x book in subst P (sym is) new)
   | inr old ↦ all j d old
 ]
 
 abbrev see : List ℕ → Option Query → Seen
 see name query = record { name = name; query = query }
 
-seen_same : (c next : Client) → name_of next ≡ name_of c → query_of next ≡ query_of c → seen next ≡ seen c
+seen_same : (c next : Known) → name_of next ≡ name_of c → query_of next ≡ query_of c → seen next ≡ seen c
 seen_same c next n q = ap (λ (m : List ℕ). see m (query_of next)) n ∙ ap (λ (o : Option Query). see (name_of c) o) q
 
 -- a client that keeps its name and its query is seen as before
-kept_seen : (cs : List Client) (i : ℕ) (c next : Client) → slice_get cs i ≡ Some c → seen next ≡ seen c → map seen (slice_set cs i next) ≡ map seen cs
+kept_seen : (cs : List Known) (i : ℕ) (c next : Known) → slice_get cs i ≡ Some c → seen next ≡ seen c → map seen (slice_set cs i next) ≡ map seen cs
 kept_seen cs i c next there same =
-    map-set seen cs i next ∙ (ap (λ (s : Seen). slice_set (map seen cs) i s) same ∙ set_there (map seen cs) i (seen c) (get-map seen cs i ∙ ap (λ (o : Option Client). option_map seen o) there))
+    map-set seen cs i next ∙ (ap (λ (s : Seen). slice_set (map seen cs) i s) same ∙ set_there (map seen cs) i (seen c) (get-map seen cs i ∙ ap (λ (o : Option Known). option_map seen o) there))
 
-opened_there : (cs : List Client) (i : ℕ) (c next : Client) (q : Query) → slice_get cs i ≡ Some c → name_of next ≡ name_of c → query_of next ≡ Some q → map seen (slice_set cs i next) ≡ opened (map seen cs) i q
+opened_there : (cs : List Known) (i : ℕ) (c next : Known) (q : Query) → slice_get cs i ≡ Some c → name_of next ≡ name_of c → query_of next ≡ Some q → map seen (slice_set cs i next) ≡ opened (map seen cs) i q
 opened_there [] i c next q there n e = refl
 opened_there (d ∷ cs) zero c next q there n e =
     let same : d ≡ c = cc in
-    ap (λ (s : Seen). s ∷ map seen cs) (ap (λ (m : List ℕ). see m (query_of next)) (n ∙ ap (λ (x : Client). name_of x) (sym same)) ∙ ap (λ (o : Option Query). see (name_of d) o) e)
+    ap (λ (s : Seen). s ∷ map seen cs) (ap (λ (m : List ℕ). see m (query_of next)) (n ∙ ap (λ (x : Known). name_of x) (sym same)) ∙ ap (λ (o : Option Query). see (name_of d) o) e)
 opened_there (d ∷ cs) (suc i) c next q there n e = ap (λ (ss : List Seen). seen d ∷ ss) (opened_there cs i c next q there n e)
 
-opened_none : (cs : List Client) (i : ℕ) (q : Query) → slice_get cs i ≡ None → opened (map seen cs) i q ≡ map seen cs
+opened_none : (cs : List Known) (i : ℕ) (q : Query) → slice_get cs i ≡ None → opened (map seen cs) i q ≡ map seen cs
 opened_none [] i q none = refl
 opened_none (d ∷ cs) zero q none = absurd (none-some d (sym none))
 opened_none (d ∷ cs) (suc i) q none = ap (λ (ss : List Seen). seen d ∷ ss) (opened_none cs i q none)
 
 -- ---- the world after an event, with what is told
 
-pub record IsSound (w : World) (cs : List Client) (client : Option ℕ) (report : Option Told) : Type 0 where
+pub record IsSound (w : World) (cs : List Known) (client : Option ℕ) (report : Option Told) : Type 0 where
   pub good : Good w cs
   pub told : IfSome report (IsTrueAt w client)
 
-told_by : (o : Option Told) (w : World) (i : ℕ) (c : Client) → slice_get w.clients i ≡ Some (seen c) → IfSome o (λ r. IsTrueReport r (name_of c) (query_of c) w.book) → IfSome o (IsTrueAt w (Some i))
+told_by : (o : Option Told) (w : World) (i : ℕ) (c : Known) → slice_get w.clients i ≡ Some (seen c) → IfSome o (λ r. IsTrueReport r (name_of c) (query_of c) w.book) → IfSome o (IsTrueAt w (Some i))
 told_by None w i c there h = tt
 told_by (Some r) w i c there h = record { at = i; by = refl; seen = seen c; there = there; holds = h }
+
+told_all : (o : Option Report) (P : Told → Type 0) → IfSome o (λ r. P (told r)) → IfSome (option_map told o) P
+told_all None P h = tt
+told_all (Some r) P h = h
 
 newly_told : (b : Bool) (o : Option Told) (P : Told → Type 0) → IfSome o P → IfSome (cond b None o) P
 newly_told true o P h = tt
 newly_told false o P h = h
 
 -- a call of client i: the world is good and what is told is true
-sound_call : (w : World) (cs new : List Client) (i : ℕ) (c next : Client) (n : Entry) → Good w new → slice_get cs i ≡ Some c → new ≡ slice_set cs i next → AgreesLater next w.book → Tells c next (told_of n) → IsSound w new (Some i) (told_of n)
+sound_call : (w : World) (cs new : List Known) (i : ℕ) (c next : Known) (n : Entry) → Good w new → slice_get cs i ≡ Some c → new ≡ slice_set cs i next → AgreesLater next w.book → Tells c next (told_of n) → IsSound w new (Some i) (told_of n)
 sound_call w cs new i c next n g there changed agrees tells =
     let at : slice_get w.clients i ≡ Some (seen next) =
-    ap (λ (ss : List Seen). slice_get ss i) (sym g.seen_are) ∙ (ap (λ (xs : List Client). slice_get (map seen xs) i) changed
-    ∙ (get-map seen (slice_set cs i next) i ∙ ap (λ (o : Option Client). option_map seen o) (get-set_same cs i next c there))) in
-    let holds = told_by tells.standing w i next at (tells.stands.holds w.book (agrees w.book (λ p j. j) g.distinct)) in
+    ap (λ (ss : List Seen). slice_get ss i) (sym g.seen_are) ∙ (ap (λ (xs : List Known). slice_get (map seen xs) i) changed
+    ∙ (get-map seen (slice_set cs i next) i ∙ ap (λ (o : Option Known). option_map seen o) (get-set_same cs i next c there))) in
+    let standing : Option Told = option_map told tells.standing in
+    let true_for : IfSome standing (λ r. IsTrueReport r (name_of next) (query_of next) w.book) =
+    told_all tells.standing (λ r. IsTrueReport r (name_of next) (query_of next) w.book) (tells.stands.holds w.book (agrees w.book (λ p j. j) g.distinct)) in
+    let holds = told_by standing w i next at true_for in
     let P : Option Told → Type 0 = λ o. IfSome o (IsTrueAt w (Some i)) in
-    record { good = g; told = subst P (sym tells.newly) (newly_told (is_some (report_of c)) tells.standing (IsTrueAt w (Some i)) holds) }
+    record { good = g; told = subst P (sym tells.newly) (newly_told (is_some (report_of c)) standing (IsTrueAt w (Some i)) holds) }
 
 -- an event that tells nothing
-sound_quiet : (w : World) (cs new : List Client) (client : Option ℕ) (report : Option Told) → Good w cs → new ≡ cs → report ≡ None → IsSound w new client report
+sound_quiet : (w : World) (cs new : List Known) (client : Option ℕ) (report : Option Told) → Good w cs → new ≡ cs → report ≡ None → IsSound w new client report
 sound_quiet w cs new client report g same none =
-    let P : List Client → Type 0 = λ xs. Good w xs in
+    let P : List Known → Type 0 = λ xs. Good w xs in
     let Q : Option Told → Type 0 = λ o. IfSome o (IsTrueAt w client) in
     record { good = subst P (sym same) g; told = subst Q (sym none) tt }
 
-sound_made : (o : Option ClientError) (w : World) (cs new : List Client) (name : List ℕ) (n : Entry) → Good w cs → MakesBy o name n cs new → IsSound (made_by w name o) new None (told_of n)
-sound_made (Some refusal) w cs new name n g h = sound_quiet w cs new None (told_of n) g h.same h.report
-sound_made None w cs new name n g h =
+sound_made : (o : Option ClientError) (w : World) (cs new : List Known) (name : List ℕ) (blocks : ℕ) (n : Entry) → Good w cs → MakesBy o name blocks n cs new → IsSound (made_by w name o) new None (told_of n)
+sound_made (Some refusal) w cs new name blocks n g h = sound_quiet w cs new None (told_of n) g h.same h.report
+sound_made None w cs new name blocks n g h =
     let seen_made : seen h.made ≡ see name None = ap (λ (m : List ℕ). see m (query_of h.made)) h.starts.named ∙ ap (λ (o : Option Query). see name o) h.starts.query in
     let all : map seen (cs ++ h.made ∷ []) ≡ w.clients ++ see name None ∷ [] = map_push seen cs h.made ∙ (ap (λ (ss : List Seen). ss ++ seen h.made ∷ []) g.seen_are ∙ ap (λ (s : Seen). w.clients ++ s ∷ []) seen_made) in
     let w' = with_clients w (w.clients ++ see name None ∷ []) in
-    let good : Good w' (cs ++ h.made ∷ []) = good_clients w cs (cs ++ h.made ∷ []) (w.clients ++ see name None ∷ []) g all (agree_push cs h.made w.book g.agree (λ b inc d. h.starts.agrees b)) in
+    let good : Good w' (cs ++ h.made ∷ []) = good_clients w cs (cs ++ h.made ∷ []) (w.clients ++ see name None ∷ []) g all (agree_push cs h.made w.book g.agree (λ b inc d. h.starts.empty.agrees b)) in
     sound_quiet w' (cs ++ h.made ∷ []) new None (told_of n) good h.added h.report
 
-sound_open : (o : Option Client) (w : World) (cs new : List Client) (i : ℕ) (q : Query) (n : Entry) → slice_get cs i ≡ o → Good w cs → AtClient o (OpensWith q i n.effect) i n cs new → IsSound (with_clients w (opened w.clients i q)) new (Some i) (told_of n)
+sound_open : (o : Option Known) (w : World) (cs new : List Known) (i : ℕ) (q : Query) (n : Entry) → slice_get cs i ≡ o → Good w cs → AtClient o (OpensWith q i n.effect) i n cs new → IsSound (with_clients w (opened w.clients i q)) new (Some i) (told_of n)
 sound_open None w cs new i q n at g h =
     let same : opened w.clients i q ≡ w.clients = ap (λ (ss : List Seen). opened ss i q) (sym g.seen_are) ∙ (opened_none cs i q at ∙ g.seen_are) in
     let P : List Seen → Type 0 = λ ss. Good (with_clients w ss) cs in
     sound_quiet (with_clients w (opened w.clients i q)) cs new (Some i) (told_of n) (subst P (sym same) (good_clients w cs cs w.clients g g.seen_are g.agree)) h.same h.report
 sound_open (Some c) w cs new i q n at g h =
     let opens = h.acts.does.opens in
-    let later : AgreesLater h.next w.book = (λ b inc d. opens.agrees b) in
-    let seen_new : map seen (slice_set cs i h.next) ≡ opened w.clients i q = opened_there cs i c h.next q at opens.same.name opens.asks ∙ ap (λ (ss : List Seen). opened ss i q) g.seen_are in
+    let later : AgreesLater h.next w.book = (λ b inc d. opens.agrees b (g.agree i c at b inc d)) in
+    let seen_new : map seen (slice_set cs i h.next) ≡ opened w.clients i q = opened_there cs i c h.next q at opens.name opens.asks ∙ ap (λ (ss : List Seen). opened ss i q) g.seen_are in
     let good : Good (with_clients w (opened w.clients i q)) (slice_set cs i h.next) = good_clients w cs (slice_set cs i h.next) (opened w.clients i q) g seen_new (agree_set cs i c h.next w.book at g.agree later) in
-    let P : List Client → Type 0 = λ xs. Good (with_clients w (opened w.clients i q)) xs in
+    let P : List Known → Type 0 = λ xs. Good (with_clients w (opened w.clients i q)) xs in
     sound_call (with_clients w (opened w.clients i q)) cs new i c h.next n (subst P (sym h.changed) good) at h.changed later h.acts.tells
+
+-- ---- forgetting
+
+sound_forget : (o : Option Known) (w : World) (cs new : List Known) (i : ℕ) (n : Entry) → slice_get cs i ≡ o → Good w cs → AtClient o (ForgetsAll i n.effect) i n cs new → IsSound w new (Some i) (told_of n)
+sound_forget None w cs new i n at g h = sound_quiet w cs new (Some i) (told_of n) g h.same h.report
+sound_forget (Some c) w cs new i n at g h =
+    let forgets = h.acts.does.forgets in
+    let later : AgreesLater h.next w.book = (λ b inc d. forgets.empty.agrees b) in
+    let kept : map seen (slice_set cs i h.next) ≡ w.clients = kept_seen cs i c h.next at (seen_same c h.next forgets.same.name forgets.same.query) ∙ g.seen_are in
+    let good : Good w (slice_set cs i h.next) = good_clients w cs (slice_set cs i h.next) w.clients g kept (agree_set cs i c h.next w.book at g.agree later) in
+    let P : List Known → Type 0 = λ xs. Good w xs in
+    sound_call w cs new i c h.next n (subst P (sym h.changed) good) at h.changed later h.acts.tells
 
 -- ---- exchanges
 
 -- what a client is after its calls
-record IsKept (c next : Client) (book : Book) : Type 0 where
+record IsKept (c next : Known) (book : Book) : Type 0 where
   same : seen next ≡ seen c
   agrees : AgreesLater next book
 
--- the text of a client's request
-asked_text : (b : Bool) (text request : List ℕ) → Some request ≡ (if b then Some text else None) → request ≡ text
-asked_text true text request e = same_Some _ _ e
-asked_text false text request e = absurd (none-some request (sym e))
-
-served_name : (laws : LowerLaws) (name : List ℕ) (catalogue : Catalogue) (o : Option Publication) → published name catalogue ≡ o → ((response_to_client o 0 65535 None).name ≡ Some name) ⊎ ((response_to_client o 0 65535 None).name ≡ None)
-served_name laws name catalogue None e = inr refl
-served_name laws name catalogue (Some p) e =
-    let named : p.name ≡ name = laws.named.named name catalogue p e in by_length (nat_lt 0 (length p.file)) named
+served_name : (laws : LowerLaws) (name : List ℕ) (catalogue : Catalogue) (first last : ℕ) (tag : Option (List ℕ)) (o : Option Publication) → published name catalogue ≡ o
+    → ((response_to_client o first last tag).name ≡ Some name) ⊎ ((response_to_client o first last tag).name ≡ None)
+served_name laws name catalogue first last tag None e = inr refl
+served_name laws name catalogue first last tag (Some p) e =
+    let named : p.name ≡ name = laws.named.named name catalogue p e in by_case (is_current tag p.tag) (nat_lt first (length p.file)) named
   where
-    by_length : (b : Bool) → p.name ≡ name
-        → ((if b then serve_part (Part 0 (min 65535 (length p.file - 1))) p true else refused (R416 (length p.file)) true).name ≡ Some name)
-        ⊎ ((if b then serve_part (Part 0 (min 65535 (length p.file - 1))) p true else refused (R416 (length p.file)) true).name ≡ None)
-    by_length true named = inl (ap Some named)
-    by_length false named = inr refl
+    by_case : (current inside : Bool) → p.name ≡ name
+        → ((if current then (if inside then serve_part (Part first (min last (length p.file - 1))) p true else refused (R416 (length p.file)) true) else serve_part Whole p true).name ≡ Some name)
+        ⊎ ((if current then (if inside then serve_part (Part first (min last (length p.file - 1))) p true else refused (R416 (length p.file)) true) else serve_part Whole p true).name ≡ None)
+    by_case true true named = inl (ap Some named)
+    by_case true false named = inr refl
+    by_case false inside named = inl (ap Some named)
+
+-- a client's request is that for a span
+asked_for : (c : Known) (o : Option Span) (request : List ℕ) → Some request ≡ request_for c o → IfSome o (λ s. CanAsk (host_of c) (name_of c) s.first s.last (tag_of c))
+    → (s : Span) × (request ≡ request_text (host_of c) (name_of c) s.first s.last (tag_of c)) × CanAsk (host_of c) (name_of c) s.first s.last (tag_of c)
+asked_for c None request e can = absurd (none-some request (sym e))
+asked_for c (Some s) request e can = (s, same_Some _ _ e, can)
 
 module _ (laws : LowerLaws) where
   -- the answer to a client's own request is honest for it
-  honest_own : (w : World) (cs : List Client) (c : Client) (request : List ℕ) (response : Response) (later : Book) → Good w cs → request ≡ request_text (host_of c) (name_of c) 0 65535 None
-      → IsAnswer w.catalogue request response → Includes later w.book → IsHonest (text_of response) (name_of c) later
-  honest_own w cs c request response later g is answered inc =
-      let can : CanAsk (host_of c) (name_of c) 0 65535 None = record { to_host = c.hosted; of_name = c.named; from_first = omega arith; to_last = omega arith; kept = tt } in
-      let text : request ≡ request_text (host_of c) (name_of c) 0 65535 None ++ [] = is ∙ sym (append-nil _) in
+  honest_own : (w : World) (cs : List Known) (host name : List ℕ) (tag : Option (List ℕ)) (s : Span) (request : List ℕ) (response : Response) (later : Book) → Good w cs
+      → request ≡ request_text host name s.first s.last tag → CanAsk host name s.first s.last tag
+      → IsAnswer w.catalogue request response → Includes later w.book → IsHonest (text_of response) name later
+  honest_own w cs host name tag s request response later g is can answered inc =
+      let text : request ≡ request_text host name s.first s.last tag ++ [] = is ∙ sym (append-nil _) in
       let P : List ℕ → Type 0 = λ m. IsAnswer w.catalogue m response in
-      let same = (laws.answered w.catalogue (host_of c) (name_of c) [] 0 65535 None response can (omega arith)).0 (subst P text answered) in
-      let Q : Response → Type 0 = λ s. (s.name ≡ Some (name_of c)) ⊎ (s.name ≡ None) in
-      laws.honest.answered w.catalogue later request response (name_of c) g.lawful (λ name p found. inc p (g.covers name p found)) answered
-      (subst Q (sym same) (served_name laws (name_of c) w.catalogue (published (name_of c) w.catalogue) refl))
+      let same = (laws.answered w.catalogue host name [] s.first s.last tag response can s.ascending).0 (subst P text answered) in
+      let Q : Response → Type 0 = λ r. (r.name ≡ Some name) ⊎ (r.name ≡ None) in
+      laws.honest.answered w.catalogue later request response name g.lawful (λ m p found. inc p (g.covers m p found)) answered
+      (subst Q (sym same) (served_name laws name w.catalogue s.first s.last tag (published name w.catalogue) refl))
 
-  exchanged_kept : (w : World) (cs : List Client) (i : ℕ) (o : Option (List ℕ)) (effect : Effect) (c mid next : Client) → Good w cs → Requests c o mid → IsExchanged w.catalogue w.sent i o effect mid next → AgreesLater c w.book → IsKept c next w.book
+  exchanged_kept : (w : World) (cs : List Known) (i : ℕ) (o : Option (List ℕ)) (effect : Effect) (c mid next : Known) → Good w cs → Requests c o mid → IsExchanged w.catalogue w.sent i o effect mid next → AgreesLater c w.book → IsKept c next w.book
   exchanged_kept w cs i None effect c mid next g r h agrees =
-      let P : Client → Type 0 = λ x. IsKept c x w.book in
-      subst P (sym h.1) (record { same = seen_same c mid r.same.name r.query; agrees = λ later inc d. r.agrees later (agrees later inc d) })
+      let P : Known → Type 0 = λ x. IsKept c x w.book in
+      subst P (sym h.1) (record { same = seen_same c mid r.goes.same.name r.goes.same.query; agrees = λ later inc d. r.goes.agrees later (agrees later inc d) })
   exchanged_kept w cs i (Some request) effect c mid next g r h agrees =
-      let own : request ≡ request_text (host_of c) (name_of c) 0 65535 None = asked_text (may_ask c) _ request r.asks in
-      let mine : request ≡ request_text (host_of mid) (name_of mid) 0 65535 None =
-      own ∙ ap (λ (x : List ℕ). request_text x (name_of c) 0 65535 None) (sym r.same.host) ∙ ap (λ (x : List ℕ). request_text (host_of mid) x 0 65535 None) (sym r.same.name) in
+      let asked = asked_for c (asked_of mid) request r.text r.lawful in
+      let P : List ℕ → Book → Type 0 = λ name later. IsHonest (text_of h.response) name later in
       record {
-        same = seen_same c next (h.delivers.same.name ∙ r.same.name) (h.delivers.query ∙ r.query);
-        agrees = λ later inc d. h.delivers.agrees later d (r.agrees later (agrees later inc d)) (honest_own w cs mid request h.response later g mine h.answered inc);
+        same = seen_same c next (h.delivers.same.name ∙ r.goes.same.name) (h.delivers.same.query ∙ r.goes.same.query);
+        agrees = λ later inc d. h.delivers.agrees later d (r.goes.agrees later (agrees later inc d))
+            (subst (λ name. P name later) (sym r.goes.same.name) (honest_own w cs (host_of c) (name_of c) (tag_of c) asked.0 request h.response later g asked.1 asked.2 h.answered inc));
       }
 
-  sound_exchange : (o : Option Client) (w : World) (cs new : List Client) (i : ℕ) (n : Entry) → slice_get cs i ≡ o → Good w cs → AtClient o (ExchangesWith w.catalogue w.sent i n.effect) i n cs new → IsSound (with_sent w (sent_after n.effect w.sent)) new (Some i) (told_of n)
+  sound_exchange : (o : Option Known) (w : World) (cs new : List Known) (i : ℕ) (n : Entry) → slice_get cs i ≡ o → Good w cs → AtClient o (ExchangesWith w.catalogue w.sent i n.effect) i n cs new → IsSound (with_sent w (sent_after n.effect w.sent)) new (Some i) (told_of n)
   sound_exchange None w cs new i n at g h = sound_quiet (with_sent w (sent_after n.effect w.sent)) cs new (Some i) (told_of n) (good_sent w cs (sent_after n.effect w.sent) g) h.same h.report
   sound_exchange (Some c) w cs new i n at g h =
       let d = h.acts.does in
       let kept = exchanged_kept w cs i d.request n.effect c d.mid h.next g d.requests d.exchanged (g.agree i c at) in
       let mid : Good w (slice_set cs i h.next) = good_clients w cs (slice_set cs i h.next) w.clients g (kept_seen cs i c h.next at kept.same ∙ g.seen_are) (agree_set cs i c h.next w.book at g.agree kept.agrees) in
       let v = with_sent w (sent_after n.effect w.sent) in
-      let P : List Client → Type 0 = λ xs. Good v xs in
+      let P : List Known → Type 0 = λ xs. Good v xs in
       sound_call v cs new i c h.next n (subst P (sym h.changed) (good_sent w (slice_set cs i h.next) (sent_after n.effect w.sent) mid)) at h.changed kept.agrees h.acts.tells
 
   -- one event
-  sound_step : (w : World) (cs : List Client) (e : Event) (n : Entry) (new : List Client) → Good w cs → Step w cs e n new → IsSound (after w e n.effect) new (client_of e) (told_of n)
+  sound_step : (w : World) (cs : List Known) (e : Event) (n : Entry) (new : List Known) → Good w cs → Step w cs e n new → IsSound (after w e n.effect) new (client_of e) (told_of n)
   sound_step w cs (Publish name file) n new g h =
       sound_quiet (publish_by w (next_of w name.items file.items) (refused_at w name.items file.items)) cs new None (told_of n) (good_publish laws w cs name.items file.items (refused_at w name.items file.items) refl g) h.same h.report
   sound_step w cs (Epoch e) n new g h = sound_quiet (restart_by w e (nat_lt w.epoch e)) cs new None (told_of n) (good_epoch (nat_lt w.epoch e) w cs e refl h.0 g) h.1.same h.1.report
-  sound_step w cs (NewClient name blocks) n new g h = sound_made (client_refusal host name.items blocks) w cs new name.items n g h
+  sound_step w cs (NewClient name blocks) n new g h = sound_made (client_refusal host name.items blocks) w cs new name.items blocks n g h
   sound_step w cs (Open i q) n new g h = sound_open (slice_get cs i) w cs new i q n refl g h
+  sound_step w cs (Forget i) n new g h = sound_forget (slice_get cs i) w cs new i n refl g h
   sound_step w cs (Ask message) n new g h = sound_quiet (with_sent w (w.sent + 1)) cs new None (told_of n) (good_sent w cs (w.sent + 1) g) h.1 h.0.report
   sound_step w cs (Exchange i) n new g h = sound_exchange (slice_get cs i) w cs new i n refl g h
 
   -- a whole run
-  pub true_run : (w : World) (cs : List Client) (es : List Event) (ns : List Entry) (new : List Client) → Good w cs → Runs w cs es ns new → Good (after_all w es ns) new × AllTrue w es ns
-  true_run w cs [] [] new g h = let P : List Client → Type 0 = λ xs. Good w xs in (subst P (sym h) g, tt)
+  pub true_run : (w : World) (cs : List Known) (es : List Event) (ns : List Entry) (new : List Known) → Good w cs → Runs w cs es ns new → Good (after_all w es ns) new × AllTrue w es ns
+  true_run w cs [] [] new g h = let P : List Known → Type 0 = λ xs. Good w xs in (subst P (sym h) g, tt)
   true_run w cs [] (n ∷ ns) new g h = absurd h
   true_run w cs (e ∷ es) [] new g h = absurd h
   true_run w cs (e ∷ es) (n ∷ ns) new g (mid, step, rest) =

@@ -3,33 +3,39 @@ use Rattle.std.proofs.Common.{◌≡◌, ℕ, List, [], ◌∷◌, ◌++◌, len
 use Rattle.std.specs.Prelude.{IfOk, IfSome, OnErr, OnOk, nat_lt}
 use Rattle.std.proofs.Common.{Vec, Global}
 use Rattle.std.proofs.lemmas.List.{take_more, take_all}
-use Rattle.std.proofs.lemmas.Option.{same_Some}
+use Rattle.std.proofs.lemmas.Option.{none-some, same_Some}
 use Rattle.tiff_dir.specs.declared.query.Query.{Query}
-use Rattle.tiff_dir.specs.Level.{Layout, level_layout}
-use Rattle.tiff_dir.specs.Query.{Rectangle}
+use Rattle.tiff_dir.specs.Level.{level_value}
+use Rattle.tiff_dir.specs.Query.{Rectangle, rectangle}
 use Rattle.http_range.specs.Book.{Publication, Book, In, Includes, HasDistinctTags}
 use Rattle.tiff_dir.specs.declared.memory.Memory.{Memory}
 use Rattle.cog_server.specs.declared.error.PublishError.{PublishError}
-use Rattle.world.specs.declared.client.Client.{Client}
-use Rattle.world.specs.declared.client.ClientError.{ClientError}
+use Rattle.cog_client.specs.declared.error.ClientError.{ClientError}
 use Rattle.world.specs.declared.event.Event.{Event}
-use Rattle.world.specs.declared.event.Event.TheVariants.{Publish, Epoch, NewClient, Open, Ask, Exchange}
+use Rattle.world.specs.declared.event.Event.TheVariants.{Publish, Epoch, NewClient, Open, Forget, Ask, Exchange}
 use Rattle.world.specs.declared.event.Entry.{Entry}
-use Rattle.world.specs.Report.{Said, Samples, Bad, Told, HasShape, IsTrueOf}
-use Rattle.world.specs.Client.{client_refusal}
+use Rattle.cog_client.specs.Report.{Said, Told, IsTrueSaid, said_of, samples_of}
+use Rattle.cog_reader.specs.declared.outcome.Outcome.{Outcome}
+use Rattle.cog_reader.specs.declared.outcome.Outcome.TheVariants as outcomes
+use Rattle.cog_reader.specs.declared.outcome.Window.{Window}
+use Rattle.cog_reader.specs.Outcome.{IsTrueOf, IsWindowOf}
+use Rattle.cog_reader.specs.Samples.{samples_in}
+use Rattle.tiff_dir.specs.declared.query.Query.TheVariants as queries
+use Rattle.tiff_dir.specs.Faulty.{IsFaulty}
+use Rattle.cog_client.specs.Client.{Known, client_refusal}
 use Rattle.cog_server.specs.Server.{ServerState}
-use Rattle.world.specs.World.{World, host, start, next_of, publish_by, refused_at, server_of, restart_by, made_by, after, after_all, told_of, client_of, IsTrueAt, AllTrue, IsToldIn, SaysTheSame, AreAlike}
-use Rattle.world.specs.Run.{Answers, IsAtAfter, Publishes, Step, Runs, IsRun, IsBeginning, IsState, Does}
+use Rattle.world.specs.World.{World, host, start, next_of, publish_by, refused_at, server_of, restart_by, made_by, after, after_all, told_of, client_of, IsTrueAt, AllTrue, IsToldIn, AreEqual, SaysTheSame, AreAlike}
+use Rattle.world.specs.Run.{Answers, IsAtAfter, Publishes, Step, Runs, IsBeginning, IsState, Does}
 use Rattle.world.specs.LowerLaws.{LowerLaws}
 use Rattle.world.proofs.Truth.{good_start, true_run}
 
-pub runs_more : (w : World) (cs : List Client) (es : List Event) (ns : List Entry) (mid : List Client) (e : Event) (n : Entry) (new : List Client) → Runs w cs es ns mid → Step (after_all w es ns) mid e n new → Runs w cs (es ++ e ∷ []) (ns ++ n ∷ []) new
-runs_more w cs [] [] mid e n new h s = (new, (let P : List Client → Type 0 = λ xs. Step w xs e n new in subst P h s), refl)
+pub runs_more : (w : World) (cs : List Known) (es : List Event) (ns : List Entry) (mid : List Known) (e : Event) (n : Entry) (new : List Known) → Runs w cs es ns mid → Step (after_all w es ns) mid e n new → Runs w cs (es ++ e ∷ []) (ns ++ n ∷ []) new
+runs_more w cs [] [] mid e n new h s = (new, (let P : List Known → Type 0 = λ xs. Step w xs e n new in subst P h s), refl)
 runs_more w cs [] (m ∷ ns) mid e n new h s = absurd h
 runs_more w cs (d ∷ es) [] mid e n new h s = absurd h
 runs_more w cs (d ∷ es) (m ∷ ns) mid e n new h s = (h.0, h.1, runs_more (after w d m.effect) h.0 es ns mid e n new h.2 s)
 
-after_more : (w : World) (cs : List Client) (es : List Event) (ns : List Entry) (mid : List Client) (e : Event) (n : Entry) → Runs w cs es ns mid → after_all w (es ++ e ∷ []) (ns ++ n ∷ []) ≡ after (after_all w es ns) e n.effect
+after_more : (w : World) (cs : List Known) (es : List Event) (ns : List Entry) (mid : List Known) (e : Event) (n : Entry) → Runs w cs es ns mid → after_all w (es ++ e ∷ []) (ns ++ n ∷ []) ≡ after (after_all w es ns) e n.effect
 after_more w cs [] [] mid e n h = refl
 after_more w cs [] (m ∷ ns) mid e n h = absurd h
 after_more w cs (d ∷ es) [] mid e n h = absurd h
@@ -54,6 +60,7 @@ grows w (Publish name file) n = grows_publish w (next_of w name.items file.items
 grows w (Epoch e) n = grows_epoch (nat_lt w.epoch e) w e
 grows w (NewClient name blocks) n = grows_made w name.items (client_refusal host name.items blocks)
 grows w (Open i q) n = λ q i. i
+grows w (Forget i) n = λ q i. i
 grows w (Ask message) n = λ q i. i
 grows w (Exchange i) n = λ q i. i
 
@@ -69,7 +76,7 @@ record IsSource (r : Told) (book : Book) : Type 0 where
   source : Publication
   published : In source book
   of_tag : source.tag ≡ r.tag
-  outcome : IsTrueOf source.file r.query r.said
+  outcome : IsTrueSaid source.file r.query r.said
 
 source_at : (o : Option Told) (w : World) (client : Option ℕ) (later : Book) (r : Told) → Includes later w.book → IfSome o (IsTrueAt w client) → o ≡ Some r → IsSource r later
 source_at None w client later r inc h e = absurd (cc)
@@ -78,7 +85,7 @@ source_at (Some s) w client later r inc h e =
     let P : Told → Type 0 = λ t. IsSource t later in
     subst P same (record { source = h.holds.source; published = inc h.holds.source h.holds.published; of_tag = h.holds.of_tag; outcome = h.holds.outcome })
 
-source_of : (w : World) (cs : List Client) (es : List Event) (ns : List Entry) (new : List Client) (r : Told) → Runs w cs es ns new → AllTrue w es ns → IsToldIn r ns → IsSource r (after_all w es ns).book
+source_of : (w : World) (cs : List Known) (es : List Event) (ns : List Entry) (new : List Known) (r : Told) → Runs w cs es ns new → AllTrue w es ns → IsToldIn r ns → IsSource r (after_all w es ns).book
 source_of w cs [] [] new r h t i = absurd i
 source_of w cs [] (n ∷ ns) new r h t i = absurd h
 source_of w cs (e ∷ es) [] new r h t i = absurd h
@@ -89,76 +96,78 @@ source_of w cs (e ∷ es) (n ∷ ns) new r h t i =
       | inr old ↦ source_of v h.0 es ns new r h.2 t.1 old
     ]
 
--- a window has one shape
-record IsSameShape (w h s b w' h' s' b' : ℕ) : Type 0 where
-  width : w ≡ w'
-  height : h ≡ h'
-  samples : s ≡ s'
-  bits : b ≡ b'
+-- two windows of one file for one query are equal
+same_windows : (laws : LowerLaws) (f : List ℕ) (q : Query) (v u : Window) → IsWindowOf f q v → IsWindowOf f q u → AreEqual (samples_of v) (samples_of u)
+same_windows laws f q v u a b =
+    let asked : a.asked ≡ b.asked = same_Some _ _ (sym a.asked_is ∙ b.asked_is) in
+    let level : a.asked.level ≡ b.asked.level = ap (λ (r : Rectangle). r.level) asked in
+    record {
+      width = a.width ∙ ap (λ (r : Rectangle). r.width) asked ∙ sym b.width;
+      height = a.height ∙ ap (λ (r : Rectangle). r.height) asked ∙ sym b.height;
+      samples = same_Some _ _ (sym a.samples ∙ ap (λ n. level_value f n 277 0) level ∙ b.samples);
+      bits = same_Some _ _ (sym a.bits ∙ ap (λ n. level_value f n 258 0) level ∙ b.bits);
+      pixels = laws.window f q (samples_in v.bits v.pixels.items) (samples_in u.bits u.pixels.items) a.window b.window;
+    }
 
-shape_in : (f : List ℕ) (q : Query) (w h s b : ℕ) (r : Rectangle) (l : Layout) (a : HasShape f q w h s b) → a.asked ≡ r → a.layout ≡ l → IsSameShape r.width r.height l.samples l.bits w h s b
-shape_in f q w h s b r l a e k = record {
-  width = sym (ap (λ (x : Rectangle). x.width) e) ∙ a.width;
-  height = sym (ap (λ (x : Rectangle). x.height) e) ∙ a.height;
-  samples = sym (ap (λ (x : Layout). x.samples) k) ∙ a.samples_are;
-  bits = sym (ap (λ (x : Layout). x.bits) k) ∙ a.bits_are;
-}
+-- Info asks for no window
+no_window : (f : List ℕ) (q : Query) (v : Window) → q ≡ queries.Info → IsWindowOf f q v → ⊥
+unfolding rectangle
+no_window f q v is a =
+    let asked : rectangle f queries.Info ≡ Some a.asked = ap (rectangle f) (sym is) ∙ a.asked_is in
+    none-some a.asked asked
 
-same_shape : (f : List ℕ) (q : Query) (w h s b w' h' s' b' : ℕ) → HasShape f q w h s b → HasShape f q w' h' s' b' → IsSameShape w h s b w' h' s' b'
-same_shape f q w h s b w' h' s' b' x y =
-    let asked : y.asked ≡ x.asked = same_Some _ _ (sym y.asked_is ∙ x.asked_is) in
-    let layout : y.layout ≡ x.layout = same_Some _ _ (sym y.layout_is ∙ (ap (λ (r : Rectangle). level_layout f r.level) asked ∙ x.layout_is)) in
-    let a = shape_in f q w h s b x.asked x.layout x refl refl in
-    let c = shape_in f q w' h' s' b' x.asked x.layout y asked layout in
-    record { width = sym a.width ∙ c.width; height = sym a.height ∙ c.height; samples = sym a.samples ∙ c.samples; bits = sym a.bits ∙ c.bits }
+same_outcome : (laws : LowerLaws) (f : List ℕ) (q : Query) (x y : Outcome) → IsTrueOf f q x → IsTrueOf f q y → SaysTheSame (said_of x) (said_of y)
+same_outcome laws f q (outcomes.Window v) (outcomes.Window u) x y = same_windows laws f q v u x y
+same_outcome laws f q (outcomes.Window v) (outcomes.Info i) x y = no_window f q v y.0 x
+same_outcome laws f q (outcomes.Window v) (outcomes.Fault k) x y = x.window.sound k y
+same_outcome laws f q (outcomes.Info i) (outcomes.Window u) x y = no_window f q u x.0 y
+same_outcome laws f q (outcomes.Info i) (outcomes.Info j) x y = tt
+same_outcome laws f q (outcomes.Info i) (outcomes.Fault k) x y = x.1.sound k (subst (λ a. IsFaulty f a k) x.0 y)
+same_outcome laws f q (outcomes.Fault k) (outcomes.Window u) x y = y.window.sound k x
+same_outcome laws f q (outcomes.Fault k) (outcomes.Info j) x y = y.1.sound k (subst (λ a. IsFaulty f a k) y.0 x)
+same_outcome laws f q (outcomes.Fault k) (outcomes.Fault l) x y = tt
 
-same_said : (laws : LowerLaws) (f : List ℕ) (q : Query) (x y : Said) → IsTrueOf f q x → IsTrueOf f q y → SaysTheSame x y
-same_said laws f q (Samples w h s b v) (Samples w' h' s' b' u) x y =
-    let shape = same_shape f q w h s b w' h' s' b' x.1 y.1 in
-    let window = laws.window f q v u x.0 y.0 in
-    λ i. Samples (shape.width i) (shape.height i) (shape.samples i) (shape.bits i) (window i)
-same_said laws f q (Bad k) (Bad l) x y = tt
-same_said laws f q (Samples w h s b v) (Bad l) x y = x.0.sound l y
-same_said laws f q (Bad k) (Samples w h s b v) x y = y.0.sound k x
+same_said : (laws : LowerLaws) (f : List ℕ) (q : Query) (x y : Said) → IsTrueSaid f q x → IsTrueSaid f q y → SaysTheSame x y
+same_said laws f q x y a b =
+    subst (λ s. SaysTheSame s y) a.says (subst (λ s. SaysTheSame (said_of a.outcome) s) b.says (same_outcome laws f q a.outcome b.outcome a.holds b.holds))
 
 alike : (laws : LowerLaws) (book : Book) (ns : List Entry) → HasDistinctTags book → ((r : Told) → IsToldIn r ns → IsSource r book) → AreAlike ns
 alike laws book ns distinct sources r s i j tag query =
     let a = sources r i in
     let b = sources s j in
     let same : a.source ≡ b.source = distinct a.source b.source a.published b.published (a.of_tag ∙ (tag ∙ sym b.of_tag)) in
-    let P : Publication → Type 0 = λ p. IsTrueOf p.file r.query r.said in
-    let Q : Query → Type 0 = λ q. IsTrueOf b.source.file q r.said in
+    let P : Publication → Type 0 = λ p. IsTrueSaid p.file r.query r.said in
+    let Q : Query → Type 0 = λ q. IsTrueSaid b.source.file q r.said in
     same_said laws b.source.file s.query r.said s.said (subst Q query (subst P same a.outcome)) b.outcome
 
 -- ---- the log
 
-pub run_true : (laws : LowerLaws) (es : List Event) (ns : List Entry) → IsRun es ns → AllTrue start es ns
-run_true laws es ns (cs, runs) = (true_run laws start [] es ns cs good_start runs).1
+pub run_true : (laws : LowerLaws) (es : List Event) (ns : List Entry) (cs : List Known) → Runs start [] es ns cs → AllTrue start es ns
+run_true laws es ns cs runs = (true_run laws start [] es ns cs good_start runs).1
 
-pub run_alike : (laws : LowerLaws) (es : List Event) (ns : List Entry) → IsRun es ns → AreAlike ns
-run_alike laws es ns (cs, runs) =
+pub run_alike : (laws : LowerLaws) (es : List Event) (ns : List Entry) (cs : List Known) → Runs start [] es ns cs → AreAlike ns
+run_alike laws es ns cs runs =
     let t = true_run laws start [] es ns cs good_start runs in
     alike laws (after_all start es ns).book ns t.0.distinct (λ r i. source_of start [] es ns cs r runs t.1 i)
 
-pub beginning : (laws : LowerLaws) (events : List Event) (k : ℕ) (ns : List Entry) (cs : List Client) → k ≤ length events → Runs start [] (take k events) ns cs → IsBeginning events ns
+pub beginning : (laws : LowerLaws) (events : List Event) (k : ℕ) (ns : List Entry) (cs : List Known) → k ≤ length events → Runs start [] (take k events) ns cs → IsBeginning events ns
 beginning laws events k ns cs le runs =
-    let run : IsRun (take k events) ns = (cs, runs) in
-    record { count = k; some = le; logged = run; true_reports = run_true laws (take k events) ns run; alike = run_alike laws (take k events) ns run }
+    record { count = k; some = le; clients = cs; logged = runs; true_reports = run_true laws (take k events) ns cs runs; alike = run_alike laws (take k events) ns cs runs }
 
-pub whole : (events : List Event) (i : ℕ) (ns : List Entry) (cs : List Client) → length events ≤ i → Runs start [] (take i events) ns cs → IsRun events ns
-whole events i ns cs le runs = let P : List Event → Type 0 = λ xs. Runs start [] xs ns cs in (cs, subst P (take_all i events le) runs)
+pub whole : (events : List Event) (i : ℕ) (ns : List Entry) (cs : List Known) → length events ≤ i → Runs start [] (take i events) ns cs → Runs start [] events ns cs
+whole events i ns cs le runs = subst (λ xs. Runs start [] xs ns cs) (take_all i events le) runs
 
 pub on_err_of : {T E : Type 0} (r : Result T E) (P : Type 0) → P → OnErr r P
 on_err_of (Ok x) P p = tt
 on_err_of (Err e) P p = p
 
-pub begun : (entries : List Entry) (clients : List Client) (server : ServerState) (sent : ℕ) → entries ≡ [] → clients ≡ [] → server ≡ server_of start → sent ≡ 0 → Runs start [] [] entries clients × IsState (after_all start [] entries) server sent
+pub begun : (entries : List Entry) (clients : List Known) (server : ServerState) (sent : ℕ) → entries ≡ [] → clients ≡ [] → server ≡ server_of start → sent ≡ 0 → Runs start [] [] entries clients × IsState (after_all start [] entries) server sent
 begun entries clients server sent none no_clients at zero_sent =
     let P : List Entry → Type 0 = λ ns. Runs start [] [] ns clients in
     (subst P (sym none) no_clients, record { server_at = at; sent_is = zero_sent })
 
 -- a run with one more event
-pub more : (events : List Event) (i : ℕ) (ns : List Entry) (cs new : List Client) (e : Event) (n : Entry) (entries : List Entry) (server : ServerState) (sent : ℕ) → i < length events → e ≡ get_or events i e → entries ≡ ns ++ n ∷ []
+pub more : (events : List Event) (i : ℕ) (ns : List Entry) (cs new : List Known) (e : Event) (n : Entry) (entries : List Entry) (server : ServerState) (sent : ℕ) → i < length events → e ≡ get_or events i e → entries ≡ ns ++ n ∷ []
     → Runs start [] (take i events) ns cs → Does (after_all start (take i events) ns) cs e n new server sent
     → Runs start [] (take (i + 1) events) entries new × IsState (after_all start (take (i + 1) events) entries) server sent
 more events i ns cs new e n entries server sent inside is added runs does =
@@ -177,7 +186,7 @@ published_at : (w : World) (p : Publication) (o : Option PublishError) (s : Serv
 published_at w p None s sent same at = record { server_at = at; sent_is = same }
 published_at w p (Some refusal) s sent same at = record { server_at = at; sent_is = same }
 
-pub does_publish : (w : World) (old new : ServerState) (sent : ℕ) (cs : List Client) (name file : Vec ℕ Global) (n : Entry) → Publishes name.items file.items n old new → IsState w old sent → Does w cs (Publish name file) n cs new sent
+pub does_publish : (w : World) (old new : ServerState) (sent : ℕ) (cs : List Known) (name file : Vec ℕ Global) (n : Entry) → Publishes name.items file.items n old new → IsState w old sent → Does w cs (Publish name file) n cs new sent
 does_publish w old new sent cs name file n h s =
     let P : ServerState → Type 0 = λ x. Publishes name.items file.items n x new in
     let here : Publishes name.items file.items n (server_of w) new = subst P s.server_at h in
@@ -186,7 +195,7 @@ does_publish w old new sent cs name file n h s =
       state = published_at w (next_of w name.items file.items) (refused_at w name.items file.items) new sent s.sent_is here.server_at;
     }
 
-pub ok_publish : (r : Result Entry Memory) (old new : ServerState) (sent : ℕ) (cs : List Client) (event : Event) (name file : Vec ℕ Global) (name' file' : List ℕ) → event ≡ Publish name file → name' ≡ name.items → file' ≡ file.items
+pub ok_publish : (r : Result Entry Memory) (old new : ServerState) (sent : ℕ) (cs : List Known) (event : Event) (name file : Vec ℕ Global) (name' file' : List ℕ) → event ≡ Publish name file → name' ≡ name.items → file' ≡ file.items
     → IfOk r (λ n. Publishes name' file' n old new) → IfOk r (λ n. (w : World) → IsState w old sent → Does w cs event n cs new sent)
 ok_publish (Err e) old new sent cs event name file name' file' is named filed h = tt
 ok_publish (Ok n) old new sent cs event name file name' file' is named filed h = λ w s.
@@ -197,7 +206,7 @@ ok_publish (Ok n) old new sent cs event name file name' file' is named filed h =
 
 -- ---- a message
 
-does_ask : (w : World) (server : ServerState) (sent sent' : ℕ) (cs : List Client) (message : Vec ℕ Global) (n : Entry) → sent' ≡ sent + 1
+does_ask : (w : World) (server : ServerState) (sent sent' : ℕ) (cs : List Known) (message : Vec ℕ Global) (n : Entry) → sent' ≡ sent + 1
     → Answers server.catalogue sent message.items n → IsState w server sent → Does w cs (Ask message) n cs server sent'
 does_ask w server sent sent' cs message n next h s =
     let P : ServerState → Type 0 = λ x. Answers x.catalogue sent message.items n in
@@ -207,7 +216,7 @@ does_ask w server sent sent' cs message n next h s =
       state = record { server_at = s.server_at; sent_is = next ∙ ap (λ (k : ℕ). k + 1) s.sent_is };
     }
 
-pub ok_ask : (r : Result Entry Memory) (server : ServerState) (sent sent' : ℕ) (cs : List Client) (event : Event) (message : Vec ℕ Global) (message' : List ℕ)
+pub ok_ask : (r : Result Entry Memory) (server : ServerState) (sent sent' : ℕ) (cs : List Known) (event : Event) (message : Vec ℕ Global) (message' : List ℕ)
     → event ≡ Ask message → message' ≡ message.items → OnOk r (sent' ≡ sent + 1) → IfOk r (λ n. Answers server.catalogue sent message' n)
     → IfOk r (λ n. (w : World) → IsState w server sent → Does w cs event n cs server sent')
 ok_ask (Err e) server sent sent' cs event message message' is named next h = tt

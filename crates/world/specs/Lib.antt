@@ -1,10 +1,3 @@
-pub mod Report
-pub mod Readable
-pub mod Walked
-pub mod Asked
-pub mod Client
-pub mod Calls
-pub mod Numbers
 pub mod World
 pub mod Run
 pub mod LowerLaws

@@ -6,13 +6,14 @@ use Rattle.tiff_dir.specs.declared.query.Query.{Query}
 use Rattle.http_range.specs.Book.{Publication, Book, Catalogue, publish, publication_tag}
 use Rattle.cog_server.specs.declared.error.PublishError.{PublishError}
 use Rattle.world.specs.declared.event.Event.{Event}
-use Rattle.world.specs.declared.event.Event.TheVariants.{Publish, Epoch, NewClient, Open, Ask, Exchange}
+use Rattle.world.specs.declared.event.Event.TheVariants.{Publish, Epoch, NewClient, Open, Forget, Ask, Exchange}
 use Rattle.world.specs.declared.event.Effect.{Effect}
 use Rattle.world.specs.declared.event.Effect.TheVariants as effects
 use Rattle.world.specs.declared.event.Entry.{Entry}
-use Rattle.world.specs.declared.client.ClientError.{ClientError}
-use Rattle.world.specs.Report.{Said, Samples, Bad, Told, told, IsTrueReport}
-use Rattle.world.specs.Client.{client_refusal}
+use Rattle.cog_client.specs.declared.error.ClientError.{ClientError}
+use Rattle.cog_client.specs.Report.{Said, Samples, Shows, Tells, Refuses, Told, told, IsTrueReport}
+use Rattle.cog_client.specs.Client.{client_refusal}
+use Rattle.cog_reader.specs.Samples.{samples_in}
 use Rattle.cog_server.specs.Server.{ServerState, refusal_of}
 
 -- a client, by the name that it was made with and the query of its last opening
@@ -89,6 +90,7 @@ after w (Publish name file) effect = publish_by w (next_of w name.items file.ite
 after w (Epoch e) effect = restart_by w e (nat_lt w.epoch e)
 after w (NewClient name blocks) effect = made_by w name.items (client_refusal host name.items blocks)
 after w (Open i q) effect = with_clients w (opened w.clients i q)
+after w (Forget i) effect = w
 after w (Ask message) effect = with_sent w (w.sent + 1)
 after w (Exchange i) effect = with_sent w (sent_after effect w.sent)
 
@@ -109,6 +111,7 @@ client_of (Publish name file) = None
 client_of (Epoch e) = None
 client_of (NewClient name blocks) = None
 client_of (Open i q) = Some i
+client_of (Forget i) = Some i
 client_of (Ask message) = None
 client_of (Exchange i) = Some i
 
@@ -130,13 +133,21 @@ abbrev pub IsToldIn : Told → List Entry → Type 0
 IsToldIn r [] = ⊥
 IsToldIn r (n ∷ ns) = (told_of n ≡ Some r) ⊎ IsToldIn r ns
 
--- both are the same window, or both are faults
-abbrev pub SaysTheSame : Said → Said → Type 0
-SaysTheSame (Samples w h s b v) (Samples w' h' s' b' v') = Samples w h s b v ≡ Samples w' h' s' b' v'
-SaysTheSame (Bad fault) (Bad fault') = Unit {0}
-SaysTheSame (Samples w h s b v) (Bad fault) = ⊥
-SaysTheSame (Bad fault) (Samples w h s b v) = ⊥
+-- the windows have the same sides, and the same samples of as many bits
+pub record AreEqual (a b : Samples) : Type 0 where
+  pub width : a.width ≡ b.width
+  pub height : a.height ≡ b.height
+  pub samples : a.samples ≡ b.samples
+  pub bits : a.bits ≡ b.bits
+  pub pixels : samples_in a.bits a.pixels ≡ samples_in b.bits b.pixels
 
--- Reports of one tag for one query are equal windows, or both faults.
+-- both are equal windows, or both tell of the file's keys, or both are faults
+abbrev pub SaysTheSame : Said → Said → Type 0
+SaysTheSame (Shows a) (Shows b) = AreEqual a b
+SaysTheSame (Tells a) (Tells b) = Unit {0}
+SaysTheSame (Refuses fault) (Refuses fault') = Unit {0}
+SaysTheSame a b = ⊥
+
+-- Reports of one tag for one query are equal windows, or of one kind.
 abbrev pub AreAlike : List Entry → Type 0
 AreAlike ns = (r s : Told) → IsToldIn r ns → IsToldIn s ns → r.tag ≡ s.tag → r.query ≡ s.query → SaysTheSame r.said s.said

@@ -1,14 +1,13 @@
 //! What each event does.
 ghost use Rattle.std.specs.Prelude.{◌≡◌, ◌+◌, ◌<◌, ◌≤◌, ◌^◌, ℕ, List, Option, Some, None, IfOk, IfSome, IsSome, OnOk, OnErr, is_some, slice_get, length};
 ghost use Rattle.std.specs.Option.{option_map};
-ghost use Rattle.world.specs.Report.{told};
-ghost use Rattle.world.specs.Client.{asked_of, client_refusal, report_of, revision_of};
+ghost use Rattle.cog_client.specs.Report.{told};
+ghost use Rattle.cog_client.specs.Client.{asked_of, client_refusal, report_of, tag_of};
 ghost use Rattle.world.specs.World.{host, sent_after, told_of};
-ghost use Rattle.world.specs.Run.{Acts, Answers, AtClient, ExchangesWith, IsExchange, IsExchanged, MakesBy, NewReport, OpensWith, Publishes, Restarts};
+ghost use Rattle.world.specs.Run.{Acts, Answers, AtClient, ExchangesWith, ForgetsAll, IsExchange, IsExchanged, MakesBy, NewReport, OpensWith, Publishes, Restarts};
 
-use crate::client::{Client, ClientError};
 use crate::event::{Effect, Entry, Exchange};
-use crate::outcome::Report;
+use cog_client::{Client, ClientError, Report};
 use cog_server::{PublishError, Server};
 use http_range::{Memory, Span, Tag};
 use std::alloc::Global;
@@ -92,7 +91,7 @@ pub fn make_client(
     name: &[u8],
     blocks: u32,
 ) -> Result<Entry, Memory>
-    ensures { IfOk result (λ n. MakesBy (client_refusal host name.now blocks) name.now n clients.old.items clients.new.items) }
+    ensures { IfOk result (λ n. MakesBy (client_refusal host name.now blocks) name.now blocks n clients.old.items clients.new.items) }
 {
     let number = clients.len();
     match Client::new(alloc, b"cog.test", name, blocks) {
@@ -134,9 +133,33 @@ pub fn open_at(
     Ok(entry)
 }
 
+fn forget_one(alloc: Global, client: &mut Client, number: u32) -> Result<Entry, Memory>
+    ensures { IfOk result (λ n. Acts (ForgetsAll number n.effect) n client.old client.new) }
+{
+    let had = has_report(client);
+    client.forget();
+    let report = new_report(alloc, client, had)?;
+    Ok(Entry {
+        effect: Effect::Forgot(number),
+        report,
+    })
+}
+
+pub fn forget_at(alloc: Global, clients: &mut Vec<Client>, number: u32) -> Result<Entry, Memory>
+    ensures { IfOk result (λ n. AtClient (slice_get clients.old.items number) (ForgetsAll number n.effect) number n clients.old.items clients.new.items) }
+{
+    let i = number as usize;
+    if i >= clients.len() {
+        return Ok(quiet(Effect::Skipped));
+    }
+    let client = &mut clients[i];
+    let entry = forget_one(alloc, client, number)?;
+    Ok(entry)
+}
+
 /// The tag of the client's revision.
 fn tag_of(client: &Client) -> Option<Tag>
-    ensures { result ≡ option_map (λ v. v.tag) (revision_of client.now) }
+    ensures { result ≡ tag_of client.now }
 {
     match client.tag() {
         Some(tag) => Some(tag.copy()),

@@ -1,7 +1,8 @@
 //! What may happen, and what is logged of it.
-use crate::outcome::Report;
+use cog_client::{Client, Delivered, Report};
 use cog_server::{Answer, PublishError};
-use http_range::{Span, Tag, Why};
+use http_range::{Span, Tag};
+use std::alloc::Global;
 use tiff_dir::Query;
 
 /// What may happen.
@@ -15,42 +16,12 @@ pub enum Event {
     NewClient { name: Vec<u8>, blocks: u32 },
     /// Client `client` is asked a query.
     Open { client: u32, query: Query },
+    /// Client `client` forgets everything but its name and its query.
+    Forget(u32),
     /// The server is sent a message, whatever its bytes.
     Ask(Vec<u8>),
     /// Client `client` sends its request, if it has one, and gets the server's answer whole.
     Exchange(u32),
-}
-
-/// What a delivered answer did to a client.
-#[derive(Clone, Copy, Debug, PartialEq, Eq)]
-pub enum Delivered {
-    /// It was a piece of the client's revision, of which so many blocks were stored.
-    Took(u32),
-    Ignored(Ignored),
-}
-
-/// Why an answer was ignored.
-#[derive(Clone, Copy, Debug, PartialEq, Eq)]
-pub enum Ignored {
-    /// It can't be used.
-    NotUsed(Why),
-    /// Nothing is asked.
-    NotAsked,
-}
-
-impl Ignored {
-    ghost use Rattle.std.specs.Prelude.{◌≡◌};
-    ghost use Rattle.world.specs.Numbers.{number_of_ignored};
-
-    /// The number under which it is told: that of `Why`, or 12.
-    pub fn number(self) -> u8
-        ensures { result ≡ number_of_ignored self }
-    {
-        match self {
-            Ignored::NotUsed(why) => why.number(),
-            Ignored::NotAsked => 12,
-        }
-    }
 }
 
 /// A request and its answer.
@@ -79,6 +50,7 @@ pub enum Effect {
     /// The new client's number: clients are counted from 0.
     Made(usize),
     Opened(u32),
+    Forgot(u32),
     /// The message has this answer, with its number: answers are counted from 0.
     Answered { number: usize, answer: Answer },
     /// The client had no request.
@@ -93,8 +65,24 @@ pub struct Entry {
     pub report: Option<Report>,
 }
 
-/// The entries of a schedule, one for each event.
+/// The entries of a schedule, one for each event, and the clients as the run leaves them.
 #[derive(Drop)]
 pub struct Log {
     pub entries: Vec<Entry>,
+    pub clients: Vec<Client>,
+}
+
+impl Log {
+    ghost use Rattle.std.specs.Prelude.{◌≡◌, []};
+
+    /// An empty log. It takes no memory.
+    pub fn new(alloc: Global) -> Log
+        ensures entries { result.entries.items ≡ [] }
+        ensures clients { result.clients.items ≡ [] }
+    {
+        Log {
+            entries: Vec::new(alloc),
+            clients: Vec::new(alloc),
+        }
+    }
 }

@@ -3,15 +3,10 @@
 #![tactic(auto)]
 
 mod calls;
-mod client;
 mod event;
-mod outcome;
-mod pieces;
-mod read;
-mod window;
 mod world;
 
+pub use cog_client::{Client, ClientError, Delivered, Ignored, Info, Outcome, Report, Window};
 pub use cog_server::{Answer, PublishError};
-pub use event::{Delivered, Effect, Entry, Event, Exchange, Ignored, Log};
-pub use outcome::{Outcome, Report};
+pub use event::{Effect, Entry, Event, Exchange, Log};
 pub use world::run;

@@ -2,11 +2,11 @@
 ghost use Rattle.std.specs.Prelude.{◌≡◌, ◌+◌, ◌<◌, ◌≤◌, ◌^◌, [], IfOk, OnOk, OnErr};
 ghost use Rattle.world.specs.LowerLaws.{LowerLaws};
 ghost use Rattle.world.specs.World.{AllTrue, AreAlike, World, start};
-ghost use Rattle.world.specs.Run.{Does, IsBeginning, IsRun, IsState};
+ghost use Rattle.world.specs.Run.{Does, IsBeginning, IsState, Runs};
 
-use crate::calls::{ask, exchange_at, make_client, open_at, publish, restart};
-use crate::client::Client;
+use crate::calls::{ask, exchange_at, forget_at, make_client, open_at, publish, restart};
 use crate::event::{Entry, Event, Log};
+use cog_client::Client;
 use cog_server::Server;
 use http_range::{
     Memory, clients_are_answered, honesty_is_kept, publications_replace, tags_tell_publications,
@@ -17,10 +17,12 @@ use tiff_dir::one_window;
 /// Runs the events in order and logs each. Want of memory ends the run: then the log is that of the events
 /// before the one that met it.
 pub fn run(alloc: Global, events: &[Event], log: &mut Log) -> Result<(), Memory>
-    requires { log.old.entries.items ≡ [] }
+    requires entries { log.old.entries.items ≡ [] }
+    requires clients { log.old.clients.items ≡ [] }
 
-    // The log has an entry for each event, with what the schedule and the contracts of the clients' calls make of it.
-    ensures logged { OnOk result (IsRun events.now log.new.entries.items) }
+    // The log has an entry for each event, and leaves the clients, as the schedule and the contracts of the clients' calls make
+    // it: an event makes a client, or changes only the one that it names, and a report in an entry is that client's.
+    ensures logged { OnOk result (Runs start [] events.now log.new.entries.items log.new.clients.items) }
 
     // Each report answers the query of its client's last opening, and is true of one file that was published under the
     // client's name: of the one whose tag it has.
@@ -35,9 +37,8 @@ pub fn run(alloc: Global, events: &[Event], log: &mut Log) -> Result<(), Memory>
     lower_laws();
     let mut server = Server::new(alloc, 0);
     let mut sent = 0;
-    let mut clients = Vec::new(alloc);
     for event in events {
-        let entry = step(alloc, &mut server, &mut sent, &mut clients, event)?;
+        let entry = step(alloc, &mut server, &mut sent, &mut log.clients, event)?;
         log.entries.push(entry)?;
     }
     Ok(())
@@ -72,6 +73,7 @@ fn step(
         Event::Epoch(epoch) => Ok(restart(alloc, server, *epoch)),
         Event::NewClient { name, blocks } => make_client(alloc, clients, name, *blocks),
         Event::Open { client, query } => open_at(alloc, clients, *client, *query),
+        Event::Forget(client) => forget_at(alloc, clients, *client),
         Event::Ask(message) => ask(server, sent, message),
         Event::Exchange(client) => exchange_at(alloc, server, sent, clients, *client),
     }

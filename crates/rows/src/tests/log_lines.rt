@@ -6,7 +6,7 @@ use std::process::Abort;
 use std::test::Fail;
 use tiff_dir::{FileFault, Pick, Query};
 use world::{
-    Answer, Delivered, Effect, Entry, Exchange, Ignored, Log, Outcome, PublishError, Report,
+    Answer, Delivered, Effect, Entry, Exchange, Ignored, Log, Outcome, PublishError, Report, Window,
 };
 
 const QUERY: Query = Query::Window {
@@ -75,9 +75,7 @@ fn answered(alloc: Global) -> Effect {
 
 /// The text of a log of one entry.
 fn text_of(alloc: Global, entry: Entry) -> Result<Vec<u8>, Fail> {
-    let mut log = Log {
-        entries: Vec::new(alloc),
-    };
+    let mut log = Log::new(alloc);
     log.entries.push(entry)?;
     Ok(log_text(alloc, &log)?)
 }
@@ -99,6 +97,7 @@ fn effects(rt: HostRuntime) -> Result<(), Fail> {
         (Effect::Epoch(0), "epoch 0\n"),
         (Effect::Made(10), "client 10\n"),
         (Effect::Opened(0), "opened 0\n"),
+        (Effect::Forgot(2), "forgot 2\n"),
         (Effect::Nothing(3), "asked 3 nothing\n"),
         (answered(alloc), "answer 7 416 0\n"),
     ];
@@ -129,6 +128,15 @@ fn exchanges(rt: HostRuntime) -> Result<(), Fail> {
     expect_exchange(&rt, tag, Delivered::Took(0), want)?;
     let table = [
         (Delivered::Took(4), "- answer 5 206 2 took 4\n"),
+        (Delivered::Restarted, "- answer 5 206 2 restarted\n"),
+        (
+            Delivered::Ignored(Ignored::OtherRevision),
+            "- answer 5 206 2 ignored 10\n",
+        ),
+        (
+            Delivered::Ignored(Ignored::OtherLength),
+            "- answer 5 206 2 ignored 11\n",
+        ),
         (
             Delivered::Ignored(Ignored::NotAsked),
             "- answer 5 206 2 ignored 12\n",
@@ -155,13 +163,13 @@ fn exchanges(rt: HostRuntime) -> Result<(), Fail> {
 #[test]
 fn reports(rt: HostRuntime) -> Result<(), Fail> {
     let alloc = rt.alloc();
-    let window = Outcome::Window {
+    let window = Outcome::Window(Window {
         w: 2,
         h: 1,
         samples: 3,
         bits: 8,
         pixels: Vec::from_slice(alloc, &[0, 9, 0x10, 0xab, 0xff, 0x0f])?,
-    };
+    });
     let text = text_of(alloc, opened(7, window))?;
     assert_eq!(rt;
         text.as_slice(),

@@ -4,7 +4,7 @@ use std::alloc::Global;
 use std::process::Abort;
 use std::test::Fail;
 use tiff_dir::{FileFault, Pick, Query};
-use world::{Event, Log, Outcome, run};
+use world::{Event, Log, Outcome, Window, run};
 
 fn window(x: u32, y: u32, w: u32, h: u32) -> Query {
     Query::Window {
@@ -31,9 +31,7 @@ fn read(alloc: Global, file: Vec<u8>, query: Query) -> Result<Log, Fail> {
         Event::Open { client: 0, query },
         Event::Exchange(0),
     ]?;
-    let mut log = Log {
-        entries: Vec::new(alloc),
-    };
+    let mut log = Log::new(alloc);
     run(alloc, &events, &mut log)?;
     Ok(log)
 }
@@ -42,13 +40,15 @@ fn read(alloc: Global, file: Vec<u8>, query: Query) -> Result<Log, Fail> {
 fn last_window(log: &Log) -> Option<(&[u8], u32, u32, &[u8])> {
     let report = log.entries.last()?.report.as_ref()?;
     match &report.outcome {
-        Outcome::Window {
-            w,
-            h,
-            samples: 1,
-            bits: 8,
-            pixels,
-        } => Some((report.tag.as_bytes(), *w, *h, pixels)),
+        Outcome::Window(
+            Window {
+                w,
+                h,
+                samples: 1,
+                bits: 8,
+                pixels,
+            },
+        ) => Some((report.tag.as_bytes(), *w, *h, pixels)),
         _ => None,
     }
 }

@@ -25,12 +25,20 @@ const QUERY: Query = Query::Window {
     pick: Pick::Level(2),
 };
 
+const BY_COLUMNS: Query = Query::Window {
+    x: 3,
+    y: 4,
+    w: 5,
+    h: 6,
+    pick: Pick::Columns(2),
+};
+
 #[test]
 fn lines_and_events(rt: HostRuntime) -> Result<(), Fail> {
     let text = b"# a comment\n\nepoch 007\npublish a data/f\nclient b/c 4294967295\n\
-        open 1 level 2 3 4 5 6\n\nexchange 9\nask 00fFAb";
+        open 1 level 2 3 4 5 6\n\nexchange 9\nask 00fFAb\nopen 0 info\nopen 1 columns 2 3 4 5 6\nforget 8";
     let events = events(rt.alloc(), text)?;
-    assert_eq!(rt; events.len(), 6);
+    assert_eq!(rt; events.len(), 9);
     assert!(rt; matches!(events[0], Event::Epoch(7)));
     assert!(rt;
         matches!(&events[1], Event::Publish { name, file } if name.as_slice() == b"a".as_slice() && file.as_slice() == b"FILE".as_slice())
@@ -43,11 +51,22 @@ fn lines_and_events(rt: HostRuntime) -> Result<(), Fail> {
     assert!(rt;
         matches!(&events[5], Event::Ask(message) if message.as_slice() == b"\x00\xff\xab".as_slice())
     );
+    assert!(rt;
+        matches!(
+            &events[6],
+            Event::Open {
+                client: 0,
+                query: Query::Info
+            }
+        )
+    );
+    assert!(rt; matches!(&events[7], Event::Open { client: 1, query } if *query == BY_COLUMNS));
+    assert!(rt; matches!(events[8], Event::Forget(8)));
     Ok(())
 }
 
-/// Lines that are no events: of other forms, with other spaces or ends, with greater numbers, and of later stages.
-const NO_EVENTS: [&[u8]; 27] = [
+/// Lines that are no events: of other forms, with other spaces or ends, with greater numbers, and of events that aren't there.
+const NO_EVENTS: [&[u8]; 29] = [
     b"exchange",
     b"exchange 0 0",
     b"exchange 4294967296",
@@ -69,8 +88,10 @@ const NO_EVENTS: [&[u8]; 27] = [
     b"client a many",
     b"open 0 level 0 1 1 1",
     b"open 0 level 0 1 1 1 1 1",
-    b"open 0 info",
-    b"open 0 columns 1 1 1 1 1",
+    b"open 0 info 0",
+    b"open 0 columns 1 1 1 1",
+    b"forget",
+    b"forget 0 0",
     b"ask",
     b"ask 0",
     b"ask 0x00",

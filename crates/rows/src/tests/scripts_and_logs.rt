@@ -54,9 +54,7 @@ fn events(alloc: Global, text: &str) -> Result<Vec<Event>, Fail> {
 /// Expects a script's log.
 fn expect(rt: &(impl Abort + AllocGlobal), text: &str, want: &str) -> Result<(), Fail> {
     let events = events(rt.alloc(), text)?;
-    let mut log = Log {
-        entries: Vec::new(rt.alloc()),
-    };
+    let mut log = Log::new(rt.alloc());
     run(rt.alloc(), &events, &mut log)?;
     let text = log_text(rt.alloc(), &log)?;
     assert_eq!(rt; str::from_utf8(&text), Ok(want));
@@ -125,16 +123,16 @@ opened 0
 asked 0 0-65535 - answer 0 206 378 took 1
 report 0 \"1-1\" window 1 1 1 ff
 opened 0
-asked 0 0-65535 - answer 1 206 378 took 1
+asked 0 nothing
 report 0 \"1-1\" fault 14
 opened 0
-asked 0 0-65535 - answer 2 206 378 took 1
+asked 0 nothing
 report 0 \"1-1\" fault 14
 opened 0
-asked 0 0-65535 - answer 3 206 378 took 1
+asked 0 nothing
 report 0 \"1-1\" fault 14
 opened 0
-asked 0 0-65535 - answer 4 206 378 took 1
+asked 0 nothing
 report 0 \"1-1\" fault 14
 ",
 );
@@ -219,6 +217,8 @@ epoch 2
 publish a f1.tif
 open 0 level 0 1 0 1 1
 exchange 0
+forget 0
+exchange 0
 ",
     "\
 skipped
@@ -239,13 +239,16 @@ report 0 \"1-1\" window 1 1 1 01
 asked 0 nothing
 published \"1-2\"
 opened 0
-asked 0 0-65535 - answer 2 206 378 took 1
-report 0 \"1-2\" window 1 1 1 01
+asked 0 nothing
+report 0 \"1-1\" window 1 1 1 01
 skipped
 epoch 2
 published \"2-1\"
 opened 0
-asked 0 0-65535 - answer 3 206 378 took 1
+asked 0 nothing
+report 0 \"1-1\" window 1 1 1 01
+forgot 0
+asked 0 0-65535 - answer 2 206 378 took 1
 report 0 \"2-1\" window 1 1 1 01
 ",
 );
@@ -315,7 +318,7 @@ report 1 \"7-1\" window 2 1 1 3334
 opened 1
 asked 0 0-65535 - answer 1 206 378 took 1
 report 0 \"7-2\" fault 6
-asked 1 0-65535 - answer 2 206 378 took 1
+asked 1 nothing
 report 1 \"7-1\" window 1 2 1 4454
 skipped
 ",
@@ -355,9 +358,7 @@ fn files_too_large(rt: HostRuntime) -> Result<(), Fail> {
         let file = vec![in alloc; 0; len]?;
         events.push(Event::Publish { name, file })?;
     }
-    let mut log = Log {
-        entries: Vec::new(alloc),
-    };
+    let mut log = Log::new(alloc);
     run(alloc, &events, &mut log)?;
     let text = log_text(alloc, &log)?;
     assert_eq!(rt; str::from_utf8(&text), Ok("refused 3\npublished \"0-1\"\n"));
@@ -384,9 +385,7 @@ fn many_names(rt: HostRuntime) -> Result<(), Fail> {
 fn beginnings(rt: HostRuntime) -> Result<(), Fail> {
     let alloc = rt.alloc();
     let events = events(alloc, ONE_WINDOW.0)?;
-    let mut log = Log {
-        entries: Vec::new(alloc),
-    };
+    let mut log = Log::new(alloc);
     let ran = run(alloc, &events, &mut log);
     let text = log_text(alloc, &log)?;
     assert!(rt; ONE_WINDOW.1.as_bytes().starts_with(&text));

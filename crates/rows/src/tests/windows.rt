@@ -5,7 +5,7 @@ use std::alloc::Global;
 use std::process::Abort;
 use std::test::Fail;
 use tiff_dir::{Pick, Query};
-use world::{Event, Log, Outcome, Report, run};
+use world::{Event, Log, Outcome, Report, Window, run};
 
 /// The report of a client that reads a window of level 0 of a file by one exchange.
 fn report(alloc: Global, file: &[u8], sides: [u32; 4]) -> Result<Option<Report>, Fail> {
@@ -24,9 +24,7 @@ fn report(alloc: Global, file: &[u8], sides: [u32; 4]) -> Result<Option<Report>,
         Event::Open { client: 0, query },
         Event::Exchange(0),
     ]?;
-    let mut log = Log {
-        entries: Vec::new(alloc),
-    };
+    let mut log = Log::new(alloc);
     run(alloc, &events, &mut log)?;
     match log.entries.pop() {
         Some(last) => Ok(last.report),
@@ -70,13 +68,15 @@ fn windows_of_one_tile(rt: HostRuntime) -> Result<(), Fail> {
             let Some(report) = report(alloc, &file, sides)? else {
                 return Err(Fail::new("no report"));
             };
-            let Outcome::Window {
-                w,
-                h,
-                samples: 1,
-                bits: 8,
-                pixels,
-            } = &report.outcome
+            let Outcome::Window(
+                Window {
+                    w,
+                    h,
+                    samples: 1,
+                    bits: 8,
+                    pixels,
+                },
+            ) = &report.outcome
             else {
                 return Err(Fail::new("no window"));
             };

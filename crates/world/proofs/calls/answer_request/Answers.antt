@@ -1,6 +1,6 @@
 use Rattle.std.proofs.Common.{ℕ, List, refl, subst, ◌∙◌}
 use Rattle.http_range.specs.Response.{IsAnswer}
-use Rattle.world.specs.Calls.{Delivers}
+use Rattle.cog_client.specs.Calls.{Delivers}
 use Rattle.world.proofs.calls.answer_request.Goals as goal
 
 pub returns-clause-exchanged : goal.returns-clause-exchanged

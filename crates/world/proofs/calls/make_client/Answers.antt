@@ -1,12 +1,12 @@
 use Rattle.std.proofs.Common.{ℕ, Option, arith, ap, sym, subst, ◌∙◌}
-use Rattle.world.specs.declared.client.ClientError.{ClientError}
+use Rattle.cog_client.specs.declared.error.ClientError.{ClientError}
 use Rattle.world.specs.declared.event.Effect.TheVariants as effects
 use Rattle.world.specs.Run.{MakesBy}
 use Rattle.world.proofs.calls.make_client.Goals as goal
 
 pub returns-in_ok-push-in-Ok : goal.returns-in_ok-push-in-Ok
 returns-in_ok-push-in-Ok c =
-    let P : Option ClientError → Type 0 = λ o. MakesBy o c.args.name.now c.quiet.result c.args.clients.now.items c.push.new.self.items in
+    let P : Option ClientError → Type 0 = λ o. MakesBy o c.args.name.now c.args.blocks c.quiet.result c.args.clients.now.items c.push.new.self.items in
     subst P (sym c.in-Ok.ensures.ok) (record {
       made = c.in-Ok.client;
       starts = c.in-Ok.ensures.starts;

@@ -6,7 +6,7 @@ use Rattle.world.proofs.world.run.Given as goal
 -- what is logged so far is a run of the events so far, and the code's state is its world's
 abbrev pub invariant-loop-event : goal.invariant-loop-event
 invariant-loop-event l = record {
-  runs : Runs start [] (take l.event-index l.events) l.log.entries.items l.clients.items;
+  runs : Runs start [] (take l.event-index l.events) l.log.entries.items l.log.clients.items;
   state : IsState (after_all start (take l.event-index l.events) l.log.entries.items) l.server l.sent;
   few : l.sent ≤ l.event-index;
 }

@@ -1,9 +1,0 @@
-use Rattle.std.proofs.Common.{length}
-use Rattle.tiff_dir.specs.Walk.{Agrees, to_come}
-use Rattle.world.proofs.read.walk_over.Given as goal
-
-abbrev pub invariant-loop-walk : goal.invariant-loop-walk
-invariant-loop-walk l = Agrees l.walk l.file
-
-abbrev pub decreases-loop-walk : goal.decreases-loop-walk
-decreases-loop-walk l = length (to_come l.walk l.file)
