@@ -1,4 +1,6 @@
 //! `cogserve`: publishes files of the disk and serves them, one connection after another.
+ghost use Rattle.std.specs.Prelude.{◌<◌, length};
+
 use crate::fault::Fault;
 use crate::line::serve_line;
 use crate::number::number_from;
@@ -68,15 +70,25 @@ pub fn publish_all<R: Files + Clock + Print + AllocGlobal>(
     Ok(())
 }
 
-/// Publishes the files whose bytes changed.
+/// Whether a later file has the name of this one.
+fn is_named_again(files: &[Watched<'_>], k: usize) -> bool
+    requires { k < length files.now }
+{
+    let name = files[k].name;
+    files[k + 1..].iter().any(|file| file.name == name)
+}
+
+/// Publishes the files whose bytes changed, of several of one name the last.
 fn look_again<R: Files + Clock + Print + AllocGlobal>(
     rt: &R,
     server: &mut Server,
     files: &mut [Watched<'_>],
 ) -> Result<(), Fault> {
-    for file in files.iter_mut() {
-        if let Some(tag) = file.publish_changed(rt, server) {
-            print_published(rt, file.name, &tag)?;
+    for k in 0..files.len() {
+        if !is_named_again(files, k)
+            && let Some(tag) = files[k].publish_changed(rt, server)
+        {
+            print_published(rt, files[k].name, &tag)?;
         }
     }
     Ok(())

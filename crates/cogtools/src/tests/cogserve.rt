@@ -257,6 +257,28 @@ fn over_loopback(rt: HostRuntime) -> Result<(), Fail> {
 }
 
 #[test]
+fn two_files_of_one_name(rt: HostRuntime) -> Result<(), Fail> {
+    fs::write(&rt, "cogtools_test_first", "12345")?;
+    fs::write(&rt, "cogtools_test_last", "abcde")?;
+    let mut files = vec![in rt.alloc();
+        Watched::new("a", "cogtools_test_first"),
+        Watched::new("a", "cogtools_test_last"),
+    ]?;
+    let mut server = Server::new(rt.alloc(), 7);
+    assert!(rt; publish_all(&rt, &mut server, &mut files).is_ok());
+    let listener = TcpListener::bind(&rt, "127.0.0.1:0")?;
+    let answer = answer_of(&rt, &mut server, &mut files, &listener, ASK)?;
+    assert_eq!(rt;
+        answer.as_str(),
+        "HTTP/1.1 206 Partial Content\r\nETag: \"7-2\"\r\nAccept-Ranges: bytes\r\n\
+        Content-Type: image/tiff\r\nContent-Range: bytes 1-4/5\r\nContent-Length: 4\r\n\r\nbcde"
+    );
+    fs::remove_file(&rt, "cogtools_test_first")?;
+    fs::remove_file(&rt, "cogtools_test_last")?;
+    Ok(())
+}
+
+#[test]
 fn a_file_of_a_fixture(rt: HostRuntime) -> Result<(), Fail> {
     let file = f1(rt.alloc())?;
     fs::write(&rt, "cogtools_test_fixture", &file)?;
