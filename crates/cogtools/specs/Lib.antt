@@ -1,1 +1,4 @@
+pub mod Number
+pub mod ServeLine
+pub mod Settled
 pub mod Status

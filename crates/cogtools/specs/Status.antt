@@ -4,16 +4,22 @@ use Rattle.clap.specs.Words.{kind_of}
 use Rattle.clap.specs.declared.error.kind.ErrorKind.TheVariants as kind
 use Rattle.scripts.specs.declared.line.ScriptError.TheVariants as script
 use Rattle.cogtools.specs.declared.fault.Fault.{Fault}
-use Rattle.cogtools.specs.declared.fault.Fault.TheVariants.{NotText, NotAProgram, CommandLine, Script, CantRead, CantWrite, Memory}
+use Rattle.cogtools.specs.declared.fault.Fault.TheVariants.{NotText, NotAProgram, CommandLine, NotANumber, NotAFile, Script}
+use Rattle.cogtools.specs.declared.fault.Fault.TheVariants.{CantRead, Refused, CantListen, CantAccept, CantWrite, Memory}
 
--- 1 for files and memory, 2 for the command line and scripts; to ask for help is no fault
+-- 1 for files, sockets, publications and memory, 2 for the command line and scripts; to ask for help is no fault
 abbrev pub HasStatus : Fault → ℕ → Type 0
 HasStatus NotText n = n ≡ 2
 HasStatus (NotAProgram word) n = n ≡ 2
 HasStatus (CommandLine error) n = kind_of error ≢ kind.DisplayHelp → kind_of error ≢ kind.DisplayVersion → n ≡ 2
+HasStatus (NotANumber word) n = n ≡ 2
+HasStatus (NotAFile word) n = n ≡ 2
 HasStatus (Script (script.NotAnEvent line)) n = n ≡ 2
 HasStatus (Script (script.CantRead line)) n = n ≡ 1
 HasStatus (Script script.Memory) n = n ≡ 1
 HasStatus (CantRead path) n = n ≡ 1
+HasStatus (Refused number name) n = n ≡ 1
+HasStatus CantListen n = n ≡ 1
+HasStatus CantAccept n = n ≡ 1
 HasStatus CantWrite n = n ≡ 1
 HasStatus Memory n = n ≡ 1

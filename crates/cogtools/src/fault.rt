@@ -2,7 +2,7 @@
 use http_range::Memory;
 use scripts::ScriptError;
 use std::alloc::AllocError;
-use std::io;
+use std::{fmt, io};
 
 /// Why a program ends early.
 #[derive(Drop)]
@@ -13,9 +13,19 @@ pub enum Fault {
     NotAProgram(String),
     /// The words of the command line aren't the program's, or ask for help.
     CommandLine(clap::Error),
+    /// A word of the command line isn't a number of its range.
+    NotANumber(String),
+    /// A word of the command line isn't `NAME=PATH`.
+    NotAFile(String),
     Script(ScriptError),
-    /// The script at this path can't be read.
+    /// The file at this path can't be read.
     CantRead(String),
+    /// The file of this name isn't published, under this number.
+    Refused(u8, String),
+    /// The address can't be bound.
+    CantListen,
+    /// No connection can be accepted any more.
+    CantAccept,
     /// The standard output can't be written.
     CantWrite,
     Memory,
@@ -24,7 +34,7 @@ pub enum Fault {
 impl Fault {
     ghost use Rattle.cogtools.specs.Status.{HasStatus};
 
-    /// The exit status: 1 for files and memory, 2 for the command line and scripts.
+    /// The exit status: 1 for files, sockets, publications and memory, 2 for the command line and scripts.
     pub fn status(&self) -> u8
         ensures { HasStatus self.now result }
     {
@@ -33,27 +43,55 @@ impl Fault {
             Fault::NotText
             | Fault::NotAProgram(_)
             | Fault::CommandLine(_)
+            | Fault::NotANumber(_)
+            | Fault::NotAFile(_)
             | Fault::Script(ScriptError::NotAnEvent(_)) => 2,
-            Fault::Script(_) | Fault::CantRead(_) | Fault::CantWrite | Fault::Memory => 1,
+            Fault::Script(_)
+            | Fault::CantRead(_)
+            | Fault::Refused(_, _)
+            | Fault::CantListen
+            | Fault::CantAccept
+            | Fault::CantWrite
+            | Fault::Memory => 1,
         }
     }
 
-    /// Prints the fault's line.
-    pub fn print<R: Print + Eprint>(&self, rt: &R) {
+    /// Prints the fault's line, as the program of this name tells it.
+    pub fn print<R: Print + Eprint>(&self, rt: &R, program: &str) {
         let _ = match self {
-            Fault::NotText => eprintln!(rt; "cogtools: a word isn't text"),
-            Fault::NotAProgram(word) => eprintln!(rt; "cogtools: not a program: {word}"),
             Fault::CommandLine(error) => error.print(rt),
-            Fault::Script(ScriptError::NotAnEvent(line)) => {
-                eprintln!(rt; "line {line}: not an event")
-            }
-            Fault::Script(ScriptError::CantRead(line)) => eprintln!(rt; "line {line}: can't read"),
-            Fault::CantRead(path) => eprintln!(rt; "cogworld: can't read {path}"),
-            Fault::CantWrite => eprintln!(rt; "cogworld: can't write"),
-            Fault::Script(ScriptError::Memory) | Fault::Memory => {
-                eprintln!(rt; "cogworld: out of memory")
-            }
+            fault => rt.eprintln(FaultLine { program, fault }),
         };
+    }
+}
+
+/// A fault as the line that a program tells.
+#[derive(Drop)]
+pub struct FaultLine<'a> {
+    pub program: &'a str,
+    pub fault: &'a Fault,
+}
+
+impl fmt::Display for FaultLine<'_> {
+    fn fmt<W: fmt::Write>(&self, f: &mut fmt::Formatter<W>) -> fmt::Result {
+        let program = self.program;
+        match self.fault {
+            Fault::Script(ScriptError::NotAnEvent(line)) => write!(f, "line {line}: not an event"),
+            Fault::Script(ScriptError::CantRead(line)) => write!(f, "line {line}: can't read"),
+            Fault::NotText => write!(f, "{program}: a word isn't text"),
+            Fault::NotAProgram(word) => write!(f, "{program}: not a program: {word}"),
+            Fault::CommandLine(error) => write!(f, "{error}"),
+            Fault::NotANumber(word) => write!(f, "{program}: not a number: {word}"),
+            Fault::NotAFile(word) => write!(f, "{program}: not a file: {word}"),
+            Fault::CantRead(path) => write!(f, "{program}: can't read {path}"),
+            Fault::Refused(number, name) => write!(f, "{program}: refused {number} {name}"),
+            Fault::CantListen => write!(f, "{program}: can't listen"),
+            Fault::CantAccept => write!(f, "{program}: can't accept"),
+            Fault::CantWrite => write!(f, "{program}: can't write"),
+            Fault::Script(ScriptError::Memory) | Fault::Memory => {
+                write!(f, "{program}: out of memory")
+            }
+        }
     }
 }
 

@@ -1,13 +1,19 @@
+mod cogserve;
+
 use super::run_words;
 use crate::fault::Fault;
 use scripts::ScriptError;
 use std::fs;
+use std::net::{Net, TcpListener, TcpStream};
 use std::process::Abort;
 use std::rt::Runtime;
 use std::test::Fail;
 
 /// What the command line of these words, after the command's own name, ends with: 0, or the status of its fault.
-fn status_of<R: Runtime + AllocGlobal>(rt: &R, words: &[&str]) -> Result<u8, Fail> {
+fn status_of<R>(rt: &R, words: &[&str]) -> Result<u8, Fail>
+where
+    R: Runtime + AllocGlobal + Net<Listener = TcpListener, Stream = TcpStream>,
+{
     let mut line = Vec::new(rt.alloc());
     line.push(String::from_str(rt.alloc(), "cogtools")?)?;
     for word in words {
@@ -39,7 +45,10 @@ fn command_lines(rt: HostRuntime) -> Result<(), Fail> {
 }
 
 /// What a script ends with.
-fn status_of_script<R: Runtime + AllocGlobal>(rt: &R, text: &str) -> Result<u8, Fail> {
+fn status_of_script<R>(rt: &R, text: &str) -> Result<u8, Fail>
+where
+    R: Runtime + AllocGlobal + Net<Listener = TcpListener, Stream = TcpStream>,
+{
     fs::write(rt, "cogtools_test_script", text)?;
     let status = status_of(rt, &["cogworld", "cogtools_test_script"])?;
     fs::remove_file(rt, "cogtools_test_script")?;

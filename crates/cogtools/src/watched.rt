@@ -1,0 +1,143 @@
+//! A file of the disk that is published, and when it has to be read again.
+ghost use Rattle.std.specs.Prelude.{◌↔◌, IsTrue};
+ghost use Rattle.std.specs.Duration.{as_nanos};
+ghost use Rattle.cogtools.specs.Settled.{IsSettled};
+
+use crate::fault::Fault;
+use cog_server::{PublishError, Server};
+use http_range::Tag;
+use scripts::{Disk, LoadError, Source};
+use std::fs;
+use std::fs::Metadata;
+use std::os::unix::fs::MetadataExt;
+use std::rt::{Clock, Files};
+use std::time::Duration;
+
+/// What the disk says of a file without reading it: where it is, how long, and when it was modified and changed.
+#[derive(Clone, Copy, PartialEq, Eq)]
+struct Stamp {
+    device: u64,
+    inode: u64,
+    length: u64,
+    modified: (i64, i64),
+    changed: (i64, i64),
+}
+
+/// A file of the command line.
+#[derive(Drop)]
+pub struct Watched<'a> {
+    pub name: &'a str,
+    pub path: &'a str,
+    seen: Option<Stamp>,
+}
+
+/// Whether a file that was changed then was left alone for more than two seconds; both times are since 1970.
+fn is_settled(changed: Duration, now: Duration) -> bool
+    ensures { IsTrue result ↔ IsSettled (as_nanos changed) (as_nanos now) }
+{
+    match changed.checked_add(Duration::from_secs(2)) {
+        Some(limit) => limit.as_nanos() < now.as_nanos(),
+        None => false,
+    }
+}
+
+/// The time since 1970 when a file was changed.
+fn changed(metadata: &Metadata) -> Option<Duration> {
+    let seconds = u64::try_from(metadata.ctime()).ok()?;
+    let nanos = u64::try_from(metadata.ctime_nsec()).ok()?;
+    Duration::from_secs(seconds).checked_add(Duration::from_nanos(nanos))
+}
+
+/// What the disk says of a file, where each later change of its bytes shows in it.
+fn stamp_of<R: Files + Clock>(rt: &R, path: &str) -> Option<Stamp> {
+    let now = rt.since_1970().ok()?;
+    let metadata = fs::metadata(rt, path).ok()?;
+    if !is_settled(changed(&metadata)?, now) {
+        return None;
+    }
+    Some(Stamp {
+        device: metadata.dev(),
+        inode: metadata.ino(),
+        length: metadata.size(),
+        modified: (metadata.mtime(), metadata.mtime_nsec()),
+        changed: (metadata.ctime(), metadata.ctime_nsec()),
+    })
+}
+
+/// Publishes a file, unless the one under its name has the same bytes.
+fn publish_other(
+    server: &mut Server,
+    name: &[u8],
+    file: Vec<u8>,
+) -> Result<Option<Tag>, PublishError> {
+    if let Some(old) = server.file(name)
+        && old == file.as_slice()
+    {
+        return Ok(None);
+    }
+    let tag = server.publish(name, file)?;
+    Ok(Some(tag))
+}
+
+impl<'a> Watched<'a> {
+    /// A file that wasn't read yet.
+    pub fn new(name: &'a str, path: &'a str) -> Watched<'a> {
+        Watched {
+            name,
+            path,
+            seen: None,
+        }
+    }
+
+    /// Reads the file and publishes it.
+    pub fn publish<R: Files + Clock + AllocGlobal>(
+        &mut self,
+        rt: &R,
+        server: &mut Server,
+    ) -> Result<Tag, Fault> {
+        let seen = stamp_of(rt, self.path);
+        let bytes = match (Disk { rt }).load(self.path.as_bytes()) {
+            Ok(bytes) => bytes,
+            Err(LoadError::Memory) => return Err(Fault::Memory),
+            Err(LoadError::CantRead) => {
+                return Err(Fault::CantRead(String::from_str(rt.alloc(), self.path)?));
+            }
+        };
+        match server.publish(self.name.as_bytes(), bytes) {
+            Ok(tag) => {
+                self.seen = seen;
+                Ok(tag)
+            }
+            Err(PublishError::Memory) => Err(Fault::Memory),
+            Err(refusal) => Err(Fault::Refused(
+                refusal.number(),
+                String::from_str(rt.alloc(), self.name)?,
+            )),
+        }
+    }
+
+    /// Publishes the file if its bytes changed. One that can't be read, or is refused, keeps its old publication. It isn't
+    /// read where the disk says the same of it as when it was last read.
+    pub fn publish_changed<R: Files + Clock + AllocGlobal>(
+        &mut self,
+        rt: &R,
+        server: &mut Server,
+    ) -> Option<Tag> {
+        let seen = stamp_of(rt, self.path);
+        if seen.is_some() && seen == self.seen {
+            return None;
+        }
+        let bytes = (Disk { rt }).load(self.path.as_bytes()).ok()?;
+        match publish_other(server, self.name.as_bytes(), bytes) {
+            Ok(tag) => {
+                self.seen = seen;
+                tag
+            }
+            Err(PublishError::Memory) => None,
+            Err(_) => {
+                self.seen = seen;
+                None
+            }
+        }
+    }
+}
