@@ -147,6 +147,13 @@ impl Client {
         self.report.as_ref()
     }
 
+    /// The name of the file. It takes no memory.
+    pub fn name(&self) -> &[u8]
+        ensures { result.now ≡ name_of self.now }
+    {
+        &self.name
+    }
+
     /// What is asked for, in bytes from 0. It takes no memory.
     pub fn asked(&self) -> Option<Span>
         ensures { result ≡ asked_of self.now }

@@ -98,6 +98,14 @@ fn bytes_of(alloc: Global, digits: &[u8]) -> Result<Vec<u8>, LineError> {
     }
 }
 
+/// How many bytes of an answer are delivered: `-` stands for all.
+fn cut_of(word: &[u8]) -> Result<Option<u32>, LineError> {
+    match word {
+        b"-" => Ok(None),
+        _ => Ok(Some(wanted(word)?)),
+    }
+}
+
 /// The event of a line of these words.
 fn event_of<S: Source>(alloc: Global, words: &[&[u8]], source: &mut S) -> Result<Event, LineError> {
     match words {
@@ -121,7 +129,14 @@ fn event_of<S: Source>(alloc: Global, words: &[&[u8]], source: &mut S) -> Result
         }),
         [b"forget", client] => Ok(Event::Forget(wanted(client)?)),
         [b"ask", digits] => Ok(Event::Ask(bytes_of(alloc, digits)?)),
+        [b"askfrom", client] => Ok(Event::AskFrom(wanted(client)?)),
+        [b"deliver", client, answer, cut] => Ok(Event::Deliver {
+            client: wanted(client)?,
+            answer: wanted(answer)?,
+            cut: cut_of(cut)?,
+        }),
         [b"exchange", client] => Ok(Event::Exchange(wanted(client)?)),
+        [b"check", client] => Ok(Event::Check(wanted(client)?)),
         _ => Err(LineError::NotAnEvent),
     }
 }

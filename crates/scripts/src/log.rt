@@ -5,7 +5,8 @@ use itoa::{Buffer, Integer};
 use std::alloc::{AllocError, Global};
 use tiff_dir::FileFault;
 use world::{
-    Answer, Delivered, Effect, Entry, Exchange, Ignored, Info, Log, Outcome, Report, Window,
+    Answer, Asked, Checked, Current, Delivered, Effect, Entry, Ignored, Info, Log, Outcome, Report,
+    Unknown, Window,
 };
 
 /// The text of a log: a line for each entry, and one more for its report.
@@ -30,7 +31,8 @@ fn push_entry(text: &mut Text, entry: &Entry) -> Result<(), AllocError> {
 fn client_of(effect: &Effect) -> Option<u32> {
     match effect {
         Effect::Opened(client) | Effect::Forgot(client) | Effect::Nothing(client) => Some(*client),
-        Effect::Exchanged(exchange) => Some(exchange.client),
+        Effect::Delivered { client, .. } => Some(*client),
+        Effect::Exchanged { asked, .. } => Some(asked.client),
         _ => None,
     }
 }
@@ -52,7 +54,20 @@ fn push_effect(text: &mut Text, effect: &Effect) -> Result<(), AllocError> {
             text.word(b"nothing")
         }
         Effect::Answered { number, answer } => push_answer(text, *number, answer),
-        Effect::Exchanged(exchange) => push_exchange(text, exchange),
+        Effect::Asked(asked) => push_asked(text, asked),
+        Effect::Delivered { client, delivered } => {
+            push_counted(text, b"delivered", *client)?;
+            push_delivered(text, *delivered)
+        }
+        Effect::Exchanged { asked, delivered } => {
+            push_asked(text, asked)?;
+            push_delivered(text, *delivered)
+        }
+        Effect::Unchecked(client) => {
+            push_counted(text, b"checked", *client)?;
+            text.word(b"nothing")
+        }
+        Effect::Checked(check) => push_checked(text, check),
     }
 }
 
@@ -69,15 +84,27 @@ fn push_answer(text: &mut Text, number: usize, answer: &Answer) -> Result<(), Al
     text.number(answer.body)
 }
 
-fn push_exchange(text: &mut Text, exchange: &Exchange) -> Result<(), AllocError> {
-    push_counted(text, b"asked", exchange.client)?;
-    push_span(text, exchange.span)?;
-    match &exchange.tag {
+/// The span that a client asked for, the tag of its condition, and the answer.
+fn push_asked(text: &mut Text, asked: &Asked) -> Result<(), AllocError> {
+    push_counted(text, b"asked", asked.client)?;
+    push_span(text, asked.span)?;
+    match &asked.tag {
         Some(tag) => text.word(tag.as_bytes())?,
         None => text.word(b"-")?,
     }
-    push_answer(text, exchange.number, &exchange.answer)?;
-    push_delivered(text, exchange.delivered)
+    push_answer(text, asked.number, &asked.answer)
+}
+
+/// The tag that a client checked, the answer, and what it says.
+fn push_checked(text: &mut Text, check: &Checked) -> Result<(), AllocError> {
+    push_counted(text, b"checked", check.client)?;
+    text.word(check.tag.as_bytes())?;
+    push_answer(text, check.number, &check.answer)?;
+    match check.current {
+        Current::Same => text.word(b"same"),
+        Current::Other => text.word(b"other"),
+        Current::Unknown(unknown) => push_counted(text, b"unknown", unknown.number()),
+    }
 }
 
 /// The first and the last position, with `-` between them.

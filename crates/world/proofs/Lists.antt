@@ -1,11 +1,15 @@
 -- A place of a list that is there, changed or added.
-use Rattle.std.proofs.Common.{◌≡◌, ℕ, suc, zero, List, [], ◌∷◌, ◌++◌, length, map, get_or, Option, Some, None, refl, sym, ap, ◌∙◌, subst, arith, ◌<◌, ◌⊎◌, inl, inr}
+use Rattle.std.proofs.Common.{◌≡◌, ℕ, suc, zero, true, false, List, [], ◌∷◌, ◌++◌, length, map, get_or, Option, Some, None, refl, sym, ap, ◌∙◌, subst, arith, ◌<◌, ◌⊎◌, inl, inr}
 use Rattle.std.specs.Prelude.{slice_get, slice_set, is_some, Bool, if◌then◌else◌}
 use Rattle.std.specs.Option.{option_map}
 use Rattle.world.specs.declared.event.Entry.{Entry}
 use Rattle.cog_client.specs.Report.{Told, told}
 use Rattle.cog_client.specs.Client.{Known, report_of}
-use Rattle.world.specs.Run.{Acts, AtClient, NewReport, Tells}
+use Rattle.cog_client.specs.Client.{name_of}
+use Rattle.cog_server.specs.declared.server.Answer.{Answer}
+use Rattle.world.specs.declared.event.Effect.TheVariants as effects
+use Rattle.world.specs.World.{name_in}
+use Rattle.world.specs.Run.{Acts, AtClient, Changes, DeliversWith, IsDelivery, NewReport, Quiet, Tells, front_of, is_for}
 
 pub get_there : {A : Type 0} (xs : List A) (i : ℕ) (x : A) → i < length xs → x ≡ get_or xs i x → slice_get xs i ≡ Some x
 get_there [] i x inside is = absurd (omega arith)
@@ -55,3 +59,21 @@ at_client R old i c next n inside is acts =
 pub tells_of : (had : Bool) (old new : Known) (report : Option Told) → had ≡ is_some (report_of old) → NewReport had new report → Tells old new report
 tells_of had old new report is h =
     record { standing = h.standing; stands = h.stands; newly = h.newly ∙ ap (λ (b : Bool). if b then None else option_map told h.standing) is }
+
+-- ---- deliveries
+
+-- an answer for another name isn't delivered
+pub not_received : (a : Answer) (o : Option Known) (cut : Option ℕ) (i : ℕ) (n : Entry) (old new : List Known) (c : Known) → o ≡ Some c → false ≡ is_for (name_of c) (name_in a) → Quiet n effects.Skipped old new
+    → IsDelivery (Some a) o cut i n old new
+not_received a o cut i n old new c at other quiet =
+    let P : Option Known → Type 0 = λ o. IsDelivery (Some a) o cut i n old new in
+    let Q : Bool → Type 0 = λ b. AtClient (if b then Some c else None) (DeliversWith (front_of cut a.text.items) i n.effect) i n old new in
+    subst P (sym at) (subst Q other quiet)
+
+-- one for its name is
+pub received : (a : Answer) (o : Option Known) (cut : Option ℕ) (i : ℕ) (n : Entry) (old new : List Known) (c : Known) → o ≡ Some c → true ≡ is_for (name_of c) (name_in a)
+    → Changes (DeliversWith (front_of cut a.text.items) i n.effect) i c n old new → IsDelivery (Some a) o cut i n old new
+received a o cut i n old new c at own changes =
+    let P : Option Known → Type 0 = λ o. IsDelivery (Some a) o cut i n old new in
+    let Q : Bool → Type 0 = λ b. AtClient (if b then Some c else None) (DeliversWith (front_of cut a.text.items) i n.effect) i n old new in
+    subst P (sym at) (subst Q own changes)

@@ -1,249 +1,37 @@
--- The world's invariant, and that each report of a run is true.
-use Rattle.std.proofs.Common.{◌≡◌, ℕ, suc, zero, List, [], ◌∷◌, ◌++◌, length, map, Option, Some, None, Bool, true, false, cond, refl, sym, ap, ◌∙◌, subst, arith, ◌⊎◌, inl, inr, ◌<◌, ◌≤◌, ◌+◌, ◌-◌, ◌^◌, min, append-nil}
-use Rattle.std.specs.Prelude.{slice_get, slice_set, IfSome, nat_lt, not, ◌==◌, is_some, if◌then◌else◌}
+-- Each event keeps the world's invariant, and each report of a run is true.
+use Rattle.std.proofs.Common.{◌≡◌, ℕ, List, [], ◌∷◌, ◌++◌, length, map, Option, Some, None, Bool, true, false, cond, refl, sym, ap, ◌∙◌, subst, ◌⊎◌, inl, inr, ◌-◌, min, append-nil, drop}
+use Rattle.std.specs.Prelude.{slice_get, slice_set, IfSome, nat_lt, is_some, if◌then◌else◌}
 use Rattle.std.specs.Option.{option_map}
-use Rattle.std.specs.Str.{bytes_eq}
-use Rattle.std.proofs.lemmas.List.{map_push}
-use Rattle.std.proofs.lemmas.Bool.{cases_Bool}
-use Rattle.std.proofs.lemmas.Bool.Decides.{nat_tests}
+use Rattle.std.proofs.lemmas.List.{map_push, take-append-drop}
 use Rattle.std.proofs.lemmas.Option.{none-some, same_Some}
 use Rattle.std.proofs.lemmas.Slice.Eq.{bytes_eq-Decides}
 use Rattle.tiff_dir.specs.declared.query.Query.{Query}
-use Rattle.http_range.specs.Names.{is_name}
+use Rattle.tiff_dir.specs.declared.span.Span.{Span}
 use Rattle.http_range.specs.Ask.{CanAsk, request_text}
-use Rattle.http_range.specs.Book.{Publication, IsPublication, Book, In, Includes, HasDistinctTags, Catalogue, IsCatalogue, published, Covers, publish, publication_tag}
+use Rattle.http_range.specs.Book.{Publication, Book, Catalogue, published}
 use Rattle.http_range.specs.declared.range.Resolved.TheVariants.{Part, Whole}
 use Rattle.http_range.specs.declared.reply.Reply.TheVariants.{R416}
-use Rattle.http_range.specs.Response.{Response, IsAnswer, text_of, is_current, response_to_client, serve_part, refused}
-use Rattle.http_range.specs.Honest.{IsHonest}
-use Rattle.cog_server.specs.declared.error.PublishError.{PublishError}
+use Rattle.http_range.specs.Response.{Response, IsAnswer, is_current, response_to_client, serve_part, refused}
+use Rattle.http_range.specs.Honest.{IsFront, IsHonest}
+use Rattle.cog_server.specs.declared.server.Answer.{Answer}
+use Rattle.cog_server.specs.Server.{IsAnswered}
 use Rattle.cog_client.specs.declared.error.ClientError.{ClientError}
-use Rattle.world.specs.declared.event.Event.{Event}
-use Rattle.world.specs.declared.event.Event.TheVariants.{Publish, Epoch, NewClient, Open, Forget, Ask, Exchange}
-use Rattle.world.specs.declared.event.Effect.{Effect}
-use Rattle.world.specs.declared.event.Entry.{Entry}
-use Rattle.cog_client.specs.Report.{Told, told, IsTrueReport}
 use Rattle.cog_client.specs.declared.report.Report.{Report}
-use Rattle.tiff_dir.specs.declared.span.Span.{Span}
-use Rattle.cog_client.specs.Client.{Known, Agrees, asked_of, client_refusal, host_of, name_of, query_of, report_of, tag_of}
-use Rattle.cog_client.specs.Calls.{Requests, request_for}
-use Rattle.cog_server.specs.Server.{ServerState, refusal_of}
-use Rattle.world.specs.World.{World, Seen, host, start, next_of, publish_by, refused_at, server_of, restart_by, with_clients, with_sent, made_by, opened, sent_after, after, after_all, told_of, client_of, IsTrueAt, AllTrue}
-use Rattle.world.specs.Run.{seen, Tells, AtClient, MakesBy, OpensWith, ForgetsAll, IsExchanged, ExchangesWith, Step, Runs}
+use Rattle.cog_client.specs.Report.{Told, told, IsTrueReport}
+use Rattle.cog_client.specs.Client.{Known, asked_of, client_refusal, host_of, name_of, query_of, report_of, tag_of}
+use Rattle.cog_client.specs.Calls.{request_for}
+use Rattle.world.specs.declared.event.Event.{Event}
+use Rattle.world.specs.declared.event.Event.TheVariants.{Publish, Epoch, NewClient, Open, Forget, Ask, AskFrom, Deliver, Exchange, Check}
+use Rattle.world.specs.declared.event.Asked.{Asked}
+use Rattle.world.specs.declared.event.Checked.{Checked}
+use Rattle.world.specs.declared.event.Effect.{Effect}
+use Rattle.world.specs.declared.event.Effect.TheVariants as effects
+use Rattle.world.specs.declared.event.Entry.{Entry}
+use Rattle.world.specs.World.{World, Seen, host, name_in, answer_in, next_of, publish_by, refused_at, restart_by, with_clients, sending, made_by, opened, after, after_all, told_of, client_of, IsTrueAt, AllTrue, IsFor, StaysHonest}
+use Rattle.world.specs.Run.{seen, Tells, AtClient, MakesBy, OpensWith, ForgetsAll, Quiet, Asks, asked_effect, AsksWith, IsExchanged, ExchangesWith, is_for, front_of, DeliversWith, IsDelivery, IsChecked, IsCheckBy, Step, Runs}
 use Rattle.world.specs.LowerLaws.{LowerLaws}
-use Rattle.world.proofs.Lists.{get-map, get-set, get-set_same, get-push, map-set, set_there}
-
-abbrev AgreesLater : Known → Book → Type 0
-AgreesLater c book = (later : Book) → Includes later book → HasDistinctTags later → Agrees c later
-
-abbrev AllAgree : List Known → Book → Type 0
-AllAgree cs book = (i : ℕ) (c : Known) → slice_get cs i ≡ Some c → AgreesLater c book
-
--- the publication's tag is of an earlier epoch, or of this one with a number that is used
-pub record IsOlder (w : World) (p : Publication) : Type 0 where
-  pub epoch : ℕ
-  pub number : ℕ
-  pub epoch_small : epoch < 2 ^ 32
-  pub number_small : number < 2 ^ 32
-  pub tag : p.tag ≡ publication_tag epoch number
-  pub used : (epoch < w.epoch) ⊎ ((epoch ≡ w.epoch) × (number ≤ w.count))
-
--- it is so in another world, where the number is used there
-older_in : (w later : World) (p : Publication) (old : IsOlder w p)
-    → ((old.epoch < later.epoch) ⊎ ((old.epoch ≡ later.epoch) × (old.number ≤ later.count))) → IsOlder later p
-older_in w later p old used = record {
-  epoch = old.epoch;
-  number = old.number;
-  epoch_small = old.epoch_small;
-  number_small = old.number_small;
-  tag = old.tag;
-  used = used;
-}
-
-pub record Good (w : World) (cs : List Known) : Type 0 where
-  pub epoch_small : w.epoch < 2 ^ 32
-  pub count_small : w.count < 2 ^ 32
-  pub older : (p : Publication) → In p w.book → IsOlder w p
-  pub distinct : HasDistinctTags w.book
-  pub lawful : IsCatalogue w.catalogue
-  pub covers : Covers w.book w.catalogue
-  pub seen_are : map seen cs ≡ w.clients
-  pub agree : AllAgree cs w.book
-
-pub good_start : Good start []
-good_start = record {
-  epoch_small = omega arith;
-  count_small = omega arith;
-  older = λ p i. absurd i;
-  distinct = λ p q i j e. absurd i;
-  lawful = tt;
-  covers = λ name p e. absurd (none-some p e);
-  seen_are = refl;
-  agree = λ i c e. absurd (none-some c e);
-}
-
--- ---- publications
-
--- what is accepted is lawful
-record IsAccepted (count : ℕ) (name file : List ℕ) : Type 0 where
-  named : is_name name ≡ true
-  some : 1 ≤ length file
-  small : length file ≤ 67108864
-  room : (count == 4294967295) ≡ false
-
-passed : {A : Type 0} (b : Bool) (x : A) (r : Option A) → (if b then Some x else r) ≡ None → (b ≡ false) × (r ≡ None)
-passed true x r e = absurd (none-some x (sym e))
-passed false x r e = (refl, e)
-
-not_false : (b : Bool) → not b ≡ false → b ≡ true
-not_false true e = refl
-not_false false e = sym e
-
-accepted : (s : ServerState) (name file : List ℕ) → refusal_of s name file ≡ None → IsAccepted s.count name file
-accepted s name file e =
-    let a = passed _ _ _ e in
-    let b = passed _ _ _ a.1 in
-    let c = passed _ _ _ b.1 in
-    let d = passed _ _ _ c.1 in
-    let x = passed _ _ _ d.1 in
-    let some : (length file == 0) ≡ false = b.0 in
-    let small : nat_lt 67108864 (length file) ≡ false = c.0 in
-    record { named = not_false (is_name name) a.0; some = grind (arith, nat_tests); small = grind (arith, nat_tests); room = x.0 }
-
-module _ (laws : LowerLaws) where
-  -- no publication has the next tag
-  unused : (w : World) (cs : List Known) (q : Publication) → Good w cs → w.count + 1 < 2 ^ 32 → In q w.book → q.tag ≡ publication_tag w.epoch (w.count + 1) → ⊥
-  unused w cs q g room i e =
-      let old = g.older q i in
-      let small = g.epoch_small in
-      let same = laws.apart old.epoch old.number w.epoch (w.count + 1) (omega (arith, old.epoch_small)) (omega (arith, old.number_small)) (omega arith) (omega arith) (sym old.tag ∙ e) in
-      elim old.used [ inl h ↦ omega (arith, same.0) | inr h ↦ omega (arith, same.0, same.1, h.0, h.1) ]
-
-  -- a name has what was published last
-  covers_next : (book : Book) (catalogue : Catalogue) (p : Publication) → Covers book catalogue → Covers (p ∷ book) (publish p catalogue)
-  covers_next book catalogue p covers name q found =
-      elim (cases_Bool (bytes_eq name p.name)) [
-        | inl same ↦
-            (let e : name ≡ p.name = (bytes_eq-Decides name p.name).0 same in
-            let here : published name (publish p catalogue) ≡ Some p = ap (λ (n : List ℕ). published n (publish p catalogue)) e ∙ laws.replaces.stands p catalogue in
-            inl (same_Some _ _ (sym found ∙ here)))
-        | inr other ↦
-            (let differ : name ≡ p.name → ⊥ = λ e. (let wrong : bytes_eq name p.name ≡ true = (bytes_eq-Decides name p.name).1 e in cc) in
-            inr (covers name q (sym (laws.replaces.others p catalogue name differ) ∙ found)))
-      ]
-
-  good_accepted : (w : World) (cs : List Known) (name file : List ℕ) → refused_at w name file ≡ None → Good w cs → Good (publish_by w (next_of w name file) None) cs
-  good_accepted w cs name file none g =
-      let p = next_of w name file in
-      let ok = accepted (server_of w) name file none in
-      let full : (w.count == 4294967295) ≡ false = ok.room in
-      let small = g.count_small in
-      let epoch = g.epoch_small in
-      let room : w.count + 1 < 2 ^ 32 = grind (arith, nat_tests) in
-      let lawful : IsPublication p = record {
-        named = ok.named;
-        tagged = laws.kept w.epoch (w.count + 1) (omega arith) (omega arith);
-        some = ok.some;
-        small = ok.small;
-      } in
-      record {
-        epoch_small = epoch;
-        count_small = room;
-        older = λ q i. elim i [
-          | inl e ↦ record { epoch = w.epoch; number = w.count + 1; epoch_small = epoch; number_small = room; tag = ap (λ (x : Publication). x.tag) e; used = inr (refl, omega arith) }
-          | inr j ↦ older_in w _ q (g.older q j) (elim (g.older q j).used [ inl h ↦ inl h | inr h ↦ inr (h.0, omega (arith, h.1)) ])
-        ];
-        distinct = λ q r i j e. elim i [
-          | inl x ↦ elim j [ inl y ↦ x ∙ sym y | inr y ↦ absurd (unused w cs r g room y (sym e ∙ ap (λ (z : Publication). z.tag) x)) ]
-          | inr x ↦ elim j [ inl y ↦ absurd (unused w cs q g room x (e ∙ ap (λ (z : Publication). z.tag) y)) | inr y ↦ g.distinct q r x y e ]
-        ];
-        lawful = laws.replaces.lawful p w.catalogue lawful g.lawful;
-        covers = covers_next w.book w.catalogue p g.covers;
-        seen_are = g.seen_are;
-        agree = λ i c e later inc d. g.agree i c e later (λ q j. inc q (inr j)) d;
-      }
-
-  good_publish : (w : World) (cs : List Known) (name file : List ℕ) (o : Option PublishError) → refused_at w name file ≡ o → Good w cs → Good (publish_by w (next_of w name file) o) cs
-  good_publish w cs name file (Some refusal) e g = g
-  good_publish w cs name file None e g = good_accepted w cs name file e g
-
-good_epoch : (b : Bool) (w : World) (cs : List Known) (e : ℕ) → nat_lt w.epoch e ≡ b → e < 2 ^ 32 → Good w cs → Good (restart_by w e b) cs
-good_epoch false w cs e t small g = g
-good_epoch true w cs e t small g =
-    let greater : w.epoch < e = grind (arith, nat_tests) in
-    record {
-      epoch_small = small;
-      count_small = omega arith;
-      older = λ p i. older_in w _ p (g.older p i) (inl (elim (g.older p i).used [ inl h ↦ omega (arith, h) | inr h ↦ omega (arith, h.0) ]));
-      distinct = g.distinct;
-      lawful = tt;
-      covers = λ name p found. absurd (none-some p found);
-      seen_are = g.seen_are;
-      agree = g.agree;
-    }
-
--- ---- clients
-
-good_clients : (w : World) (cs new : List Known) (clients : List Seen) → Good w cs → map seen new ≡ clients → AllAgree new w.book → Good (with_clients w clients) new
-good_clients w cs new clients g same agree =
-    record {
-      epoch_small = g.epoch_small;
-      count_small = g.count_small;
-      older = λ p i. older_in w _ p (g.older p i) (g.older p i).used;
-      distinct = g.distinct;
-      lawful = g.lawful;
-      covers = g.covers;
-      seen_are = same;
-      agree = agree;
-    }
-
-good_sent : (w : World) (cs : List Known) (sent : ℕ) → Good w cs → Good (with_sent w sent) cs
-good_sent w cs sent g =
-    record {
-      epoch_small = g.epoch_small;
-      count_small = g.count_small;
-      older = λ p i. older_in w _ p (g.older p i) (g.older p i).used;
-      distinct = g.distinct;
-      lawful = g.lawful;
-      covers = g.covers;
-      seen_are = g.seen_are;
-      agree = g.agree;
-    }
-
-agree_set : (cs : List Known) (i : ℕ) (c next : Known) (book : Book) → slice_get cs i ≡ Some c → AllAgree cs book → AgreesLater next book → AllAgree (slice_set cs i next) book
-agree_set cs i c next book there all new = λ j d e. elim (get-set cs i j next d c there e) [
-  | inl is ↦ (let P : Known → Type 0 = λ x. AgreesLater x book in subst P (sym is) new)
-  | inr old ↦ all j d old
-]
-
-agree_push : (cs : List Known) (next : Known) (book : Book) → AllAgree cs book → AgreesLater next book → AllAgree (cs ++ next ∷ []) book
-agree_push cs next book all new = λ j d e. elim (get-push cs j next d e) [
-  | inl is ↦ (let P : Known → Type 0 = λ x. AgreesLater x book in subst P (sym is) new)
-  | inr old ↦ all j d old
-]
-
-abbrev see : List ℕ → Option Query → Seen
-see name query = record { name = name; query = query }
-
-seen_same : (c next : Known) → name_of next ≡ name_of c → query_of next ≡ query_of c → seen next ≡ seen c
-seen_same c next n q = ap (λ (m : List ℕ). see m (query_of next)) n ∙ ap (λ (o : Option Query). see (name_of c) o) q
-
--- a client that keeps its name and its query is seen as before
-kept_seen : (cs : List Known) (i : ℕ) (c next : Known) → slice_get cs i ≡ Some c → seen next ≡ seen c → map seen (slice_set cs i next) ≡ map seen cs
-kept_seen cs i c next there same =
-    map-set seen cs i next ∙ (ap (λ (s : Seen). slice_set (map seen cs) i s) same ∙ set_there (map seen cs) i (seen c) (get-map seen cs i ∙ ap (λ (o : Option Known). option_map seen o) there))
-
-opened_there : (cs : List Known) (i : ℕ) (c next : Known) (q : Query) → slice_get cs i ≡ Some c → name_of next ≡ name_of c → query_of next ≡ Some q → map seen (slice_set cs i next) ≡ opened (map seen cs) i q
-opened_there [] i c next q there n e = refl
-opened_there (d ∷ cs) zero c next q there n e =
-    let same : d ≡ c = cc in
-    ap (λ (s : Seen). s ∷ map seen cs) (ap (λ (m : List ℕ). see m (query_of next)) (n ∙ ap (λ (x : Known). name_of x) (sym same)) ∙ ap (λ (o : Option Query). see (name_of d) o) e)
-opened_there (d ∷ cs) (suc i) c next q there n e = ap (λ (ss : List Seen). seen d ∷ ss) (opened_there cs i c next q there n e)
-
-opened_none : (cs : List Known) (i : ℕ) (q : Query) → slice_get cs i ≡ None → opened (map seen cs) i q ≡ map seen cs
-opened_none [] i q none = refl
-opened_none (d ∷ cs) zero q none = absurd (none-some d (sym none))
-opened_none (d ∷ cs) (suc i) q none = ap (λ (ss : List Seen). seen d ∷ ss) (opened_none cs i q none)
+use Rattle.world.proofs.Lists.{get-map, get-set_same}
+use Rattle.world.proofs.Good.{Good, AgreesLater, see, seen_same, kept_seen, opened_there, opened_none, agree_set, agree_push, good_publish, good_epoch, good_clients, good_sending}
 
 -- ---- the world after an event, with what is told
 
@@ -317,8 +105,6 @@ sound_forget (Some c) w cs new i n at g h =
     let P : List Known → Type 0 = λ xs. Good w xs in
     sound_call w cs new i c h.next n (subst P (sym h.changed) good) at h.changed later h.acts.tells
 
--- ---- exchanges
-
 -- what a client is after its calls
 record IsKept (c next : Known) (book : Book) : Type 0 where
   same : seen next ≡ seen c
@@ -343,52 +129,151 @@ asked_for : (c : Known) (o : Option Span) (request : List ℕ) → Some request 
 asked_for c None request e can = absurd (none-some request (sym e))
 asked_for c (Some s) request e can = (s, same_Some _ _ e, can)
 
-module _ (laws : LowerLaws) where
-  -- the answer to a client's own request is honest for it
-  honest_own : (w : World) (cs : List Known) (host name : List ℕ) (tag : Option (List ℕ)) (s : Span) (request : List ℕ) (response : Response) (later : Book) → Good w cs
-      → request ≡ request_text host name s.first s.last tag → CanAsk host name s.first s.last tag
-      → IsAnswer w.catalogue request response → Includes later w.book → IsHonest (text_of response) name later
-  honest_own w cs host name tag s request response later g is can answered inc =
-      let text : request ≡ request_text host name s.first s.last tag ++ [] = is ∙ sym (append-nil _) in
-      let P : List ℕ → Type 0 = λ m. IsAnswer w.catalogue m response in
-      let same = (laws.answered w.catalogue host name [] s.first s.last tag response can s.ascending).0 (subst P text answered) in
-      let Q : Response → Type 0 = λ r. (r.name ≡ Some name) ⊎ (r.name ≡ None) in
-      laws.honest.answered w.catalogue later request response name g.lawful (λ m p found. inc p (g.covers m p found)) answered
-      (subst Q (sym same) (served_name laws name w.catalogue s.first s.last tag (published name w.catalogue) refl))
+-- the answer is for this name, where the test says so
+for_name : (name : List ℕ) (o : Option (List ℕ)) → is_for name o ≡ true → (o ≡ Some name) ⊎ (o ≡ None)
+for_name name None e = inr refl
+for_name name (Some other) e = inl (ap Some ((bytes_eq-Decides other name).0 e))
 
-  exchanged_kept : (w : World) (cs : List Known) (i : ℕ) (o : Option (List ℕ)) (effect : Effect) (c mid next : Known) → Good w cs → Requests c o mid → IsExchanged w.catalogue w.sent i o effect mid next → AgreesLater c w.book → IsKept c next w.book
-  exchanged_kept w cs i None effect c mid next g r h agrees =
-      let P : Known → Type 0 = λ x. IsKept c x w.book in
-      subst P (sym h.1) (record { same = seen_same c mid r.goes.same.name r.goes.same.query; agrees = λ later inc d. r.goes.agrees later (agrees later inc d) })
-  exchanged_kept w cs i (Some request) effect c mid next g r h agrees =
-      let asked = asked_for c (asked_of mid) request r.text r.lawful in
-      let P : List ℕ → Book → Type 0 = λ name later. IsHonest (text_of h.response) name later in
+front_is : (cut : Option ℕ) (text : List ℕ) → IsFront (front_of cut text) text
+front_is None text = ([], append-nil text)
+front_is (Some n) text = (drop n text, take-append-drop n text)
+
+-- an event that sends nothing, at no client
+sound_skipped : (w : World) (cs new : List Known) (i : ℕ) (n : Entry) → Good w cs → Quiet n effects.Skipped cs new → IsSound (sending w n.effect) new (Some i) (told_of n)
+sound_skipped w cs new i n g h =
+    let P : Effect → Type 0 = λ e. IfSome (answer_in e) (λ a. StaysHonest a w.book) in
+    sound_quiet (sending w n.effect) cs new (Some i) (told_of n) (good_sending w cs n.effect g (subst P (sym h.done) tt)) h.same h.report
+
+-- a call of client i, after which it is kept
+sound_kept : (w v : World) (cs new : List Known) (i : ℕ) (c next : Known) (n : Entry) → Good w cs → slice_get cs i ≡ Some c → new ≡ slice_set cs i next → IsKept c next w.book → Tells c next (told_of n)
+    → v.book ≡ w.book → ((xs : List Known) → Good w xs → Good v xs) → IsSound v new (Some i) (told_of n)
+sound_kept w v cs new i c next n g at changed kept tells same good =
+    let mid : Good w (slice_set cs i next) = good_clients w cs (slice_set cs i next) w.clients g (kept_seen cs i c next at kept.same ∙ g.seen_are) (agree_set cs i c next w.book at g.agree kept.agrees) in
+    let P : List Known → Type 0 = λ xs. Good v xs in
+    let Q : Book → Type 0 = λ b. AgreesLater next b in
+    sound_call v cs new i c next n (subst P (sym changed) (good (slice_set cs i next) mid)) at changed (subst Q (sym same) kept.agrees) tells
+
+-- a call of client i that sends an answer, if any
+sound_sending : (w : World) (cs new : List Known) (i : ℕ) (c next : Known) (n : Entry) → Good w cs → slice_get cs i ≡ Some c → new ≡ slice_set cs i next → IsKept c next w.book
+    → IfSome (answer_in n.effect) (λ a. StaysHonest a w.book) → Tells c next (told_of n) → IsSound (sending w n.effect) new (Some i) (told_of n)
+sound_sending w cs new i c next n g at changed kept honest tells =
+    sound_kept w (sending w n.effect) cs new i c next n g at changed kept tells refl (λ xs h. good_sending w xs n.effect h honest)
+
+module _ (laws : LowerLaws) where
+  -- what the server of the world answers is honest in every later book
+  answer_honest : (w : World) (cs : List Known) (message : List ℕ) (a : Answer) → Good w cs → IsAnswered w.catalogue message a → StaysHonest a w.book
+  answer_honest w cs message a g h = λ name later for inc.
+      let Q : List ℕ → Type 0 = λ t. IsHonest t name later in
+      let named : (h.response.name ≡ Some name) ⊎ (h.response.name ≡ None) = elim for [ inl is ↦ inl (sym h.shows.name ∙ is) | inr none ↦ inr (sym h.shows.name ∙ none) ] in
+      subst Q (sym h.shows.text) (laws.honest.answered w.catalogue later message h.response name g.lawful (λ m p found. inc p (g.covers m p found)) h.answers named)
+
+  -- the answer to a client's own request is for its name
+  answer_for : (catalogue : Catalogue) (host name : List ℕ) (tag : Option (List ℕ)) (s : Span) (request : List ℕ) (a : Answer)
+      → request ≡ request_text host name s.first s.last tag → CanAsk host name s.first s.last tag → IsAnswered catalogue request a → IsFor a name
+  answer_for catalogue host name tag s request a is can h =
+      let text : request ≡ request_text host name s.first s.last tag ++ [] = is ∙ sym (append-nil _) in
+      let P : List ℕ → Type 0 = λ m. IsAnswer catalogue m h.response in
+      let same = (laws.answered catalogue host name [] s.first s.last tag h.response can s.ascending).0 (subst P text h.answers) in
+      let Q : Response → Type 0 = λ r. (r.name ≡ Some name) ⊎ (r.name ≡ None) in
+      let served = subst Q (sym same) (served_name laws name catalogue s.first s.last tag (published name catalogue) refl) in
+      elim served [ inl is ↦ inl (h.shows.name ∙ is) | inr none ↦ inr (h.shows.name ∙ none) ]
+
+  -- ---- requests
+
+  asks_kept : (w : World) (i : ℕ) (o : Option Asked) (c mid : Known) → Asks w.catalogue (length w.sent) i o c mid → AgreesLater c w.book → IsKept c mid w.book
+  asks_kept w i o c mid h agrees = record {
+    same = seen_same c mid h.requests.goes.same.name h.requests.goes.same.query;
+    agrees = λ later inc d. h.requests.goes.agrees later (agrees later inc d);
+  }
+
+  asks_honest : (w : World) (cs : List Known) (i : ℕ) (o : Option Asked) (c mid : Known) → Good w cs → Asks w.catalogue (length w.sent) i o c mid → IfSome o (λ a. StaysHonest a.answer w.book)
+  asks_honest w cs i None c mid g h = tt
+  asks_honest w cs i (Some a) c mid g h = answer_honest w cs a.request.items a.answer g h.answered.answered
+
+  asked_honest : (w : World) (i : ℕ) (o : Option Asked) (effect : Effect) → effect ≡ asked_effect i o → IfSome o (λ a. StaysHonest a.answer w.book) → IfSome (answer_in effect) (λ a. StaysHonest a w.book)
+  asked_honest w i None effect is h = let P : Effect → Type 0 = λ e. IfSome (answer_in e) (λ a. StaysHonest a w.book) in subst P (sym is) tt
+  asked_honest w i (Some a) effect is h = let P : Effect → Type 0 = λ e. IfSome (answer_in e) (λ a. StaysHonest a w.book) in subst P (sym is) h
+
+  sound_ask_from : (o : Option Known) (w : World) (cs new : List Known) (i : ℕ) (n : Entry) → slice_get cs i ≡ o → Good w cs → AtClient o (AsksWith w.catalogue (length w.sent) i n.effect) i n cs new → IsSound (sending w n.effect) new (Some i) (told_of n)
+  sound_ask_from None w cs new i n at g h = sound_skipped w cs new i n g h
+  sound_ask_from (Some c) w cs new i n at g h =
+      let d = h.acts.does in
+      sound_sending w cs new i c h.next n g at h.changed (asks_kept w i d.asked c h.next d.asks (g.agree i c at)) (asked_honest w i d.asked n.effect d.done (asks_honest w cs i d.asked c h.next g d.asks)) h.acts.tells
+
+  -- ---- exchanges
+
+  exchanged_kept : (w : World) (cs : List Known) (i : ℕ) (o : Option Asked) (effect : Effect) (c mid next : Known) → Good w cs → Asks w.catalogue (length w.sent) i o c mid → IsExchanged i o effect mid next
+      → AgreesLater c w.book → IsKept c next w.book
+  exchanged_kept w cs i None effect c mid next g asks h agrees = let P : Known → Type 0 = λ x. IsKept c x w.book in subst P (sym h.1) (asks_kept w i None c mid asks agrees)
+  exchanged_kept w cs i (Some a) effect c mid next g asks h agrees =
+      let r = asks.requests in
+      let delivers = h.2 in
+      let asked = asked_for c (asked_of mid) a.request.items r.text r.lawful in
+      let for : IsFor a.answer (name_of c) = answer_for w.catalogue (host_of c) (name_of c) (tag_of c) asked.0 a.request.items a.answer asked.1 asked.2 asks.answered.answered in
+      let honest = answer_honest w cs a.request.items a.answer g asks.answered.answered in
+      let P : Book → List ℕ → Type 0 = λ later name. IsHonest a.answer.text.items name later in
       record {
-        same = seen_same c next (h.delivers.same.name ∙ r.goes.same.name) (h.delivers.same.query ∙ r.goes.same.query);
-        agrees = λ later inc d. h.delivers.agrees later d (r.goes.agrees later (agrees later inc d))
-            (subst (λ name. P name later) (sym r.goes.same.name) (honest_own w cs (host_of c) (name_of c) (tag_of c) asked.0 request h.response later g asked.1 asked.2 h.answered inc));
+        same = seen_same c next (delivers.same.name ∙ r.goes.same.name) (delivers.same.query ∙ r.goes.same.query);
+        agrees = λ later inc d. delivers.agrees later d (r.goes.agrees later (agrees later inc d)) (subst (λ name. P later name) (sym r.goes.same.name) (honest (name_of c) later for inc));
       }
 
-  sound_exchange : (o : Option Known) (w : World) (cs new : List Known) (i : ℕ) (n : Entry) → slice_get cs i ≡ o → Good w cs → AtClient o (ExchangesWith w.catalogue w.sent i n.effect) i n cs new → IsSound (with_sent w (sent_after n.effect w.sent)) new (Some i) (told_of n)
-  sound_exchange None w cs new i n at g h = sound_quiet (with_sent w (sent_after n.effect w.sent)) cs new (Some i) (told_of n) (good_sent w cs (sent_after n.effect w.sent) g) h.same h.report
+  exchanged_honest : (w : World) (i : ℕ) (o : Option Asked) (effect : Effect) (mid next : Known) → IsExchanged i o effect mid next → IfSome o (λ a. StaysHonest a.answer w.book) → IfSome (answer_in effect) (λ a. StaysHonest a w.book)
+  exchanged_honest w i None effect mid next h honest = let P : Effect → Type 0 = λ e. IfSome (answer_in e) (λ a. StaysHonest a w.book) in subst P (sym h.0) tt
+  exchanged_honest w i (Some a) effect mid next h honest = let P : Effect → Type 0 = λ e. IfSome (answer_in e) (λ a. StaysHonest a w.book) in subst P (sym h.1) honest
+
+  sound_exchange : (o : Option Known) (w : World) (cs new : List Known) (i : ℕ) (n : Entry) → slice_get cs i ≡ o → Good w cs → AtClient o (ExchangesWith w.catalogue (length w.sent) i n.effect) i n cs new → IsSound (sending w n.effect) new (Some i) (told_of n)
+  sound_exchange None w cs new i n at g h = sound_skipped w cs new i n g h
   sound_exchange (Some c) w cs new i n at g h =
       let d = h.acts.does in
-      let kept = exchanged_kept w cs i d.request n.effect c d.mid h.next g d.requests d.exchanged (g.agree i c at) in
-      let mid : Good w (slice_set cs i h.next) = good_clients w cs (slice_set cs i h.next) w.clients g (kept_seen cs i c h.next at kept.same ∙ g.seen_are) (agree_set cs i c h.next w.book at g.agree kept.agrees) in
-      let v = with_sent w (sent_after n.effect w.sent) in
-      let P : List Known → Type 0 = λ xs. Good v xs in
-      sound_call v cs new i c h.next n (subst P (sym h.changed) (good_sent w (slice_set cs i h.next) (sent_after n.effect w.sent) mid)) at h.changed kept.agrees h.acts.tells
+      sound_sending w cs new i c h.next n g at h.changed (exchanged_kept w cs i d.asked n.effect c d.mid h.next g d.asks d.exchanged (g.agree i c at))
+      (exchanged_honest w i d.asked n.effect d.mid h.next d.exchanged (asks_honest w cs i d.asked c d.mid g d.asks)) h.acts.tells
+
+  -- ---- deliveries
+
+  sound_delivery : (b : Bool) (w : World) (cs new : List Known) (i k : ℕ) (a : Answer) (c : Known) (cut : Option ℕ) (n : Entry) → is_for (name_of c) (name_in a) ≡ b → slice_get w.sent k ≡ Some a → slice_get cs i ≡ Some c → Good w cs
+      → AtClient (if b then Some c else None) (DeliversWith (front_of cut a.text.items) i n.effect) i n cs new → IsSound w new (Some i) (told_of n)
+  sound_delivery false w cs new i k a c cut n for sent at g h = sound_quiet w cs new (Some i) (told_of n) g h.same h.report
+  sound_delivery true w cs new i k a c cut n for sent at g h =
+      let d = h.acts.does.delivers in
+      let kept : IsKept c h.next w.book = record {
+        same = seen_same c h.next d.same.name d.same.query;
+        agrees = λ later inc x. d.agrees later x (g.agree i c at later inc x)
+            (laws.honest.cut (front_of cut a.text.items) a.text.items (name_of c) later (front_is cut a.text.items) (g.honest k a sent (name_of c) later (for_name (name_of c) (name_in a) for) inc));
+      } in
+      sound_kept w w cs new i c h.next n g at h.changed kept h.acts.tells refl (λ xs x. x)
+
+  sound_deliver : (o : Option Answer) (oc : Option Known) (w : World) (cs new : List Known) (i k : ℕ) (cut : Option ℕ) (n : Entry) → slice_get w.sent k ≡ o → slice_get cs i ≡ oc → Good w cs → IsDelivery o oc cut i n cs new → IsSound w new (Some i) (told_of n)
+  sound_deliver None oc w cs new i k cut n sent at g h = sound_quiet w cs new (Some i) (told_of n) g h.same h.report
+  sound_deliver (Some a) None w cs new i k cut n sent at g h = sound_quiet w cs new (Some i) (told_of n) g h.same h.report
+  sound_deliver (Some a) (Some c) w cs new i k cut n sent at g h = sound_delivery (is_for (name_of c) (name_in a)) w cs new i k a c cut n refl sent at g h
+
+  -- ---- checks
+
+  check_honest : (w : World) (cs : List Known) (i : ℕ) (c : Known) (o : Option Checked) (effect : Effect) → Good w cs → IsChecked w.catalogue (length w.sent) i c o effect → IfSome (answer_in effect) (λ a. StaysHonest a w.book)
+  check_honest w cs i c None effect g h = let P : Effect → Type 0 = λ e. IfSome (answer_in e) (λ a. StaysHonest a w.book) in subst P (sym h.0) tt
+  check_honest w cs i c (Some k) effect g h =
+      let P : Effect → Type 0 = λ e. IfSome (answer_in e) (λ a. StaysHonest a w.book) in
+      subst P (sym h.0) (answer_honest w cs k.request.items k.answer g h.1.answered)
+
+  sound_check : (o : Option Known) (w : World) (cs new : List Known) (i : ℕ) (n : Entry) → Good w cs → IsCheckBy o w.catalogue (length w.sent) i n cs new → IsSound (sending w n.effect) new (Some i) (told_of n)
+  sound_check None w cs new i n g h = sound_skipped w cs new i n g h
+  sound_check (Some c) w cs new i n g h = sound_quiet (sending w n.effect) cs new (Some i) (told_of n) (good_sending w cs n.effect g (check_honest w cs i c h.check n.effect g h.checked)) h.same h.report
 
   -- one event
-  sound_step : (w : World) (cs : List Known) (e : Event) (n : Entry) (new : List Known) → Good w cs → Step w cs e n new → IsSound (after w e n.effect) new (client_of e) (told_of n)
+  pub sound_step : (w : World) (cs : List Known) (e : Event) (n : Entry) (new : List Known) → Good w cs → Step w cs e n new → IsSound (after w e n.effect) new (client_of e) (told_of n)
   sound_step w cs (Publish name file) n new g h =
       sound_quiet (publish_by w (next_of w name.items file.items) (refused_at w name.items file.items)) cs new None (told_of n) (good_publish laws w cs name.items file.items (refused_at w name.items file.items) refl g) h.same h.report
   sound_step w cs (Epoch e) n new g h = sound_quiet (restart_by w e (nat_lt w.epoch e)) cs new None (told_of n) (good_epoch (nat_lt w.epoch e) w cs e refl h.0 g) h.1.same h.1.report
   sound_step w cs (NewClient name blocks) n new g h = sound_made (client_refusal host name.items blocks) w cs new name.items blocks n g h
   sound_step w cs (Open i q) n new g h = sound_open (slice_get cs i) w cs new i q n refl g h
   sound_step w cs (Forget i) n new g h = sound_forget (slice_get cs i) w cs new i n refl g h
-  sound_step w cs (Ask message) n new g h = sound_quiet (with_sent w (w.sent + 1)) cs new None (told_of n) (good_sent w cs (w.sent + 1) g) h.1 h.0.report
+  sound_step w cs (Ask message) n new g h =
+      let P : Effect → Type 0 = λ e. IfSome (answer_in e) (λ a. StaysHonest a w.book) in
+      sound_quiet (sending w n.effect) cs new None (told_of n) (good_sending w cs n.effect g (subst P (sym h.0.done) (answer_honest w cs message.items h.0.answer g h.0.answered))) h.1 h.0.report
+  sound_step w cs (AskFrom i) n new g h = sound_ask_from (slice_get cs i) w cs new i n refl g h
+  sound_step w cs (Deliver i a cut) n new g h = sound_deliver (slice_get w.sent a) (slice_get cs i) w cs new i a cut n refl refl g h
   sound_step w cs (Exchange i) n new g h = sound_exchange (slice_get cs i) w cs new i n refl g h
+  sound_step w cs (Check i) n new g h = sound_check (slice_get cs i) w cs new i n g h
 
   -- a whole run
   pub true_run : (w : World) (cs : List Known) (es : List Event) (ns : List Entry) (new : List Known) → Good w cs → Runs w cs es ns new → Good (after_all w es ns) new × AllTrue w es ns

@@ -1,18 +1,18 @@
 -- A run goes on by one event, and a whole run is a log.
 use Rattle.std.proofs.Common.{◌≡◌, ℕ, List, [], ◌∷◌, ◌++◌, length, take, Option, Some, None, Bool, true, false, refl, sym, ap, ◌∙◌, subst, inl, inr, ◌<◌, ◌≤◌, ◌+◌, get_or, Result, Ok, Err}
-use Rattle.std.specs.Prelude.{IfOk, IfSome, OnErr, OnOk, nat_lt}
+use Rattle.std.specs.Prelude.{IfOk, IfSome, OnErr, nat_lt, option_and_then, slice_get}
 use Rattle.std.proofs.Common.{Vec, Global}
 use Rattle.std.proofs.lemmas.List.{take_more, take_all}
 use Rattle.std.proofs.lemmas.Option.{none-some, same_Some}
 use Rattle.tiff_dir.specs.declared.query.Query.{Query}
 use Rattle.tiff_dir.specs.Level.{level_value}
 use Rattle.tiff_dir.specs.Query.{Rectangle, rectangle}
-use Rattle.http_range.specs.Book.{Publication, Book, In, Includes, HasDistinctTags}
+use Rattle.http_range.specs.Book.{Publication, Book, Catalogue, In, Includes, HasDistinctTags}
 use Rattle.tiff_dir.specs.declared.memory.Memory.{Memory}
 use Rattle.cog_server.specs.declared.error.PublishError.{PublishError}
 use Rattle.cog_client.specs.declared.error.ClientError.{ClientError}
 use Rattle.world.specs.declared.event.Event.{Event}
-use Rattle.world.specs.declared.event.Event.TheVariants.{Publish, Epoch, NewClient, Open, Forget, Ask, Exchange}
+use Rattle.world.specs.declared.event.Event.TheVariants.{Publish, Epoch, NewClient, Open, Forget, Ask, AskFrom, Deliver, Exchange, Check}
 use Rattle.world.specs.declared.event.Entry.{Entry}
 use Rattle.cog_client.specs.Report.{Said, Told, IsTrueSaid, said_of, samples_of}
 use Rattle.cog_reader.specs.declared.outcome.Outcome.{Outcome}
@@ -23,11 +23,15 @@ use Rattle.cog_reader.specs.Samples.{samples_in}
 use Rattle.tiff_dir.specs.declared.query.Query.TheVariants as queries
 use Rattle.tiff_dir.specs.Faulty.{IsFaulty}
 use Rattle.cog_client.specs.Client.{Known, client_refusal}
+use Rattle.cog_server.specs.declared.server.Answer.{Answer}
 use Rattle.cog_server.specs.Server.{ServerState}
-use Rattle.world.specs.World.{World, host, start, next_of, publish_by, refused_at, server_of, restart_by, made_by, after, after_all, told_of, client_of, IsTrueAt, AllTrue, IsToldIn, AreEqual, SaysTheSame, AreAlike}
-use Rattle.world.specs.Run.{Answers, IsAtAfter, Publishes, Step, Runs, IsBeginning, IsState, Does}
+use Rattle.world.specs.World.{World, host, start, answer_in, next_of, publish_by, refused_at, server_of, restart_by, made_by, after, after_all, told_of, client_of, IsTrueAt, AllTrue, IsToldIn, AreEqual, SaysTheSame, AreAlike}
+use Rattle.world.specs.Run.{Answers, IsAtAfter, IsDelivery, Publishes, Step, Runs, IsBeginning, IsTrueLog, IsState, AreKept, Does, answer_at, noted}
 use Rattle.world.specs.LowerLaws.{LowerLaws}
-use Rattle.world.proofs.Truth.{good_start, true_run}
+use Rattle.world.proofs.Good.{good_start}
+use Rattle.world.proofs.Truth.{true_run}
+use Rattle.world.proofs.Exact.{exact_run}
+use Rattle.world.proofs.Kept.{kept_after, kept_at, kept_length, sent_by}
 
 pub runs_more : (w : World) (cs : List Known) (es : List Event) (ns : List Entry) (mid : List Known) (e : Event) (n : Entry) (new : List Known) → Runs w cs es ns mid → Step (after_all w es ns) mid e n new → Runs w cs (es ++ e ∷ []) (ns ++ n ∷ []) new
 runs_more w cs [] [] mid e n new h s = (new, (let P : List Known → Type 0 = λ xs. Step w xs e n new in subst P h s), refl)
@@ -62,7 +66,10 @@ grows w (NewClient name blocks) n = grows_made w name.items (client_refusal host
 grows w (Open i q) n = λ q i. i
 grows w (Forget i) n = λ q i. i
 grows w (Ask message) n = λ q i. i
+grows w (AskFrom i) n = λ q i. i
+grows w (Deliver i a cut) n = λ q i. i
 grows w (Exchange i) n = λ q i. i
+grows w (Check i) n = λ q i. i
 
 grows_all : (w : World) (es : List Event) (ns : List Entry) → Includes (after_all w es ns).book w.book
 grows_all w [] ns = λ q i. i
@@ -142,85 +149,127 @@ alike laws book ns distinct sources r s i j tag query =
 
 -- ---- the log
 
-pub run_true : (laws : LowerLaws) (es : List Event) (ns : List Entry) (cs : List Known) → Runs start [] es ns cs → AllTrue start es ns
-run_true laws es ns cs runs = (true_run laws start [] es ns cs good_start runs).1
-
-pub run_alike : (laws : LowerLaws) (es : List Event) (ns : List Entry) (cs : List Known) → Runs start [] es ns cs → AreAlike ns
-run_alike laws es ns cs runs =
+pub run_truth : (laws : LowerLaws) (es : List Event) (ns : List Entry) (cs : List Known) → Runs start [] es ns cs → IsTrueLog es ns
+run_truth laws es ns cs runs =
     let t = true_run laws start [] es ns cs good_start runs in
-    alike laws (after_all start es ns).book ns t.0.distinct (λ r i. source_of start [] es ns cs r runs t.1 i)
+    record {
+      true_reports = t.1;
+      alike = alike laws (after_all start es ns).book ns t.0.distinct (λ r i. source_of start [] es ns cs r runs t.1 i);
+      checked = exact_run laws start [] es ns cs good_start runs;
+      distinct = t.0.distinct;
+      honest = t.0.honest;
+    }
 
 pub beginning : (laws : LowerLaws) (events : List Event) (k : ℕ) (ns : List Entry) (cs : List Known) → k ≤ length events → Runs start [] (take k events) ns cs → IsBeginning events ns
-beginning laws events k ns cs le runs =
-    record { count = k; some = le; clients = cs; logged = runs; true_reports = run_true laws (take k events) ns cs runs; alike = run_alike laws (take k events) ns cs runs }
+beginning laws events k ns cs le runs = record { count = k; some = le; clients = cs; logged = runs; truth = run_truth laws (take k events) ns cs runs }
 
 pub whole : (events : List Event) (i : ℕ) (ns : List Entry) (cs : List Known) → length events ≤ i → Runs start [] (take i events) ns cs → Runs start [] events ns cs
 whole events i ns cs le runs = subst (λ xs. Runs start [] xs ns cs) (take_all i events le) runs
+
+pub whole_truth : (laws : LowerLaws) (events : List Event) (i : ℕ) (ns : List Entry) (cs : List Known) → length events ≤ i → Runs start [] (take i events) ns cs → IsTrueLog events ns
+whole_truth laws events i ns cs le runs = run_truth laws events ns cs (whole events i ns cs le runs)
 
 pub on_err_of : {T E : Type 0} (r : Result T E) (P : Type 0) → P → OnErr r P
 on_err_of (Ok x) P p = tt
 on_err_of (Err e) P p = p
 
-pub begun : (entries : List Entry) (clients : List Known) (server : ServerState) (sent : ℕ) → entries ≡ [] → clients ≡ [] → server ≡ server_of start → sent ≡ 0 → Runs start [] [] entries clients × IsState (after_all start [] entries) server sent
-begun entries clients server sent none no_clients at zero_sent =
+pub begun : (entries : List Entry) (clients : List Known) (server : ServerState) (places : List ℕ) → entries ≡ [] → clients ≡ [] → server ≡ server_of start → places ≡ []
+    → Runs start [] [] entries clients × IsState (after_all start [] entries) server entries places
+begun entries clients server places none no_clients at no_places =
     let P : List Entry → Type 0 = λ ns. Runs start [] [] ns clients in
-    (subst P (sym none) no_clients, record { server_at = at; sent_is = zero_sent })
+    let Q : List ℕ → Type 0 = λ ps. AreKept entries ps [] in
+    (subst P (sym none) no_clients, record { server_at = at; kept = subst Q (sym no_places) tt })
+
+-- the same state, where entries and places are lent
+pub state_at : (w : World) (server : ServerState) (entries lent : List Entry) (places lent_places : List ℕ) → lent ≡ entries → lent_places ≡ places → IsState w server entries places → IsState w server lent lent_places
+state_at w server entries lent places lent_places same same_places h =
+    let P : List Entry → Type 0 = λ ns. IsState w server ns lent_places in
+    let Q : List ℕ → Type 0 = λ ps. IsState w server entries ps in
+    subst P (sym same) (subst Q (sym same_places) h)
 
 -- a run with one more event
-pub more : (events : List Event) (i : ℕ) (ns : List Entry) (cs new : List Known) (e : Event) (n : Entry) (entries : List Entry) (server : ServerState) (sent : ℕ) → i < length events → e ≡ get_or events i e → entries ≡ ns ++ n ∷ []
-    → Runs start [] (take i events) ns cs → Does (after_all start (take i events) ns) cs e n new server sent
-    → Runs start [] (take (i + 1) events) entries new × IsState (after_all start (take (i + 1) events) entries) server sent
-more events i ns cs new e n entries server sent inside is added runs does =
+pub more : (events : List Event) (i : ℕ) (ns : List Entry) (cs new : List Known) (e : Event) (n : Entry) (entries : List Entry) (old server : ServerState) (ps places : List ℕ) → i < length events → e ≡ get_or events i e → entries ≡ ns ++ n ∷ []
+    → places ≡ noted (answer_in n.effect) (length ns) ps → Runs start [] (take i events) ns cs → IsState (after_all start (take i events) ns) old ns ps → Does (after_all start (take i events) ns) cs e n new server
+    → Runs start [] (take (i + 1) events) entries new × IsState (after_all start (take (i + 1) events) entries) server entries places
+more events i ns cs new e n entries old server ps places inside is added_one noted_one runs state does =
     let es : take (i + 1) events ≡ take i events ++ e ∷ [] = take_more events i e inside ∙ ap (λ (x : Event). take i events ++ x ∷ []) (sym is) in
+    let w = after_all start (take i events) ns in
     let P : List Event → Type 0 = λ xs. Runs start [] xs (ns ++ n ∷ []) new in
     let P' : List Entry → Type 0 = λ ms. Runs start [] (take (i + 1) events) ms new in
-    let Q : World → Type 0 = λ w. IsState w server sent in
-    let same : after_all start (take (i + 1) events) entries ≡ after (after_all start (take i events) ns) e n.effect =
-    ap (λ (ms : List Entry). after_all start (take (i + 1) events) ms) added
+    let same : after_all start (take (i + 1) events) entries ≡ after w e n.effect =
+    ap (λ (ms : List Entry). after_all start (take (i + 1) events) ms) added_one
     ∙ (ap (λ (xs : List Event). after_all start xs (ns ++ n ∷ [])) es ∙ after_more start [] (take i events) ns cs e n runs) in
-    (subst P' (sym added) (subst P (sym es) (runs_more start [] (take i events) ns cs e n new runs does.step)), subst Q (sym same) does.state)
+    let S : List Answer → Type 0 = λ sent. AreKept (ns ++ n ∷ []) (noted (answer_in n.effect) (length ns) ps) sent in
+    let K : List ℕ → Type 0 = λ qs. AreKept (ns ++ n ∷ []) qs (after w e n.effect).sent in
+    let Q : World → Type 0 = λ v. IsState v server (ns ++ n ∷ []) places in
+    let Q' : List Entry → Type 0 = λ ms. IsState (after_all start (take (i + 1) events) entries) server ms places in
+    let kept = subst K (sym noted_one) (subst S (sym (sent_by w cs e n new does.step)) (kept_after ns n ps w.sent state.kept)) in
+    let state' : IsState (after w e n.effect) server (ns ++ n ∷ []) places = record { server_at = does.server_at; kept = kept } in
+    (subst P' (sym added_one) (subst P (sym es) (runs_more start [] (take i events) ns cs e n new runs does.step)), subst Q' (sym added_one) (subst Q (sym same) state'))
 
--- ---- a publication
+-- ---- the code's steps
 
-published_at : (w : World) (p : Publication) (o : Option PublishError) (s : ServerState) (sent : ℕ) → sent ≡ w.sent → IsAtAfter o p (server_of w) s → IsState (publish_by w p o) s sent
-published_at w p None s sent same at = record { server_at = at; sent_is = same }
-published_at w p (Some refusal) s sent same at = record { server_at = at; sent_is = same }
+-- what a step of the code does, where its state is the world's
+abbrev pub DoesIn : ServerState → List Entry → List ℕ → List Known → Event → Entry → List Known → ServerState → Type 0
+DoesIn server entries places cs e n new after = (w : World) → IsState w server entries places → Does w cs e n new after
 
-pub does_publish : (w : World) (old new : ServerState) (sent : ℕ) (cs : List Known) (name file : Vec ℕ Global) (n : Entry) → Publishes name.items file.items n old new → IsState w old sent → Does w cs (Publish name file) n cs new sent
-does_publish w old new sent cs name file n h s =
+published_at : (w : World) (p : Publication) (o : Option PublishError) (s : ServerState) → IsAtAfter o p (server_of w) s → s ≡ server_of (publish_by w p o)
+published_at w p None s at = at
+published_at w p (Some refusal) s at = at
+
+does_publish : (w : World) (old new : ServerState) (cs : List Known) (name file : Vec ℕ Global) (n : Entry) → Publishes name.items file.items n old new → old ≡ server_of w → Does w cs (Publish name file) n cs new
+does_publish w old new cs name file n h at =
     let P : ServerState → Type 0 = λ x. Publishes name.items file.items n x new in
-    let here : Publishes name.items file.items n (server_of w) new = subst P s.server_at h in
+    let here : Publishes name.items file.items n (server_of w) new = subst P at h in
     record {
       step = record { done = here.done; report = here.report; same = refl };
-      state = published_at w (next_of w name.items file.items) (refused_at w name.items file.items) new sent s.sent_is here.server_at;
+      server_at = published_at w (next_of w name.items file.items) (refused_at w name.items file.items) new here.server_at;
     }
 
-pub ok_publish : (r : Result Entry Memory) (old new : ServerState) (sent : ℕ) (cs : List Known) (event : Event) (name file : Vec ℕ Global) (name' file' : List ℕ) → event ≡ Publish name file → name' ≡ name.items → file' ≡ file.items
-    → IfOk r (λ n. Publishes name' file' n old new) → IfOk r (λ n. (w : World) → IsState w old sent → Does w cs event n cs new sent)
-ok_publish (Err e) old new sent cs event name file name' file' is named filed h = tt
-ok_publish (Ok n) old new sent cs event name file name' file' is named filed h = λ w s.
-    let P : Event → Type 0 = λ x. Does w cs x n cs new sent in
+pub ok_publish : (r : Result Entry Memory) (old new : ServerState) (entries : List Entry) (places : List ℕ) (cs : List Known) (event : Event) (name file : Vec ℕ Global) (name' file' : List ℕ) → event ≡ Publish name file → name' ≡ name.items → file' ≡ file.items
+    → IfOk r (λ n. Publishes name' file' n old new) → IfOk r (λ n. DoesIn old entries places cs event n cs new)
+ok_publish (Err e) old new entries places cs event name file name' file' is named filed h = tt
+ok_publish (Ok n) old new entries places cs event name file name' file' is named filed h = λ w s.
+    let P : Event → Type 0 = λ x. Does w cs x n cs new in
     let Q : List ℕ → Type 0 = λ x. Publishes x file' n old new in
     let R : List ℕ → Type 0 = λ x. Publishes name.items x n old new in
-    subst P (sym is) (does_publish w old new sent cs name file n (subst R filed (subst Q named h)) s)
+    subst P (sym is) (does_publish w old new cs name file n (subst R filed (subst Q named h)) s.server_at)
 
--- ---- a message
+-- an event that leaves the server, and needs of the state the catalogue and how many answers were sent
+at_server : (R : Catalogue → ℕ → Type 0) (w : World) (server : ServerState) (entries : List Entry) (places : List ℕ) → IsState w server entries places → R server.catalogue (length places) → R w.catalogue (length w.sent)
+at_server R w server entries places s h =
+    let P : ServerState → Type 0 = λ x. R x.catalogue (length places) in
+    let Q : ℕ → Type 0 = λ k. R w.catalogue k in
+    subst Q (kept_length entries places w.sent s.kept) (subst P s.server_at h)
 
-does_ask : (w : World) (server : ServerState) (sent sent' : ℕ) (cs : List Known) (message : Vec ℕ Global) (n : Entry) → sent' ≡ sent + 1
-    → Answers server.catalogue sent message.items n → IsState w server sent → Does w cs (Ask message) n cs server sent'
-does_ask w server sent sent' cs message n next h s =
-    let P : ServerState → Type 0 = λ x. Answers x.catalogue sent message.items n in
-    let Q : ℕ → Type 0 = λ k. Answers w.catalogue k message.items n in
-    record {
-      step = (subst Q s.sent_is (subst P s.server_at h), refl);
-      state = record { server_at = s.server_at; sent_is = next ∙ ap (λ (k : ℕ). k + 1) s.sent_is };
-    }
+pub ok_ask : (r : Result Entry Memory) (server : ServerState) (entries : List Entry) (places : List ℕ) (number : ℕ) (cs : List Known) (event : Event) (message : Vec ℕ Global) (message' : List ℕ)
+    → event ≡ Ask message → message' ≡ message.items → number ≡ length places → IfOk r (λ n. Answers server.catalogue number message' n)
+    → IfOk r (λ n. DoesIn server entries places cs event n cs server)
+ok_ask (Err e) server entries places number cs event message message' is named count h = tt
+ok_ask (Ok n) server entries places number cs event message message' is named count h = λ w s.
+    let P : Event → Type 0 = λ x. Does w cs x n cs server in
+    let Q : List ℕ → Type 0 = λ x. Answers server.catalogue number x n in
+    let C : ℕ → Type 0 = λ k. Answers server.catalogue k message.items n in
+    let R : Catalogue → ℕ → Type 0 = λ catalogue k. Answers catalogue k message.items n in
+    subst P (sym is) (record { step = (at_server R w server entries places s (subst C count (subst Q named h)), refl); server_at = s.server_at })
 
-pub ok_ask : (r : Result Entry Memory) (server : ServerState) (sent sent' : ℕ) (cs : List Known) (event : Event) (message : Vec ℕ Global) (message' : List ℕ)
-    → event ≡ Ask message → message' ≡ message.items → OnOk r (sent' ≡ sent + 1) → IfOk r (λ n. Answers server.catalogue sent message' n)
-    → IfOk r (λ n. (w : World) → IsState w server sent → Does w cs event n cs server sent')
-ok_ask (Err e) server sent sent' cs event message message' is named next h = tt
-ok_ask (Ok n) server sent sent' cs event message message' is named next h = λ w s.
-    let P : Event → Type 0 = λ x. Does w cs x n cs server sent' in
-    let Q : List ℕ → Type 0 = λ x. Answers server.catalogue sent x n in
-    subst P (sym is) (does_ask w server sent sent' cs message n next (subst Q named h) s)
+-- a call of client i that the server answers
+pub ok_call : (F : ℕ → Event) (R : Catalogue → ℕ → ℕ → Entry → List Known → List Known → Type 0) (steps : (w : World) (i : ℕ) (n : Entry) (cs new : List Known) → R w.catalogue (length w.sent) i n cs new → Step w cs (F i) n new × (server_of (after w (F i) n.effect) ≡ server_of w))
+    → (r : Result Entry Memory) (server : ServerState) (entries : List Entry) (places : List ℕ) (number : ℕ) (cs new : List Known) (event : Event) (i i' : ℕ) → event ≡ F i → i' ≡ i → number ≡ length places
+    → IfOk r (λ n. R server.catalogue number i' n cs new) → IfOk r (λ n. DoesIn server entries places cs event n new server)
+ok_call F R steps (Err e) server entries places number cs new event i i' is same count h = tt
+ok_call F R steps (Ok n) server entries places number cs new event i i' is same count h = λ w s.
+    let P : Event → Type 0 = λ x. Does w cs x n new server in
+    let Q : ℕ → Type 0 = λ x. R server.catalogue number x n cs new in
+    let C : ℕ → Type 0 = λ k. R server.catalogue k i n cs new in
+    let here = at_server (λ catalogue k. R catalogue k i n cs new) w server entries places s (subst C count (subst Q same h)) in
+    let t = steps w i n cs new here in
+    subst P (sym is) (record { step = t.0; server_at = s.server_at ∙ sym t.1 })
+
+pub ok_deliver : (r : Result Entry Memory) (server : ServerState) (entries : List Entry) (places : List ℕ) (cs new : List Known) (event : Event) (i k : ℕ) (cut : Option ℕ) (answer : Option Answer) → event ≡ Deliver i k cut
+    → answer ≡ option_and_then (answer_at entries) (slice_get places k) → IfOk r (λ n. IsDelivery answer (slice_get cs i) cut i n cs new) → IfOk r (λ n. DoesIn server entries places cs event n new server)
+ok_deliver (Err e) server entries places cs new event i k cut answer is found h = tt
+ok_deliver (Ok n) server entries places cs new event i k cut answer is found h = λ w s.
+    let P : Event → Type 0 = λ x. Does w cs x n new server in
+    let Q : Option Answer → Type 0 = λ a. IsDelivery a (slice_get cs i) cut i n cs new in
+    subst P (sym is) (record { step = subst Q (found ∙ kept_at entries places w.sent k s.kept) h; server_at = s.server_at })

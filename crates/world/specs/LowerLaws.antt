@@ -2,12 +2,14 @@
 use Rattle.std.specs.Prelude.{◌≡◌, ℕ, List}
 use Rattle.tiff_dir.specs.declared.query.Query.{Query}
 use Rattle.tiff_dir.specs.Faulty.{IsWindow}
-use Rattle.http_range.specs.Laws.{TagsTellPublications, PublicationTagsAreKept, ClientsAreAnswered, PublishReplaces, PublishedIsNamed, HonestyIsKept}
+use Rattle.http_range.specs.Laws.{TagsTellPublications, PublicationTagsAreKept, ClientsAreAnswered, ChecksAreAnswered, ChecksAreRead, PublishReplaces, PublishedIsNamed, HonestyIsKept}
 
 pub record LowerLaws : Type 0 where
   pub apart : TagsTellPublications
   pub kept : PublicationTagsAreKept
   pub answered : ClientsAreAnswered
+  pub checks : ChecksAreAnswered
+  pub read : ChecksAreRead
   pub replaces : PublishReplaces
   pub named : PublishedIsNamed
   pub honest : HonestyIsKept

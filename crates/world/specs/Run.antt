@@ -1,25 +1,29 @@
 -- A run: what each event does to the clients, and what is logged of it, by the contracts of the calls.
-use Rattle.std.specs.Prelude.{◌≡◌, ℕ, ◌+◌, ◌^◌, ◌<◌, ◌≤◌, Bool, nat_lt, if◌then◌else◌, List, [], ◌∷◌, ◌++◌, length, take, Option, Some, None, is_some, slice_get, slice_set}
+use Rattle.std.specs.Prelude.{◌≡◌, ℕ, ◌+◌, ◌^◌, ◌<◌, ◌≤◌, Bool, true, nat_lt, if◌then◌else◌, List, [], ◌∷◌, ◌++◌, length, take, Option, Some, None, IfSome, is_some, slice_get, slice_set, option_and_then}
 use Rattle.std.specs.Option.{option_map}
 use Rattle.std.specs.Bool.{MatchBool}
+use Rattle.std.specs.Str.{bytes_eq}
 use Rattle.tiff_dir.specs.declared.query.Query.{Query}
-use Rattle.http_range.specs.Book.{Publication, Catalogue, publish, publication_tag}
-use Rattle.http_range.specs.Response.{Response, text_of, IsAnswer}
+use Rattle.http_range.specs.Ask.{CanCheck, check_text}
+use Rattle.http_range.specs.Book.{Publication, Catalogue, HasDistinctTags, publish, publication_tag}
 use Rattle.cog_server.specs.declared.error.PublishError.{PublishError}
+use Rattle.cog_server.specs.declared.server.Answer.{Answer}
+use Rattle.cog_server.specs.Server.{ServerState, IsAnswered, refusal_of}
 use Rattle.cog_client.specs.declared.error.ClientError.{ClientError}
+use Rattle.cog_client.specs.declared.delivered.Delivered.{Delivered}
+use Rattle.cog_client.specs.declared.report.Report.{Report}
+use Rattle.cog_client.specs.Report.{Told, told}
+use Rattle.cog_client.specs.Client.{Known, client_refusal, host_of, name_of, query_of, asked_of, tag_of, report_of}
+use Rattle.cog_client.specs.Calls.{Starts, Opens, Forgets, Requests, Delivers, Stands}
+use Rattle.cog_client.specs.Check.{IsCurrent}
 use Rattle.world.specs.declared.event.Event.{Event}
-use Rattle.world.specs.declared.event.Event.TheVariants.{Publish, Epoch, NewClient, Open, Forget, Ask, Exchange}
-use Rattle.world.specs.declared.event.Exchange as exchange
+use Rattle.world.specs.declared.event.Event.TheVariants.{Publish, Epoch, NewClient, Open, Forget, Ask, AskFrom, Deliver, Exchange, Check}
+use Rattle.world.specs.declared.event.Asked.{Asked}
+use Rattle.world.specs.declared.event.Checked.{Checked}
 use Rattle.world.specs.declared.event.Effect.{Effect}
 use Rattle.world.specs.declared.event.Effect.TheVariants as effects
 use Rattle.world.specs.declared.event.Entry.{Entry}
-use Rattle.cog_client.specs.declared.report.Report.{Report}
-use Rattle.cog_client.specs.Report.{Told, told}
-use Rattle.cog_client.specs.Client.{Known, client_refusal, name_of, query_of, asked_of, tag_of, report_of}
-use Rattle.cog_client.specs.Calls.{Starts, Opens, Forgets, Requests, Delivers, Stands}
-use Rattle.cog_server.specs.declared.server.Answer.{Answer}
-use Rattle.cog_server.specs.Server.{ServerState, IsAnswered, ShowsAnswer, refusal_of}
-use Rattle.world.specs.World.{World, Seen, host, start, next_of, publish_effect, refused_at, server_of, after, told_of, AllTrue, AreAlike}
+use Rattle.world.specs.World.{World, Seen, host, start, name_in, answer_in, next_of, publish_effect, refused_at, server_of, after, after_all, told_of, AllTrue, AllExact, AllHonest, AreAlike}
 
 abbrev pub seen : Known → Seen
 seen c = record { name = name_of c; query = query_of c }
@@ -107,29 +111,98 @@ pub record ForgetsAll (i : ℕ) (effect : Effect) (c next : Known) : Type 0 wher
   pub done : effect ≡ effects.Forgot i
   pub forgets : Forgets c next
 
--- the client's request is answered from the catalogue, and the answer is delivered whole
-pub record IsExchange (catalogue : Catalogue) (sent i : ℕ) (request : List ℕ) (effect : Effect) (mid next : Known) : Type 0 where
-  pub logged : exchange.Exchange
-  pub done : effect ≡ effects.Exchanged logged
-  pub client : logged.client ≡ i
-  pub number : logged.number ≡ sent
-  pub span : asked_of mid ≡ Some logged.span
-  pub tag : logged.tag ≡ tag_of mid
-  pub request_is : logged.request.items ≡ request
-  pub response : Response
-  pub answered : IsAnswer catalogue request response
-  pub shown : ShowsAnswer logged.answer response
-  pub delivers : Delivers mid (text_of response) logged.delivered next
+-- this is logged of a client's request that is answered from the catalogue
+pub record IsAnswerTo (catalogue : Catalogue) (sent i : ℕ) (c : Known) (a : Asked) : Type 0 where
+  pub client : a.client ≡ i
+  pub number : a.number ≡ sent
+  pub span : asked_of c ≡ Some a.span
+  pub tag : a.tag ≡ tag_of c
+  pub answered : IsAnswered catalogue a.request.items a.answer
 
-abbrev pub IsExchanged : Catalogue → ℕ → ℕ → Option (List ℕ) → Effect → Known → Known → Type 0
-IsExchanged catalogue sent i None effect mid next = (effect ≡ effects.Nothing i) × (next ≡ mid)
-IsExchanged catalogue sent i (Some request) effect mid next = IsExchange catalogue sent i request effect mid next
+-- a client makes its request, if it has one, which is answered
+pub record Asks (catalogue : Catalogue) (sent i : ℕ) (asked : Option Asked) (c next : Known) : Type 0 where
+  pub requests : Requests c (option_map (λ a. a.request.items) asked) next
+  pub answered : IfSome asked (IsAnswerTo catalogue sent i next)
+
+abbrev pub asked_effect : ℕ → Option Asked → Effect
+asked_effect i None = effects.Nothing i
+asked_effect i (Some a) = effects.Asked a
+
+-- the answer is kept
+pub record AsksWith (catalogue : Catalogue) (sent i : ℕ) (effect : Effect) (c next : Known) : Type 0 where
+  pub asked : Option Asked
+  pub asks : Asks catalogue sent i asked c next
+  pub done : effect ≡ asked_effect i asked
+
+-- the answer, if there is one, is delivered whole
+abbrev pub IsExchanged : ℕ → Option Asked → Effect → Known → Known → Type 0
+IsExchanged i None effect mid next = (effect ≡ effects.Nothing i) × (next ≡ mid)
+IsExchanged i (Some a) effect mid next =
+    (what : Delivered) × (effect ≡ effects.Exchanged a what) × Delivers mid a.answer.text.items what next
 
 pub record ExchangesWith (catalogue : Catalogue) (sent i : ℕ) (effect : Effect) (c next : Known) : Type 0 where
-  pub request : Option (List ℕ)
+  pub asked : Option Asked
   pub mid : Known
-  pub requests : Requests c request mid
-  pub exchanged : IsExchanged catalogue sent i request effect mid next
+  pub asks : Asks catalogue sent i asked c mid
+  pub exchanged : IsExchanged i asked effect mid next
+
+-- ---- an answer that was kept
+
+-- the answer carries the tag of the file of this name, or none
+abbrev pub is_for : List ℕ → Option (List ℕ) → Bool
+is_for name None = true
+is_for name (Some other) = bytes_eq other name
+
+-- the client, where the answer isn't for another name
+abbrev pub receiver : Answer → Option Known → Option Known
+receiver a None = None
+receiver a (Some c) = if is_for (name_of c) (name_in a) then Some c else None
+
+-- the first bytes of a text, or all
+abbrev pub front_of : Option ℕ → List ℕ → List ℕ
+front_of None text = text
+front_of (Some n) text = take n text
+
+-- a text is delivered
+pub record DeliversWith (text : List ℕ) (i : ℕ) (effect : Effect) (c next : Known) : Type 0 where
+  pub what : Delivered
+  pub done : effect ≡ effects.Delivered i what
+  pub delivers : Delivers c text what next
+
+-- the front of the answer is delivered, if it is there
+abbrev pub IsDelivery : Option Answer → Option Known → Option ℕ → ℕ → Entry → List Known → List Known → Type 0
+IsDelivery None client cut i n old new = Quiet n effects.Skipped old new
+IsDelivery (Some a) client cut i n old new =
+    AtClient (receiver a client) (DeliversWith (front_of cut a.text.items) i n.effect) i n old new
+
+-- ---- a check
+
+-- this is logged of a client's check that is answered from the catalogue
+pub record IsCheckOf (catalogue : Catalogue) (sent i : ℕ) (c : Known) (k : Checked) : Type 0 where
+  pub client : k.client ≡ i
+  pub number : k.number ≡ sent
+  pub tag : tag_of c ≡ Some k.tag
+  pub text : k.request.items ≡ check_text (host_of c) (name_of c) k.tag
+  pub lawful : CanCheck (host_of c) (name_of c) k.tag
+  pub answered : IsAnswered catalogue k.request.items k.answer
+  pub current : IsCurrent (Some k.tag) k.answer.text.items k.current
+
+-- what is logged where there is no check: the client has no revision
+abbrev pub IsChecked : Catalogue → ℕ → ℕ → Known → Option Checked → Effect → Type 0
+IsChecked catalogue sent i c None effect = (effect ≡ effects.Unchecked i) × (tag_of c ≡ None)
+IsChecked catalogue sent i c (Some k) effect = (effect ≡ effects.Checked k) × IsCheckOf catalogue sent i c k
+
+-- the client's check, if it has one, is answered; no client changes, and no report is told
+pub record ChecksWith (catalogue : Catalogue) (sent i : ℕ) (c : Known) (n : Entry) (old new : List Known) : Type 0 where
+  pub check : Option Checked
+  pub checked : IsChecked catalogue sent i c check n.effect
+  pub report : told_of n ≡ None
+  pub same : new ≡ old
+
+-- or nothing, where there is no such client
+abbrev pub IsCheckBy : Option Known → Catalogue → ℕ → ℕ → Entry → List Known → List Known → Type 0
+IsCheckBy None catalogue sent i n old new = Quiet n effects.Skipped old new
+IsCheckBy (Some c) catalogue sent i n old new = ChecksWith catalogue sent i c n old new
 
 -- One event, with what is logged of it.
 abbrev pub Step : World → List Known → Event → Entry → List Known → Type 0
@@ -138,8 +211,11 @@ Step w old (Epoch e) n new = (e < 2 ^ 32) × Quiet n (if nat_lt w.epoch e then e
 Step w old (NewClient name blocks) n new = MakesBy (client_refusal host name.items blocks) name.items blocks n old new
 Step w old (Open i q) n new = AtClient (slice_get old i) (OpensWith q i n.effect) i n old new
 Step w old (Forget i) n new = AtClient (slice_get old i) (ForgetsAll i n.effect) i n old new
-Step w old (Ask message) n new = Answers w.catalogue w.sent message.items n × (new ≡ old)
-Step w old (Exchange i) n new = AtClient (slice_get old i) (ExchangesWith w.catalogue w.sent i n.effect) i n old new
+Step w old (Ask message) n new = Answers w.catalogue (length w.sent) message.items n × (new ≡ old)
+Step w old (AskFrom i) n new = AtClient (slice_get old i) (AsksWith w.catalogue (length w.sent) i n.effect) i n old new
+Step w old (Deliver i a cut) n new = IsDelivery (slice_get w.sent a) (slice_get old i) cut i n old new
+Step w old (Exchange i) n new = AtClient (slice_get old i) (ExchangesWith w.catalogue (length w.sent) i n.effect) i n old new
+Step w old (Check i) n new = IsCheckBy (slice_get old i) w.catalogue (length w.sent) i n old new
 
 -- The log of a run has an entry for each event, in order, with what the schedule makes of the world and of clients that keep
 -- their contracts; these are the clients before and after it.
@@ -149,22 +225,46 @@ Runs w old [] (n ∷ ns) new = ⊥
 Runs w old (e ∷ es) [] new = ⊥
 Runs w old (e ∷ es) (n ∷ ns) new = (mid : List Known) × Step w old e n mid × Runs (after w e n.effect) mid es ns new
 
+-- What holds of every log: its reports are true, those of one tag and one query are alike, its checks tell of the catalogue,
+-- no two publications have one tag, and the answers that were kept are honest.
+pub record IsTrueLog (events : List Event) (entries : List Entry) : Type 0 where
+  pub true_reports : AllTrue start events entries
+  pub alike : AreAlike entries
+  pub checked : AllExact start events entries
+  pub distinct : HasDistinctTags (after_all start events entries).book
+  pub honest : AllHonest (after_all start events entries)
+
 -- It is the log of the first events, with all that is said of a whole one.
 pub record IsBeginning (events : List Event) (entries : List Entry) : Type 0 where
   pub count : ℕ
   pub some : count ≤ length events
   pub clients : List Known
   pub logged : Runs start [] (take count events) entries clients
-  pub true_reports : AllTrue start (take count events) entries
-  pub alike : AreAlike entries
+  pub truth : IsTrueLog (take count events) entries
 
 -- ---- the code's state
 
--- the server's state is the world's
-pub record IsState (w : World) (server : ServerState) (sent : ℕ) : Type 0 where
-  pub server_at : server ≡ server_of w
-  pub sent_is : sent ≡ w.sent
+-- the answer of the entry at a place
+abbrev pub answer_at : List Entry → ℕ → Option Answer
+answer_at entries place = option_and_then (λ n. answer_in n.effect) (slice_get entries place)
 
-pub record Does (w : World) (old : List Known) (e : Event) (n : Entry) (new : List Known) (server : ServerState) (sent : ℕ) : Type 0 where
+-- the entries at these places have the answers
+abbrev pub AreKept : List Entry → List ℕ → List Answer → Type 0
+AreKept entries [] [] = Unit {0}
+AreKept entries (p ∷ ps) [] = ⊥
+AreKept entries [] (a ∷ sent) = ⊥
+AreKept entries (p ∷ ps) (a ∷ sent) = (answer_at entries p ≡ Some a) × AreKept entries ps sent
+
+-- the places after an effect that stands at the next one
+abbrev pub noted : Option Answer → ℕ → List ℕ → List ℕ
+noted None place places = places
+noted (Some a) place places = places ++ place ∷ []
+
+-- the server's state is the world's, and the entries at these places have the answers that were sent
+pub record IsState (w : World) (server : ServerState) (entries : List Entry) (places : List ℕ) : Type 0 where
+  pub server_at : server ≡ server_of w
+  pub kept : AreKept entries places w.sent
+
+pub record Does (w : World) (old : List Known) (e : Event) (n : Entry) (new : List Known) (server : ServerState) : Type 0 where
   pub step : Step w old e n new
-  pub state : IsState (after w e n.effect) server sent
+  pub server_at : server ≡ server_of (after w e n.effect)

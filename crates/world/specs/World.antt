@@ -1,16 +1,20 @@
--- What a schedule makes of the world. It knows of no client but its name and its last query, and of what the
--- clients do only that an exchange had a request.
-use Rattle.std.specs.Prelude.{◌≡◌, ℕ, zero, suc, ◌+◌, Bool, nat_lt, if◌then◌else◌, List, [], ◌∷◌, ◌++◌, codes, Option, Some, None, IfSome, slice_get, ◌⊎◌}
+-- What a schedule makes of the world. It knows of no client but its name and its last query, and of what was logged
+-- only which answers were sent.
+use Rattle.std.specs.Prelude.{◌≡◌, ℕ, zero, suc, ◌+◌, ◌↔◌, Bool, nat_lt, if◌then◌else◌, List, [], ◌∷◌, ◌++◌, codes, Option, Some, None, IfSome, slice_get, ◌⊎◌}
 use Rattle.std.specs.Option.{option_map}
 use Rattle.tiff_dir.specs.declared.query.Query.{Query}
-use Rattle.http_range.specs.Book.{Publication, Book, Catalogue, publish, publication_tag}
+use Rattle.http_range.specs.Book.{Publication, Book, Includes, Catalogue, published, publish, publication_tag}
+use Rattle.http_range.specs.Honest.{IsHonest}
 use Rattle.cog_server.specs.declared.error.PublishError.{PublishError}
 use Rattle.world.specs.declared.event.Event.{Event}
-use Rattle.world.specs.declared.event.Event.TheVariants.{Publish, Epoch, NewClient, Open, Forget, Ask, Exchange}
+use Rattle.world.specs.declared.event.Event.TheVariants.{Publish, Epoch, NewClient, Open, Forget, Ask, AskFrom, Deliver, Exchange, Check}
+use Rattle.world.specs.declared.event.Checked.{Checked}
 use Rattle.world.specs.declared.event.Effect.{Effect}
 use Rattle.world.specs.declared.event.Effect.TheVariants as effects
 use Rattle.world.specs.declared.event.Entry.{Entry}
+use Rattle.cog_server.specs.declared.server.Answer.{Answer}
 use Rattle.cog_client.specs.declared.error.ClientError.{ClientError}
+use Rattle.cog_client.specs.declared.delivered.Current.TheVariants.{Same}
 use Rattle.cog_client.specs.Report.{Said, Samples, Shows, Tells, Refuses, Told, told, IsTrueReport}
 use Rattle.cog_client.specs.Client.{client_refusal}
 use Rattle.cog_reader.specs.Samples.{samples_in}
@@ -26,12 +30,12 @@ pub record World : Type 0 where
   pub count : ℕ  -- the accepted publications of the epoch
   pub catalogue : Catalogue  -- the last publication of each name in the epoch
   pub book : Book  -- all publications of all epochs
-  pub sent : ℕ  -- the answers that were ever sent
+  pub sent : List Answer  -- the answers that were ever sent
   pub clients : List Seen
 
 -- it begins with epoch 0 and no file
 abbrev pub start : World
-start = record { epoch = 0; count = 0; catalogue = []; book = []; sent = 0; clients = [] }
+start = record { epoch = 0; count = 0; catalogue = []; book = []; sent = []; clients = [] }
 
 -- the server of the epoch
 abbrev pub server_of : World → ServerState
@@ -65,7 +69,7 @@ abbrev pub with_clients : World → List Seen → World
 with_clients w clients =
     record { epoch = w.epoch; count = w.count; catalogue = w.catalogue; book = w.book; sent = w.sent; clients = clients }
 
-abbrev pub with_sent : World → ℕ → World
+abbrev pub with_sent : World → List Answer → World
 with_sent w sent =
     record { epoch = w.epoch; count = w.count; catalogue = w.catalogue; book = w.book; sent = sent; clients = w.clients }
 
@@ -79,10 +83,25 @@ opened [] i q = []
 opened (s ∷ ss) zero q = record { name = s.name; query = Some q } ∷ ss
 opened (s ∷ ss) (suc i) q = s ∷ opened ss i q
 
--- an exchange that had a request has sent an answer
-abbrev pub sent_after : Effect → ℕ → ℕ
-sent_after (effects.Exchanged e) sent = sent + 1
-sent_after effect sent = sent
+-- the name of the file whose tag an answer carries
+abbrev pub name_in : Answer → Option (List ℕ)
+name_in a = option_map (λ n. n.items) a.name
+
+-- the answer that an event has sent
+abbrev pub answer_in : Effect → Option Answer
+answer_in (effects.Answered number answer) = Some answer
+answer_in (effects.Asked a) = Some a.answer
+answer_in (effects.Exchanged a what) = Some a.answer
+answer_in (effects.Checked k) = Some k.answer
+answer_in effect = None
+
+abbrev pub added : Option Answer → List Answer → List Answer
+added None sent = sent
+added (Some a) sent = sent ++ a ∷ []
+
+-- an answer is kept, whoever asked
+abbrev pub sending : World → Effect → World
+sending w effect = with_sent w (added (answer_in effect) w.sent)
 
 -- The world after an event.
 abbrev pub after : World → Event → Effect → World
@@ -91,8 +110,11 @@ after w (Epoch e) effect = restart_by w e (nat_lt w.epoch e)
 after w (NewClient name blocks) effect = made_by w name.items (client_refusal host name.items blocks)
 after w (Open i q) effect = with_clients w (opened w.clients i q)
 after w (Forget i) effect = w
-after w (Ask message) effect = with_sent w (w.sent + 1)
-after w (Exchange i) effect = with_sent w (sent_after effect w.sent)
+after w (Ask message) effect = sending w effect
+after w (AskFrom i) effect = sending w effect
+after w (Deliver i a cut) effect = w
+after w (Exchange i) effect = sending w effect
+after w (Check i) effect = sending w effect
 
 abbrev pub after_all : World → List Event → List Entry → World
 after_all w [] ns = w
@@ -113,7 +135,10 @@ client_of (NewClient name blocks) = None
 client_of (Open i q) = Some i
 client_of (Forget i) = Some i
 client_of (Ask message) = None
+client_of (AskFrom i) = Some i
+client_of (Deliver i a cut) = Some i
 client_of (Exchange i) = Some i
+client_of (Check i) = Some i
 
 -- The report is true of what is published, for the client's name and its last query.
 pub record IsTrueAt (w : World) (client : Option ℕ) (r : Told) : Type 0 where
@@ -151,3 +176,43 @@ SaysTheSame a b = ⊥
 -- Reports of one tag for one query are equal windows, or of one kind.
 abbrev pub AreAlike : List Entry → Type 0
 AreAlike ns = (r s : Told) → IsToldIn r ns → IsToldIn s ns → r.tag ≡ s.tag → r.query ≡ s.query → SaysTheSame r.said s.said
+
+-- ---- what is kept and what is checked
+
+-- the answer carries the tag of the file of this name, or none
+abbrev pub IsFor : Answer → List ℕ → Type 0
+IsFor a name = (name_in a ≡ Some name) ⊎ (name_in a ≡ None)
+
+-- the answer is honest for its name in every later book
+abbrev pub StaysHonest : Answer → Book → Type 0
+StaysHonest a book =
+    (name : List ℕ) (later : Book) → IsFor a name → Includes later book → IsHonest a.text.items name later
+
+-- Each answer that was sent is honest for its name, whatever is published later.
+abbrev pub AllHonest : World → Type 0
+AllHonest w = (k : ℕ) (a : Answer) → slice_get w.sent k ≡ Some a → StaysHonest a w.book
+
+-- the check of an entry
+abbrev pub check_in : Effect → Option Checked
+check_in (effects.Checked k) = Some k
+check_in effect = None
+
+-- the catalogue has this tag under the name
+abbrev pub HasTag : Catalogue → List ℕ → List ℕ → Type 0
+HasTag catalogue name tag = option_map (λ p. p.tag) (published name catalogue) ≡ Some tag
+
+-- The check says "same" exactly where the catalogue has the tag under the client's name.
+pub record IsExact (w : World) (i : ℕ) (k : Checked) : Type 0 where
+  pub seen : Seen
+  pub there : slice_get w.clients i ≡ Some seen
+  pub exact : (k.current ≡ Same) ↔ HasTag w.catalogue seen.name k.tag
+
+abbrev pub IsExactAt : World → Event → Effect → Type 0
+IsExactAt w (Check i) effect = IfSome (check_in effect) (IsExact w i)
+IsExactAt w e effect = Unit {0}
+
+-- Each check tells of the catalogue that answered it.
+abbrev pub AllExact : World → List Event → List Entry → Type 0
+AllExact w [] ns = Unit {0}
+AllExact w (e ∷ es) [] = Unit {0}
+AllExact w (e ∷ es) (n ∷ ns) = IsExactAt w e n.effect × AllExact (after w e n.effect) es ns

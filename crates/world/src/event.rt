@@ -1,5 +1,5 @@
 //! What may happen, and what is logged of it.
-use cog_client::{Client, Delivered, Report};
+use cog_client::{Client, Current, Delivered, Report};
 use cog_server::{Answer, PublishError};
 use http_range::{Span, Tag};
 use std::alloc::Global;
@@ -9,24 +9,44 @@ use tiff_dir::Query;
 #[derive(Drop)]
 pub enum Event {
     /// A file is published under a name.
-    Publish { name: Vec<u8>, file: Vec<u8> },
+    Publish {
+        name: Vec<u8>,
+        file: Vec<u8>,
+    },
     /// The server is restarted in this epoch, without files, if the epoch is greater than the current one.
     Epoch(u32),
     /// A client of this name is made, whose cache has so many blocks.
-    NewClient { name: Vec<u8>, blocks: u32 },
+    NewClient {
+        name: Vec<u8>,
+        blocks: u32,
+    },
     /// Client `client` is asked a query.
-    Open { client: u32, query: Query },
+    Open {
+        client: u32,
+        query: Query,
+    },
     /// Client `client` forgets everything but its name and its query.
     Forget(u32),
     /// The server is sent a message, whatever its bytes.
     Ask(Vec<u8>),
-    /// Client `client` sends its request, if it has one, and gets the server's answer whole.
+    /// The server answers this client's request, if it has one. The answer is kept, as every one is.
+    AskFrom(u32),
+    /// Client `client` gets the first `cut` bytes of an answer that was kept, or all of it. One that carries the tag of a file
+    /// of another name is not delivered.
+    Deliver {
+        client: u32,
+        answer: u32,
+        cut: Option<u32>,
+    },
+    /// The server answers this client's request, if it has one, and the client gets the answer whole.
     Exchange(u32),
+    /// The server answers whether the file still has the tag of this client's revision, if it has one.
+    Check(u32),
 }
 
-/// A request and its answer.
+/// A client's request and its answer.
 #[derive(Drop)]
-pub struct Exchange {
+pub struct Asked {
     pub client: u32,
     /// The bytes that are asked for.
     pub span: Span,
@@ -37,7 +57,21 @@ pub struct Exchange {
     /// The answer's number: answers are counted from 0.
     pub number: usize,
     pub answer: Answer,
-    pub delivered: Delivered,
+}
+
+/// A client's check and its answer.
+#[derive(Drop)]
+pub struct Checked {
+    pub client: u32,
+    /// The tag of the client's revision.
+    pub tag: Tag,
+    /// The check's text.
+    pub request: Vec<u8>,
+    /// The answer's number: answers are counted from 0.
+    pub number: usize,
+    pub answer: Answer,
+    /// What the answer says of the tag.
+    pub current: Current,
 }
 
 /// What an event did.
@@ -55,7 +89,29 @@ pub enum Effect {
     Answered { number: usize, answer: Answer },
     /// The client had no request.
     Nothing(u32),
-    Exchanged(Exchange),
+    Asked(Asked),
+    Delivered { client: u32, delivered: Delivered },
+    Exchanged { asked: Asked, delivered: Delivered },
+    /// The client had no revision to check.
+    Unchecked(u32),
+    Checked(Checked),
+}
+
+impl Effect {
+    ghost use Rattle.std.specs.Prelude.{◌≡◌, option_copied};
+    ghost use Rattle.world.specs.World.{answer_in};
+
+    /// The answer that the event has sent.
+    pub fn answer(&self) -> Option<&Answer>
+        ensures { option_copied result ≡ answer_in self.now }
+    {
+        match self {
+            Effect::Answered { answer, .. } => Some(answer),
+            Effect::Asked(asked) | Effect::Exchanged { asked, .. } => Some(&asked.answer),
+            Effect::Checked(check) => Some(&check.answer),
+            _ => None,
+        }
+    }
 }
 
 /// What is logged of an event: what it did, and the report that newly stands.

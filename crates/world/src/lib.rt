@@ -1,12 +1,17 @@
-//! The world: a schedule of publications, server restarts, clients, openings and exchanges is run, and what
-//! each event did is logged.
+//! The world: a schedule of publications, server restarts, clients, openings, requests and answers is run, whatever is lost,
+//! cut, repeated or reordered on the way, and what each event did is logged.
 #![tactic(auto)]
 
+mod answers;
 mod calls;
 mod event;
+mod exchange;
+mod server;
 mod world;
 
-pub use cog_client::{Client, ClientError, Delivered, Ignored, Info, Outcome, Report, Window};
+pub use cog_client::{
+    Client, ClientError, Current, Delivered, Ignored, Info, Outcome, Report, Unknown, Window,
+};
 pub use cog_server::{Answer, PublishError};
-pub use event::{Effect, Entry, Event, Exchange, Log};
+pub use event::{Asked, Checked, Effect, Entry, Event, Log};
 pub use world::run;

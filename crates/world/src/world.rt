@@ -1,15 +1,20 @@
 //! Runs a schedule.
-ghost use Rattle.std.specs.Prelude.{◌≡◌, ◌+◌, ◌<◌, ◌≤◌, ◌^◌, [], IfOk, OnOk, OnErr};
+ghost use Rattle.std.specs.Prelude.{◌≡◌, [], IfOk, OnOk, OnErr};
 ghost use Rattle.world.specs.LowerLaws.{LowerLaws};
-ghost use Rattle.world.specs.World.{AllTrue, AreAlike, World, start};
+ghost use Rattle.http_range.specs.Book.{HasDistinctTags};
+ghost use Rattle.world.specs.World.{AllExact, AllHonest, AllTrue, AreAlike, World, after_all, start};
 ghost use Rattle.world.specs.Run.{Does, IsBeginning, IsState, Runs};
 
-use crate::calls::{ask, exchange_at, forget_at, make_client, open_at, publish, restart};
+use crate::answers::{answer_of, deliver_at, keep};
+use crate::calls::{forget_at, make_client, open_at};
 use crate::event::{Entry, Event, Log};
+use crate::exchange::{ask_from_at, check_at, exchange_at};
+use crate::server::{ask, publish, restart};
 use cog_client::Client;
 use cog_server::Server;
 use http_range::{
-    Memory, clients_are_answered, honesty_is_kept, publications_replace, tags_tell_publications,
+    Memory, clients_are_answered, fronts_are_read, honesty_is_kept, publications_replace,
+    tags_tell_publications,
 };
 use std::alloc::Global;
 use tiff_dir::one_window;
@@ -31,14 +36,24 @@ pub fn run(alloc: Global, events: &[Event], log: &mut Log) -> Result<(), Memory>
     // Reports of one tag for one query are equal windows, or both faults, since no two publications have one tag.
     ensures alike { OnOk result (AreAlike log.new.entries.items) }
 
+    // A check says "same" exactly where the catalogue of that moment has the client's tag under its name.
+    ensures checked { OnOk result (AllExact start events.now log.new.entries.items) }
+
+    // No two publications of the whole schedule have one tag, and each answer that was sent is honest for its name in every
+    // later book.
+    ensures distinct { OnOk result (HasDistinctTags (after_all start events.now log.new.entries.items).book) }
+    ensures honest { OnOk result (AllHonest (after_all start events.now log.new.entries.items)) }
+
     // After want of memory all this holds of the events before.
     ensures memory { OnErr result (IsBeginning events.now log.new.entries.items) }
 {
     lower_laws();
     let mut server = Server::new(alloc, 0);
-    let mut sent = 0;
+    let mut places = Vec::new(alloc);
     for event in events {
-        let entry = step(alloc, &mut server, &mut sent, &mut log.clients, event)?;
+        let clients = &mut log.clients;
+        let entry = step(alloc, &mut server, &log.entries, &places, clients, event)?;
+        keep(&mut places, log.entries.len(), &entry.effect)?;
         log.entries.push(entry)?;
     }
     Ok(())
@@ -51,30 +66,41 @@ fn lower_laws()
     tags_tell_publications();
     publications_replace();
     clients_are_answered();
+    fronts_are_read();
     honesty_is_kept();
     one_window();
 }
 
-/// One event.
+/// One event, after these entries; the answers that were sent stand at these places of them.
 fn step(
     alloc: Global,
     server: &mut Server,
-    sent: &mut usize,
+    entries: &[Entry],
+    places: &[usize],
     clients: &mut Vec<Client>,
     event: &Event,
 ) -> Result<Entry, Memory>
-    requires { sent.old + 1 < 2 ^ 64 }
-    ensures does { IfOk result (λ n. (w : World) → IsState w server.old sent.old →
-        Does w clients.old.items event.now n clients.new.items server.new sent.new) }
-    ensures few { sent.new ≤ sent.old + 1 }
+    ensures { IfOk result (λ n. (w : World) → IsState w server.old entries.now places.now →
+        Does w clients.old.items event.now n clients.new.items server.new) }
 {
+    let number = places.len();
     match event {
         Event::Publish { name, file } => publish(alloc, server, name, file),
         Event::Epoch(epoch) => Ok(restart(alloc, server, *epoch)),
         Event::NewClient { name, blocks } => make_client(alloc, clients, name, *blocks),
         Event::Open { client, query } => open_at(alloc, clients, *client, *query),
         Event::Forget(client) => forget_at(alloc, clients, *client),
-        Event::Ask(message) => ask(server, sent, message),
-        Event::Exchange(client) => exchange_at(alloc, server, sent, clients, *client),
+        Event::Ask(message) => ask(server, number, message),
+        Event::AskFrom(client) => ask_from_at(alloc, server, number, clients, *client),
+        Event::Deliver {
+            client,
+            answer,
+            cut,
+        } => {
+            let answer = answer_of(entries, places, *answer);
+            deliver_at(alloc, answer, clients, *client, *cut)
+        }
+        Event::Exchange(client) => exchange_at(alloc, server, number, clients, *client),
+        Event::Check(client) => check_at(server, number, clients, *client),
     }
 }

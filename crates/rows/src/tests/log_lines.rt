@@ -6,7 +6,8 @@ use std::process::Abort;
 use std::test::Fail;
 use tiff_dir::{FileFault, Pick, Query};
 use world::{
-    Answer, Delivered, Effect, Entry, Exchange, Ignored, Log, Outcome, PublishError, Report, Window,
+    Answer, Asked, Checked, Current, Delivered, Effect, Entry, Ignored, Log, Outcome, PublishError,
+    Report, Unknown, Window,
 };
 
 const QUERY: Query = Query::Window {
@@ -37,9 +38,20 @@ fn opened(client: u32, outcome: Outcome) -> Entry {
     }
 }
 
-/// An exchange of client 4, whose answer has number 5, status 206 and two bytes of body.
-fn exchanged(alloc: Global, tag: Option<Tag>, delivered: Delivered) -> Entry {
-    quiet(Effect::Exchanged(Exchange {
+/// An answer without a text, of this status and so many bytes of body.
+fn answer(alloc: Global, status: u16, body: u64) -> Answer {
+    Answer {
+        text: Vec::new(alloc),
+        close: true,
+        name: None,
+        status,
+        body,
+    }
+}
+
+/// A request of client 4, whose answer has number 5, status 206 and two bytes of body.
+fn asked(alloc: Global, tag: Option<Tag>) -> Asked {
+    Asked {
         client: 4,
         span: Span {
             first: 16384,
@@ -48,29 +60,20 @@ fn exchanged(alloc: Global, tag: Option<Tag>, delivered: Delivered) -> Entry {
         tag,
         request: Vec::new(alloc),
         number: 5,
-        answer: Answer {
-            text: Vec::new(alloc),
-            close: true,
-            name: None,
-            status: 206,
-            body: 2,
-        },
-        delivered,
-    }))
+        answer: answer(alloc, 206, 2),
+    }
 }
 
-/// An answer with number 7 and status 416.
-fn answered(alloc: Global) -> Effect {
-    Effect::Answered {
-        number: 7,
-        answer: Answer {
-            text: Vec::new(alloc),
-            close: false,
-            name: None,
-            status: 416,
-            body: 0,
-        },
-    }
+/// A check of client 6, whose answer has number 8 and status 304.
+fn checked(alloc: Global, current: Current) -> Effect {
+    Effect::Checked(Checked {
+        client: 6,
+        tag: publication_tag(1, 2),
+        request: Vec::new(alloc),
+        number: 8,
+        answer: answer(alloc, 304, 0),
+        current,
+    })
 }
 
 /// The text of a log of one entry.
@@ -99,7 +102,41 @@ fn effects(rt: HostRuntime) -> Result<(), Fail> {
         (Effect::Opened(0), "opened 0\n"),
         (Effect::Forgot(2), "forgot 2\n"),
         (Effect::Nothing(3), "asked 3 nothing\n"),
-        (answered(alloc), "answer 7 416 0\n"),
+        (
+            Effect::Answered {
+                number: 7,
+                answer: answer(alloc, 416, 0),
+            },
+            "answer 7 416 0\n",
+        ),
+        (
+            Effect::Asked(asked(alloc, None)),
+            "asked 4 16384-65535 - answer 5 206 2\n",
+        ),
+        (
+            Effect::Asked(asked(alloc, Some(publication_tag(1, 2)))),
+            "asked 4 16384-65535 \"1-2\" answer 5 206 2\n",
+        ),
+        (Effect::Unchecked(9), "checked 9 nothing\n"),
+        (
+            checked(alloc, Current::Same),
+            "checked 6 \"1-2\" answer 8 304 0 same\n",
+        ),
+        (
+            checked(alloc, Current::Other),
+            "checked 6 \"1-2\" answer 8 304 0 other\n",
+        ),
+        (
+            checked(alloc, Current::Unknown(Unknown::NoRevision)),
+            "checked 6 \"1-2\" answer 8 304 0 unknown 12\n",
+        ),
+        (
+            checked(
+                alloc,
+                Current::Unknown(Unknown::NotUsed(Why::Status(404))),
+            ),
+            "checked 6 \"1-2\" answer 8 304 0 unknown 3\n",
+        ),
     ];
     for (effect, want) in table {
         let text = text_of(alloc, quiet(effect))?;
@@ -108,54 +145,39 @@ fn effects(rt: HostRuntime) -> Result<(), Fail> {
     Ok(())
 }
 
-/// Expects what the line of an exchange says after the asked span.
-fn expect_exchange(
-    rt: &(impl Abort + AllocGlobal),
-    tag: Option<Tag>,
-    delivered: Delivered,
-    want: &str,
-) -> Result<(), Fail> {
-    let text = text_of(rt.alloc(), exchanged(rt.alloc(), tag, delivered))?;
-    assert!(rt; text.starts_with(b"asked 4 16384-65535 "));
-    assert_eq!(rt; text.get(20..), Some(want.as_bytes()));
-    Ok(())
-}
+/// What is told of a delivery.
+const DELIVERED: [(Delivered, &str); 8] = [
+    (Delivered::Took(4), "took 4"),
+    (Delivered::Restarted, "restarted"),
+    (Delivered::Ignored(Ignored::OtherRevision), "ignored 10"),
+    (Delivered::Ignored(Ignored::OtherLength), "ignored 11"),
+    (Delivered::Ignored(Ignored::NotAsked), "ignored 12"),
+    (Delivered::Ignored(Ignored::NotUsed(Why::Cut)), "ignored 1"),
+    (Delivered::Ignored(Ignored::NotUsed(Why::Coding)), "ignored 9"),
+    (
+        Delivered::Ignored(Ignored::NotUsed(Why::Status(404))),
+        "ignored 3 404",
+    ),
+];
 
 #[test]
-fn exchanges(rt: HostRuntime) -> Result<(), Fail> {
-    let tag = Some(publication_tag(1, 2));
-    let want = "\"1-2\" answer 5 206 2 took 0\n";
-    expect_exchange(&rt, tag, Delivered::Took(0), want)?;
-    let table = [
-        (Delivered::Took(4), "- answer 5 206 2 took 4\n"),
-        (Delivered::Restarted, "- answer 5 206 2 restarted\n"),
-        (
-            Delivered::Ignored(Ignored::OtherRevision),
-            "- answer 5 206 2 ignored 10\n",
-        ),
-        (
-            Delivered::Ignored(Ignored::OtherLength),
-            "- answer 5 206 2 ignored 11\n",
-        ),
-        (
-            Delivered::Ignored(Ignored::NotAsked),
-            "- answer 5 206 2 ignored 12\n",
-        ),
-        (
-            Delivered::Ignored(Ignored::NotUsed(Why::Cut)),
-            "- answer 5 206 2 ignored 1\n",
-        ),
-        (
-            Delivered::Ignored(Ignored::NotUsed(Why::Coding)),
-            "- answer 5 206 2 ignored 9\n",
-        ),
-        (
-            Delivered::Ignored(Ignored::NotUsed(Why::Status(404))),
-            "- answer 5 206 2 ignored 3 404\n",
-        ),
-    ];
-    for (delivered, want) in table {
-        expect_exchange(&rt, None, delivered, want)?;
+fn deliveries(rt: HostRuntime) -> Result<(), Fail> {
+    let alloc = rt.alloc();
+    for (delivered, want) in DELIVERED {
+        let whole = Effect::Exchanged {
+            asked: asked(alloc, None),
+            delivered,
+        };
+        let text = text_of(alloc, quiet(whole))?;
+        let line = format!(in alloc; "asked 4 16384-65535 - answer 5 206 2 {want}\n")?;
+        assert_eq!(rt; str::from_utf8(&text), Ok(line.as_str()));
+        let front = Effect::Delivered {
+            client: 3,
+            delivered,
+        };
+        let text = text_of(alloc, quiet(front))?;
+        let line = format!(in alloc; "delivered 3 {want}\n")?;
+        assert_eq!(rt; str::from_utf8(&text), Ok(line.as_str()));
     }
     Ok(())
 }

@@ -36,9 +36,10 @@ const BY_COLUMNS: Query = Query::Window {
 #[test]
 fn lines_and_events(rt: HostRuntime) -> Result<(), Fail> {
     let text = b"# a comment\n\nepoch 007\npublish a data/f\nclient b/c 4294967295\n\
-        open 1 level 2 3 4 5 6\n\nexchange 9\nask 00fFAb\nopen 0 info\nopen 1 columns 2 3 4 5 6\nforget 8";
+        open 1 level 2 3 4 5 6\n\nexchange 9\nask 00fFAb\nopen 0 info\nopen 1 columns 2 3 4 5 6\nforget 8\n\
+        askfrom 7\ndeliver 6 5 4\ndeliver 6 5 -\ncheck 4294967295\n";
     let events = events(rt.alloc(), text)?;
-    assert_eq!(rt; events.len(), 9);
+    assert_eq!(rt; events.len(), 13);
     assert!(rt; matches!(events[0], Event::Epoch(7)));
     assert!(rt;
         matches!(&events[1], Event::Publish { name, file } if name.as_slice() == b"a".as_slice() && file.as_slice() == b"FILE".as_slice())
@@ -62,11 +63,16 @@ fn lines_and_events(rt: HostRuntime) -> Result<(), Fail> {
     );
     assert!(rt; matches!(&events[7], Event::Open { client: 1, query } if *query == BY_COLUMNS));
     assert!(rt; matches!(events[8], Event::Forget(8)));
+    assert!(rt; matches!(events[9], Event::AskFrom(7)));
+    for (event, want) in events[10..12].iter().zip([Some(4), None]) {
+        assert!(rt; matches!(event, Event::Deliver { client: 6, answer: 5, cut } if *cut == want));
+    }
+    assert!(rt; matches!(events[12], Event::Check(u32::MAX)));
     Ok(())
 }
 
 /// Lines that are no events: of other forms, with other spaces or ends, with greater numbers, and of events that aren't there.
-const NO_EVENTS: [&[u8]; 29] = [
+const NO_EVENTS: [&[u8]; 36] = [
     b"exchange",
     b"exchange 0 0",
     b"exchange 4294967296",
@@ -96,6 +102,13 @@ const NO_EVENTS: [&[u8]; 29] = [
     b"ask 0",
     b"ask 0x00",
     b"ask 00 00",
+    b"askfrom",
+    b"deliver 0 0",
+    b"deliver 0 0 --",
+    b"deliver 0 - -",
+    b"deliver 0 0 4294967296",
+    b"check",
+    b"check 0 0",
 ];
 
 #[test]

@@ -1,18 +1,20 @@
-use Rattle.std.proofs.Common.{arith, refl}
-use Rattle.world.proofs.Whole.{begun, more, whole, beginning, run_true, run_alike, on_err_of}
+use Rattle.std.proofs.Common.{ℕ, arith, ap, ◌∙◌}
+use Rattle.world.specs.World.{answer_in}
+use Rattle.world.specs.Run.{noted}
+use Rattle.world.proofs.Whole.{begun, more, state_at, whole, beginning, whole_truth, on_err_of}
 use Rattle.world.proofs.world.run.Goals as goal
 
 pub loop-event-init : goal.loop-event-init
 loop-event-init c =
-    let h = begun c.args.log.now.entries.items c.args.log.now.clients.items c.new-server.result 0 c.requires.entries c.requires.clients c.new-server.ensures refl in
-    record { runs = h.0; state = h.1; few = omega arith }
+    let h = begun c.args.log.now.entries.items c.args.log.now.clients.items c.new-server.result c.new-places.result.items c.requires.entries c.requires.clients c.new-server.ensures c.new-places.ensures.items in
+    record { runs = h.0; state = h.1 }
 
 pub loop-event-preserved : goal.loop-event-preserved
 loop-event-preserved c =
     let v = c.loop-event in
-    let h = more c.args.events.now v.event-index v.log.entries.items v.log.clients.items c.step.new.clients.items c.event-item.result c.in_ok-entry.entry c.push.new.self.items c.step.new.server c.step.new.sent
-    c.loop-event-test.true c.event-item.is c.in_ok-push.ensures.items v.invariant.runs (c.in_ok-entry.ensures.does _ v.invariant.state) in
-    record { runs = h.0; state = h.1; few = omega (arith, v.invariant.few, c.step.ensures.few) }
+    let h = more c.args.events.now v.event-index v.log.entries.items v.log.clients.items c.step.new.clients.items c.event-item.result c.in_ok-entry.entry c.push.new.self.items v.server c.step.new.server v.places.items c.keep.new.places.items
+    c.loop-event-test.true c.event-item.is c.in_ok-push.ensures.items (c.in_ok-keep.ensures ∙ ap (λ (k : ℕ). noted (answer_in c.in_ok-entry.entry.effect) k v.places.items) (omega (arith, v.log.entries.ok.0))) v.invariant.runs v.invariant.state (c.in_ok-entry.ensures _ (state_at _ v.server v.log.entries.items c.deref.result.now v.places.items c.deref-in-loop-event.result.now c.deref.ensures.value c.deref-in-loop-event.ensures.value v.invariant.state)) in
+    record { runs = h.0; state = h.1 }
 
 pub returns-clause-logged : goal.returns-clause-logged
 returns-clause-logged c =
@@ -20,17 +22,31 @@ returns-clause-logged c =
 
 pub returns-clause-true_reports : goal.returns-clause-true_reports
 returns-clause-true_reports c =
-    run_true c.lower_laws.ensures c.args.events.now c.loop-event.log.entries.items c.loop-event.log.clients.items
-    (whole c.args.events.now c.loop-event.event-index c.loop-event.log.entries.items c.loop-event.log.clients.items c.loop-event-test.false c.loop-event.invariant.runs)
+    (whole_truth c.lower_laws.ensures c.args.events.now c.loop-event.event-index c.loop-event.log.entries.items c.loop-event.log.clients.items c.loop-event-test.false c.loop-event.invariant.runs).true_reports
 
 pub returns-clause-alike : goal.returns-clause-alike
 returns-clause-alike c =
-    run_alike c.lower_laws.ensures c.args.events.now c.loop-event.log.entries.items c.loop-event.log.clients.items
-    (whole c.args.events.now c.loop-event.event-index c.loop-event.log.entries.items c.loop-event.log.clients.items c.loop-event-test.false c.loop-event.invariant.runs)
+    (whole_truth c.lower_laws.ensures c.args.events.now c.loop-event.event-index c.loop-event.log.entries.items c.loop-event.log.clients.items c.loop-event-test.false c.loop-event.invariant.runs).alike
+
+pub returns-clause-checked : goal.returns-clause-checked
+returns-clause-checked c =
+    (whole_truth c.lower_laws.ensures c.args.events.now c.loop-event.event-index c.loop-event.log.entries.items c.loop-event.log.clients.items c.loop-event-test.false c.loop-event.invariant.runs).checked
+
+pub returns-clause-distinct : goal.returns-clause-distinct
+returns-clause-distinct c =
+    (whole_truth c.lower_laws.ensures c.args.events.now c.loop-event.event-index c.loop-event.log.entries.items c.loop-event.log.clients.items c.loop-event-test.false c.loop-event.invariant.runs).distinct
+
+pub returns-clause-honest : goal.returns-clause-honest
+returns-clause-honest c =
+    (whole_truth c.lower_laws.ensures c.args.events.now c.loop-event.event-index c.loop-event.log.entries.items c.loop-event.log.clients.items c.loop-event-test.false c.loop-event.invariant.runs).honest
 
 pub returns-in_err-entry-clause-memory : goal.returns-in_err-entry-clause-memory
 returns-in_err-entry-clause-memory c =
     on_err_of c.from_residual.result _ (beginning c.lower_laws.ensures c.args.events.now c.loop-event.event-index c.loop-event.log.entries.items c.loop-event.log.clients.items (omega arith) c.loop-event.invariant.runs)
+
+pub returns-in_err-keep-clause-memory : goal.returns-in_err-keep-clause-memory
+returns-in_err-keep-clause-memory c =
+    on_err_of c.from_residual-in_err-keep.result _ (beginning c.lower_laws.ensures c.args.events.now c.loop-event.event-index c.loop-event.log.entries.items c.loop-event.log.clients.items (omega arith) c.loop-event.invariant.runs)
 
 pub returns-in_err-push-clause-memory : goal.returns-in_err-push-clause-memory
 returns-in_err-push-clause-memory c =

@@ -1,4 +1,4 @@
-use Rattle.std.proofs.Common.{take, [], ◌≤◌}
+use Rattle.std.proofs.Common.{take, []}
 use Rattle.world.specs.World.{start, after_all}
 use Rattle.world.specs.Run.{Runs, IsState}
 use Rattle.world.proofs.world.run.Given as goal
@@ -7,6 +7,5 @@ use Rattle.world.proofs.world.run.Given as goal
 abbrev pub invariant-loop-event : goal.invariant-loop-event
 invariant-loop-event l = record {
   runs : Runs start [] (take l.event-index l.events) l.log.entries.items l.log.clients.items;
-  state : IsState (after_all start (take l.event-index l.events) l.log.entries.items) l.server l.sent;
-  few : l.sent ≤ l.event-index;
+  state : IsState (after_all start (take l.event-index l.events) l.log.entries.items) l.server l.log.entries.items l.places.items;
 }

@@ -1,0 +1,33 @@
+mod answers;
+mod random;
+mod whole;
+
+use fixtures::{f1, f1m, f2, f2b, f3, f5};
+use scripts::{Loaded, log_text, script};
+use std::alloc::Global;
+use std::process::Abort;
+use std::test::Fail;
+use world::{Log, run};
+
+/// The log of a script, whose files are fixtures.
+fn log_of(alloc: Global, text: &str) -> Result<Log, Fail> {
+    let mut files = Loaded::new(alloc);
+    files.add(b"f1.tif", f1(alloc)?)?;
+    files.add(b"f1m.tif", f1m(alloc)?)?;
+    files.add(b"f2.tif", f2(alloc)?)?;
+    files.add(b"f2b.tif", f2b(alloc)?)?;
+    files.add(b"f3.tif", f3(alloc)?)?;
+    files.add(b"f5.tif", f5(alloc)?)?;
+    let events = script(alloc, text.as_bytes(), &mut files)?;
+    let mut log = Log::new(alloc);
+    run(alloc, &events, &mut log)?;
+    Ok(log)
+}
+
+/// Expects a script's log.
+fn expect(rt: &(impl Abort + AllocGlobal), text: &str, want: &str) -> Result<(), Fail> {
+    let log = log_of(rt.alloc(), text)?;
+    let text = log_text(rt.alloc(), &log)?;
+    assert_eq!(rt; str::from_utf8(&text), Ok(want));
+    Ok(())
+}

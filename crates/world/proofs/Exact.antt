@@ -1,0 +1,102 @@
+-- A check says "same" exactly where the catalogue has the client's tag under its name.
+use Rattle.std.proofs.Common.{◌≡◌, ℕ, List, [], ◌∷◌, ◌++◌, length, Option, Some, None, Bool, true, false, refl, sym, ap, ◌∙◌, subst, arith, append-nil, take, Ok, Err}
+use Rattle.std.specs.Prelude.{slice_get, IfSome, nat_le, if◌then◌else◌, ◌↔◌}
+use Rattle.std.specs.Option.{option_map}
+use Rattle.std.specs.Str.{bytes_eq}
+use Rattle.std.proofs.lemmas.Bool.Decides.{nat_tests}
+use Rattle.std.proofs.lemmas.List.{take_all, length-append}
+use Rattle.std.proofs.lemmas.Option.{none-some, same_Some}
+use Rattle.std.proofs.lemmas.Slice.Eq.{bytes_eq-Decides}
+use Rattle.http_range.specs.Ask.{check_text}
+use Rattle.http_range.specs.Book.{Publication, published}
+use Rattle.http_range.specs.declared.reading.Why.TheVariants.{Cut}
+use Rattle.http_range.specs.Reading.{front_tag, tag_seen}
+use Rattle.http_range.specs.Reply.{head_text}
+use Rattle.http_range.specs.Response.{Response, IsAnswer, text_of, response_to_check, serve_tag, serve_head}
+use Rattle.cog_client.specs.declared.delivered.Current.{Current}
+use Rattle.cog_client.specs.declared.delivered.Current.TheVariants.{Same, Other}
+use Rattle.cog_client.specs.Check.{current_by}
+use Rattle.cog_client.specs.Client.{Known, host_of, name_of}
+use Rattle.world.specs.declared.event.Event.{Event}
+use Rattle.world.specs.declared.event.Event.TheVariants.{Publish, Epoch, NewClient, Open, Forget, Ask, AskFrom, Deliver, Exchange, Check}
+use Rattle.world.specs.declared.event.Checked.{Checked}
+use Rattle.world.specs.declared.event.Effect.{Effect}
+use Rattle.world.specs.declared.event.Entry.{Entry}
+use Rattle.world.specs.World.{World, Seen, after, check_in, IsExact, IsExactAt, AllExact}
+use Rattle.world.specs.Run.{seen, IsCheckOf, IsChecked, IsCheckBy, Step, Runs}
+use Rattle.world.specs.LowerLaws.{LowerLaws}
+use Rattle.world.proofs.Lists.{get-map}
+use Rattle.world.proofs.Good.{Good}
+use Rattle.world.proofs.Truth.{sound_step}
+
+-- both answers about a file tell its tag
+tag_told : (b : Bool) (p : Publication) → tag_seen (if b then serve_tag p true else serve_head p true).reply ≡ Ok p.tag
+tag_told true p = refl
+tag_told false p = refl
+
+same_by : (b : Bool) (current : Current) → current ≡ (if b then Same else Other) → (current ≡ Same) ↔ (b ≡ true)
+same_by true current is = (λ e. refl, λ e. is)
+same_by false current is = (λ e. absurd (cc), λ e. absurd (cc))
+
+-- what is said of a tag, by what the catalogue has under the name
+exact_by : (o : Option Publication) (tag : List ℕ) (current : Current) → current ≡ current_by tag (tag_seen (response_to_check o tag).reply) → (current ≡ Same) ↔ (option_map (λ p. p.tag) o ≡ Some tag)
+exact_by None tag current is = (λ e. absurd (cc), λ e. absurd (none-some tag e))
+exact_by (Some p) tag current is =
+    let told : current ≡ current_by tag (Ok p.tag) = is ∙ ap (λ r. current_by tag r) (tag_told (bytes_eq tag p.tag) p) in
+    let same = same_by (bytes_eq tag p.tag) current told in
+    (λ e. ap Some (sym ((bytes_eq-Decides tag p.tag).0 (same.0 e))), λ e. same.1 ((bytes_eq-Decides tag p.tag).1 (sym (same_Some _ _ e))))
+
+-- a whole answer is no cut one
+whole_told : (s : Response) → front_tag s.reply s.close (length (text_of s)) ≡ tag_seen s.reply
+whole_told s =
+    let n = length (head_text s.reply s.close) in
+    let enough : nat_le n (length (text_of s)) ≡ true = grind (arith, nat_tests, length-append (head_text s.reply s.close) s.body) in
+    ap (λ (b : Bool). if b then tag_seen s.reply else Err Cut) enough
+
+module _ (laws : LowerLaws) where
+  exact_check : (w : World) (cs : List Known) (i : ℕ) (c : Known) (k : Checked) → Good w cs → slice_get cs i ≡ Some c → IsCheckOf w.catalogue (length w.sent) i c k → IsExact w i k
+  exact_check w cs i c k g at h =
+      let s = h.answered.response in
+      let host = host_of c in
+      let name = name_of c in
+      let text : k.request.items ≡ check_text host name k.tag ++ [] = h.text ∙ sym (append-nil _) in
+      let P : List ℕ → Type 0 = λ m. IsAnswer w.catalogue m s in
+      let answered = subst P h.text h.answered.answers in
+      let response : s ≡ response_to_check (published name w.catalogue) k.tag = (laws.checks w.catalogue host name k.tag [] s h.lawful).0 (subst P text h.answered.answers) in
+      let bytes : k.answer.text.items ≡ take (length (text_of s)) (text_of s) = h.answered.shows.text ∙ sym (take_all (length (text_of s)) (text_of s) (omega arith)) in
+      let read = laws.read.answer w.catalogue (check_text host name k.tag) k.answer.text.items s (length (text_of s)) h.current.0 g.lawful answered bytes h.current.1 in
+      let told : k.current ≡ current_by k.tag (tag_seen (response_to_check (published name w.catalogue) k.tag).reply) =
+      h.current.2 ∙ (ap (λ r. current_by k.tag r) (read ∙ whole_told s) ∙ ap (λ (r : Response). current_by k.tag (tag_seen r.reply)) response) in
+      record {
+        seen = seen c;
+        there = ap (λ (ss : List Seen). slice_get ss i) (sym g.seen_are) ∙ (get-map seen cs i ∙ ap (λ (o : Option Known). option_map seen o) at);
+        exact = exact_by (published name w.catalogue) k.tag k.current told;
+      }
+
+  exact_checked : (w : World) (cs : List Known) (i : ℕ) (c : Known) (o : Option Checked) (effect : Effect) → Good w cs → slice_get cs i ≡ Some c → IsChecked w.catalogue (length w.sent) i c o effect → IfSome (check_in effect) (IsExact w i)
+  exact_checked w cs i c None effect g at h = let P : Effect → Type 0 = λ e. IfSome (check_in e) (IsExact w i) in subst P (sym h.0) tt
+  exact_checked w cs i c (Some k) effect g at h = let P : Effect → Type 0 = λ e. IfSome (check_in e) (IsExact w i) in subst P (sym h.0) (exact_check w cs i c k g at h.1)
+
+  exact_at : (o : Option Known) (w : World) (cs new : List Known) (i : ℕ) (n : Entry) → slice_get cs i ≡ o → Good w cs → IsCheckBy o w.catalogue (length w.sent) i n cs new → IfSome (check_in n.effect) (IsExact w i)
+  exact_at None w cs new i n at g h = let P : Effect → Type 0 = λ e. IfSome (check_in e) (IsExact w i) in subst P (sym h.done) tt
+  exact_at (Some c) w cs new i n at g h = exact_checked w cs i c h.check n.effect g at h.checked
+
+  exact_step : (w : World) (cs : List Known) (e : Event) (n : Entry) (new : List Known) → Good w cs → Step w cs e n new → IsExactAt w e n.effect
+  exact_step w cs (Publish name file) n new g h = tt
+  exact_step w cs (Epoch e) n new g h = tt
+  exact_step w cs (NewClient name blocks) n new g h = tt
+  exact_step w cs (Open i q) n new g h = tt
+  exact_step w cs (Forget i) n new g h = tt
+  exact_step w cs (Ask message) n new g h = tt
+  exact_step w cs (AskFrom i) n new g h = tt
+  exact_step w cs (Deliver i a cut) n new g h = tt
+  exact_step w cs (Exchange i) n new g h = tt
+  exact_step w cs (Check i) n new g h = exact_at (slice_get cs i) w cs new i n refl g h
+
+  -- a whole run
+  pub exact_run : (w : World) (cs : List Known) (es : List Event) (ns : List Entry) (new : List Known) → Good w cs → Runs w cs es ns new → AllExact w es ns
+  exact_run w cs [] [] new g h = tt
+  exact_run w cs [] (n ∷ ns) new g h = absurd h
+  exact_run w cs (e ∷ es) [] new g h = absurd h
+  exact_run w cs (e ∷ es) (n ∷ ns) new g (mid, step, rest) =
+      (exact_step w cs e n mid g step, exact_run (after w e n.effect) mid es ns new (sound_step laws w cs e n mid g step).good rest)

@@ -1,0 +1,90 @@
+//! The answers that were sent, which stand in the entries of the log, and their delivery.
+ghost use Rattle.std.specs.Prelude.{◌≡◌, ◌++◌, ◌∷◌, [], IfOk, OnOk, option_and_then, option_copied, slice_get};
+ghost use Rattle.cog_client.specs.Client.{name_of};
+ghost use Rattle.world.specs.World.{answer_in, name_in};
+ghost use Rattle.world.specs.Run.{Acts, DeliversWith, IsDelivery, answer_at, front_of, is_for, noted};
+
+use crate::calls::{has_report, new_report};
+use crate::event::{Effect, Entry};
+use crate::server::quiet;
+use cog_client::Client;
+use cog_server::Answer;
+use http_range::Memory;
+use std::alloc::Global;
+
+/// The answer of this number, by the places of the entries that have one.
+pub fn answer_of<'a>(entries: &'a [Entry], places: &[usize], number: u32) -> Option<&'a Answer>
+    ensures { option_copied result ≡ option_and_then (answer_at entries.now) (slice_get places.now number) }
+{
+    let place = places.get(number as usize)?;
+    let entry = entries.get(*place)?;
+    entry.effect.answer()
+}
+
+/// The first bytes of a text, or all.
+fn front(text: &[u8], cut: Option<u32>) -> &[u8]
+    ensures { result.now ≡ front_of cut text.now }
+{
+    match cut {
+        None => text,
+        Some(cut) => text.get(..cut as usize).unwrap_or(text),
+    }
+}
+
+/// The answer carries the tag of a file of the client's name, or none.
+fn is_for(client: &Client, answer: &Answer) -> bool
+    ensures { result ≡ is_for (name_of client.now) (name_in answer.now) }
+{
+    match &answer.name {
+        None => true,
+        Some(name) => name.as_slice() == client.name(),
+    }
+}
+
+fn deliver_one(alloc: Global, client: &mut Client, i: u32, text: &[u8]) -> Result<Entry, Memory>
+    ensures { IfOk result (λ n. Acts (DeliversWith text.now i n.effect) n client.old client.new) }
+{
+    let had = has_report(client);
+    let delivered = client.deliver(text)?;
+    let report = new_report(alloc, client, had)?;
+    Ok(Entry {
+        effect: Effect::Delivered {
+            client: i,
+            delivered,
+        },
+        report,
+    })
+}
+
+/// Client i gets the front of an answer that was sent, unless it is for another name.
+pub fn deliver_at(
+    alloc: Global,
+    answer: Option<&Answer>,
+    clients: &mut Vec<Client>,
+    i: u32,
+    cut: Option<u32>,
+) -> Result<Entry, Memory>
+    ensures { IfOk result (λ n. IsDelivery (option_copied answer.entry) (slice_get clients.old.items i) cut i n clients.old.items clients.new.items) }
+{
+    let Some(answer) = answer else {
+        return Ok(quiet(Effect::Skipped));
+    };
+    let Some(client) = clients.get_mut(i as usize) else {
+        return Ok(quiet(Effect::Skipped));
+    };
+    if !is_for(client, answer) {
+        return Ok(quiet(Effect::Skipped));
+    }
+    let entry = deliver_one(alloc, client, i, front(&answer.text, cut))?;
+    Ok(entry)
+}
+
+/// Notes the place of the next entry, where it has an answer.
+pub fn keep(places: &mut Vec<usize>, place: usize, effect: &Effect) -> Result<(), Memory>
+    ensures { OnOk result (places.new.items ≡ noted (answer_in effect.now) place places.old.items) }
+{
+    if effect.answer().is_some() {
+        places.push(place)?;
+    }
+    Ok(())
+}
