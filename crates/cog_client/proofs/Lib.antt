@@ -3,3 +3,4 @@ pub mod ClientLemmas
 pub mod TakeLemmas
 pub mod RequestLemmas
 pub mod DeliverLemmas
+pub mod FetchLemmas

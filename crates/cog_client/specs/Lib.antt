@@ -6,3 +6,4 @@ pub mod Going
 pub mod Calls
 pub mod Steps
 pub mod Check
+pub mod Transport

@@ -1,4 +1,4 @@
-//! Why a client isn't made.
+//! Why a client isn't made, and why fetching ends without an answer.
 use thiserror::Error;
 
 /// Why a client isn't made.
@@ -42,5 +42,31 @@ impl From<std::alloc::AllocError> for ClientError {
 
     fn from(_refused: std::alloc::AllocError) -> ClientError {
         ClientError::Memory
+    }
+}
+
+/// Why fetching ended.
+#[derive(Clone, Copy, Debug, Error, PartialEq, Eq)]
+pub enum FetchError {
+    #[error("out of memory")]
+    Memory,
+}
+
+impl FetchError {
+    ghost use Rattle.std.specs.Prelude.{◌≡◌};
+
+    /// The number under which it is told, 1.
+    pub fn number(self) -> u8
+        ensures { result ≡ 1 }
+    {
+        match self {
+            FetchError::Memory => 1,
+        }
+    }
+}
+
+impl From<tiff_dir::Memory> for FetchError {
+    fn from(_refused: tiff_dir::Memory) -> FetchError {
+        FetchError::Memory
     }
 }

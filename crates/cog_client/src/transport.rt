@@ -1,0 +1,31 @@
+//! What carries a client's requests, and brings the answers.
+ghost use Rattle.std.specs.Prelude.{◌≡◌, ◌+◌, ◌<◌, ◌^◌, ℕ, IfOk};
+ghost use Rattle.http_range.specs.Book.{Publication};
+ghost use Rattle.cog_client.specs.Transport.{IsHonestToAll, SpeaksOn};
+
+use thiserror::Error;
+
+/// No answer came.
+#[derive(Clone, Copy, Debug, Error, PartialEq, Eq)]
+#[error("no answer came")]
+pub struct Lost;
+
+/// Carries requests to a server, and brings its answers, whole or cut, or none.
+pub trait Transport {
+    /// It speaks for this publication: what it brings is of answers of a server that has it.
+    ghost speaks_for: { Self → Publication → Type 0 };
+
+    /// The exchanges so far.
+    ghost count: { Self → ℕ };
+
+    /// One exchange: sends a request, and gives what came of its answer.
+    fn exchange(&mut self, request: &[u8]) -> Result<Vec<u8>, Lost>
+        requires { count self.old + 1 < 2 ^ 64 }
+        ensures honest { IfOk result (λ text. IsHonestToAll (speaks_for self.old) text.items) }
+        ensures speaks { SpeaksOn (speaks_for self.old) (speaks_for self.new) }
+        ensures counted { count self.new ≡ count self.old + 1 };
+
+    /// How many exchanges there were, those that brought nothing too.
+    fn exchanges(&self) -> u64
+        ensures { result ≡ count self.now };
+}

@@ -1,0 +1,11 @@
+use Rattle.std.proofs.Common.{ℕ, List, Option, subst}
+use Rattle.transports.specs.InMemory.{IsAbout}
+use Rattle.transports.proofs.TransportLemmas.{honest_answer}
+use Rattle.transports.proofs.in_memory.answer_about.Goals as goal
+
+pub returns : goal.returns
+returns c =
+    let a = c.in-Ok.ensures in
+    let P : Option (List ℕ) → Type 0 = λ carried. IsAbout c.args.name.now carried in
+    honest_answer c.args.server.now.catalogue c.args.name.now c.args.request.now c.in-Ok.answer.text.items a.response a.answers a.shows.text
+    (subst P a.shows.name (c.is_about.ensures.0 c.if-not-is_about.false))

@@ -1,0 +1,17 @@
+-- What a server in memory has.
+use Rattle.std.specs.Prelude.{◌≡◌, ◌⊎◌, ℕ, List, Option, Some, None}
+use Rattle.http_range.specs.Book.{Publication, Catalogue, IsCatalogue, published, publication_tag}
+
+-- The catalogue, which is lawful, has this publication under the name.
+pub record Has (catalogue : Catalogue) (name : List ℕ) (p : Publication) : Type 0 where
+  pub lawful : IsCatalogue catalogue
+  pub named : p.name ≡ name
+  pub there : published name catalogue ≡ Some p
+
+-- the first publication of an epoch
+abbrev pub first_of : ℕ → List ℕ → List ℕ → Publication
+first_of epoch name file = record { name = name; tag = publication_tag epoch 1; file = file }
+
+-- an answer carries the tag of the file of this name, or none
+abbrev pub IsAbout : List ℕ → Option (List ℕ) → Type 0
+IsAbout name carried = (carried ≡ Some name) ⊎ (carried ≡ None)

@@ -1,0 +1,25 @@
+-- What others know of the transports here.
+use Rattle.std.specs.Prelude.{ℕ, List}
+use Rattle.cog_server.specs.Server.{ServerState}
+use Rattle.transports.specs.declared.in_memory.InMemory.{InMemory}
+use Rattle.transports.specs.declared.scripted.Fate.{Fate}
+use Rattle.transports.specs.declared.scripted.Scripted.{Scripted}
+
+-- the server, and the name that it is asked for
+abbrev pub state_of : InMemory → ServerState
+state_of s = s.server.now
+
+abbrev pub name_of : InMemory → List ℕ
+name_of s = s.name.now
+
+-- the exchanges so far
+abbrev pub exchanges_of : InMemory → ℕ
+exchanges_of s = s.exchanges
+
+-- the transport whose answers are lost and cut
+abbrev pub inner_of : {T : Type 0} → Scripted T → T
+inner_of s = s.inner
+
+-- what becomes of the next answers, in order
+abbrev pub fates_of : {T : Type 0} → Scripted T → List Fate
+fates_of s = s.fates.now

@@ -1,0 +1,92 @@
+//! A server in memory.
+ghost use Rattle.std.specs.Prelude.{◌↔◌, IfOk, IsTrue, option_map};
+ghost use Rattle.cog_client.specs.Transport.{IsHonestToAll};
+ghost use Rattle.transports.specs.InMemory.{Has, IsAbout, first_of};
+
+use cog_client::{Lost, Transport};
+use cog_server::{PublishError, Server};
+use http_range::tags_tell_publications;
+use std::alloc::Global;
+
+/// Whether an answer carries the tag of the file of this name, or none.
+fn is_about(carried: &Option<Vec<u8>>, name: &[u8]) -> bool
+    ensures { IsTrue result ↔ IsAbout name.now (option_map (λ n. n.items) carried.now) }
+{
+    match carried {
+        Some(other) => other.as_slice() == name,
+        None => true,
+    }
+}
+
+/// The text of the server's answer, unless it is about another file.
+fn answer_about(server: &Server, name: &[u8], request: &[u8]) -> Result<Vec<u8>, Lost>
+    ensures { IfOk result (λ text. IsHonestToAll (Has server.now.catalogue name.now) text.items) }
+{
+    let Ok(answer) = server.answer(request) else {
+        return Err(Lost);
+    };
+    if !is_about(&answer.name, name) {
+        return Err(Lost);
+    }
+    Ok(answer.text)
+}
+
+/// A server that is asked for the file of one name. It speaks for the file that its catalogue has under that name. An
+/// answer that carries another file's tag is lost, and so is one for which there is no memory.
+#[derive(Drop)]
+pub struct InMemory<'s> {
+    server: &'s Server,
+    name: &'s [u8],
+    exchanges: u64,
+}
+
+impl<'s> InMemory<'s> {
+    ghost use Rattle.std.specs.Prelude.{◌≡◌};
+    ghost use Rattle.transports.specs.Transports.{exchanges_of, name_of, state_of};
+
+    /// A transport without exchanges.
+    pub fn new(server: &'s Server, name: &'s [u8]) -> Self
+        ensures server { state_of result ≡ server.now }
+        ensures name { name_of result ≡ name.now }
+        ensures exchanges { exchanges_of result ≡ 0 }
+    {
+        InMemory {
+            server,
+            name,
+            exchanges: 0,
+        }
+    }
+}
+
+impl Transport for InMemory<'_> {
+    ghost use Rattle.transports.specs.InMemory.{Has};
+    ghost use Rattle.transports.specs.Transports.{exchanges_of, name_of, state_of};
+
+    ghost speaks_for = { λ s. Has (state_of s).catalogue (name_of s) };
+
+    ghost count = { exchanges_of };
+
+    fn exchange(&mut self, request: &[u8]) -> Result<Vec<u8>, Lost> {
+        self.exchanges += 1;
+        answer_about(self.server, self.name, request)
+    }
+
+    fn exchanges(&self) -> u64 {
+        self.exchanges
+    }
+}
+
+/// A server that has one file, the first publication of an epoch.
+pub fn server_of_one(
+    alloc: Global,
+    epoch: u32,
+    name: &[u8],
+    file: Vec<u8>,
+) -> Result<Server, PublishError>
+    ensures { IfOk result (λ server. Has server.catalogue name.now (first_of epoch name.now file.items)) }
+{
+    tags_tell_publications();
+    let mut server = Server::new(alloc, epoch);
+    server.publish(name, file)?;
+    Ok(server)
+}

@@ -1,0 +1,9 @@
+//! Transports in memory, for tests and for programs without a network: a server's core, and a transport that loses and cuts
+//! answers by a script.
+#![tactic(auto)]
+
+mod in_memory;
+mod scripted;
+
+pub use in_memory::{InMemory, server_of_one};
+pub use scripted::{Fate, Scripted};
