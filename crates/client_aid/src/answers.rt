@@ -157,6 +157,8 @@ pub enum Answer<'a> {
     CutPart(usize, usize, usize, usize),
     /// A whole file of which so many bytes at its end are lost.
     CutWhole(usize, usize),
+    /// A part, and bytes behind it that aren't announced.
+    LongPart(usize, usize, usize, &'a [u8]),
     /// A part that is told as one of a file of so many bytes.
     PartOf(usize, usize, usize, usize),
     /// Bytes under a tag, from a first position on, of a file of so many bytes.
@@ -170,6 +172,12 @@ pub enum Answer<'a> {
 fn cut(mut text: Vec<u8>, lost: usize) -> Result<Vec<u8>, NotDone> {
     let len = text.len().checked_sub(lost).ok_or(NotDone::NoSuchPart)?;
     text.truncate(len);
+    Ok(text)
+}
+
+/// A text, and bytes behind it.
+fn followed(mut text: Vec<u8>, bytes: &[u8]) -> Result<Vec<u8>, NotDone> {
+    text.extend_from_slice(bytes)?;
     Ok(text)
 }
 
@@ -194,6 +202,9 @@ impl Answer<'_> {
                 cut(published(files, which)?.part(alloc, first, last)?, lost)
             }
             Answer::CutWhole(which, lost) => cut(published(files, which)?.whole(alloc)?, lost),
+            Answer::LongPart(which, first, last, bytes) => {
+                followed(published(files, which)?.part(alloc, first, last)?, bytes)
+            }
             Answer::PartOf(which, first, last, complete) => {
                 told_part(alloc, published(files, which)?, (first, last), complete)
             }

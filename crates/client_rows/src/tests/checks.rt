@@ -1,10 +1,9 @@
 //! Checks whether the file is still the one that is read, and what their answers say.
+use super::expect;
 use super::worked::OF_ONES;
-use super::{expect, new_session};
-use client_aid::Answer::{Bytes, Part, Whole};
+use client_aid::Answer::{Part, Whole};
 use client_aid::Step::{Asks, Checks, Forgets, Hears, Opens, Reports, Restarts, Stands, Takes};
-use client_aid::{Course, F2_TWICE, FIRST, NotDone, OLD, Positions, Said, TAGS};
-use std::alloc::{AllocError, Global};
+use client_aid::{Course, F2_TWICE, FIRST, OLD, Positions, Said, TAGS};
 use std::test::Fail;
 
 /// Answers of a server that has the file under the tag `"1-1"`, or under another.
@@ -59,6 +58,20 @@ const CODINGS: [&str; 3] = [
     "HTTP/1.1 200 OK\r\nTransfer-Encoding: chunked\r\n\r\n",
 ];
 
+/// An answer to a check that has 32 fields.
+const MOST_FIELDS: &str = "HTTP/1.1 304 Not Modified\r\nETag: \"1-1\"\r\n\
+    A: 1\r\nA: 1\r\nA: 1\r\nA: 1\r\nA: 1\r\nA: 1\r\nA: 1\r\nA: 1\r\nA: 1\r\nA: 1\r\nA: 1\r\nA: 1\r\n\
+    A: 1\r\nA: 1\r\nA: 1\r\nA: 1\r\nA: 1\r\nA: 1\r\nA: 1\r\nA: 1\r\nA: 1\r\nA: 1\r\nA: 1\r\nA: 1\r\n\
+    A: 1\r\nA: 1\r\nA: 1\r\nA: 1\r\nA: 1\r\nA: 1\r\nA: 1\r\n\
+    \r\n";
+
+/// One that has 33 fields.
+const MORE_FIELDS: &str = "HTTP/1.1 304 Not Modified\r\nETag: \"1-1\"\r\n\
+    A: 1\r\nA: 1\r\nA: 1\r\nA: 1\r\nA: 1\r\nA: 1\r\nA: 1\r\nA: 1\r\nA: 1\r\nA: 1\r\nA: 1\r\nA: 1\r\n\
+    A: 1\r\nA: 1\r\nA: 1\r\nA: 1\r\nA: 1\r\nA: 1\r\nA: 1\r\nA: 1\r\nA: 1\r\nA: 1\r\nA: 1\r\nA: 1\r\n\
+    A: 1\r\nA: 1\r\nA: 1\r\nA: 1\r\nA: 1\r\nA: 1\r\nA: 1\r\nA: 1\r\n\
+    \r\n";
+
 /// The checks of the two publications.
 const CHECK_OF_OLD: &str =
     "HEAD /a HTTP/1.1\r\nHost: cog.test\r\nIf-None-Match: \"1-1\"\r\nConnection: close\r\n\r\n";
@@ -88,6 +101,8 @@ const COURSES: [Course<'static>; 3] = [
             Hears(&WEAK_TAGS, Said::Unknown(5)),
             Hears(&LONG_TAGS, Said::Unknown(6)),
             Hears(&CODINGS, Said::Unknown(9)),
+            Hears(&[MOST_FIELDS], Said::Same),
+            Hears(&[MORE_FIELDS], Said::Unknown(2)),
             Asks(END, Some(OLD)),
         ],
     },
@@ -143,33 +158,4 @@ const COURSES: [Course<'static>; 3] = [
 #[test]
 fn courses(rt: HostRuntime) -> Result<(), Fail> {
     expect(&rt, &COURSES)
-}
-
-/// An answer to a check that has so many fields, of which one is needed.
-fn many_fields(alloc: Global, fields: u32) -> Result<String, AllocError> {
-    let mut text = String::from_str(alloc, "HTTP/1.1 304 Not Modified\r\nETag: \"1-1\"\r\n")?;
-    for _ in 1..fields {
-        text.push_str("A: 1\r\n")?;
-    }
-    text.push_str("\r\n")?;
-    Ok(text)
-}
-
-/// The first step with answers of 32 and of 33 fields that goes otherwise.
-fn fields_otherwise(alloc: Global) -> Result<Option<usize>, NotDone> {
-    let (most, more) = (many_fields(alloc, 32)?, many_fields(alloc, 33)?);
-    let steps = [
-        Opens(240, 240, 16, 16),
-        Asks(FIRST, None),
-        Takes(Bytes(OLD, 0, b"II", 378), 0),
-        Hears(&[most.as_str()], Said::Same),
-        Hears(&[more.as_str()], Said::Unknown(2)),
-    ];
-    new_session(alloc, &[])?.go(alloc, &steps)
-}
-
-#[test]
-fn numbers_of_fields(rt: HostRuntime) -> Result<(), Fail> {
-    assert_eq!(rt; fields_otherwise(rt.alloc())?, None);
-    Ok(())
 }

@@ -1,6 +1,6 @@
 //! Clients that are made, and those that aren't.
 use client_aid::NotDone;
-use cog_client::{Client, ClientError};
+use cog_client::{Client, ClientError, Memory};
 use reader_aid::of_level;
 use std::alloc::{AllocError, Global};
 use std::test::Fail;
@@ -78,13 +78,23 @@ fn first_request(alloc: Global, host: &[u8], name: &[u8]) -> Result<Vec<u8>, All
     Ok(text)
 }
 
+/// Whether a new client has nothing, and asks for the first bytes.
+fn is_new(client: &mut Client, request: &[u8]) -> Result<bool, Memory> {
+    let is_empty = client.asked().is_none() && client.tag().is_none() && client.report().is_none();
+    client.open(of_level(0, 0, 1, 1, 0));
+    match client.request()? {
+        None => Ok(false),
+        Some(text) => Ok(is_empty && text.as_slice() == request),
+    }
+}
+
 /// Whether a client is made, which asks for the first bytes.
 fn is_made(alloc: Global, host: &[u8], name: &[u8], blocks: u32) -> Result<bool, NotDone> {
-    let mut client = Client::new(alloc, host, name, blocks)?;
-    let is_new = client.asked().is_none() && client.tag().is_none() && client.report().is_none();
-    client.open(of_level(0, 0, 1, 1, 0));
-    let text = client.request()?;
-    Ok(is_new && text == Some(first_request(alloc, host, name)?))
+    let request = first_request(alloc, host, name)?;
+    match Client::new(alloc, host, name, blocks) {
+        Err(_) => Ok(false),
+        Ok(mut client) => Ok(is_new(&mut client, &request)?),
+    }
 }
 
 /// The first of these clients that isn't made.

@@ -1,8 +1,8 @@
 //! Reports of each kind after one exchange, and their copies.
-use super::{new_session, only};
+use super::{expect, new_session, only};
 use client_aid::Answer::Part;
-use client_aid::Step::{Asks, AsksNothing, Copies, IsSilent, Open, Opens, Reports, Takes};
-use client_aid::{FIRST, NotDone, OLD};
+use client_aid::Step::{Asks, AsksNothing, Copies, Open, Opens, Reads, Reports, Takes};
+use client_aid::{Course, FIRST, NotDone, OLD, TAGS};
 use reader_aid::{FACTS_OF_F3, Facts, Fixture, NO_FACTS, Numbers, Want, change, of_level, window};
 use std::alloc::Global;
 use std::test::Fail;
@@ -15,18 +15,8 @@ fn exchange_otherwise(
     query: Query,
     want: Want<'_>,
 ) -> Result<Option<usize>, NotDone> {
-    let last = file.len().checked_sub(1).ok_or(NotDone::NoSuchPart)?;
     let files = only(file);
-    let steps = [
-        Open(query),
-        Asks(FIRST, None),
-        IsSilent,
-        Takes(Part(0, 0, last), 1),
-        Reports(OLD, want),
-        Copies,
-        AsksNothing,
-        Reports(OLD, want),
-    ];
+    let steps = [Open(query), Reads(0, 1), Reports(OLD, want), Copies];
     new_session(alloc, &files)?.go(alloc, &steps)
 }
 
@@ -230,41 +220,41 @@ fn levels_and_ends(rt: HostRuntime) -> Result<(), Fail> {
 /// Windows of two levels of f3 in turn.
 const LARGE: Want<'static> = Want::Window(2, 1, 1, 8, &[0x10, 0x11]);
 
+const THIN_WINDOW: Query = Query::Window {
+    x: 3,
+    y: 4,
+    w: 1,
+    h: 3,
+    pick: Pick::Level(1),
+};
+
 const THIN: Want<'static> = Want::Window(1, 3, 1, 8, &[4, 5, 6]);
 
-/// The first step that goes otherwise where windows of two levels and Info are asked in turn, after one answer.
-fn turns_otherwise(alloc: Global) -> Result<Option<usize>, NotDone> {
-    let file = Fixture::F3.file(alloc)?;
-    let files = only(&file);
-    let info = Want::Info(FACTS_OF_F3);
-    let turn = [
+const IN_TURN: [Course<'static>; 1] = [Course {
+    name: "windows and Info in turn",
+    tags: TAGS,
+    files: [Fixture::F3, Fixture::F3],
+    steps: &[
+        Opens(15, 15, 2, 2),
+        Asks(FIRST, None),
+        Takes(Part(0, 0, 1455), 1),
         Opens(15, 15, 2, 1),
         AsksNothing,
         Reports(OLD, LARGE),
         Open(Query::Info),
         AsksNothing,
-        Reports(OLD, info),
-        Open(of_level(3, 4, 1, 3, 1)),
+        Reports(OLD, Want::Info(FACTS_OF_F3)),
+        Open(THIN_WINDOW),
         AsksNothing,
         Reports(OLD, THIN),
-    ];
-    let mut session = new_session(alloc, &files)?;
-    session.go(
-        alloc,
-        &[
-            Opens(15, 15, 2, 2),
-            Asks(FIRST, None),
-            Takes(Part(0, 0, 1455), 1),
-        ],
-    )?;
-    match session.go(alloc, &turn)? {
-        None => session.go(alloc, &turn),
-        step => Ok(step),
-    }
-}
+        Opens(15, 15, 2, 1),
+        AsksNothing,
+        Reports(OLD, LARGE),
+    ],
+}];
 
+/// After one answer.
 #[test]
 fn in_turn(rt: HostRuntime) -> Result<(), Fail> {
-    assert_eq!(rt; turns_otherwise(rt.alloc())?, None);
-    Ok(())
+    expect(&rt, &IN_TURN)
 }

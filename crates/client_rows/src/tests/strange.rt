@@ -1,8 +1,10 @@
 //! Answers that no server of ours sends.
 use super::{expect, new_session, only};
-use client_aid::Answer::{Bytes, CutPart, Part, PartOf, Text, WholeOf};
+use client_aid::Answer::{Bytes, CutPart, LongPart, Part, PartOf, Text, WholeOf};
 use client_aid::Step::{Asks, Forgets, Ignores, IsSilent, Opens, Refuses, Reports, Stands, Takes};
-use client_aid::{Course, F2_TWICE, FIRST, NotDone, OLD, Positions, Session, TAGS};
+use client_aid::{
+    Course, F2_TWICE, FIRST, NotDone, OLD, Positions, Publication, Session, Step, TAGS,
+};
 use fixtures::f2;
 use reader_aid::Want;
 use std::alloc::{AllocError, Global};
@@ -106,7 +108,48 @@ const LAST: usize = 18446744073709551614;
 /// What is missing behind the first bytes of the greatest file.
 const SIXTH: Positions = (65536, 81919);
 
-const COURSES: [Course<'static>; 6] = [
+const ASKING: [Step<'static>; 2] = [Opens(240, 240, 16, 16), Asks(FIRST, None)];
+
+/// A head of 32 fields.
+const MOST_FIELDS: &[u8] = b"HTTP/1.1 200 OK\r\nETag: \"1\"\r\nContent-Length: 0\r\n\
+    A: 1\r\nA: 1\r\nA: 1\r\nA: 1\r\nA: 1\r\nA: 1\r\nA: 1\r\nA: 1\r\nA: 1\r\nA: 1\r\nA: 1\r\nA: 1\r\n\
+    A: 1\r\nA: 1\r\nA: 1\r\nA: 1\r\nA: 1\r\nA: 1\r\nA: 1\r\nA: 1\r\nA: 1\r\nA: 1\r\nA: 1\r\nA: 1\r\n\
+    A: 1\r\nA: 1\r\nA: 1\r\nA: 1\r\nA: 1\r\nA: 1\r\n\
+    \r\n";
+
+/// A head of 33 fields.
+const MORE_FIELDS: &str = "HTTP/1.1 200 OK\r\nETag: \"1\"\r\nContent-Length: 0\r\n\
+    A: 1\r\nA: 1\r\nA: 1\r\nA: 1\r\nA: 1\r\nA: 1\r\nA: 1\r\nA: 1\r\nA: 1\r\nA: 1\r\nA: 1\r\nA: 1\r\n\
+    A: 1\r\nA: 1\r\nA: 1\r\nA: 1\r\nA: 1\r\nA: 1\r\nA: 1\r\nA: 1\r\nA: 1\r\nA: 1\r\nA: 1\r\nA: 1\r\n\
+    A: 1\r\nA: 1\r\nA: 1\r\nA: 1\r\nA: 1\r\nA: 1\r\nA: 1\r\n\
+    \r\n";
+
+const COURSES: [Course<'static>; 8] = [
+    Course {
+        name: "numbers of fields",
+        tags: TAGS,
+        files: F2_TWICE,
+        steps: &[
+            Opens(240, 240, 16, 16),
+            Asks(FIRST, None),
+            Refuses(&[(MORE_FIELDS, 2)]),
+            Takes(Text(MOST_FIELDS), 0),
+        ],
+    },
+    // Bytes after the announced ones are passed over.
+    Course {
+        name: "long bodies",
+        tags: TAGS,
+        files: F2_TWICE,
+        steps: &[
+            Opens(240, 240, 16, 16),
+            Asks(FIRST, None),
+            Takes(LongPart(0, 0, 16382, b"one"), 0),
+            Asks((0, 16383), Some(OLD)),
+            Takes(LongPart(0, 0, 16383, b"more"), 1),
+            Asks((65536, 67705), Some(OLD)),
+        ],
+    },
     // Before the first revision and with one, whether something is asked or not.
     Course {
         name: "refused heads",
@@ -204,17 +247,6 @@ fn courses(rt: HostRuntime) -> Result<(), Fail> {
     expect(&rt, &COURSES)
 }
 
-/// A head of so many fields, two of which are needed.
-fn many_fields(alloc: Global, fields: u32) -> Result<Vec<u8>, AllocError> {
-    let front = b"HTTP/1.1 200 OK\r\nETag: \"1\"\r\nContent-Length: 0\r\n";
-    let mut text = Vec::from_slice(alloc, front)?;
-    for _ in 2..fields {
-        text.extend_from_slice(b"A: 1\r\n")?;
-    }
-    text.extend_from_slice(b"\r\n")?;
-    Ok(text)
-}
-
 /// A head that has so many bytes before its end.
 fn long_line(alloc: Global, len: usize, end: &[u8]) -> Result<Vec<u8>, AllocError> {
     let front = b"HTTP/1.1 200 OK\r\nETag: \"1\"\r\nContent-Length: 0\r\nA: ";
@@ -222,18 +254,6 @@ fn long_line(alloc: Global, len: usize, end: &[u8]) -> Result<Vec<u8>, AllocErro
     text.resize(len, b'x')?;
     text.extend_from_slice(end)?;
     Ok(text)
-}
-
-/// The first steps with answers of 33 and of 32 fields that go otherwise.
-fn fields_otherwise(alloc: Global) -> Result<Option<usize>, NotDone> {
-    let (most, more) = (many_fields(alloc, 32)?, many_fields(alloc, 33)?);
-    let steps = [
-        Opens(240, 240, 16, 16),
-        Asks(FIRST, None),
-        Ignores(Text(&more), 2),
-        Takes(Text(&most), 0),
-    ];
-    new_session(alloc, &[])?.go(alloc, &steps)
 }
 
 /// Bytes of a head before its end, the end, and the number under which it is ignored.
@@ -255,43 +275,29 @@ fn line_otherwise(alloc: Global, session: &mut Session<'_>) -> Result<Option<usi
     Ok(None)
 }
 
-/// The longest head is taken.
-fn longest_otherwise(alloc: Global, session: &mut Session<'_>) -> Result<Option<usize>, NotDone> {
+/// Whether the longest head is taken.
+fn takes_longest(alloc: Global, session: &mut Session<'_>) -> Result<bool, NotDone> {
     let longest = long_line(alloc, 4092, b"\r\n\r\n")?;
-    session.go(alloc, &[Takes(Text(&longest), 0)])
+    session.step(alloc, Takes(Text(&longest), 0))
+}
+
+/// A client that asks for the first bytes.
+fn asking<'a>(alloc: Global, files: &'a [Publication<'a>]) -> Result<Session<'a>, NotDone> {
+    let mut session = new_session(alloc, files)?;
+    session.go(alloc, &ASKING)?;
+    Ok(session)
+}
+
+/// Whether heads of every length beside the limit are taken as they have to be.
+fn are_lengths_right(alloc: Global) -> Result<bool, NotDone> {
+    let mut session = asking(alloc, &[])?;
+    let line = line_otherwise(alloc, &mut session)?;
+    Ok(line.is_none() && takes_longest(alloc, &mut session)?)
 }
 
 #[test]
-fn limits_of_heads(rt: HostRuntime) -> Result<(), Fail> {
-    assert_eq!(rt; fields_otherwise(rt.alloc())?, None);
-    let mut session = new_session(rt.alloc(), &[])?;
-    session.go(rt.alloc(), &[Opens(240, 240, 16, 16), Asks(FIRST, None)])?;
-    assert_eq!(rt; line_otherwise(rt.alloc(), &mut session)?, None);
-    assert_eq!(rt; longest_otherwise(rt.alloc(), &mut session)?, None);
-    Ok(())
-}
-
-/// An answer that has more bytes than it announces.
-fn long_body(alloc: Global, file: &[u8]) -> Result<Vec<u8>, NotDone> {
-    let [first, _second] = only(file);
-    let mut answer = first.part(alloc, 0, 16383)?;
-    answer.extend_from_slice(file.get(16384..).unwrap_or(&[]))?;
-    Ok(answer)
-}
-
-/// Bytes after the announced ones are passed over.
-#[test]
-fn long_bodies(rt: HostRuntime) -> Result<(), Fail> {
-    let answer = long_body(rt.alloc(), &f2(rt.alloc())?)?;
-    let steps = [
-        Opens(240, 240, 16, 16),
-        Asks(FIRST, None),
-        Takes(Text(&answer), 1),
-        Opens(0, 99, 1, 1),
-        Asks((16384, 32767), Some(OLD)),
-    ];
-    let found = new_session(rt.alloc(), &[])?.go(rt.alloc(), &steps)?;
-    assert_eq!(rt; found, None);
+fn lengths_of_heads(rt: HostRuntime) -> Result<(), Fail> {
+    assert!(rt; are_lengths_right(rt.alloc())?);
     Ok(())
 }
 
@@ -342,13 +348,19 @@ fn body_otherwise(alloc: Global, session: &mut Session<'_>) -> Result<Option<usi
     Ok(None)
 }
 
+/// The first front of a head that isn't ignored as one, or else of a body that doesn't bring its blocks.
+fn front_otherwise(alloc: Global, file: &[u8]) -> Result<Option<usize>, NotDone> {
+    let files = only(file);
+    let mut session = asking(alloc, &files)?;
+    match head_otherwise(alloc, &mut session)? {
+        None => body_otherwise(alloc, &mut session),
+        front => Ok(front),
+    }
+}
+
 #[test]
 fn fronts(rt: HostRuntime) -> Result<(), Fail> {
     let file = f2(rt.alloc())?;
-    let files = only(&file);
-    let mut session = new_session(rt.alloc(), &files)?;
-    session.go(rt.alloc(), &[Opens(240, 240, 16, 16), Asks(FIRST, None)])?;
-    assert_eq!(rt; head_otherwise(rt.alloc(), &mut session)?, None);
-    assert_eq!(rt; body_otherwise(rt.alloc(), &mut session)?, None);
+    assert_eq!(rt; front_otherwise(rt.alloc(), &file)?, None);
     Ok(())
 }

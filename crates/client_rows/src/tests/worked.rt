@@ -5,7 +5,7 @@ use client_aid::Step::{
     Asks, AsksNothing, Forgets, Ignores, IsSilent, Opens, Reads, Reports, Restarts, Stands, Takes,
 };
 use client_aid::{Course, F2_REPLACED, F2_TWICE, FIRST, NEW, NOT_FOUND, OLD, TAGS};
-use reader_aid::Want;
+use reader_aid::{Fixture, Want};
 use std::test::Fail;
 
 /// The last tile of f2, and of f2b.
@@ -13,10 +13,31 @@ pub const OF_ONES: Want<'static> = Want::Window(16, 16, 1, 8, &[0xff; 256]);
 
 pub const OF_ZEROS: Want<'static> = Want::Window(16, 16, 1, 8, &[0; 256]);
 
+/// A window of f1, and of f1m.
+const SMALL: Want<'static> = Want::Window(3, 2, 1, 8, &[0x12, 0x13, 0x14, 0x22, 0x23, 0x24]);
+
 /// The tag of the first publication of a later epoch.
 const LATER: &str = "\"2-1\"";
 
-const ROWS: [Course<'static>; 7] = [
+const ROWS: [Course<'static>; 8] = [
+    Course {
+        name: "one window",
+        tags: TAGS,
+        files: [Fixture::F1, Fixture::F1m],
+        steps: &[
+            Opens(2, 1, 3, 2),
+            Asks(FIRST, None),
+            IsSilent,
+            Takes(Part(0, 0, 377), 1),
+            Reports(OLD, SMALL),
+            AsksNothing,
+            Reports(OLD, SMALL),
+            Forgets,
+            Asks(FIRST, None),
+            Takes(Part(1, 0, 377), 1),
+            Reports(NEW, SMALL),
+        ],
+    },
     Course {
         name: "two exchanges",
         tags: TAGS,
