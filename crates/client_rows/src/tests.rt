@@ -1,39 +1,28 @@
-use tiff_dir::{Pick, Query};
+use client_aid::{Course, NotDone, OLD, Publication, Session, client_of_a, first_otherwise};
+use std::alloc::Global;
+use std::process::Abort;
+use std::test::Fail;
 
-/// The window of level 0, in the value of a constant.
-macro_rules! window {
-    ($x:expr, $y:expr, $w:expr, $h:expr) => {
-        tiff_dir::Query::Window {
-            x: $x,
-            y: $y,
-            w: $w,
-            h: $h,
-            pick: tiff_dir::Pick::Level(0),
-        }
-    };
-}
-
-mod answers;
-mod calls;
 mod cases;
 mod checks;
 mod limits;
 mod reports;
-mod steps;
 mod strange;
 mod worked;
 
-/// A window of a level, by its number.
-fn of_level(x: u32, y: u32, w: u32, h: u32, n: u32) -> Query {
-    let pick = Pick::Level(n);
-    Query::Window { x, y, w, h, pick }
+/// Expects that every course goes as its steps say.
+fn expect(rt: &(impl Abort + AllocGlobal), courses: &[Course<'_>]) -> Result<(), Fail> {
+    let found = first_otherwise(rt.alloc(), courses)?;
+    assert!(rt; found.is_none(), "{found:?}");
+    Ok(())
 }
 
-/// The window of the last tile of f2.
-const LAST_TILE: Query = Query::Window {
-    x: 240,
-    y: 240,
-    w: 16,
-    h: 16,
-    pick: Pick::Level(0),
-};
+/// One publication, twice.
+fn only(file: &[u8]) -> [Publication<'_>; 2] {
+    [Publication { tag: OLD, file }; 2]
+}
+
+/// A new client whose answers are of these publications.
+fn new_session<'a>(alloc: Global, files: &'a [Publication<'a>]) -> Result<Session<'a>, NotDone> {
+    Ok(Session::new(client_of_a(alloc, 66)?, files))
+}

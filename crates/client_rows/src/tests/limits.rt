@@ -1,116 +1,126 @@
 //! Clients that are made, and those that aren't.
-use super::calls::{expect_no_report, expect_state};
-use super::of_level;
-use cog_client::{Client, ClientError};
-use std::process::Abort;
+use client_aid::NotDone;
+use cog_client::{Client, ClientError, Memory};
+use reader_aid::of_level;
+use std::alloc::{AllocError, Global};
 use std::test::Fail;
 
-/// Expects that no client is made, under this number.
-fn expect_refused(
-    rt: &(impl Abort + AllocGlobal),
-    host: &[u8],
-    name: &[u8],
-    blocks: u32,
-    number: u8,
-) {
-    match Client::new(rt.alloc(), host, name, blocks) {
-        Ok(_) => panic!(rt; "a client is made"),
-        Err(refusal) => assert_eq!(rt; refusal.number(), number),
+/// A host, a name, a number of blocks, and the number of the refusal.
+type Row = (&'static [u8], &'static [u8], u32, u8);
+
+const REFUSED: [Row; 27] = [
+    (b"", b"a", 66, 1),
+    (&[b'h'; 65], b"a", 66, 1),
+    (b"a b", b"a", 66, 1),
+    (b"a/b", b"a", 66, 1),
+    (b"a_b", b"a", 66, 1),
+    (b"a@b", b"a", 66, 1),
+    (b"a\r\nb", b"a", 66, 1),
+    (b"[::1]", b"a", 66, 1),
+    (b"\xc3\xa4", b"a", 66, 1),
+    (b"h", b"", 66, 2),
+    (b"h", &[b'a'; 201], 66, 2),
+    (b"h", b"a b", 66, 2),
+    (b"h", b"a?b", 66, 2),
+    (b"h", b"a#b", 66, 2),
+    (b"h", b"a%20", 66, 2),
+    (b"h", b"a\r\nb", 66, 2),
+    (b"h", b"a:b", 66, 2),
+    (b"h", b"~", 66, 2),
+    (b"h", b"a", 0, 3),
+    (b"h", b"a", 65, 3),
+    (b"h", b"a", 4097, 3),
+    (b"h", b"a", 4294967295, 3),
+    // The first refusal that holds.
+    (b"", b"", 0, 1),
+    (b"", b"a", 0, 1),
+    (b"", b"", 66, 1),
+    (b"h", b"", 0, 2),
+    (b"h", b"a", 0, 3),
+];
+
+/// A host, a name and a number of blocks with which a client is made.
+const MADE: [(&[u8], &[u8], u32); 8] = [
+    (b"h", b"a", 66),
+    (&[b'h'; 64], b"a", 66),
+    (b"az-AZ.09:8080", b"a", 66),
+    (b"cog.test", &[b'a'; 200], 66),
+    (b"h", b"az/AZ/09._-.tif", 66),
+    (b"h", b"a", 67),
+    (b"h", b"a", 4095),
+    (b"h", b"a", 4096),
+];
+
+/// The number of the refusal, 0 where a client is made.
+fn refusal(alloc: Global, host: &[u8], name: &[u8], blocks: u32) -> u8 {
+    match Client::new(alloc, host, name, blocks) {
+        Ok(_client) => 0,
+        Err(refusal) => refusal.number(),
     }
 }
 
-/// Expects that a client is made, which asks for the first bytes.
-fn expect_made(
-    rt: &(impl Abort + AllocGlobal),
-    host: &[u8],
-    name: &[u8],
-    blocks: u32,
-) -> Result<(), Fail> {
-    let alloc = rt.alloc();
-    let mut client = Client::new(alloc, host, name, blocks)?;
-    expect_state(rt, &client, None, None);
-    expect_no_report(rt, &client);
+#[test]
+fn refused(rt: HostRuntime) -> Result<(), Fail> {
+    let found = REFUSED
+        .iter()
+        .position(|row| refusal(rt.alloc(), row.0, row.1, row.2) != row.3);
+    assert_eq!(rt; found, None);
+    Ok(())
+}
+
+/// The first request to a host for a name.
+fn first_request(alloc: Global, host: &[u8], name: &[u8]) -> Result<Vec<u8>, AllocError> {
+    let mut text = Vec::from_slice(alloc, b"GET /")?;
+    text.extend_from_slice(name)?;
+    text.extend_from_slice(b" HTTP/1.1\r\nHost: ")?;
+    text.extend_from_slice(host)?;
+    text.extend_from_slice(b"\r\nRange: bytes=0-65535\r\nConnection: close\r\n\r\n")?;
+    Ok(text)
+}
+
+/// Whether a new client has nothing, and asks for the first bytes.
+fn is_new(client: &mut Client, request: &[u8]) -> Result<bool, Memory> {
+    let is_empty = client.asked().is_none() && client.tag().is_none() && client.report().is_none();
     client.open(of_level(0, 0, 1, 1, 0));
-    let text = client.request()?.ok_or("no request")?;
-    let mut want = Vec::from_slice(alloc, b"GET /")?;
-    for part in [
-        name,
-        b" HTTP/1.1\r\nHost: ",
-        host,
-        b"\r\nRange: bytes=0-65535\r\nConnection: close\r\n\r\n",
-    ] {
-        want.extend_from_slice(part)?;
+    match client.request()? {
+        None => Ok(false),
+        Some(text) => Ok(is_empty && text.as_slice() == request),
     }
-    assert_eq!(rt; text.as_slice(), want.as_slice());
+}
+
+/// Whether a client is made, which asks for the first bytes.
+fn is_made(alloc: Global, host: &[u8], name: &[u8], blocks: u32) -> Result<bool, NotDone> {
+    let request = first_request(alloc, host, name)?;
+    match Client::new(alloc, host, name, blocks) {
+        Err(_) => Ok(false),
+        Ok(mut client) => Ok(is_new(&mut client, &request)?),
+    }
+}
+
+/// The first of these clients that isn't made.
+fn first_unmade(alloc: Global) -> Result<Option<usize>, NotDone> {
+    for (i, (host, name, blocks)) in MADE.iter().enumerate() {
+        if !is_made(alloc, host, name, *blocks)? {
+            return Ok(Some(i));
+        }
+    }
+    Ok(None)
+}
+
+#[test]
+fn made(rt: HostRuntime) -> Result<(), Fail> {
+    assert_eq!(rt; first_unmade(rt.alloc())?, None);
     Ok(())
 }
 
 #[test]
 fn numbers(rt: HostRuntime) {
-    for (refusal, want) in [
+    for (refusal, number) in [
         (ClientError::Host, 1),
         (ClientError::Name, 2),
         (ClientError::Blocks, 3),
         (ClientError::Memory, 4),
     ] {
-        assert_eq!(rt; refusal.number(), want);
+        assert_eq!(rt; refusal.number(), number);
     }
-}
-
-#[test]
-fn hosts(rt: HostRuntime) -> Result<(), Fail> {
-    let long = [b'h'; 65];
-    expect_refused(&rt, b"", b"a", 66, 1);
-    expect_refused(&rt, &long, b"a", 66, 1);
-    expect_made(&rt, &long[1..], b"a", 66)?;
-    expect_made(&rt, b"h", b"a", 66)?;
-    expect_made(&rt, b"az-AZ.09:8080", b"a", 66)?;
-    let hosts: [&[u8]; 7] = [
-        b"a b",
-        b"a/b",
-        b"a_b",
-        b"a@b",
-        b"a\r\nb",
-        b"[::1]",
-        b"\xc3\xa4",
-    ];
-    for host in hosts {
-        expect_refused(&rt, host, b"a", 66, 1);
-    }
-    Ok(())
-}
-
-#[test]
-fn names(rt: HostRuntime) -> Result<(), Fail> {
-    let long = [b'a'; 201];
-    expect_refused(&rt, b"h", b"", 66, 2);
-    expect_refused(&rt, b"h", &long, 66, 2);
-    expect_made(&rt, b"h", &long[1..], 66)?;
-    expect_made(&rt, b"h", b"az/AZ/09._-.tif", 66)?;
-    let names: [&[u8]; 7] = [b"a b", b"a?b", b"a#b", b"a%20", b"a\r\nb", b"a:b", b"~"];
-    for name in names {
-        expect_refused(&rt, b"h", name, 66, 2);
-    }
-    Ok(())
-}
-
-#[test]
-fn blocks(rt: HostRuntime) -> Result<(), Fail> {
-    for blocks in [0, 65, 4097, u32::MAX] {
-        expect_refused(&rt, b"h", b"a", blocks, 3);
-    }
-    for blocks in [66, 67, 4096] {
-        expect_made(&rt, b"h", b"a", blocks)?;
-    }
-    Ok(())
-}
-
-/// The first refusal that holds.
-#[test]
-fn first_refusals(rt: HostRuntime) {
-    expect_refused(&rt, b"", b"", 0, 1);
-    expect_refused(&rt, b"", b"a", 0, 1);
-    expect_refused(&rt, b"", b"", 66, 1);
-    expect_refused(&rt, b"h", b"", 0, 2);
-    expect_refused(&rt, b"h", b"a", 0, 3);
 }

@@ -1,109 +1,23 @@
-//! Reports of each kind, and their copies.
-use super::answers::Publication;
-use super::calls::{Want, asking, expect_no_request, expect_report, is_wanted, read};
-use super::of_level;
-use cog_client::{Client, Info, Outcome};
-use fixtures::{f1, f3, f4, f6, f6m};
-use geokeys::{Geo, Key, KeyValue};
-use std::alloc::{AllocError, Global};
-use std::process::Abort;
+//! Reports of each kind after one exchange, and their copies.
+use super::{expect, new_session, only};
+use client_aid::Answer::Part;
+use client_aid::Step::{Asks, AsksNothing, Copies, Open, Opens, Reads, Reports, Takes};
+use client_aid::{Course, FIRST, NotDone, OLD, TAGS};
+use reader_aid::{FACTS_OF_F3, Facts, Fixture, NO_FACTS, Numbers, Want, change, of_level, window};
+use std::alloc::Global;
 use std::test::Fail;
-use tiff_dir::{FileFault, Query};
+use tiff_dir::{FileFault, Pick, Query};
 
-const TAG: &str = "\"1-1\"";
-
-/// The keys of f3.
-fn keys_of_f3(alloc: Global) -> Result<Vec<Key>, AllocError> {
-    let citation = Vec::from_slice(alloc, b"WGS 84|")?;
-    let axis = vec![in alloc; [1, 2, 3, 4, 5, 6, 7, 8]]?;
-    let mut keys = Vec::new(alloc);
-    for (id, value) in [
-        (1024, KeyValue::Short(2)),
-        (1026, KeyValue::Ascii(citation)),
-        (2057, KeyValue::Doubles(axis)),
-    ] {
-        keys.push(Key { id, value })?;
-    }
-    Ok(keys)
-}
-
-/// What Info says of f3.
-pub fn info_of_f3(alloc: Global) -> Result<Outcome, AllocError> {
-    let one = [0x3f, 0xf0, 0, 0, 0, 0, 0, 0];
-    Ok(Outcome::Info(Info {
-        sides: vec![in alloc; (32, 32), (16, 16)]?,
-        geo: Geo {
-            minor: 0,
-            keys: keys_of_f3(alloc)?,
-        },
-        scale: Some(vec![in alloc; one, one, one]?),
-        tiepoints: None,
-        transformation: None,
-    }))
-}
-
-/// What Info says of f1.
-fn info_of_f1(alloc: Global) -> Result<Outcome, AllocError> {
-    Ok(Outcome::Info(Info {
-        sides: vec![in alloc; (16, 16)]?,
-        geo: Geo {
-            minor: 0,
-            keys: Vec::new(alloc),
-        },
-        scale: None,
-        tiepoints: None,
-        transformation: None,
-    }))
-}
-
-/// Expects that a copy of the report is equal to it, also once the client is asked something else.
-fn expect_copy(rt: &(impl Abort + AllocGlobal), client: &mut Client) -> Result<(), Fail> {
-    let report = client.report().ok_or("no report")?;
-    let copy = report.copy(rt.alloc())?;
-    let again = copy.copy(rt.alloc())?;
-    assert_eq!(rt; copy.query, report.query);
-    assert!(rt; copy.tag == report.tag);
-    assert_eq!(rt; copy.outcome, report.outcome);
-    client.forget();
-    assert_eq!(rt; again.query, copy.query);
-    assert!(rt; again.tag == copy.tag);
-    assert_eq!(rt; again.outcome, copy.outcome);
-    Ok(())
-}
-
-/// Expects what Info says of a file.
-fn expect_info(rt: &(impl Abort + AllocGlobal), file: &[u8], want: &Outcome) -> Result<(), Fail> {
-    let first = Publication { tag: TAG, file };
-    let mut client = asking(rt, Query::Info)?;
-    assert_eq!(rt; read(rt.alloc(), &mut client, first)?, 1);
-    let report = client.report().ok_or("no report")?;
-    assert_eq!(rt; report.query, Query::Info);
-    assert_eq!(rt; report.tag.as_bytes(), TAG.as_bytes());
-    assert_eq!(rt; &report.outcome, want);
-    expect_no_request(rt, &mut client)?;
-    expect_copy(rt, &mut client)
-}
-
-#[test]
-fn infos(rt: HostRuntime) -> Result<(), Fail> {
-    let want = info_of_f3(rt.alloc())?;
-    expect_info(&rt, &f3(rt.alloc())?, &want)?;
-    let want = info_of_f1(rt.alloc())?;
-    expect_info(&rt, &f1(rt.alloc())?, &want)
-}
-
-/// Expects the report of a query, and a copy of it.
-fn expect_outcome(
-    rt: &(impl Abort + AllocGlobal),
+/// The number of the first step that goes otherwise, where a new client is answered with the whole file.
+fn exchange_otherwise(
+    alloc: Global,
     file: &[u8],
     query: Query,
     want: Want<'_>,
-) -> Result<(), Fail> {
-    let first = Publication { tag: TAG, file };
-    let mut client = asking(rt, query)?;
-    assert_eq!(rt; read(rt.alloc(), &mut client, first)?, 1);
-    expect_report(rt, &client, query, TAG, want)?;
-    expect_copy(rt, &mut client)
+) -> Result<Option<usize>, NotDone> {
+    let files = only(file);
+    let steps = [Open(query), Reads(0, 1), Reports(OLD, want), Copies];
+    new_session(alloc, &files)?.go(alloc, &steps)
 }
 
 /// The window where three of f4's tiles meet a fourth.
@@ -117,52 +31,230 @@ const DEEP: [u8; 12] = [
     0x80, 0x12, 0x80, 0x13, 0x80, 0x14, 0x80, 0x22, 0x80, 0x23, 0x80, 0x24,
 ];
 
-#[test]
-fn windows_and_faults(rt: HostRuntime) -> Result<(), Fail> {
-    let file = f4(rt.alloc())?;
-    let colours = Want::Window(3, 3, 3, 8, &CORNER);
-    expect_outcome(&rt, &file, of_level(15, 15, 3, 3, 0), colours)?;
-    for file in [f6(rt.alloc())?, f6m(rt.alloc())?] {
-        let deep = Want::Window(3, 2, 1, 16, &DEEP);
-        expect_outcome(&rt, &file, of_level(2, 1, 3, 2, 0), deep)?;
-    }
-    let mut file = f1(rt.alloc())?;
-    let outside = Want::Fault(FileFault::Outside);
-    expect_outcome(&rt, &file, of_level(0, 0, 1, 1, 1), outside)?;
-    if let Some(byte) = file.get_mut(54) {
-        *byte = 5;
-    }
-    let unsupported = Want::Fault(FileFault::Unsupported(259));
-    expect_outcome(&rt, &file, Query::Info, unsupported)
-}
+/// Samples of two rows of a file of one tile.
+const SMALL: [u8; 6] = [0x12, 0x13, 0x14, 0x22, 0x23, 0x24];
 
-/// Windows of two levels and Info in turn, after one answer.
-#[test]
-fn in_turn(rt: HostRuntime) -> Result<(), Fail> {
-    let file = f3(rt.alloc())?;
-    let first = Publication {
-        tag: TAG,
-        file: &file,
-    };
-    let mut client = asking(&rt, of_level(15, 15, 2, 2, 0))?;
-    assert_eq!(rt; read(rt.alloc(), &mut client, first)?, 1);
-    let info = info_of_f3(rt.alloc())?;
-    let large = Want::Window(2, 1, 1, 8, &[0x10, 0x11]);
-    let small = Want::Window(1, 3, 1, 8, &[4, 5, 6]);
-    for _ in 0..2 {
-        for (query, want) in [
-            (of_level(15, 15, 2, 1, 0), large),
-            (of_level(3, 4, 1, 3, 1), small),
-        ] {
-            client.open(query);
-            expect_no_request(&rt, &mut client)?;
-            expect_report(&rt, &client, query, TAG, want)?;
-            client.open(Query::Info);
-            expect_no_request(&rt, &mut client)?;
-            let report = client.report().ok_or("no report")?;
-            assert_eq!(rt; report.outcome, info);
-            assert!(rt; !is_wanted(&report.outcome, want));
+const OUTSIDE: Want<'static> = Want::Fault(FileFault::Outside);
+
+const FACTS_OF_F1: Facts<'static> = Facts {
+    sides: &[(16, 16)],
+    ..NO_FACTS
+};
+
+/// A file, bytes that are put at a place of it, a window or else Info, and the outcome.
+type Row = (
+    Fixture,
+    (usize, &'static [u8]),
+    Option<Numbers>,
+    Want<'static>,
+);
+
+const ROWS: [Row; 20] = [
+    (
+        Fixture::F1,
+        (0, b""),
+        Some((2, 1, 3, 2, Pick::Level(0))),
+        Want::Window(3, 2, 1, 8, &SMALL),
+    ),
+    (
+        Fixture::F1m,
+        (0, b""),
+        Some((2, 1, 3, 2, Pick::Level(0))),
+        Want::Window(3, 2, 1, 8, &SMALL),
+    ),
+    (
+        Fixture::F1,
+        (0, b""),
+        Some((15, 15, 1, 1, Pick::Level(0))),
+        Want::Window(1, 1, 1, 8, &[0xff]),
+    ),
+    (
+        Fixture::F1,
+        (0, b""),
+        Some((16, 0, 1, 1, Pick::Level(0))),
+        OUTSIDE,
+    ),
+    (
+        Fixture::F1,
+        (0, b""),
+        Some((0, 0, 0, 1, Pick::Level(0))),
+        OUTSIDE,
+    ),
+    (
+        Fixture::F1,
+        (0, b""),
+        Some((4294967295, 0, 2, 1, Pick::Level(0))),
+        OUTSIDE,
+    ),
+    (
+        Fixture::F3,
+        (0, b""),
+        Some((15, 15, 2, 2, Pick::Level(0))),
+        Want::Window(2, 2, 1, 8, &[0x10, 0x11, 0x12, 0x13]),
+    ),
+    (
+        Fixture::F3,
+        (0, b""),
+        Some((5, 0, 3, 1, Pick::Columns(1))),
+        Want::Window(2, 1, 1, 8, &[0, 0]),
+    ),
+    (
+        Fixture::F4,
+        (0, b""),
+        Some((15, 15, 3, 3, Pick::Level(0))),
+        Want::Window(3, 3, 3, 8, &CORNER),
+    ),
+    (
+        Fixture::F6,
+        (0, b""),
+        Some((2, 1, 3, 2, Pick::Level(0))),
+        Want::Window(3, 2, 1, 16, &DEEP),
+    ),
+    (
+        Fixture::F6m,
+        (0, b""),
+        Some((2, 1, 3, 2, Pick::Level(0))),
+        Want::Window(3, 2, 1, 16, &DEEP),
+    ),
+    (
+        Fixture::F1,
+        (118, &[8]),
+        Some((0, 0, 1, 1, Pick::Level(0))),
+        Want::Fault(FileFault::TooManyDirs),
+    ),
+    (
+        Fixture::F1,
+        (54, &[5]),
+        Some((0, 0, 1, 1, Pick::Level(0))),
+        Want::Fault(FileFault::Unsupported(259)),
+    ),
+    (
+        Fixture::F1,
+        (114, &[255, 0]),
+        Some((0, 0, 1, 1, Pick::Level(0))),
+        Want::Fault(FileFault::TileSize),
+    ),
+    (
+        Fixture::F3,
+        (1454, &[0xf2]),
+        Some((0, 0, 1, 1, Pick::Level(1))),
+        Want::Fault(FileFault::Packet),
+    ),
+    (
+        Fixture::F3,
+        (1454, &[0xf2]),
+        Some((0, 0, 1, 1, Pick::Level(0))),
+        Want::Window(1, 1, 1, 8, &[0x10]),
+    ),
+    (
+        Fixture::F1,
+        (0, b""),
+        Some((0, 0, 1, 1, Pick::Level(1))),
+        OUTSIDE,
+    ),
+    (
+        Fixture::F1,
+        (54, &[5]),
+        None,
+        Want::Fault(FileFault::Unsupported(259)),
+    ),
+    (Fixture::F1, (0, b""), None, Want::Info(FACTS_OF_F1)),
+    (Fixture::F3, (0, b""), None, Want::Info(FACTS_OF_F3)),
+];
+
+/// The first of these rows that goes otherwise, and the number of its step.
+fn row_otherwise(alloc: Global, rows: &[Row]) -> Result<Option<(usize, usize)>, NotDone> {
+    for (i, row) in rows.iter().enumerate() {
+        let (fixture, (place, bytes), numbers, want) = *row;
+        let mut file = fixture.file(alloc)?;
+        change(&mut file, place, bytes);
+        let query = match numbers {
+            Some(numbers) => window(numbers),
+            None => Query::Info,
+        };
+        if let Some(step) = exchange_otherwise(alloc, &file, query, want)? {
+            return Ok(Some((i, step)));
         }
     }
+    Ok(None)
+}
+
+#[test]
+fn rows(rt: HostRuntime) -> Result<(), Fail> {
+    assert_eq!(rt; row_otherwise(rt.alloc(), &ROWS)?, None);
     Ok(())
+}
+
+/// The rows of level 1 of f3.
+fn small_rows(alloc: Global) -> Result<Vec<u8>, NotDone> {
+    let mut rows = Vec::new(alloc);
+    for row in 0..16u8 {
+        rows.extend_from_slice(&[row; 16])?;
+    }
+    Ok(rows)
+}
+
+/// The first step that goes otherwise where f3 is asked for the level that has 16 columns.
+fn level_otherwise(alloc: Global) -> Result<Option<usize>, NotDone> {
+    let rows = small_rows(alloc)?;
+    let file = Fixture::F3.file(alloc)?;
+    let query = window((0, 0, 32, 32, Pick::Columns(16)));
+    exchange_otherwise(alloc, &file, query, Want::Window(16, 16, 1, 8, &rows))
+}
+
+/// The first step that goes otherwise where f1 lacks its last byte.
+fn short_otherwise(alloc: Global) -> Result<Option<usize>, NotDone> {
+    let mut file = Fixture::F1.file(alloc)?;
+    file.truncate(377);
+    let want = Want::Fault(FileFault::PastEnd);
+    exchange_otherwise(alloc, &file, of_level(0, 0, 1, 1, 0), want)
+}
+
+#[test]
+fn levels_and_ends(rt: HostRuntime) -> Result<(), Fail> {
+    assert_eq!(rt; level_otherwise(rt.alloc())?, None);
+    assert_eq!(rt; short_otherwise(rt.alloc())?, None);
+    Ok(())
+}
+
+/// Windows of two levels of f3 in turn.
+const LARGE: Want<'static> = Want::Window(2, 1, 1, 8, &[0x10, 0x11]);
+
+const THIN_WINDOW: Query = Query::Window {
+    x: 3,
+    y: 4,
+    w: 1,
+    h: 3,
+    pick: Pick::Level(1),
+};
+
+const THIN: Want<'static> = Want::Window(1, 3, 1, 8, &[4, 5, 6]);
+
+const IN_TURN: [Course<'static>; 1] = [Course {
+    name: "windows and Info in turn",
+    tags: TAGS,
+    files: [Fixture::F3, Fixture::F3],
+    steps: &[
+        Opens(15, 15, 2, 2),
+        Asks(FIRST, None),
+        Takes(Part(0, 0, 1455), 1),
+        Opens(15, 15, 2, 1),
+        AsksNothing,
+        Reports(OLD, LARGE),
+        Open(Query::Info),
+        AsksNothing,
+        Reports(OLD, Want::Info(FACTS_OF_F3)),
+        Open(THIN_WINDOW),
+        AsksNothing,
+        Reports(OLD, THIN),
+        Opens(15, 15, 2, 1),
+        AsksNothing,
+        Reports(OLD, LARGE),
+    ],
+}];
+
+/// After one answer.
+#[test]
+fn in_turn(rt: HostRuntime) -> Result<(), Fail> {
+    expect(&rt, &IN_TURN)
 }
