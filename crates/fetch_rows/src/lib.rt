@@ -1,0 +1,5 @@
+//! Tests of `fetch` over the transports in memory: answers that are lost and cut, want of memory.
+#![tactic(auto)]
+
+#[cfg(test)]
+mod tests;

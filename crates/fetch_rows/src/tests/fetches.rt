@@ -1,0 +1,45 @@
+//! Fetching from a server of one file, which is published as `a`.
+use super::LAST_TILE;
+use cog_client::{Client, Outcome, Query, Report, Transport, fetch};
+use cog_server::Server;
+use std::alloc::Global;
+use std::test::Fail;
+use transports::{Fate, InMemory, Scripted};
+
+/// The report, if one stands in the end, and how many exchanges there were.
+#[derive(Debug, Drop)]
+pub struct Fetched {
+    pub report: Option<Report>,
+    pub exchanges: u64,
+}
+
+/// What a new client fetches where these fates befall the answers.
+pub fn fetch_by(
+    alloc: Global,
+    server: &Server,
+    query: Query,
+    fates: &[Fate],
+    tries: u32,
+) -> Result<Fetched, Fail> {
+    let mut client = Client::new(alloc, b"cog.test", b"a", 66)?;
+    client.open(query);
+    let mut transport = Scripted::new(InMemory::new(server, b"a"), fates);
+    let report = match fetch(&mut client, &mut transport, tries)? {
+        None => None,
+        Some(report) => Some(report.copy(alloc)?),
+    };
+    let exchanges = transport.exchanges();
+    Ok(Fetched { report, exchanges })
+}
+
+/// Whether it is the last tile of f2, whose samples are all 255, under the first tag of the first epoch.
+pub fn is_last_tile(report: &Report) -> bool {
+    let Outcome::Window(found) = &report.outcome else {
+        return false;
+    };
+    report.query == LAST_TILE
+        && report.tag.as_bytes() == b"\"1-1\"".as_slice()
+        && (found.w, found.h) == (16, 16)
+        && (found.samples, found.bits) == (1, 8)
+        && found.pixels.as_slice() == [255; 256].as_slice()
+}
