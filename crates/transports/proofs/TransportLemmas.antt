@@ -1,6 +1,6 @@
 -- That the answers of a server in memory are honest.
 use Rattle.std.proofs.Common.{◌≡◌, ℕ, List, [], Some, sym, ◌∙◌, subst, append-nil}
-use Rattle.http_range.specs.Book.{Publication, Catalogue, published}
+use Rattle.http_range.specs.Book.{Catalogue, published}
 use Rattle.http_range.specs.Response.{Response, IsAnswer, text_of}
 use Rattle.cog_client.specs.Transport.{IsHonestToAll}
 use Rattle.transports.specs.InMemory.{Has, IsAbout}
