@@ -131,10 +131,7 @@ fn effects(rt: HostRuntime) -> Result<(), Fail> {
             "checked 6 \"1-2\" answer 8 304 0 unknown 12\n",
         ),
         (
-            checked(
-                alloc,
-                Current::Unknown(Unknown::NotUsed(Why::Status(404))),
-            ),
+            checked(alloc, Current::Unknown(Unknown::NotUsed(Why::Status(404)))),
             "checked 6 \"1-2\" answer 8 304 0 unknown 3\n",
         ),
     ];
@@ -153,7 +150,10 @@ const DELIVERED: [(Delivered, &str); 8] = [
     (Delivered::Ignored(Ignored::OtherLength), "ignored 11"),
     (Delivered::Ignored(Ignored::NotAsked), "ignored 12"),
     (Delivered::Ignored(Ignored::NotUsed(Why::Cut)), "ignored 1"),
-    (Delivered::Ignored(Ignored::NotUsed(Why::Coding)), "ignored 9"),
+    (
+        Delivered::Ignored(Ignored::NotUsed(Why::Coding)),
+        "ignored 9",
+    ),
     (
         Delivered::Ignored(Ignored::NotUsed(Why::Status(404))),
         "ignored 3 404",
