@@ -5,15 +5,19 @@ use Rattle.clap.specs.declared.error.kind.ErrorKind.TheVariants as kind
 use Rattle.scripts.specs.declared.line.ScriptError.TheVariants as script
 use Rattle.cogtools.specs.declared.fault.Fault.{Fault}
 use Rattle.cogtools.specs.declared.fault.Fault.TheVariants.{NotText, NotAProgram, CommandLine, NotANumber, NotAFile, Script}
-use Rattle.cogtools.specs.declared.fault.Fault.TheVariants.{CantRead, Refused, CantListen, CantAccept, CantWrite, Memory}
+use Rattle.cogtools.specs.declared.fault.Fault.TheVariants.{RefusedClient, OfFile, NoReport, CantRead, Refused, CantListen, CantAccept, CantWrite, Memory}
 
--- 1 for files, sockets, publications and memory, 2 for the command line and scripts; to ask for help is no fault
+-- 1 for files, sockets, publications and memory, 2 for the command line and scripts, 3 for a fault of the file that is read, 4
+-- where there is no report; to ask for help is no fault
 abbrev pub HasStatus : Fault → ℕ → Type 0
 HasStatus NotText n = n ≡ 2
 HasStatus (NotAProgram word) n = n ≡ 2
 HasStatus (CommandLine error) n = kind_of error ≢ kind.DisplayHelp → kind_of error ≢ kind.DisplayVersion → n ≡ 2
 HasStatus (NotANumber word) n = n ≡ 2
 HasStatus (NotAFile word) n = n ≡ 2
+HasStatus (RefusedClient number) n = n ≡ 2
+HasStatus (OfFile fault) n = n ≡ 3
+HasStatus NoReport n = n ≡ 4
 HasStatus (Script (script.NotAnEvent line)) n = n ≡ 2
 HasStatus (Script (script.CantRead line)) n = n ≡ 1
 HasStatus (Script script.Memory) n = n ≡ 1

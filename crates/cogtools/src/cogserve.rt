@@ -2,10 +2,10 @@
 ghost use Rattle.std.specs.Prelude.{◌<◌, length};
 
 use crate::fault::Fault;
-use crate::line::serve_line;
-use crate::number::number_from;
+use crate::number::number;
 use crate::watched::Watched;
 use cog_server::{ServeError, Served, Server, Stream};
+use command_lines::serve_line;
 use http_range::Tag;
 use std::alloc::AllocError;
 use std::net::{Net, OpenListener, TcpListener, TcpStream};
@@ -17,8 +17,8 @@ where
     R: Files + Clock + Print + AllocGlobal + Net<Listener = TcpListener, Stream = TcpStream>,
 {
     let line = serve_line(rt.alloc(), words)?;
-    let epoch = number(rt, line.epoch, 0)?;
-    let connections = number(rt, line.connections, 1)?;
+    let epoch = number(rt, line.epoch, 0, u32::MAX)?;
+    let connections = number(rt, line.connections, 1, u32::MAX)?;
     let mut files = files_of(rt, &line.files)?;
     let mut server = Server::new(rt.alloc(), epoch);
     publish_all(rt, &mut server, &mut files)?;
@@ -27,14 +27,6 @@ where
     };
     println!(rt; "listening {}", line.listen)?;
     serve_connections(rt, &mut server, &mut files, &listener, connections)
-}
-
-/// The number that a word writes, if it is at least so large.
-fn number<R: AllocGlobal>(rt: &R, word: &str, least: u32) -> Result<u32, Fault> {
-    match number_from(word, least) {
-        Some(n) => Ok(n),
-        None => Err(Fault::NotANumber(String::from_str(rt.alloc(), word)?)),
-    }
 }
 
 /// The files that the words name as `NAME=PATH`, cut at the first `=`.

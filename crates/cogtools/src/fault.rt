@@ -1,8 +1,10 @@
 //! Why a program ends early.
+use cog_client::FetchError;
 use http_range::Memory;
 use scripts::ScriptError;
 use std::alloc::AllocError;
 use std::{fmt, io};
+use tiff_dir::FileFault;
 
 /// Why a program ends early.
 #[derive(Drop)]
@@ -22,6 +24,12 @@ pub enum Fault {
     CantRead(String),
     /// The file of this name isn't published, under this number.
     Refused(u8, String),
+    /// No client of the host and name is made, for this number.
+    RefusedClient(u8),
+    /// The report is this fault of the file.
+    OfFile(FileFault),
+    /// No report stands after all requests.
+    NoReport,
     /// The address can't be bound.
     CantListen,
     /// No connection can be accepted any more.
@@ -34,7 +42,8 @@ pub enum Fault {
 impl Fault {
     ghost use Rattle.cogtools.specs.Status.{HasStatus};
 
-    /// The exit status: 1 for files, sockets, publications and memory, 2 for the command line and scripts.
+    /// The exit status: 1 for files, sockets, publications and memory, 2 for the command line and scripts, 3 for a fault of the file
+    /// that is read, and 4 where there is no report.
     pub fn status(&self) -> u8
         ensures { HasStatus self.now result }
     {
@@ -45,7 +54,10 @@ impl Fault {
             | Fault::CommandLine(_)
             | Fault::NotANumber(_)
             | Fault::NotAFile(_)
+            | Fault::RefusedClient(_)
             | Fault::Script(ScriptError::NotAnEvent(_)) => 2,
+            Fault::OfFile(_) => 3,
+            Fault::NoReport => 4,
             Fault::Script(_)
             | Fault::CantRead(_)
             | Fault::Refused(_, _)
@@ -85,6 +97,12 @@ impl fmt::Display for FaultLine<'_> {
             Fault::NotAFile(word) => write!(f, "{program}: not a file: {word}"),
             Fault::CantRead(path) => write!(f, "{program}: can't read {path}"),
             Fault::Refused(number, name) => write!(f, "{program}: refused {number} {name}"),
+            Fault::RefusedClient(number) => write!(f, "{program}: refused {number}"),
+            Fault::OfFile(fault) => match fault.tag() {
+                Some(tag) => write!(f, "{program}: fault {} {tag}", fault.number()),
+                None => write!(f, "{program}: fault {}", fault.number()),
+            },
+            Fault::NoReport => write!(f, "{program}: no report"),
             Fault::CantListen => write!(f, "{program}: can't listen"),
             Fault::CantAccept => write!(f, "{program}: can't accept"),
             Fault::CantWrite => write!(f, "{program}: can't write"),
@@ -104,6 +122,14 @@ impl From<AllocError> for Fault {
 impl From<Memory> for Fault {
     fn from(_refused: Memory) -> Fault {
         Fault::Memory
+    }
+}
+
+impl From<FetchError> for Fault {
+    fn from(error: FetchError) -> Fault {
+        match error {
+            FetchError::Memory => Fault::Memory,
+        }
     }
 }
 

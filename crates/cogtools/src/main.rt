@@ -2,10 +2,10 @@
 //! with its file from memory.
 #![tactic(auto)]
 
+mod cogread;
 mod cogserve;
 mod cogworld;
 mod fault;
-mod line;
 mod number;
 mod watched;
 
@@ -18,10 +18,13 @@ use std::rt::Runtime;
 
 const HELP: &str = "\
 Usage: cogtools cogserve --listen HOST:PORT --epoch N --connections N NAME=PATH..
+       cogtools cogread window SERVER NAME X Y W H [--level N] [--columns C]
+       cogtools cogread info SERVER NAME
        cogtools cogworld SCRIPT
 
 Programs:
   cogserve  Serves files over HTTP by single byte ranges
+  cogread   Reads a window or the info of a file over HTTP by single byte ranges
   cogworld  Runs a script of events and prints its log
 
 Without a word a stored script is run.";
@@ -41,6 +44,7 @@ fn program_of(words: &[String]) -> &'static str {
         return "cogworld";
     };
     match program.as_str() {
+        "cogread" => "cogread",
         "cogserve" => "cogserve",
         "cogworld" => "cogworld",
         _ => "cogtools",
@@ -56,6 +60,7 @@ where
         return cogworld::run_stored(rt);
     };
     match program.as_str() {
+        "cogread" => cogread::run_line(rt, &words[1..]),
         "cogserve" => cogserve::run_line(rt, &words[1..]),
         "cogworld" => cogworld::run_line(rt, &words[1..]),
         "-h" | "--help" => Ok(rt.println(HELP)?),

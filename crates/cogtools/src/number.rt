@@ -1,15 +1,11 @@
 //! Numbers of command lines.
-ghost use Rattle.std.specs.Prelude.{◌≡◌};
-ghost use Rattle.cogtools.specs.Number.{number_from};
+use crate::fault::Fault;
+use command_lines::number_from;
 
-use http_parts::digits::number_64;
-
-/// The number that a word of 1 to 10 decimal digits writes, if it is from `least` to 4,294,967,295.
-pub fn number_from(word: &str, least: u32) -> Option<u32>
-    ensures { result ≡ number_from least word.now }
-{
-    match number_64(word.as_bytes()) {
-        Some(n) if word.len() <= 10 && u64::from(least) <= n && n <= 4294967295 => Some(n as u32),
-        _ => None,
+/// The number that a word writes, from `least` to `greatest`.
+pub fn number<R: AllocGlobal>(rt: &R, word: &str, least: u32, greatest: u32) -> Result<u32, Fault> {
+    match number_from(word, least, greatest) {
+        Some(n) => Ok(n),
+        None => Err(Fault::NotANumber(String::from_str(rt.alloc(), word)?)),
     }
 }

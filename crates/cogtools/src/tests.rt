@@ -1,16 +1,18 @@
+mod cogread;
 mod cogserve;
 
-use super::run_words;
-use crate::fault::Fault;
+use crate::fault::{Fault, FaultLine};
+use crate::{program_of, run_words};
 use scripts::ScriptError;
 use std::fs;
 use std::net::{Net, TcpListener, TcpStream};
 use std::process::Abort;
 use std::rt::Runtime;
 use std::test::Fail;
+use tiff_dir::FileFault;
 
-/// What the command line of these words, after the command's own name, ends with: 0, or the status of its fault.
-fn status_of<R>(rt: &R, words: &[&str]) -> Result<u8, Fail>
+/// The line and the status of the fault that these words end with, after the command's own name.
+fn told<R>(rt: &R, words: &[&str]) -> Result<(String, u8), Fail>
 where
     R: Runtime + AllocGlobal + Net<Listener = TcpListener, Stream = TcpStream>,
 {
@@ -20,14 +22,30 @@ where
         line.push(String::from_str(rt.alloc(), word)?)?;
     }
     match run_words(rt, &line) {
-        Ok(()) => Ok(0),
-        Err(fault) => Ok(fault.status()),
+        Ok(()) => Ok((String::new(rt.alloc()), 0)),
+        Err(fault) => {
+            let program = program_of(&line);
+            let text = FaultLine {
+                program,
+                fault: &fault,
+            };
+            Ok((format!(in rt.alloc(); "{text}")?, fault.status()))
+        }
     }
+}
+
+/// What the command line of these words, after the command's own name, ends with: 0, or the status of its fault.
+fn status_of<R>(rt: &R, words: &[&str]) -> Result<u8, Fail>
+where
+    R: Runtime + AllocGlobal + Net<Listener = TcpListener, Stream = TcpStream>,
+{
+    let (_, status) = told(rt, words)?;
+    Ok(status)
 }
 
 #[test]
 fn command_lines(rt: HostRuntime) -> Result<(), Fail> {
-    let table: [(&[&str], u8); 9] = [
+    let table: [(&[&str], u8); 13] = [
         (&[], 0),
         (&["--help"], 0),
         (&["-h"], 0),
@@ -36,6 +54,10 @@ fn command_lines(rt: HostRuntime) -> Result<(), Fail> {
         (&["cogworld", "a", "b"], 2),
         (&["cogworld", "--fast", "a"], 2),
         (&["world"], 2),
+        (&["cogread", "--help"], 0),
+        (&["cogread", "window", "--help"], 0),
+        (&["cogread"], 2),
+        (&["cogread", "info", "h:1"], 2),
         (&["cogworld", "cogtools_test_nowhere"], 1),
     ];
     for (words, want) in table {
@@ -77,4 +99,7 @@ fn statuses(rt: HostRuntime) {
     assert_eq!(rt; Fault::CantWrite.status(), 1);
     assert_eq!(rt; Fault::Memory.status(), 1);
     assert_eq!(rt; Fault::NotText.status(), 2);
+    assert_eq!(rt; Fault::RefusedClient(1).status(), 2);
+    assert_eq!(rt; Fault::OfFile(FileFault::Header).status(), 3);
+    assert_eq!(rt; Fault::NoReport.status(), 4);
 }

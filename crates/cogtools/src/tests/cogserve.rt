@@ -1,10 +1,8 @@
 //! Tests of `cogserve`: its words, its fault lines, and connections over loopback.
+use super::told;
 use crate::cogserve::{publish_all, serve_connections};
-use crate::fault::{Fault, FaultLine};
-use crate::line::serve_line;
+use crate::fault::Fault;
 use crate::watched::Watched;
-use crate::{program_of, run_words};
-use clap::error::ErrorKind;
 use cog_server::Server;
 use fixtures::f1;
 use std::io::{Read, Write};
@@ -13,79 +11,6 @@ use std::process::Abort;
 use std::rt::Runtime;
 use std::test::Fail;
 use std::{fs, io};
-
-#[test]
-fn words_are_read(rt: HostRuntime) -> Result<(), Fail> {
-    let words = [
-        "cogserve",
-        "--listen",
-        "h:1",
-        "--epoch",
-        "1",
-        "--connections",
-        "2",
-        "a=p",
-    ];
-    let line = serve_line(rt.alloc(), words.as_slice())?;
-    assert_eq!(rt; line.listen, "h:1");
-    assert_eq!(rt; line.epoch, "1");
-    assert_eq!(rt; line.connections, "2");
-    assert_eq!(rt; line.files.as_slice(), ["a=p"].as_slice());
-    Ok(())
-}
-
-#[test]
-fn words_that_are_refused(rt: HostRuntime) {
-    let table: [(&[&str], ErrorKind); 4] = [
-        (&["cogserve", "--help"], ErrorKind::DisplayHelp),
-        (
-            &[
-                "cogserve",
-                "--listen",
-                "h:1",
-                "--epoch",
-                "1",
-                "--connections",
-                "2",
-            ],
-            ErrorKind::MissingRequiredArgument,
-        ),
-        (
-            &["cogserve", "--listen", "h:1", "--connections", "2", "a=p"],
-            ErrorKind::MissingRequiredArgument,
-        ),
-        (&["cogserve", "--port", "h:1"], ErrorKind::UnknownArgument),
-    ];
-    for (words, want) in table {
-        match serve_line(rt.alloc(), words) {
-            Ok(_) => panic!(&rt; "{words:?} is taken"),
-            Err(error) => assert_eq!(rt; error.kind(), want, "{words:?}"),
-        }
-    }
-}
-
-/// The line and the status of the fault that these words end with, after the command's own name.
-fn told<R>(rt: &R, words: &[&str]) -> Result<(String, u8), Fail>
-where
-    R: Runtime + AllocGlobal + Net<Listener = TcpListener, Stream = TcpStream>,
-{
-    let mut line = Vec::new(rt.alloc());
-    line.push(String::from_str(rt.alloc(), "cogtools")?)?;
-    for word in words {
-        line.push(String::from_str(rt.alloc(), word)?)?;
-    }
-    match run_words(rt, &line) {
-        Ok(()) => Ok((String::new(rt.alloc()), 0)),
-        Err(fault) => {
-            let program = program_of(&line);
-            let text = FaultLine {
-                program,
-                fault: &fault,
-            };
-            Ok((format!(in rt.alloc(); "{text}")?, fault.status()))
-        }
-    }
-}
 
 /// Expects the line and the status of the fault that `cogserve` ends with, given an address that no listener has.
 fn expect_fault<R>(

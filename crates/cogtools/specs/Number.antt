@@ -1,9 +1,0 @@
--- Numbers of command lines.
-use Rattle.std.specs.Prelude.{ℕ, ◌&&◌, if◌then◌else◌, nat_le, List, length, Option, Some, None, option_and_then}
-use Rattle.http_parts.specs.Digits.{number_64}
-
--- the number that 1 to 10 decimal digits write, from `least` to 4,294,967,295
-abbrev pub number_from : ℕ → List ℕ → Option ℕ
-number_from least word =
-    option_and_then (λ n. if nat_le (length word) 10 && (nat_le least n && nat_le n 4294967295) then Some n else None)
-    (number_64 word)
