@@ -9,6 +9,15 @@ use std::process::Abort;
 use std::test::Fail;
 use world::{Log, run};
 
+/// The file f3, whose packed tile ends with fifteen copies in place of sixteen.
+fn damaged(alloc: Global) -> Result<Vec<u8>, Fail> {
+    let mut file = f3(alloc)?;
+    if let Some(place) = file.get_mut(1454) {
+        *place = 0xf2;
+    }
+    Ok(file)
+}
+
 /// The log of a script, whose files are fixtures.
 fn log_of(alloc: Global, text: &str) -> Result<Log, Fail> {
     let mut files = Loaded::new(alloc);
@@ -17,6 +26,7 @@ fn log_of(alloc: Global, text: &str) -> Result<Log, Fail> {
     files.add(b"f2.tif", f2(alloc)?)?;
     files.add(b"f2b.tif", f2b(alloc)?)?;
     files.add(b"f3.tif", f3(alloc)?)?;
+    files.add(b"damaged.tif", damaged(alloc)?)?;
     files.add(b"f5.tif", f5(alloc)?)?;
     let events = script(alloc, text.as_bytes(), &mut files)?;
     let mut log = Log::new(alloc);

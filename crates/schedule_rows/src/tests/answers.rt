@@ -1,5 +1,6 @@
 //! Answers that come late, cut, again or to a client of another name, and checks, as scripts with their logs.
 use super::expect;
+use std::alloc::Global;
 use std::process::Abort;
 use std::test::Fail;
 
@@ -225,6 +226,30 @@ skipped
 ",
 };
 
+/// A tile that is packed in no way is a fault of a window of its level alone.
+const DAMAGED_TILE: Row = Row {
+    script: "\
+epoch 1
+publish a damaged.tif
+client a 66
+open 0 level 1 0 0 1 1
+exchange 0
+open 0 level 0 0 0 1 1
+askfrom 0
+",
+    log: "\
+epoch 1
+published \"1-1\"
+client 0
+opened 0
+asked 0 0-65535 - answer 0 206 1456 took 1
+report 0 \"1-1\" fault 13
+opened 0
+asked 0 nothing
+report 0 \"1-1\" window 1 1 1 10
+",
+};
+
 #[test]
 fn rows(rt: HostRuntime) -> Result<(), Fail> {
     for row in [
@@ -234,6 +259,7 @@ fn rows(rt: HostRuntime) -> Result<(), Fail> {
         OTHER_NAMES,
         OPENED_BETWEEN,
         CHECKS,
+        DAMAGED_TILE,
     ] {
         expect(&rt, row.script, row.log)?;
     }
@@ -252,4 +278,41 @@ fn late_answers_and_the_report(rt: HostRuntime) -> Result<(), Fail> {
         LATE_ANSWERS.log
     )?;
     expect(&rt, script.as_str(), log.as_str())
+}
+
+/// The samples of f3's levels as digits, row by row: of the second level each row has its number, of the first each tile its own
+/// value.
+fn digits_of_levels(alloc: Global) -> Result<(String, String), Fail> {
+    let mut second = String::new(alloc);
+    for y in 0..16u8 {
+        for _ in 0..16 {
+            second.push_str(format!(in alloc; "{y:02x}")?.as_str())?;
+        }
+    }
+    let mut first = String::new(alloc);
+    for y in 0..32u8 {
+        for x in 0..32u8 {
+            let tile = y / 16 * 2 + x / 16;
+            first.push_str(format!(in alloc; "{:02x}", 16 + tile)?.as_str())?;
+        }
+    }
+    Ok((first, second))
+}
+
+/// The whole image in at least 16 columns is its second level, and in at least 17 its first.
+#[test]
+fn levels_by_columns(rt: HostRuntime) -> Result<(), Fail> {
+    let alloc = rt.alloc();
+    let (first, second) = digits_of_levels(alloc)?;
+    let log = format!(in alloc;
+        "epoch 1\npublished \"1-1\"\nclient 0\nopened 0\nasked 0 0-65535 - answer 0 206 1456 took 1\n\
+        report 0 \"1-1\" window 16 16 1 {second}\nopened 0\nasked 0 nothing\n\
+        report 0 \"1-1\" window 32 32 1 {first}\n"
+    )?;
+    expect(
+        &rt,
+        "epoch 1\npublish a f3.tif\nclient a 66\nopen 0 columns 16 0 0 32 32\nexchange 0\n\
+        open 0 columns 17 0 0 32 32\nexchange 0\n",
+        log.as_str(),
+    )
 }
