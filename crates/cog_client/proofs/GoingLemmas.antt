@@ -1,5 +1,6 @@
 -- Going on, step by step.
-use Rattle.std.proofs.Common.{◌≡◌, ℕ, ◌+◌, ◌<◌, ◌≤◌, List, [], ◌∷◌, ◌++◌, Option, Some, None, Result, Ok, Err, refl, sym, ap, ◌∙◌, subst, inl, inr, append-nil, append_assoc}
+use Rattle.std.proofs.Common.{◌≡◌, ℕ, ◌+◌, ◌-◌, ◌/◌, cond, arith, ◌<◌, ◌≤◌, List, [], ◌∷◌, ◌++◌, Option, Some, None, Result, Ok, Err, refl, sym, ap, ◌∙◌, subst, inl, inr, append-nil, append_assoc}
+use Rattle.std.proofs.lemmas.Bool.Decides.{eqb_tells}
 use Rattle.std.specs.Prelude.{IsSome, IsSomeAnd, OnErr}
 use Rattle.tiff_dir.specs.declared.span.Span.{Span}
 use Rattle.tiff_dir.specs.Needs.{Range, IsEndOf, bytes_in, max_range_bytes}
@@ -138,11 +139,18 @@ same_gap ns ms n count from to same g = record {
   ends = λ more. same to ∙ g.ends more;
 }
 
-pub lacking : (old new : Blocks) (complete len : ℕ) (r : Range) (missing : Missing) (span : Span) → len ≡ r.len → 0 < r.len → r.first + r.len ≤ complete → r.len ≤ max_range_bytes
+-- a range of at most 1,048,576 bytes touches at most 65 blocks
+pub few_blocks : (first len : ℕ) → len ≤ 1048576 → blocks first len ≤ 65
+few_blocks first len small = elim (eqb_tells len 0) [
+  | inl e ↦ let none : blocks first len ≡ 0 = ap (λ t. cond t 0 ((first + len - 1) / 16384 - first / 16384 + 1)) e.0 in omega arith
+  | inr e ↦ let some : blocks first len ≡ (first + len - 1) / 16384 - first / 16384 + 1 = ap (λ t. cond t 0 ((first + len - 1) / 16384 - first / 16384 + 1)) e.0 in omega arith
+]
+
+pub lacking : (old new : Blocks) (complete len : ℕ) (r : Range) (missing : Missing) (span : Span) → len ≡ r.len → 0 < r.len → r.first + r.len ≤ complete → r.len ≤ max_range_bytes → 66 ≤ new.capacity
     → ((k : ℕ) → has k (numbers new.entries) ≡ has k (numbers old.entries)) → Lacks old complete r.first len missing
     → IsLed (numbers new.entries) (first_block r.first) (blocks r.first len) → span.first ≡ missing.first → span.last ≡ missing.last
     → IsMissing new complete r span
-lacking old new complete len r missing span size some within small same l led first last =
+lacking old new complete len r missing span size some within small room same l led first last =
     let e : Lacks old complete r.first r.len missing = subst (λ n. Lacks old complete r.first n missing) size l in
     record {
       some = some;
@@ -153,6 +161,7 @@ lacking old new complete len r missing span size some within small same l led fi
       first = first;
       last = last;
       led = subst (λ n. IsLed (numbers new.entries) (first_block r.first) (blocks r.first n)) size led;
+      room = let few = few_blocks r.first r.len small in omega arith;
     }
 
 -- what holds after every refusal

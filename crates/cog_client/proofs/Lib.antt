@@ -4,3 +4,4 @@ pub mod TakeLemmas
 pub mod RequestLemmas
 pub mod DeliverLemmas
 pub mod FetchLemmas
+pub mod ProgressLemmas

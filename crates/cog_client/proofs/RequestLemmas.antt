@@ -17,15 +17,8 @@ use Rattle.cog_client.specs.Case.{Revision}
 use Rattle.cog_client.specs.Client.{Known, Knows, IsClient, IsFew, IsStanding, asked_of, blocks_of, host_of, name_of, query_of, report_of, revision_of, tag_of, to_come}
 use Rattle.cog_client.specs.Calls.{Asks, GoesOn, IsFirst, Lacks, Requests, request_for, unless_reported}
 use Rattle.cog_client.specs.Going.{IsMissing}
-use Rattle.cog_client.proofs.GoingLemmas.{end_refl, same_refl}
+use Rattle.cog_client.proofs.GoingLemmas.{end_refl, few_blocks, same_refl}
 use Rattle.cog_client.proofs.ClientLemmas.{goes_by, goes_trans, known}
-
--- a range of at most 1,048,576 bytes touches at most 65 blocks
-few_blocks : (first len : ℕ) → len ≤ 1048576 → blocks first len ≤ 65
-few_blocks first len small = elim (eqb_tells len 0) [
-  | inl e ↦ let none : blocks first len ≡ 0 = ap (λ t. cond t 0 ((first + len - 1) / 16384 - first / 16384 + 1)) e.0 in omega arith
-  | inr e ↦ let some : blocks first len ≡ (first + len - 1) / 16384 - first / 16384 + 1 = ap (λ t. cond t 0 ((first + len - 1) / 16384 - first / 16384 + 1)) e.0 in omega arith
-]
 
 pub few_missing : (b : Blocks) (complete : ℕ) (r : Range) (span : Span) → IsMissing b complete r span → IsFew span
 few_missing b complete r span m =

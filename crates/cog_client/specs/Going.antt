@@ -35,7 +35,8 @@ pub record GoesOn (old new : Work) : Type 0 where
   pub blocks : AreSame old.cache new.cache
   pub file : (f : List ℕ) → Agrees old.reader f → Holds f old.cache → StaysOf f old new
 
--- Of a range these are the bytes of the first run of missing blocks; the blocks of the range that are there lead.
+-- Of a range these are the bytes of the first run of missing blocks; the blocks of the range that are there lead, and all
+-- of them have room.
 pub record IsMissing (b : Blocks) (complete : ℕ) (r : Range) (span : Span) : Type 0 where
   pub some : 0 < r.len
   pub within : r.first + r.len ≤ complete
@@ -45,6 +46,7 @@ pub record IsMissing (b : Blocks) (complete : ℕ) (r : Range) (span : Span) : T
   pub first : span.first ≡ missing.first
   pub last : span.last ≡ missing.last
   pub led : IsLed (numbers b.entries) (first_block r.first) (blocks r.first r.len)
+  pub room : blocks r.first r.len < b.capacity
 
 -- The range that is still to come first, of whatever file is read, isn't all there: this is missing of it.
 pub record IsStopped (w : Work) (span : Span) : Type 0 where

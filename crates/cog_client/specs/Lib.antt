@@ -7,3 +7,4 @@ pub mod Calls
 pub mod Steps
 pub mod Check
 pub mod Transport
+pub mod Progress

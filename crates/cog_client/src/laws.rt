@@ -1,10 +1,13 @@
-//! A law of the definitions, for the crates above. The function does nothing: its contract is the law.
+//! Laws of the definitions, for the crates above. Each function does nothing: its contract is the law.
 ghost use Rattle.std.specs.Prelude.{ℕ, List, IfSome};
 ghost use Rattle.tiff_dir.specs.Needs.{IsEndOf};
 ghost use Rattle.tiff_dir.specs.Query.{needs};
 ghost use Rattle.cog_client.specs.Client.{query_of, to_come, Known, Knows};
+ghost use Rattle.cog_client.specs.Progress.{CostIsMost, DeliveryReports, GoingOnLeavesNoMore, NeededAreAsked, OpeningLeavesCost, OwnAnswersBringOn, RequestReports};
 
-use cog_reader::{end_is_wanted, nothing_comes};
+use cog_reader::{end_is_wanted, lengths_are_known, nothing_comes};
+use http_range::{clients_are_answered, fronts_are_read};
+use range_cache::{missing_is_exact, pieces_bring_blocks, stored_stay, stores_are_counted};
 
 /// What a client still needs of a file for its query is the end of what the query needs of it.
 pub fn end_is_needed()
@@ -12,4 +15,44 @@ pub fn end_is_needed()
 {
     end_is_wanted();
     nothing_comes();
+}
+
+/// How much is left for a client to get: no more than its query costs, and never more after going on.
+pub fn left_never_grows()
+    ensures cost { CostIsMost }
+    ensures opening { OpeningLeavesCost }
+    ensures goes { GoingOnLeavesNoMore }
+{
+    end_is_needed();
+    missing_is_exact();
+}
+
+/// Where nothing is left, the report stands.
+pub fn nothing_left_is_reported()
+    ensures request { RequestReports }
+    ensures delivery { DeliveryReports }
+{
+    lengths_are_known();
+    missing_is_exact();
+}
+
+/// What a client asks for are missing blocks of one range that its query needs.
+pub fn needed_are_asked()
+    ensures { NeededAreAsked }
+{
+    end_is_needed();
+    lengths_are_known();
+}
+
+/// The whole answer to what a client asks for leaves less, or begins with the server's revision.
+pub fn own_answers_bring_on()
+    ensures { OwnAnswersBringOn }
+{
+    lengths_are_known();
+    clients_are_answered();
+    fronts_are_read();
+    missing_is_exact();
+    pieces_bring_blocks();
+    stores_are_counted();
+    stored_stay();
 }

@@ -19,7 +19,9 @@ pub use delivered::{Current, Delivered, Ignored, Unknown};
 pub use error::{ClientError, FetchError};
 pub use fetching::fetch;
 pub use http_range::{Span, Tag, Why};
-pub use laws::end_is_needed;
+pub use laws::{
+    end_is_needed, left_never_grows, needed_are_asked, nothing_left_is_reported, own_answers_bring_on,
+};
 pub use report::Report;
 pub use tiff_dir::{Memory, Query};
 pub use transport::{Lost, Transport};

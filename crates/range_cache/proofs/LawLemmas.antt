@@ -1,5 +1,6 @@
 -- The laws of the definitions.
-use Rattle.std.proofs.Common.{◌≡◌, ◌||◌, ℕ, zero, suc, ◌+◌, ◌-◌, ◌*◌, ◌/◌, ◌<◌, ◌≤◌, Bool, true, false, cond, List, [], ◌∷◌, length, map, take, max, refl, sym, ap, ◌∙◌, arith, inl, inr, nat_eq}
+use Rattle.std.proofs.Common.{◌≡◌, ◌||◌, Some, ℕ, zero, suc, ◌+◌, ◌-◌, ◌*◌, ◌/◌, ◌<◌, ◌≤◌, Bool, true, false, cond, List, [], ◌∷◌, length, map, take, max, refl, sym, ap, ◌∙◌, arith, inl, inr, nat_eq}
+use Rattle.std.specs.Prelude.{is_some}
 use Rattle.std.proofs.lemmas.Bool.{cases_lt, cases_Bool, and_parts}
 use Rattle.std.proofs.lemmas.Bool.Decides.{eqb_tells}
 use Rattle.std.proofs.lemmas.List.{length-map}
@@ -7,13 +8,13 @@ use Rattle.std.proofs.lemmas.List.Elements.{All-take}
 use Rattle.std.specs.List.{filter, range_with_len}
 use Rattle.tiff_dir.specs.declared.span.Span.{Span}
 use Rattle.range_cache.specs.Block.{block_count}
-use Rattle.range_cache.specs.Numbers.{has, missing, IsGap}
-use Rattle.range_cache.specs.Cache.{Block, Blocks, numbers, put_one, stored, stores, Holds}
+use Rattle.range_cache.specs.Numbers.{has, missing, IsGap, IsLed, Stays}
+use Rattle.range_cache.specs.Cache.{Block, Blocks, block_at, numbers, put_one, stored, stores, Holds}
 use Rattle.range_cache.specs.Piece.{block_in, is_brought, whole_blocks, IsPieceOf}
 use Rattle.range_cache.specs.Laws.{HaveSame}
 use Rattle.range_cache.proofs.Bytes.{IsOf}
-use Rattle.range_cache.proofs.Stored.{All-stored, missing-none, missing-next}
-use Rattle.range_cache.proofs.Whole.{all_whole, lies_in}
+use Rattle.range_cache.proofs.Stored.{All-stored, missing-none, missing-next, stored_stays}
+use Rattle.range_cache.proofs.Whole.{all_in_range, all_whole, lies_in}
 
 both : (b : Bool) → b ≡ true → b ≡ false → ⊥
 both b t f = let e : true ≡ false = sym t ∙ f in cc
@@ -39,6 +40,13 @@ one_gap ns ms n count from to begin end same gap other =
     let d = not_past ms ns n count begin end from to swap other gap b in
     (omega (arith, a, b), omega (arith, c, d))
 
+pub found_there : (k : ℕ) (bs : List Block) → has k (numbers bs) ≡ is_some (block_at k bs)
+found_there k [] = refl
+found_there k (b ∷ bs) = elim (nat_eq k b.0) as (λ t. (t || has k (numbers bs)) ≡ is_some (cond t (Some b) (block_at k bs))) [
+  | true ↦ refl
+  | false ↦ found_there k bs
+]
+
 at_most_one : (t : Bool) → cond t 0 1 ≤ 1
 at_most_one true = omega arith
 at_most_one false = omega arith
@@ -46,6 +54,15 @@ at_most_one false = omega arith
 pub missing-few : (ns : List ℕ) (n count : ℕ) → missing ns n count ≤ count
 missing-few ns n zero = omega (arith, missing-none ns n)
 missing-few ns n (suc count) = omega (arith, missing-next ns n count, at_most_one (has n ns), missing-few ns (n + 1) count)
+
+pub missing-some : (ns : List ℕ) (n count k : ℕ) → n ≤ k → k < n + count → has k ns ≡ false → 1 ≤ missing ns n count
+missing-some ns n zero k low high gone = absurd (omega arith)
+missing-some ns n (suc count) k low high gone = elim (eqb_tells k n) [
+  | inl e ↦
+      let here : cond (has n ns) 0 1 ≡ 1 = ap {B = ℕ} (λ u. cond u 0 1) (ap (λ m. has m ns) (sym e.1) ∙ gone) in
+      omega (arith, missing-next ns n count, here)
+  | inr e ↦ let other = e.1 in omega (arith, missing-next ns n count, missing-some ns (n + 1) count k (omega arith) (omega arith) gone)
+]
 
 pub stores-few : (capacity : ℕ) (new bs : List Block) → stores capacity new bs ≤ length new
 unfolding stores
@@ -132,3 +149,11 @@ unfolding Holds
 front_holds f c complete first bytes wanted k whole piece held =
     let new : List Block = whole_blocks complete first bytes wanted in
     All-stored (IsOf f) c.capacity (take k new) c.entries (All-take (IsOf f) k new (all_whole f bytes complete first wanted whole piece)) held
+
+-- what is stored lies in a range that leads
+
+pub stored_stay : (c : Blocks) (complete first : ℕ) (bytes : List ℕ) (wanted : Span) (n count : ℕ) → count < c.capacity → n * 16384 ≤ wanted.first → wanted.last < (n + count) * 16384
+    → IsLed (numbers c.entries) n count
+    → Stays (numbers c.entries) (numbers (stored c.capacity (whole_blocks complete first bytes wanted) c.entries)) n count (stores c.capacity (whole_blocks complete first bytes wanted) c.entries)
+stored_stay c complete first bytes wanted n count room low high led =
+    stored_stays c.capacity n count (whole_blocks complete first bytes wanted) c.entries room (all_in_range complete first bytes wanted n count low high) led

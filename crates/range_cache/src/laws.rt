@@ -1,11 +1,13 @@
 //! Laws of the definitions, which upper crates rest on. Each function does nothing: its contract is the law.
-ghost use Rattle.range_cache.specs.Laws.{FrontHolds, GapsAreUnique, MissingIsSame, MissingIsFew, StoredHolds, StoresAreFew, StoresAreSome, WholeAreBrought, WholeAreFew};
+ghost use Rattle.range_cache.specs.Laws.{FoundAreThere, FrontHolds, GapsAreUnique, MissingIsSame, MissingIsFew, MissingIsSome, StoredHolds, StoredStay, StoresAreFew, StoresAreSome, WholeAreBrought, WholeAreFew};
 
 /// What is missing is said by which blocks are there alone.
 pub fn missing_is_exact()
     ensures unique { GapsAreUnique }
     ensures same { MissingIsSame }
     ensures few { MissingIsFew }
+    ensures some { MissingIsSome }
+    ensures there { FoundAreThere }
 {}
 
 /// How many blocks are stored.
@@ -24,4 +26,9 @@ pub fn pieces_bring_blocks()
 pub fn stored_are_held()
     ensures all { StoredHolds }
     ensures front { FrontHolds }
+{}
+
+/// No block of a range that leads leaves where blocks of it are stored.
+pub fn stored_stay()
+    ensures { StoredStay }
 {}

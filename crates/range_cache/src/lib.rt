@@ -7,5 +7,7 @@ mod laws;
 mod missing;
 
 pub use cache::{BLOCK, Cache, CacheError};
-pub use laws::{missing_is_exact, pieces_bring_blocks, stored_are_held, stores_are_counted};
+pub use laws::{
+    missing_is_exact, pieces_bring_blocks, stored_are_held, stored_stay, stores_are_counted,
+};
 pub use missing::Missing;

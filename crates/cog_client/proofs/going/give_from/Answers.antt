@@ -33,5 +33,5 @@ returns-in-Err-clause-given c =
       refl,
       subst (λ n. IsMissing c.read_into.new.self n (range_of_span a.span) c.span_of.result) (sym complete)
           (lacking a.cache.now c.read_into.new.self a.complete (length a.out.now) (range_of_span a.span) c.in-Err.missing c.span_of.result
-          c.requires.room (omega arith) (omega arith) (omega arith) e.same e.exact e.led c.span_of.ensures.first c.span_of.ensures.last),
+          c.requires.room (omega arith) (omega arith) (omega arith) (omega (arith, e.sound.least, ap (λ (b : Blocks). b.capacity) e.entries)) e.same e.exact e.led c.span_of.ensures.first c.span_of.ensures.last),
     )

@@ -1,6 +1,6 @@
 use Rattle.range_cache.proofs.Fronts.{missing-same}
-use Rattle.range_cache.proofs.LawLemmas.{one_gap, missing-few}
+use Rattle.range_cache.proofs.LawLemmas.{found_there, one_gap, missing-few, missing-some}
 use Rattle.range_cache.proofs.laws.missing_is_exact.Goals as goal
 
 pub returns : goal.returns
-returns c = record { unique = one_gap; same = missing-same; few = missing-few }
+returns c = record { unique = one_gap; same = missing-same; few = missing-few; some = missing-some; there = found_there }
