@@ -86,7 +86,7 @@ only_first (Some v) a p is = refl
 
 -- ---- a piece of a publication
 
-piece_at : (source : Publication) (p : SeenPiece) → IsOf source p → IsPieceOf source.file p.first p.body
+pub piece_at : (source : Publication) (p : SeenPiece) → IsOf source p → IsPieceOf source.file p.first p.body
 piece_at source p of = by of.body
   where
     by : IsFront p.body (drop p.first source.file) → IsPieceOf source.file p.first p.body

@@ -5,3 +5,4 @@ pub mod RequestLemmas
 pub mod DeliverLemmas
 pub mod FetchLemmas
 pub mod ProgressLemmas
+pub mod OwnLemmas

@@ -1,6 +1,6 @@
 -- What is left for a client to get, and that it grows with no call.
-use Rattle.std.proofs.Common.{◌≡◌, ℕ, ◌+◌, ◌-◌, ◌*◌, ◌<◌, ◌≤◌, Bool, true, false, cond, min, List, [], ◌∷◌, ◌++◌, length, Option, Some, None, refl, sym, ap, ◌∙◌, subst, arith, inl, inr}
-use Rattle.std.specs.Prelude.{IfSome, IsSome, is_some, nat_lt, slice_get}
+use Rattle.std.proofs.Common.{◌≡◌, ℕ, ◌+◌, ◌-◌, ◌≤◌, true, false, cond, List, [], ◌∷◌, ◌++◌, length, Option, Some, None, refl, sym, ap, ◌∙◌, subst, arith, inl, inr}
+use Rattle.std.specs.Prelude.{IfSome, IsSome, is_some}
 use Rattle.std.proofs.lemmas.Bool.{false≢true}
 use Rattle.std.proofs.lemmas.Bool.Decides.{nat_tests}
 use Rattle.std.proofs.lemmas.List.Sums.{sum_by-append, sum_by-cons}
@@ -14,13 +14,11 @@ use Rattle.range_cache.specs.Cache.{Blocks, numbers}
 use Rattle.range_cache.specs.Laws.{FoundAreThere, HaveSame, MissingIsFew, MissingIsSame, MissingIsSome}
 use Rattle.range_cache.specs.Numbers.{missing}
 use Rattle.cog_reader.specs.Reader as reader
-use Rattle.cog_client.specs.declared.delivered.Delivered.{Delivered}
 use Rattle.cog_client.specs.declared.source.Source.{Source}
 use Rattle.cog_client.specs.Case.{Revision}
 use Rattle.cog_client.specs.Client.{Known, Knows, KnowsBy, IsReadingOf, asked_of, blocks_of, query_of, report_of, revision_at, revision_of, to_come}
-use Rattle.cog_client.specs.Calls.{Asks, Delivers, IsFirst, IsIdle, Lacks, Misses, Requests}
+use Rattle.cog_client.specs.Calls.{Asks, IsFirst, Lacks, Misses}
 use Rattle.cog_client.specs.Going.{AreSame}
-use Rattle.cog_client.specs.Take.{IsIgnored}
 use Rattle.cog_client.specs.Progress.{CostIsMost, DeliveryReports, GoingOnLeavesNoMore, IsAtWork, IsGone, IsOfNeeded, NeededAreAsked, OpeningLeavesCost, RequestReports, blocks_of_range, blocks_of_ranges, cost, left, left_of, missing_of_range}
 
 -- ---- sums over ranges

@@ -6,7 +6,7 @@ ghost use Rattle.cog_client.specs.Client.{query_of, to_come, Known, Knows};
 ghost use Rattle.cog_client.specs.Progress.{CostIsMost, DeliveryReports, GoingOnLeavesNoMore, NeededAreAsked, OpeningLeavesCost, OwnAnswersBringOn, RequestReports};
 
 use cog_reader::{end_is_wanted, lengths_are_known, nothing_comes};
-use http_range::{clients_are_answered, fronts_are_read};
+use http_range::{clients_are_answered, fronts_are_read, publications_replace};
 use range_cache::{missing_is_exact, pieces_bring_blocks, stored_stay, stores_are_counted};
 
 /// What a client still needs of a file for its query is the end of what the query needs of it.
@@ -51,6 +51,7 @@ pub fn own_answers_bring_on()
     lengths_are_known();
     clients_are_answered();
     fronts_are_read();
+    publications_replace();
     missing_is_exact();
     pieces_bring_blocks();
     stores_are_counted();

@@ -1,0 +1,370 @@
+-- The whole answer to what a client asks for brings it on.
+use Rattle.std.proofs.Common.{◌≡◌, ◌⊎◌, ℕ, ◌+◌, ◌-◌, ◌*◌, ◌/◌, ◌<◌, ◌≤◌, Bool, true, false, cond, min, List, [], ◌∷◌, length, take, drop, Option, Some, None, Result, Ok, Err, refl, sym, ap, ◌∙◌, subst, arith, inl, inr, append-nil, length-take, length-drop}
+use Rattle.std.specs.Prelude.{IfOk, nat_le, nat_lt, not, ◌==◌}
+use Rattle.std.specs.Option.{option_map}
+use Rattle.std.specs.Str.{bytes_eq}
+use Rattle.std.proofs.lemmas.Bool.{and_from, cases_Bool}
+use Rattle.std.proofs.lemmas.Bool.Decides.{nat_tests}
+use Rattle.std.proofs.lemmas.List.{length-append, take_all}
+use Rattle.std.proofs.lemmas.Option.{none-some, same_Some}
+use Rattle.std.proofs.lemmas.Slice.Eq.{bytes_eq-Decides}
+use Rattle.tiff_dir.specs.declared.span.Span.{Span}
+use Rattle.tiff_dir.specs.Needs.{Range}
+use Rattle.http_range.specs.declared.range.Resolved.TheVariants.{Part, Whole}
+use Rattle.http_range.specs.declared.reading.Why.{Why}
+use Rattle.http_range.specs.declared.reading.Why.TheVariants.{Cut}
+use Rattle.http_range.specs.Ask.{request_text}
+use Rattle.http_range.specs.Book.{Publication, published}
+use Rattle.http_range.specs.Honest.{IsHonestFor, IsPieceOf as IsOf}
+use Rattle.http_range.specs.Laws.{ClientsAreAnswered, FrontsAreRead, PublishedIsNamed}
+use Rattle.http_range.specs.Piece.{SeenPiece}
+use Rattle.http_range.specs.Reading.{front_seen, reply_seen}
+use Rattle.http_range.specs.declared.reply.Reply.TheVariants.{R416}
+use Rattle.http_range.specs.Reply.{head_text}
+use Rattle.http_range.specs.Response.{Response, IsAnswer, is_current, refused, response_to_client, serve_part, text_of}
+use Rattle.range_cache.specs.Block.{blocks, first_block, is_whole}
+use Rattle.range_cache.specs.Cache.{Blocks, numbers}
+use Rattle.range_cache.specs.Laws.{FoundAreThere, MissingIsFew, MissingIsSame, StoredStay, StoresAreSome, WholeAreBrought}
+use Rattle.range_cache.specs.Piece.{IsPieceOf, is_brought}
+use Rattle.cog_client.specs.declared.case.Case.{Case}
+use Rattle.cog_client.specs.declared.case.Case.TheVariants as cases
+use Rattle.cog_client.specs.declared.delivered.Delivered.{Delivered}
+use Rattle.cog_client.specs.declared.delivered.Ignored.TheVariants.{NotAsked, OtherLength, OtherRevision}
+use Rattle.cog_client.specs.declared.delivered.Delivered.TheVariants.{Took, Restarted}
+use Rattle.cog_client.specs.Case.{Revision, case_of, is_beside}
+use Rattle.cog_client.specs.Take.{Holding, IsIgnored, asked_or_first, brought_by, stored_of, take as taken, take_by}
+use Rattle.cog_client.specs.Client.{Known, Knows, asked_of, blocks_of, holding, host_of, name_of, revision_of, tag_of, to_come}
+use Rattle.cog_client.specs.Calls.{Asks, Delivers, Lacks, StaysOf}
+use Rattle.cog_client.specs.Going.{AreSame}
+use Rattle.cog_client.specs.Progress.{BringsOn, IsOwnAnswer, OwnAnswersBringOn, left, left_of}
+use Rattle.cog_client.proofs.DeliverLemmas.{piece_at}
+use Rattle.cog_client.proofs.ProgressLemmas.{LengthsAreKnown, first_split, inside, known_length, left_on, missing_inside}
+
+-- ---- what the whole answer is read as
+
+pub whole_seen : (s : Response) → front_seen s.reply s.close s.body (length (text_of s)) ≡ reply_seen s.reply s.body
+whole_seen s =
+    let n = length (head_text s.reply s.close) in
+    let size = length-append (head_text s.reply s.close) s.body in
+    let enough : nat_le n (length (text_of s)) ≡ true = grind (arith, nat_tests, size) in
+    let rest : length (text_of s) - n ≡ length s.body = omega (arith, size) in
+    ap (λ (b : Bool). cond b (reply_seen s.reply (take (length (text_of s) - n) s.body)) (Err Cut)) enough
+    ∙ ap (λ k. reply_seen s.reply (take k s.body)) rest
+    ∙ ap (reply_seen s.reply) (take_all (length s.body) s.body (omega arith))
+
+-- the bytes a to b of a publication, and all of them
+abbrev pub part : Publication → ℕ → ℕ → SeenPiece
+part p a b = record {
+  tag = p.tag;
+  whole = false;
+  first = a;
+  complete = length p.file;
+  body = take (b - a + 1) (take (b - a + 1) (drop a p.file));
+}
+
+abbrev pub all_of : Publication → SeenPiece
+all_of p = record { tag = p.tag; whole = true; first = 0; complete = length p.file; body = take (length p.file) p.file }
+
+-- what a client with this tag, or none, reads of the answer to what it asks for
+abbrev pub piece_for : Publication → ℕ → ℕ → Option (List ℕ) → SeenPiece
+piece_for p first last known = cond (is_current known p.tag) (part p first (min last (length p.file - 1))) (all_of p)
+
+part_seen : (p : Publication) (first last : ℕ) (current fits : Bool) → (current ≡ true → fits ≡ true)
+    → let s : Response = cond current (cond fits (serve_part (Part first (min last (length p.file - 1))) p true) (refused (R416 (length p.file)) true)) (serve_part Whole p true) in
+    reply_seen s.reply s.body ≡ Ok (cond current (part p first (min last (length p.file - 1))) (all_of p))
+part_seen p first last true true fit = refl
+part_seen p first last true false fit = let e = fit refl in cc
+part_seen p first last false fits fit = refl
+
+-- it carries the publication's name, or none
+part_named : (p : Publication) (first last : ℕ) (current fits : Bool)
+    → let s : Response = cond current (cond fits (serve_part (Part first (min last (length p.file - 1))) p true) (refused (R416 (length p.file)) true)) (serve_part Whole p true) in
+    (s.name ≡ Some p.name) ⊎ (s.name ≡ None)
+part_named p first last true true = inl refl
+part_named p first last true false = inr refl
+part_named p first last false fits = inl refl
+
+own_response : ClientsAreAnswered → (c : Known) (p : Publication) (span : Span) (text : List ℕ) → (own : IsOwnAnswer c p span text)
+    → own.response ≡ response_to_client (Some p) span.first span.last (tag_of c)
+own_response answered c p span text own =
+    let message = request_text (host_of c) (name_of c) span.first span.last (tag_of c) in
+    let P : List ℕ → Type 0 = λ m. IsAnswer own.catalogue m own.response in
+    (answered own.catalogue (host_of c) (name_of c) [] span.first span.last (tag_of c) own.response own.can span.ascending).0 (subst P (sym (append-nil message)) own.answers)
+    ∙ ap (λ o. response_to_client o span.first span.last (tag_of c)) own.has
+
+module _ (answered : ClientsAreAnswered) (fronts : FrontsAreRead) where
+  pub own_reading : (old new : Known) (p : Publication) (span : Span) (text : List ℕ) (what : Delivered) → (own : IsOwnAnswer old p span text) → (d : Delivers old text what new)
+      → (is_current (tag_of old) p.tag ≡ true → span.first < length p.file) → d.reading ≡ Ok (piece_for p span.first span.last (tag_of old))
+  own_reading old new p span text what own d fits =
+      let tag = tag_of old in
+      let message = request_text (host_of old) (name_of old) span.first span.last tag in
+      let response = own_response answered old p span text own in
+      let s = own.response in
+      let whole : text ≡ take (length (text_of s)) (text_of s) = own.shown ∙ sym (take_all (length (text_of s)) (text_of s) (omega arith)) in
+      let read = fronts.answer own.catalogue message text s (length (text_of s)) d.reading own.lawful own.answers whole d.reads in
+      read ∙ whole_seen s ∙ ap (λ (r : Response). reply_seen r.reply r.body) response
+      ∙ part_seen p span.first span.last (is_current tag p.tag) (nat_lt span.first (length p.file)) (λ c. let low = fits c in grind (arith, nat_tests))
+
+-- ---- what each case of it does
+
+-- what the delivery of a piece in this case does
+record Does (k : Case) (p : SeenPiece) (old new : Known) (what : Delivered) : Type 0 where
+  says : what ≡ (take_by k (holding old) p).says
+  revision : revision_of new ≡ (take_by k (holding old) p).leaves.revision
+  blocks : AreSame (take_by k (holding old) p).leaves.blocks (blocks_of new)
+
+does_of : (k : Case) (p : SeenPiece) (old new : Known) (text : List ℕ) (what : Delivered) → (d : Delivers old text what new) → d.reading ≡ Ok p → case_of (revision_of old) (asked_of old) p ≡ k → Does k p old new what
+does_of k p old new text what d reading is =
+    let same : taken (holding old) d.reading ≡ take_by k (holding old) p = ap (taken (holding old)) reading ∙ ap (λ c. take_by c (holding old) p) is in
+    record {
+      says = d.answers ∙ ap (λ t. t.says) same;
+      revision = d.revision ∙ ap (λ t. t.leaves.revision) same;
+      blocks = subst (λ (b : Blocks). AreSame b (blocks_of new)) (ap (λ t. t.leaves.blocks) same) d.blocks;
+    }
+
+took : (what : Delivered) (n : ℕ) → what ≡ Took n → IsIgnored what → ⊥
+took what n is i = subst (λ w. IsIgnored w) is i
+
+restarted : (what : Delivered) → what ≡ Restarted → IsIgnored what → ⊥
+restarted what is i = subst (λ w. IsIgnored w) is i
+
+tag_in : (c : Known) (o : Option Revision) → revision_of c ≡ o → tag_of c ≡ option_map (λ (v : Revision). v.tag) o
+tag_in c o is = ap (λ x. option_map (λ (v : Revision). v.tag) x) is
+
+-- what each of them leaves, but for the blocks
+record IsCase (k : Case) (p : Publication) (v : Option Revision) (piece : SeenPiece) : Type 0 where
+  used : (what : Delivered) (h : Holding) → what ≡ (take_by k h piece).says → IsIgnored what → ⊥
+  revision : (h : Holding) → h.revision ≡ v → (take_by k h piece).leaves.revision ≡ Some (record { tag = p.tag; complete = length p.file })
+
+-- without a revision
+adopts : (p : Publication) (a b : ℕ) → IsCase cases.Adopted p None (part p a b)
+adopts p a b = record { used = λ what h is. took what _ is; revision = λ h is. refl }
+
+-- with another one
+restarts : (p : Publication) (v : Revision) → IsCase cases.Restarted p (Some v) (all_of p)
+restarts p v = record { used = λ what h is. restarted what is; revision = λ h is. refl }
+
+-- with this one
+takes : (p : Publication) (v : Revision) (a b : ℕ) → v.tag ≡ p.tag → v.complete ≡ length p.file → IsCase cases.Taken p (Some v) (part p a b)
+takes p v a b tag complete = record {
+  used = λ what h is. took what _ is;
+  revision = λ h is. is ∙ ap Some (ap (λ t. record { tag = t; complete = v.complete }) tag ∙ ap (λ n. record { tag = p.tag; complete = n }) complete);
+}
+
+-- ---- what is asked of the revision that the client has
+
+-- the span of whole blocks that a client lacks of a file
+record IsAskedOf (f : List ℕ) (c : Known) (s : Span) : Type 0 where
+  range : Range
+  rest : List Range
+  come : to_come c f ≡ range ∷ rest
+  from : ℕ
+  to : ℕ
+  first : s.first ≡ from * 16384
+  last : s.last + 1 ≡ min (to * 16384) (length f)
+  begins : first_block range.first ≤ from
+  some : from < to
+  ends : to ≤ first_block range.first + blocks range.first range.len
+  low : s.first < length f
+  fits : min s.last (length f - 1) ≡ s.last
+  within : range.first + range.len ≤ length f
+
+asked_of_file : (f : List ℕ) (c : Known) (v : Revision) (s : Span) → length f ≡ v.complete → Knows f c → Lacks c v s → IsAskedOf f c s
+asked_of_file f c v s size knows l =
+    let m = l.missing in
+    let gap = m.lacks.gap in
+    let some = gap.some in
+    let begins = gap.begins in
+    let ends = gap.within in
+    let within = m.within in
+    let more = m.some in
+    let first = m.first ∙ m.lacks.first_is in
+    let last = m.last in
+    let last_is = m.lacks.last_is in
+    let next = first_split l.range (to_come c f) (l.next f knows) in
+    let touched : blocks l.range.first l.range.len ≡ (l.range.first + l.range.len - 1) / 16384 - l.range.first / 16384 + 1 = touches l.range.first l.range.len more in
+    let low : s.first < length f = omega (arith, first, begins, ends, some, touched, within, size, more) in
+    record {
+      range = l.range;
+      rest = next.0;
+      come = next.1;
+      from = m.lacks.from;
+      to = m.lacks.to;
+      first = first;
+      last = omega (arith, last, last_is, size, some);
+      begins = begins;
+      some = some;
+      ends = ends;
+      low = low;
+      fits = omega (arith, last, last_is, size, some, low, first);
+      within = omega (arith, within, size);
+    }
+  where
+    touches : (first len : ℕ) → 0 < len → blocks first len ≡ (first + len - 1) / 16384 - first / 16384 + 1
+    touches first len more =
+        let n : (len == 0) ≡ false = grind (arith, nat_tests) in
+        ap (λ t. cond t 0 ((first + len - 1) / 16384 - first / 16384 + 1)) n
+
+part_length : (p : Publication) (a b : ℕ) → a ≤ b → b < length p.file → length (part p a b).body ≡ b - a + 1
+part_length p a b low high =
+    let n = b - a + 1 in
+    omega (arith, length-take n (take n (drop a p.file)), length-take n (drop a p.file), length-drop a p.file)
+
+case_taken : (p : Publication) (v : Revision) (s : Span) → bytes_eq v.tag p.tag ≡ true → v.complete ≡ length p.file → s.last < length p.file
+    → case_of (Some v) (Some s) (part p s.first s.last) ≡ cases.Taken
+case_taken p v s tag complete high =
+    let size = part_length p s.first s.last s.ascending high in
+    let low = s.ascending in
+    let same : (v.complete == length p.file) ≡ true = grind (arith, nat_tests) in
+    let beside : is_beside s (part p s.first s.last) ≡ false = grind (arith, nat_tests, size) in
+    pick (bytes_eq v.tag p.tag) (v.complete == length p.file) (is_beside s (part p s.first s.last)) tag same beside
+  where
+    pick : (tag length beside : Bool) → tag ≡ true → length ≡ true → beside ≡ false
+        → cond (not tag) (cases.Ignored OtherRevision) (cond (not length) (cases.Ignored OtherLength) (cond beside (cases.Ignored NotAsked) cases.Taken)) ≡ cases.Taken
+    pick true true false t l b = refl
+    pick true true true t l b = cc
+    pick true false beside t l b = cc
+    pick false length beside t l b = cc
+
+whole_at : (complete first end n : ℕ) → n * 16384 < complete → first ≤ n * 16384 → min ((n + 1) * 16384) complete ≤ end → is_whole complete first end n ≡ true
+whole_at complete first end n there begins ends = grind (arith, nat_tests)
+
+-- ---- less is left
+
+-- the blocks of the piece are stored: one of them was missing, and none of the range leaves
+fewer : StoredStay → WholeAreBrought → StoresAreSome → (p : Publication) (c : Known) (v : Revision) (s : Span) → length p.file ≡ v.complete → Knows p.file c → Lacks c v s
+    → left_of p.file (numbers (stored_of (part p s.first s.last) s (blocks_of c)).entries) (to_come c p.file) + 1 ≤ left p.file c
+unfolding left asked_of_file
+fewer law brought some p c v s size knows l =
+    let f = p.file in
+    let b = blocks_of c in
+    let q = asked_of_file f c v s size knows l in
+    let r = l.range in
+    let n = first_block r.first in
+    let count = blocks r.first r.len in
+    let first = q.first in
+    let last = q.last in
+    let low = q.low in
+    let begins = q.begins in
+    let ends = q.ends in
+    let run = q.some in
+    let piece = part p s.first s.last in
+    let up = s.ascending in
+    let high : s.last < length f = omega arith in
+    let long = part_length p s.first s.last up high in
+    let new = brought_by piece s in
+    let stays = law b (length f) s.first piece.body s n count l.missing.room (omega arith) (omega arith) l.missing.led in
+    let whole : is_brought (length f) s.first (length piece.body) s q.from ≡ true =
+    and_from _ _ (whole_at (length f) s.first (s.first + length piece.body) q.from (omega arith) (omega arith) (omega arith))
+    (whole_at (length f) s.first (s.last + 1) q.from (omega arith) (omega arith) (omega arith)) in
+    let one = some b.capacity new b.entries q.from (brought (length f) s.first piece.body s q.from whole) (l.missing.lacks.gap.gone q.from (omega arith) run) in
+    let here = inside f r v.complete size l.missing.within in
+    omega (
+      arith,
+      stays.fewer,
+      one,
+      ap (left_of f (numbers b.entries)) q.come,
+      ap (left_of f (numbers (stored_of piece s b).entries)) q.come,
+      missing_inside f (numbers b.entries) r here,
+      missing_inside f (numbers (stored_of piece s b).entries) r here,
+    )
+
+-- ---- the three cases
+
+module _ (answered : ClientsAreAnswered) (fronts : FrontsAreRead) (named : PublishedIsNamed) (old new : Known) (p : Publication) (span : Span) (text : List ℕ) (what : Delivered)
+    (own : IsOwnAnswer old p span text) (d : Delivers old text what new) where
+  -- whatever case applies to the piece that is read
+  brings : (k : Case) (v : Option Revision) (piece : SeenPiece) → IsCase k p v piece → revision_of old ≡ v → d.reading ≡ Ok piece → case_of v (Some span) piece ≡ k
+      → (tag_of old ≡ Some p.tag → left p.file new + 1 ≤ left p.file old) → BringsOn p old new what
+  brings k v piece case is reading applies less =
+      let at : case_of (revision_of old) (asked_of old) piece ≡ k = ap (λ o. case_of o (asked_of old) piece) is ∙ ap (λ a. case_of v a piece) own.asked ∙ applies in
+      let does = does_of k piece old new text what d reading at in
+      record {
+        used = case.used what (holding old) does.says;
+        revision = does.revision ∙ case.revision (holding old) is;
+        less = less;
+      }
+
+  read_as : (known : Option (List ℕ)) → tag_of old ≡ known → (is_current known p.tag ≡ true → span.first < length p.file) → d.reading ≡ Ok (piece_for p span.first span.last known)
+  read_as known is fits =
+      own_reading answered fronts old new p span text what own d (λ t. fits (ap (λ o. is_current o p.tag) (sym is) ∙ t))
+      ∙ ap (λ o. Ok (piece_for p span.first span.last o)) is
+
+  begins : revision_of old ≡ None → Asks old None span → BringsOn p old new what
+  begins is asks =
+      let none = tag_in old None is in
+      let first = ap (λ (s : Span). s.first) asks in
+      let lawful = named.lawful (name_of old) own.catalogue p own.lawful own.has in
+      let some = lawful.some in
+      let b = min span.last (length p.file - 1) in
+      brings cases.Adopted None (part p span.first b) (adopts p span.first b) is (read_as None none (λ _. omega (arith, first, some))) refl
+      (λ e. absurd (none-some p.tag (sym none ∙ e)))
+
+  other : (v : Revision) → revision_of old ≡ Some v → bytes_eq v.tag p.tag ≡ false → BringsOn p old new what
+  other v is differ =
+      let tag = tag_in old (Some v) is in
+      let wrong : bytes_eq v.tag p.tag ≡ true → ⊥ = λ t. (let e : true ≡ false = sym t ∙ differ in cc) in
+      let reading = read_as (Some v.tag) tag (λ t. absurd (wrong t)) ∙ ap (λ t. Ok (cond t (part p span.first (min span.last (length p.file - 1))) (all_of p))) differ in
+      brings cases.Restarted (Some v) (all_of p) (restarts p v) is reading (restarts_by differ)
+      (λ e. absurd (wrong ((bytes_eq-Decides v.tag p.tag).1 (same_Some _ _ (sym tag ∙ e)))))
+    where
+      restarts_by : bytes_eq v.tag p.tag ≡ false → case_of (Some v) (Some span) (all_of p) ≡ cases.Restarted
+      restarts_by e = ap (λ t. cond (not t) cases.Restarted (cond (not (v.complete == length p.file)) (cases.Ignored OtherLength) (cond (is_beside span (all_of p)) (cases.Ignored NotAsked) cases.Taken))) e
+
+  same : LengthsAreKnown → FoundAreThere → MissingIsFew → MissingIsSame → StoredStay → WholeAreBrought → StoresAreSome
+      → (v : Revision) → revision_of old ≡ Some v → bytes_eq v.tag p.tag ≡ true → Knows p.file old → Lacks old v span → BringsOn p old new what
+  same lengths there few missing law brought some v is equal knows l =
+      let tag = tag_in old (Some v) is in
+      let own_tag = (bytes_eq-Decides v.tag p.tag).0 equal in
+      let size = known_length lengths p.file old v is knows in
+      let q = asked_of_file p.file old v span size knows l in
+      let low = q.low in
+      let fits = q.fits in
+      let high : span.last < length p.file = omega arith in
+      let piece = part p span.first span.last in
+      let reading : d.reading ≡ Ok piece =
+      read_as (Some v.tag) tag (λ _. low) ∙ ap (λ t. Ok (cond t (part p span.first (min span.last (length p.file - 1))) (all_of p))) equal
+      ∙ ap (λ b. Ok (part p span.first b)) fits in
+      let applies = case_taken p v span equal (sym size) high in
+      let case = takes p v span.first span.last own_tag (sym size) in
+      let at : case_of (revision_of old) (asked_of old) piece ≡ cases.Taken = ap (λ o. case_of o (asked_of old) piece) is ∙ ap (λ a. case_of (Some v) a piece) own.asked ∙ applies in
+      let does = does_of cases.Taken piece old new text what d reading at in
+      let honest : IsHonestFor text p = record {
+        catalogue = own.catalogue;
+        message = request_text (host_of old) (name_of old) span.first span.last (tag_of old);
+        response = own.response;
+        lawful = own.lawful;
+        answers = own.answers;
+        has = ap (λ n. published n own.catalogue) (named.named (name_of old) own.catalogue p own.has) ∙ own.has;
+        named = subst (λ (r : Response). (r.name ≡ Some p.name) ⊎ (r.name ≡ None)) (sym (own_response answered old p span text own))
+            (part_named p span.first span.last (is_current (tag_of old) p.tag) (nat_lt span.first (length p.file)));
+        front = ([], append-nil text ∙ own.shown);
+      } in
+      let read = fronts.honest text p d.reading honest d.reads in
+      let still : revision_of new ≡ revision_of old = does.revision in
+      let stays : StaysOf p.file old new = d.file p.file still (piece_of d.reading read) knows in
+      let blocks : AreSame (stored_of piece span (blocks_of old)) (blocks_of new) =
+      subst (λ a. AreSame (stored_of piece (asked_or_first a) (blocks_of old)) (blocks_of new)) own.asked does.blocks in
+      let on = left_on there few missing p.file old new (stored_of piece span (blocks_of old)) blocks stays.come in
+      brings cases.Taken (Some v) piece case is reading applies
+      (λ _. omega (arith, on, fewer law brought some p old v span size knows l))
+    where
+      piece_of : (r : Result SeenPiece Why) → IfOk r (IsOf p) → IfOk r (λ x. IsPieceOf p.file x.first x.body)
+      piece_of (Ok x) of = piece_at p x of
+      piece_of (Err why) of = tt
+
+-- ---- the law
+
+module _ (answered : ClientsAreAnswered) (fronts : FrontsAreRead) (named : PublishedIsNamed) (lengths : LengthsAreKnown) (there : FoundAreThere) (few : MissingIsFew) (missing : MissingIsSame)
+    (law : StoredStay) (brought : WholeAreBrought) (some : StoresAreSome) where
+  pub own_answers : OwnAnswersBringOn
+  own_answers old new p span text what own knows d = at (revision_of old) refl own.asks
+    where
+      at : (v : Option Revision) → revision_of old ≡ v → Asks old v span → BringsOn p old new what
+      at None is asks = begins answered fronts named old new p span text what own d is asks
+      at (Some v) is l = elim (cases_Bool (bytes_eq v.tag p.tag)) [
+        | inl equal ↦
+            same answered fronts named old new p span text what own d lengths there few missing law brought some v is equal
+            (knows (tag_in old (Some v) is ∙ ap Some ((bytes_eq-Decides v.tag p.tag).0 equal))) l
+        | inr differ ↦ other answered fronts named old new p span text what own d v is differ
+      ]
