@@ -106,9 +106,9 @@ sound_forget (Some c) w cs new i n at g h =
     sound_call w cs new i c h.next n (subst P (sym h.changed) good) at h.changed later h.acts.tells
 
 -- what a client is after its calls
-record IsKept (c next : Known) (book : Book) : Type 0 where
-  same : seen next ≡ seen c
-  agrees : AgreesLater next book
+pub record IsKept (c next : Known) (book : Book) : Type 0 where
+  pub same : seen next ≡ seen c
+  pub agrees : AgreesLater next book
 
 served_name : (laws : LowerLaws) (name : List ℕ) (catalogue : Catalogue) (first last : ℕ) (tag : Option (List ℕ)) (o : Option Publication) → published name catalogue ≡ o
     → ((response_to_client o first last tag).name ≡ Some name) ⊎ ((response_to_client o first last tag).name ≡ None)
@@ -202,7 +202,7 @@ module _ (laws : LowerLaws) where
 
   -- ---- exchanges
 
-  exchanged_kept : (w : World) (cs : List Known) (i : ℕ) (o : Option Asked) (effect : Effect) (c mid next : Known) → Good w cs → Asks w.catalogue (length w.sent) i o c mid → IsExchanged i o effect mid next
+  pub exchanged_kept : (w : World) (cs : List Known) (i : ℕ) (o : Option Asked) (effect : Effect) (c mid next : Known) → Good w cs → Asks w.catalogue (length w.sent) i o c mid → IsExchanged i o effect mid next
       → AgreesLater c w.book → IsKept c next w.book
   exchanged_kept w cs i None effect c mid next g asks h agrees = let P : Known → Type 0 = λ x. IsKept c x w.book in subst P (sym h.1) (asks_kept w i None c mid asks agrees)
   exchanged_kept w cs i (Some a) effect c mid next g asks h agrees =

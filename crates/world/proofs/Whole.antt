@@ -31,6 +31,7 @@ use Rattle.world.specs.LowerLaws.{LowerLaws}
 use Rattle.world.proofs.Good.{good_start}
 use Rattle.world.proofs.Truth.{true_run}
 use Rattle.world.proofs.Exact.{exact_run}
+use Rattle.world.proofs.Needed.{hosted_start, needed_run}
 use Rattle.world.proofs.Kept.{kept_after, kept_at, kept_length, sent_by}
 
 pub runs_more : (w : World) (cs : List Known) (es : List Event) (ns : List Entry) (mid : List Known) (e : Event) (n : Entry) (new : List Known) → Runs w cs es ns mid → Step (after_all w es ns) mid e n new → Runs w cs (es ++ e ∷ []) (ns ++ n ∷ []) new
@@ -158,6 +159,7 @@ run_truth laws es ns cs runs =
       checked = exact_run laws start [] es ns cs good_start runs;
       distinct = t.0.distinct;
       honest = t.0.honest;
+      needed = needed_run laws start [] es ns cs good_start hosted_start runs;
     }
 
 pub beginning : (laws : LowerLaws) (events : List Event) (k : ℕ) (ns : List Entry) (cs : List Known) → k ≤ length events → Runs start [] (take k events) ns cs → IsBeginning events ns

@@ -1,3 +1,4 @@
 pub mod World
+pub mod Progress
 pub mod Run
 pub mod LowerLaws

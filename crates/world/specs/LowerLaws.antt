@@ -3,6 +3,7 @@ use Rattle.std.specs.Prelude.{◌≡◌, ℕ, List}
 use Rattle.tiff_dir.specs.declared.query.Query.{Query}
 use Rattle.tiff_dir.specs.Faulty.{IsWindow}
 use Rattle.http_range.specs.Laws.{TagsTellPublications, PublicationTagsAreKept, ClientsAreAnswered, ChecksAreAnswered, ChecksAreRead, PublishReplaces, PublishedIsNamed, HonestyIsKept}
+use Rattle.cog_client.specs.Progress.{CostIsMost, DeliveryReports, GoingOnLeavesNoMore, NeededAreAsked, OwnAnswersBringOn, RequestReports}
 
 pub record LowerLaws : Type 0 where
   pub apart : TagsTellPublications
@@ -14,3 +15,9 @@ pub record LowerLaws : Type 0 where
   pub named : PublishedIsNamed
   pub honest : HonestyIsKept
   pub window : (f : List ℕ) (q : Query) (v u : List ℕ) → IsWindow f q v → IsWindow f q u → v ≡ u
+  pub cost : CostIsMost
+  pub goes : GoingOnLeavesNoMore
+  pub request : RequestReports
+  pub delivery : DeliveryReports
+  pub needed : NeededAreAsked
+  pub brings : OwnAnswersBringOn

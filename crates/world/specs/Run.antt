@@ -24,6 +24,7 @@ use Rattle.world.specs.declared.event.Effect.{Effect}
 use Rattle.world.specs.declared.event.Effect.TheVariants as effects
 use Rattle.world.specs.declared.event.Entry.{Entry}
 use Rattle.world.specs.World.{World, Seen, host, start, name_in, answer_in, next_of, publish_effect, refused_at, server_of, after, after_all, told_of, AllTrue, AllExact, AllHonest, AreAlike}
+use Rattle.world.specs.Progress.{AllNeeded}
 
 abbrev pub seen : Known → Seen
 seen c = record { name = name_of c; query = query_of c }
@@ -226,13 +227,14 @@ Runs w old (e ∷ es) [] new = ⊥
 Runs w old (e ∷ es) (n ∷ ns) new = (mid : List Known) × Step w old e n mid × Runs (after w e n.effect) mid es ns new
 
 -- What holds of every log: its reports are true, those of one tag and one query are alike, its checks tell of the catalogue,
--- no two publications have one tag, and the answers that were kept are honest.
+-- no two publications have one tag, the answers that were kept are honest, and what is asked is needed.
 pub record IsTrueLog (events : List Event) (entries : List Entry) : Type 0 where
   pub true_reports : AllTrue start events entries
   pub alike : AreAlike entries
   pub checked : AllExact start events entries
   pub distinct : HasDistinctTags (after_all start events entries).book
   pub honest : AllHonest (after_all start events entries)
+  pub needed : AllNeeded start events entries
 
 -- It is the log of the first events, with all that is said of a whole one.
 pub record IsBeginning (events : List Event) (entries : List Entry) : Type 0 where

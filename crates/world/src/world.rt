@@ -3,6 +3,7 @@ ghost use Rattle.std.specs.Prelude.{◌≡◌, [], IfOk, OnOk, OnErr};
 ghost use Rattle.world.specs.LowerLaws.{LowerLaws};
 ghost use Rattle.http_range.specs.Book.{HasDistinctTags};
 ghost use Rattle.world.specs.World.{AllExact, AllHonest, AllTrue, AreAlike, World, after_all, start};
+ghost use Rattle.world.specs.Progress.{AllNeeded, AllReport};
 ghost use Rattle.world.specs.Run.{Does, IsBeginning, IsState, Runs};
 
 use crate::answers::{answer_of, deliver_at, keep};
@@ -10,7 +11,9 @@ use crate::calls::{forget_at, make_client, open_at};
 use crate::event::{Entry, Event, Log};
 use crate::exchange::{ask_from_at, check_at, exchange_at};
 use crate::server::{ask, publish, restart};
-use cog_client::Client;
+use cog_client::{
+    Client, left_never_grows, needed_are_asked, nothing_left_is_reported, own_answers_bring_on,
+};
 use cog_server::Server;
 use http_range::{
     Memory, clients_are_answered, fronts_are_read, honesty_is_kept, publications_replace,
@@ -44,7 +47,15 @@ pub fn run(alloc: Global, events: &[Event], log: &mut Log) -> Result<(), Memory>
     ensures distinct { OnOk result (HasDistinctTags (after_all start events.now log.new.entries.items).book) }
     ensures honest { OnOk result (AllHonest (after_all start events.now log.new.entries.items)) }
 
-    // After want of memory all this holds of the events before.
+    // Each request is its client's request, for what its query needs: missing blocks of one range of the file that it reads, or
+    // the first 65,536 bytes.
+    ensures needed { OnOk result (AllNeeded start events.now log.new.entries.items) }
+
+    // A client that opens a query and then exchanges, with nothing between, has its report by exchange cost + 1, where cost
+    // counts the blocks that the query needs of the file under its name.
+    ensures progress { OnOk result (AllReport events.now log.new.entries.items) }
+
+    // After want of memory all but the last holds of the events before.
     ensures memory { OnErr result (IsBeginning events.now log.new.entries.items) }
 {
     lower_laws();
@@ -69,6 +80,10 @@ fn lower_laws()
     fronts_are_read();
     honesty_is_kept();
     one_window();
+    left_never_grows();
+    nothing_left_is_reported();
+    needed_are_asked();
+    own_answers_bring_on();
 }
 
 /// One event, after these entries; the answers that were sent stand at these places of them.

@@ -11,4 +11,10 @@ returns c = record {
   named = c.publications_replace.ensures.named;
   honest = c.honesty_is_kept.ensures;
   window = c.one_window.ensures.window;
+  cost = c.left_never_grows.ensures.cost;
+  goes = c.left_never_grows.ensures.goes;
+  request = c.nothing_left_is_reported.ensures.request;
+  delivery = c.nothing_left_is_reported.ensures.delivery;
+  needed = c.needed_are_asked.ensures;
+  brings = c.own_answers_bring_on.ensures;
 }

@@ -2,6 +2,7 @@ use Rattle.std.proofs.Common.{ℕ, arith, ap, ◌∙◌}
 use Rattle.world.specs.World.{answer_in}
 use Rattle.world.specs.Run.{noted}
 use Rattle.world.proofs.Whole.{begun, more, state_at, whole, beginning, whole_truth, on_err_of}
+use Rattle.world.proofs.Reached.{reached}
 use Rattle.world.proofs.world.run.Goals as goal
 
 pub loop-event-init : goal.loop-event-init
@@ -39,6 +40,16 @@ returns-clause-distinct c =
 pub returns-clause-honest : goal.returns-clause-honest
 returns-clause-honest c =
     (whole_truth c.lower_laws.ensures c.args.events.now c.loop-event.event-index c.loop-event.log.entries.items c.loop-event.log.clients.items c.loop-event-test.false c.loop-event.invariant.runs).honest
+
+pub returns-clause-needed : goal.returns-clause-needed
+returns-clause-needed c =
+    (whole_truth c.lower_laws.ensures c.args.events.now c.loop-event.event-index c.loop-event.log.entries.items c.loop-event.log.clients.items c.loop-event-test.false c.loop-event.invariant.runs).needed
+
+pub returns-clause-progress : goal.returns-clause-progress
+returns-clause-progress c =
+    let l = c.loop-event in
+    reached c.lower_laws.ensures c.args.events.now l.log.entries.items l.log.clients.items
+    (whole c.args.events.now l.event-index l.log.entries.items l.log.clients.items c.loop-event-test.false l.invariant.runs)
 
 pub returns-in_err-entry-clause-memory : goal.returns-in_err-entry-clause-memory
 returns-in_err-entry-clause-memory c =

@@ -1,0 +1,212 @@
+-- In a faithful stretch a report comes by the exchange after as many as the query costs.
+use Rattle.std.proofs.Common.{◌≡◌, ℕ, zero, suc, ◌<◌, ◌≤◌, ◌⊎◌, List, [], ◌∷◌, ◌++◌, length, take, drop, replicate, Option, Some, None, refl, sym, ap, ◌∙◌, subst, arith, inl, inr}
+use Rattle.std.specs.Prelude.{slice_get, IfSome, is_some, if◌then◌else◌}
+use Rattle.std.specs.Option.{option_map}
+use Rattle.std.proofs.lemmas.Bool.{false≢true}
+use Rattle.std.proofs.lemmas.Option.{none-some, same_Some}
+use Rattle.tiff_dir.specs.declared.query.Query.{Query}
+use Rattle.tiff_dir.specs.declared.span.Span.{Span}
+use Rattle.http_range.specs.Ask.{CanAsk, request_text}
+use Rattle.http_range.specs.Book.{Publication, In, published}
+use Rattle.http_range.specs.Response.{IsAnswer}
+use Rattle.cog_client.specs.declared.delivered.Delivered.{Delivered}
+use Rattle.cog_client.specs.declared.report.Report.{Report}
+use Rattle.cog_client.specs.Report.{Told, told}
+use Rattle.cog_client.specs.Case.{Revision}
+use Rattle.cog_client.specs.Client.{Known, Knows, Agrees, asked_of, host_of, name_of, query_of, report_of, tag_of}
+use Rattle.cog_client.specs.Calls.{Delivers, request_for}
+use Rattle.cog_client.specs.Progress.{BringsOn, IsAtWork, IsOwnAnswer, cost, left}
+use Rattle.world.specs.declared.event.Event.{Event}
+use Rattle.world.specs.declared.event.Event.TheVariants.{Open, Exchange}
+use Rattle.world.specs.declared.event.Asked.{Asked}
+use Rattle.world.specs.declared.event.Entry.{Entry}
+use Rattle.world.specs.World.{World, Seen, after, after_all, told_of, start}
+use Rattle.world.specs.Progress.{AllReport, HasReport, stretch}
+use Rattle.world.specs.Run.{Asks, AtClient, Changes, ExchangesWith, IsExchanged, OpensWith, Runs, Tells, seen}
+use Rattle.world.specs.LowerLaws.{LowerLaws}
+use Rattle.world.proofs.Lists.{get-map, get-set_same}
+use Rattle.world.proofs.Good.{Good, good_start}
+use Rattle.world.proofs.Truth.{IsKept, exchanged_kept, sound_step}
+use Rattle.world.proofs.Needed.{knows_of, tag_is}
+
+-- ---- what is told
+
+-- the report that stands after an event, where none stood before it
+told_now : (old new : Known) (report : Option Told) → Tells old new report → report_of old ≡ None → report ≡ option_map told (report_of new)
+told_now old new report t none =
+    t.newly ∙ ap (λ o. if is_some o then None else option_map told t.standing) none ∙ ap (option_map told) t.stands.standing
+
+-- ---- one exchange
+
+-- at most m exchanges are left for the client: none of its file was read yet, or so many blocks are left
+abbrev IsWithin : Publication → Query → ℕ → Known → Type 0
+IsWithin p q m c = (cost p.file q < m) ⊎ ((tag_of c ≡ Some p.tag) × (left p.file c ≤ m) × (1 ≤ m))
+
+-- the client reads the query, which isn't answered yet
+record IsReading (q : Query) (name : List ℕ) (c : Known) : Type 0 where
+  query : query_of c ≡ Some q
+  name_is : name_of c ≡ name
+  silent : report_of c ≡ None
+
+some_of : {A : Type 0} (o : Option A) (x : A) (P : A → Type 0) → o ≡ Some x → IfSome o P → P x
+some_of o x P is h = subst (λ z. IfSome z P) is h
+
+no_request : (c : Known) (o : Option Span) → None ≡ request_for c o → o ≡ None
+no_request c None is = refl
+no_request c (Some s) is = absurd (none-some _ is)
+
+-- what is left isn't nothing, where no report stands
+some_left : (n : ℕ) → (n ≡ 0 → ⊥) → 1 ≤ n
+some_left zero not = absurd (not refl)
+some_left (suc n) not = omega arith
+
+module _ (laws : LowerLaws) (w : World) (cs : List Known) (i : ℕ) (c : Known) (g : Good w cs) (at : slice_get cs i ≡ Some c) (p : Publication) (q : Query) where
+  agrees_now : Agrees c w.book
+  agrees_now = g.agree i c at w.book (λ p j. j) g.distinct
+
+  in_book : (name : List ℕ) → published name w.catalogue ≡ Some p → In p w.book
+  in_book name has = g.covers name p has
+
+  -- the answer to the client's request is a server's whole answer to what it asks for
+  own : (mid : Known) (a : Asked) → Asks w.catalogue (length w.sent) i (Some a) c mid → published (name_of c) w.catalogue ≡ Some p → IsOwnAnswer mid p a.span a.answer.text.items
+  own mid a h has =
+      let r = h.requests in
+      let span = a.span in
+      let asked = h.answered.span in
+      let host = r.goes.same.host in
+      let name = r.goes.same.name in
+      let tag : tag_of mid ≡ tag_of c = ap (λ x. option_map (λ (v : Revision). v.tag) x) r.goes.revision in
+      let s = h.answered.answered in
+      let can : CanAsk (host_of c) (name_of c) span.first span.last (tag_of c) = some_of (asked_of mid) span _ asked r.lawful in
+      let text : a.request.items ≡ request_text (host_of c) (name_of c) span.first span.last (tag_of c) = same_Some _ _ (r.text ∙ ap (request_for c) asked) in
+      let same : request_text (host_of c) (name_of c) span.first span.last (tag_of c) ≡ request_text (host_of mid) (name_of mid) span.first span.last (tag_of mid) =
+      ap (λ h. request_text h (name_of c) span.first span.last (tag_of c)) (sym host)
+      ∙ ap (λ n. request_text (host_of mid) n span.first span.last (tag_of c)) (sym name)
+      ∙ ap (λ t. request_text (host_of mid) (name_of mid) span.first span.last t) (sym tag) in
+      record {
+        catalogue = w.catalogue;
+        lawful = g.lawful;
+        has = ap (λ n. published n w.catalogue) name ∙ has;
+        asked = asked;
+        asks = some_of (asked_of mid) span _ asked r.asks;
+        can = subst (λ h. CanAsk h (name_of mid) span.first span.last (tag_of mid)) (sym host)
+            (subst (λ n. CanAsk (host_of c) n span.first span.last (tag_of mid)) (sym name) (subst (λ t. CanAsk (host_of c) (name_of c) span.first span.last t) (sym tag) can));
+        response = s.response;
+        answers = subst (λ m. IsAnswer w.catalogue m s.response) (text ∙ same) s.answers;
+        shown = s.shows.text;
+      }
+
+  -- after an answer without a report: fewer exchanges are left
+  fewer : (m : ℕ) (mid next : Known) (a : Asked) (what : Delivered) (name : List ℕ) → IsReading q name c → published (name_of c) w.catalogue ≡ Some p → Asks w.catalogue (length w.sent) i (Some a) c mid
+      → Delivers mid a.answer.text.items what next → Agrees next w.book → report_of next ≡ None → IsWithin p q (suc m) c → IsWithin p q m next
+  fewer m mid next a what name reading has asks d agrees none within =
+      let f = p.file in
+      let r = asks.requests in
+      let among = in_book (name_of c) has in
+      let mid_agrees : Agrees mid w.book = r.goes.agrees w.book agrees_now in
+      let brings : BringsOn p mid next what =
+      laws.brings mid next p a.span a.answer.text.items what (own mid a asks has) (knows_of mid w.book p g.distinct mid_agrees among) d in
+      let tag : tag_of next ≡ Some p.tag = tag_is next (record { tag = p.tag; complete = length f }) brings.revision in
+      let knows : Knows f next = knows_of next w.book p g.distinct agrees among tag in
+      let query : query_of next ≡ Some q = d.same.query ∙ r.goes.same.query ∙ reading.query in
+      let work : IsAtWork f next = record { revision = ap is_some brings.revision; knows = knows; query = ap is_some query } in
+      let more : 1 ≤ left f next = some_left (left f next) (λ e. (let stands = laws.delivery mid next a.answer.text.items what f d brings.used work e in
+      false≢true (sym (ap is_some none) ∙ stands))) in
+      let most : left f next ≤ cost f q = some_of (query_of next) q _ query (laws.cost next f knows) in
+      inr (tag, few within tag more most, omega (arith, few within tag more most, more))
+    where
+      few : IsWithin p q (suc m) c → tag_of next ≡ Some p.tag → 1 ≤ left p.file next → left p.file next ≤ cost p.file q → left p.file next ≤ m
+      few (inl low) tag more most = omega arith
+      few (inr had) tag more most =
+          let mid_tag : tag_of mid ≡ Some p.tag = ap (λ x. option_map (λ (v : Revision). v.tag) x) asks.requests.goes.revision ∙ had.0 in
+          let among = in_book (name_of c) has in
+          let knows = knows_of c w.book p g.distinct agrees_now among had.0 in
+          let mid_agrees : Agrees mid w.book = asks.requests.goes.agrees w.book agrees_now in
+          let brings : BringsOn p mid next what =
+          laws.brings mid next p a.span a.answer.text.items what (own mid a asks has) (knows_of mid w.book p g.distinct mid_agrees among) d in
+          omega (arith, had.1, brings.less mid_tag, laws.goes c mid p.file asks.requests.goes knows)
+
+  -- what one exchange comes to: the report is told, or the query is still read
+  abbrev Outcome : ℕ → Known → Option Told → Type 0
+  Outcome m next report = ((r : Told) × (report ≡ Some r)) ⊎ IsReading q (name_of c) next × IsWithin p q m next
+
+  exchanged : (m : ℕ) (n : Entry) (next : Known) → IsReading q (name_of c) c → published (name_of c) w.catalogue ≡ Some p → IsWithin p q (suc m) c
+      → ExchangesWith w.catalogue (length w.sent) i n.effect c next → Tells c next (told_of n) → Outcome m next (told_of n)
+  exchanged m n next reading has within h tells = by (report_of next) refl
+    where
+      kept : IsKept c next w.book
+      kept = exchanged_kept laws w cs i h.asked n.effect c h.mid next g h.asks h.exchanged (g.agree i c at)
+
+      agrees : Agrees next w.book
+      agrees = kept.agrees w.book (λ p j. j) g.distinct
+
+      query : query_of next ≡ Some q
+      query = ap (λ (s : Seen). s.query) kept.same ∙ reading.query
+
+      silently : (o : Option Asked) → Asks w.catalogue (length w.sent) i o c h.mid → IsExchanged i o n.effect h.mid next → report_of next ≡ None → IsWithin p q m next
+      silently None asks e none =
+          let r = asks.requests in
+          let unasked = no_request c (asked_of h.mid) r.text in
+          absurd (elim (r.silent unasked) [
+            | inl no_query ↦ false≢true (sym (ap is_some no_query) ∙ ap is_some (r.goes.same.query ∙ reading.query))
+            | inr stands ↦ false≢true (sym (ap is_some none) ∙ ap (λ (x : Known). is_some (report_of x)) e.1 ∙ stands)
+          ])
+      silently (Some a) asks e none = fewer m h.mid next a e.0 (name_of c) reading has asks e.2 agrees none within
+
+      by : (o : Option Report) → report_of next ≡ o → Outcome m next (told_of n)
+      by None none = inr (record { query = query; name_is = ap (λ (s : Seen). s.name) kept.same; silent = none }, silently h.asked h.asks h.exchanged none)
+      by (Some r) stands = inl (told r, told_now c next (told_of n) tells reading.silent ∙ ap (option_map told) stands)
+
+-- ---- a stretch
+
+module _ (laws : LowerLaws) (i : ℕ) (q : Query) (p : Publication) where
+  -- so many exchanges have a report
+  reach : (m : ℕ) (name : List ℕ) (w : World) (cs : List Known) (c : Known) (n : ℕ) (later : List Event) (ns : List Entry) (new : List Known) → Good w cs → slice_get cs i ≡ Some c → IsReading q name c
+      → published name w.catalogue ≡ Some p → IsWithin p q m c → m ≤ n → Runs w cs (replicate n (Exchange i) ++ later) ns new → HasReport (take m ns)
+  reach zero name w cs c n later ns new g at reading has within enough h = absurd (elim within [ inl low ↦ omega arith | inr had ↦ omega (arith, had.2) ])
+  reach (suc m) name w cs c zero later ns new g at reading has within enough h = absurd (omega arith)
+  reach (suc m) name w cs c (suc n) later [] new g at reading has within enough h = absurd h
+  reach (suc m) name w cs c (suc n) later (x ∷ ns) new g at reading has within enough (mid, step, rest) =
+      let R = ExchangesWith w.catalogue (length w.sent) i x.effect in
+      let changes : Changes R i c x cs mid = subst (λ o. AtClient o R i x cs mid) at step in
+      let own_name : name_of c ≡ name = reading.name_is in
+      let mine : IsReading q (name_of c) c = record { query = reading.query; name_is = refl; silent = reading.silent } in
+      let there : slice_get mid i ≡ Some changes.next = ap (λ (xs : List Known). slice_get xs i) changes.changed ∙ get-set_same cs i changes.next c at in
+      elim (exchanged laws w cs i c g at p q m x changes.next mine (ap (λ n. published n w.catalogue) own_name ∙ has) within changes.acts.does changes.acts.tells) [
+        | inl told ↦ (told.0, inl told.1)
+        | inr on ↦
+            let next : IsReading q name changes.next = record { query = on.0.query; name_is = on.0.name_is ∙ own_name; silent = on.0.silent } in
+            let later_report = reach m name (after w (Exchange i) x.effect) mid changes.next n later ns new (sound_step laws w cs (Exchange i) x mid g step).good there next has on.1 (omega arith) rest in
+            (later_report.0, inr later_report.1)
+      ]
+
+  -- the client that is seen
+  client_at : (cs : List Known) (s : Seen) (o : Option Known) → slice_get cs i ≡ o → option_map seen o ≡ Some s → (c : Known) × (slice_get cs i ≡ Some c) × (name_of c ≡ s.name)
+  client_at cs s None at is = absurd (none-some s is)
+  client_at cs s (Some c) at is = (c, at, ap (λ (x : Seen). x.name) (same_Some _ _ is))
+
+  from_opening : (w : World) (cs : List Known) (n : ℕ) (later : List Event) (ns : List Entry) (new : List Known) (s : Seen) → Good w cs → slice_get w.clients i ≡ Some s → published s.name w.catalogue ≡ Some p
+      → suc (cost p.file q) ≤ n → Runs w cs (stretch i q n ++ later) ns new → HasReport (take (suc (cost p.file q)) (drop 1 ns))
+  from_opening w cs n later [] new s g there has enough h = absurd h
+  from_opening w cs n later (x ∷ ns) new s g there has enough (mid, step, rest) =
+      let found = client_at cs s (slice_get cs i) refl (sym (get-map seen cs i) ∙ ap (λ (ss : List Seen). slice_get ss i) g.seen_are ∙ there) in
+      let c = found.0 in
+      let at = found.1 in
+      let R = OpensWith q i x.effect in
+      let changes : Changes R i c x cs mid = subst (λ o. AtClient o R i x cs mid) at step in
+      let opens = changes.acts.does.opens in
+      let reading : IsReading q s.name changes.next = record { query = opens.asks; name_is = opens.name ∙ found.2; silent = opens.report } in
+      let here : slice_get mid i ≡ Some changes.next = ap (λ (xs : List Known). slice_get xs i) changes.changed ∙ get-set_same cs i changes.next c at in
+      reach (suc (cost p.file q)) s.name (after w (Open i q) x.effect) mid changes.next n later ns new (sound_step laws w cs (Open i q) x mid g step).good here reading has (inl (omega arith)) enough rest
+
+  -- whatever was before it
+  after_others : (w : World) (cs : List Known) (before later : List Event) (n : ℕ) (ns : List Entry) (new : List Known) (s : Seen) → Good w cs → slice_get (after_all w before ns).clients i ≡ Some s
+      → published s.name (after_all w before ns).catalogue ≡ Some p → suc (cost p.file q) ≤ n → Runs w cs (before ++ stretch i q n ++ later) ns new → HasReport (take (suc (cost p.file q)) (drop (suc (length before)) ns))
+  after_others w cs [] later n ns new s g there has enough h = from_opening w cs n later ns new s g there has enough h
+  after_others w cs (e ∷ before) later n [] new s g there has enough h = absurd h
+  after_others w cs (e ∷ before) later n (x ∷ ns) new s g there has enough (mid, step, rest) =
+      after_others (after w e x.effect) mid before later n ns new s (sound_step laws w cs e x mid g step).good there has enough rest
+
+pub reached : (laws : LowerLaws) (events : List Event) (entries : List Entry) (new : List Known) → Runs start [] events entries new → AllReport events entries
+reached laws events entries new runs i q n p s enough =
+    after_others laws i q p start [] s.before s.later n entries new s.seen good_start s.there s.has enough (subst (λ es. Runs start [] es entries new) s.are runs)

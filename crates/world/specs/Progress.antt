@@ -1,0 +1,82 @@
+-- What clients ask for in a schedule, and when a report comes at the latest.
+use Rattle.std.specs.Prelude.{◌≡◌, ℕ, suc, ◌≤◌, List, [], ◌∷◌, ◌++◌, length, replicate, take, drop, Option, Some, None, IfSome, slice_get}
+use Rattle.tiff_dir.specs.declared.query.Query.{Query}
+use Rattle.tiff_dir.specs.declared.span.Span.{Span}
+use Rattle.http_range.specs.Ask.{request_text}
+use Rattle.http_range.specs.Book.{Publication, In, published}
+use Rattle.cog_client.specs.Report.{Told}
+use Rattle.cog_client.specs.Take.{first_span}
+use Rattle.cog_client.specs.Progress.{IsOfNeeded, cost}
+use Rattle.world.specs.declared.event.Event.{Event}
+use Rattle.world.specs.declared.event.Event.TheVariants.{Open, AskFrom, Exchange}
+use Rattle.world.specs.declared.event.Asked.{Asked}
+use Rattle.world.specs.declared.event.Effect.{Effect}
+use Rattle.world.specs.declared.event.Effect.TheVariants as effects
+use Rattle.world.specs.declared.event.Entry.{Entry}
+use Rattle.world.specs.World.{World, Seen, host, start, after, after_all, IsToldIn}
+
+-- ---- what is asked
+
+-- the request of an entry
+abbrev pub asked_in : Effect → Option Asked
+asked_in (effects.Asked a) = Some a
+asked_in (effects.Exchanged a what) = Some a
+asked_in effect = None
+
+-- The span is of blocks that the client's query needs of the file that was published under its name with this tag.
+pub record IsOfPublished (w : World) (s : Seen) (tag : List ℕ) (span : Span) : Type 0 where
+  pub source : Publication
+  pub published : In source w.book
+  pub of_name : source.name ≡ s.name
+  pub of_tag : source.tag ≡ tag
+  pub query : Query
+  pub opened : s.query ≡ Some query
+  pub needed : IsOfNeeded source.file query span
+
+-- without a revision the first 65,536 bytes, with one what is needed of its file
+abbrev pub IsNeededBy : World → Seen → Option (List ℕ) → Span → Type 0
+IsNeededBy w s None span = span ≡ first_span
+IsNeededBy w s (Some tag) span = IsOfPublished w s tag span
+
+-- The request has the text of its client's request for a span that is needed.
+pub record IsNeededIn (w : World) (a : Asked) : Type 0 where
+  pub seen : Seen
+  pub there : slice_get w.clients a.client ≡ Some seen
+  pub text : a.request.items ≡ request_text host seen.name a.span.first a.span.last a.tag
+  pub needed : IsNeededBy w seen a.tag a.span
+
+abbrev pub IsNeededAt : World → Event → Effect → Type 0
+IsNeededAt w (AskFrom i) effect = IfSome (asked_in effect) (IsNeededIn w)
+IsNeededAt w (Exchange i) effect = IfSome (asked_in effect) (IsNeededIn w)
+IsNeededAt w e effect = Unit {0}
+
+-- Each request is for what is needed when it is made.
+abbrev pub AllNeeded : World → List Event → List Entry → Type 0
+AllNeeded w [] ns = Unit {0}
+AllNeeded w (e ∷ es) [] = Unit {0}
+AllNeeded w (e ∷ es) (n ∷ ns) = IsNeededAt w e n.effect × AllNeeded (after w e n.effect) es ns
+
+-- ---- when a report comes
+
+-- a faithful stretch: a client opens a query, and nothing but its exchanges follows, so many of them
+abbrev pub stretch : ℕ → Query → ℕ → List Event
+stretch i q n = Open i q ∷ replicate n (Exchange i)
+
+-- The events have such a stretch, and when it begins the catalogue has p under the client's name.
+pub record HasStretch (events : List Event) (entries : List Entry) (i : ℕ) (q : Query) (n : ℕ) (p : Publication) : Type 0 where
+  pub before : List Event
+  pub later : List Event
+  pub are : events ≡ before ++ stretch i q n ++ later
+  pub seen : Seen
+  pub there : slice_get (after_all start before entries).clients i ≡ Some seen
+  pub has : published seen.name (after_all start before entries).catalogue ≡ Some p
+
+-- a report is told in one of the entries
+abbrev pub HasReport : List Entry → Type 0
+HasReport ns = (r : Told) × IsToldIn r ns
+
+-- In each stretch of as many exchanges as the query costs of p's file, and one more, the client's report is told by the last
+-- of these at the latest, whatever the client held before.
+abbrev pub AllReport : List Event → List Entry → Type 0
+AllReport events entries = (i : ℕ) (q : Query) (n : ℕ) (p : Publication) (s : HasStretch events entries i q n p) →
+    suc (cost p.file q) ≤ n → HasReport (take (suc (cost p.file q)) (drop (suc (length s.before)) entries))
