@@ -1,14 +1,16 @@
 -- What is left for a client to get, and that it grows with no call.
-use Rattle.std.proofs.Common.{◌≡◌, ℕ, ◌+◌, ◌-◌, ◌≤◌, true, false, cond, List, [], ◌∷◌, ◌++◌, length, Option, Some, None, refl, sym, ap, ◌∙◌, subst, arith, inl, inr}
-use Rattle.std.specs.Prelude.{IfSome, IsSome, is_some}
+use Rattle.std.proofs.Common.{◌≡◌, ℕ, Bool, ◌+◌, ◌-◌, ◌≤◌, true, false, cond, List, [], ◌∷◌, ◌++◌, length, Option, Some, None, refl, sym, ap, ◌∙◌, subst, arith, inl, inr}
+use Rattle.std.specs.Prelude.{IfSome, IsSome, is_some, not, sum_by}
+use Rattle.std.specs.List.{filter}
 use Rattle.std.proofs.lemmas.Bool.{false≢true}
 use Rattle.std.proofs.lemmas.Bool.Decides.{nat_tests}
 use Rattle.std.proofs.lemmas.List.Sums.{sum_by-append, sum_by-cons}
+use Rattle.std.proofs.lemmas.List.Elements.{filter-append}
 use Rattle.std.proofs.lemmas.Option.{none-some, same_Some}
 use Rattle.tiff_dir.specs.declared.query.Query.{Query}
 use Rattle.tiff_dir.specs.declared.span.Span.{Span}
 use Rattle.tiff_dir.specs.Needs.{Range, IsEndOf, ends_past}
-use Rattle.tiff_dir.specs.Query.{needs}
+use Rattle.tiff_dir.specs.Query.{blocks as touched, cost, needs}
 use Rattle.range_cache.specs.Block.{blocks, end_of, first_block}
 use Rattle.range_cache.specs.Cache.{Blocks, numbers}
 use Rattle.range_cache.specs.Laws.{FoundAreThere, HaveSame, MissingIsFew, MissingIsSame, MissingIsSome}
@@ -19,14 +21,26 @@ use Rattle.cog_client.specs.Case.{Revision}
 use Rattle.cog_client.specs.Client.{Known, Knows, KnowsBy, IsReadingOf, asked_of, blocks_of, query_of, report_of, revision_at, revision_of, to_come}
 use Rattle.cog_client.specs.Calls.{Asks, IsFirst, Lacks, Misses}
 use Rattle.cog_client.specs.Going.{AreSame}
-use Rattle.cog_client.specs.Progress.{CostIsMost, DeliveryReports, GoingOnLeavesNoMore, IsAtWork, IsGone, IsOfNeeded, NeededAreAsked, OpeningLeavesCost, RequestReports, blocks_of_range, blocks_of_ranges, cost, left, left_of, missing_of_range}
+use Rattle.cog_client.specs.Progress.{CostIsMost, DeliveryReports, GoingOnLeavesNoMore, IsAtWork, IsGone, IsOfNeeded, NeededAreAsked, OpeningLeavesCost, RequestReports, blocks_of_ranges, left, left_of, missing_of_range}
 
 -- ---- sums over ranges
 
-ranges_end : (f : List ℕ) (few many : List Range) → IsEndOf few many → blocks_of_ranges f few ≤ blocks_of_ranges f many
-ranges_end f few many h = omega (arith, ap (blocks_of_ranges f) h.joined, sum_by-append (blocks_of_range f) h.front few)
+ranges_cons : (f : List ℕ) (r : Range) (rs : List Range) → blocks_of_ranges f (r ∷ rs) ≡ cond (ends_past f r) 0 (blocks r.first r.len) + blocks_of_ranges f rs
+ranges_cons f r rs = by (ends_past f r)
+  where
+    by : (t : Bool) → sum_by touched (cond (not t) (r ∷ filter (λ r. not (ends_past f r)) rs) (filter (λ r. not (ends_past f r)) rs)) ≡ cond t 0 (blocks r.first r.len) + blocks_of_ranges f rs
+    by true = omega arith
+    by false = sum_by-cons touched r (filter (λ r. not (ends_past f r)) rs)
 
-missing_few : MissingIsFew → (f there : List ℕ) (r : Range) → missing_of_range f there r ≤ blocks_of_range f r
+ranges_append : (f : List ℕ) (front few : List Range) → blocks_of_ranges f (front ++ few) ≡ blocks_of_ranges f front + blocks_of_ranges f few
+ranges_append f front few =
+    ap (sum_by touched) (filter-append (λ r. not (ends_past f r)) front few)
+    ∙ sum_by-append touched (filter (λ r. not (ends_past f r)) front) (filter (λ r. not (ends_past f r)) few)
+
+ranges_end : (f : List ℕ) (few many : List Range) → IsEndOf few many → blocks_of_ranges f few ≤ blocks_of_ranges f many
+ranges_end f few many h = omega (arith, ap (blocks_of_ranges f) h.joined, ranges_append f h.front few)
+
+missing_few : MissingIsFew → (f there : List ℕ) (r : Range) → missing_of_range f there r ≤ cond (ends_past f r) 0 (blocks r.first r.len)
 missing_few few f there r = elim (ends_past f r) as (λ t. cond t 0 (missing there (first_block r.first) (blocks r.first r.len)) ≤ cond t 0 (blocks r.first r.len)) [
   | true ↦ omega arith
   | false ↦ few there (first_block r.first) (blocks r.first r.len)
@@ -34,14 +48,14 @@ missing_few few f there r = elim (ends_past f r) as (λ t. cond t 0 (missing the
 
 left_few : MissingIsFew → (f there : List ℕ) (rs : List Range) → left_of f there rs ≤ blocks_of_ranges f rs
 left_few few f there [] = omega arith
-left_few few f there (r ∷ rs) = omega (arith, missing_few few f there r, sum_by-cons (blocks_of_range f) r rs)
+left_few few f there (r ∷ rs) = omega (arith, missing_few few f there r, ranges_cons f r rs)
 
 left_end : MissingIsFew → (f there : List ℕ) (few many : List Range) → IsEndOf few many → left_of f there few ≤ left_of f there many
 left_end law f there few many h = by h.front h.joined
   where
     by : (front : List Range) → many ≡ front ++ few → left_of f there few ≤ left_of f there many
     by [] e = omega (arith, ap (left_of f there) e)
-    by (r ∷ front) e = omega (arith, ap (left_of f there) e, left_few law f there few, sum_by-append (blocks_of_range f) front few)
+    by (r ∷ front) e = omega (arith, ap (left_of f there) e, left_few law f there few, ranges_append f front few)
 
 left_same : MissingIsSame → (f ns ms : List ℕ) (rs : List Range) → HaveSame ns ms → left_of f ns rs ≡ left_of f ms rs
 left_same law f ns ms [] same = refl

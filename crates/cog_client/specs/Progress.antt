@@ -1,9 +1,10 @@
 -- How much of a file a client still has to get for its query, counted in blocks, and what its calls make of that.
-use Rattle.std.specs.Prelude.{◌≡◌, ℕ, ◌+◌, ◌-◌, ◌*◌, ◌<◌, ◌≤◌, false, if◌then◌else◌, List, [], ◌∷◌, ◌++◌, length, sum_by, Option, Some, IfSome, IsSome}
+use Rattle.std.specs.Prelude.{◌≡◌, ℕ, ◌+◌, ◌-◌, ◌*◌, ◌<◌, ◌≤◌, false, not, if◌then◌else◌, List, [], ◌∷◌, ◌++◌, length, sum_by, Option, Some, IfSome, IsSome}
+use Rattle.std.specs.List.{filter}
 use Rattle.tiff_dir.specs.declared.query.Query.{Query}
 use Rattle.tiff_dir.specs.declared.span.Span.{Span}
 use Rattle.tiff_dir.specs.Needs.{Range, ends_past}
-use Rattle.tiff_dir.specs.Query.{needs}
+use Rattle.tiff_dir.specs.Query.{blocks as touched, cost, needs}
 use Rattle.http_range.specs.Ask.{CanAsk, request_text}
 use Rattle.http_range.specs.Book.{Publication, Catalogue, IsCatalogue, published}
 use Rattle.http_range.specs.Response.{Response, IsAnswer, text_of}
@@ -18,18 +19,11 @@ use Rattle.cog_client.specs.Calls.{Asks, Delivers, GoesOn, Opens, Requests}
 
 -- ---- counting
 
--- the blocks that a range of a file touches, none where it ends after the file
-abbrev pub blocks_of_range : List ℕ → Range → ℕ
-blocks_of_range f r = if ends_past f r then 0 else blocks r.first r.len
-
+-- the blocks of those ranges that end in the file: of all that a query needs this is its cost
 abbrev pub blocks_of_ranges : List ℕ → List Range → ℕ
-blocks_of_ranges f rs = sum_by (blocks_of_range f) rs
+blocks_of_ranges f rs = sum_by touched (filter (λ r. not (ends_past f r)) rs)
 
--- What a query costs: the blocks of all ranges that it needs of the file.
-unfoldable pub cost : List ℕ → Query → ℕ
-cost f q = blocks_of_ranges f (needs f q)
-
--- those of a range's blocks that aren't there
+-- those of a range's blocks that aren't there, none where it ends after the file
 abbrev pub missing_of_range : List ℕ → List ℕ → Range → ℕ
 missing_of_range f there r = if ends_past f r then 0 else missing there (first_block r.first) (blocks r.first r.len)
 

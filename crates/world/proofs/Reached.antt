@@ -5,6 +5,7 @@ use Rattle.std.specs.Option.{option_map}
 use Rattle.std.proofs.lemmas.Bool.{false≢true}
 use Rattle.std.proofs.lemmas.Option.{none-some, same_Some}
 use Rattle.tiff_dir.specs.declared.query.Query.{Query}
+use Rattle.tiff_dir.specs.Query.{cost}
 use Rattle.tiff_dir.specs.declared.span.Span.{Span}
 use Rattle.http_range.specs.Ask.{CanAsk, request_text}
 use Rattle.http_range.specs.Book.{Publication, In, published}
@@ -15,7 +16,7 @@ use Rattle.cog_client.specs.Report.{Told, told}
 use Rattle.cog_client.specs.Case.{Revision}
 use Rattle.cog_client.specs.Client.{Known, Knows, Agrees, asked_of, host_of, name_of, query_of, report_of, tag_of}
 use Rattle.cog_client.specs.Calls.{Delivers, request_for}
-use Rattle.cog_client.specs.Progress.{BringsOn, IsAtWork, IsOwnAnswer, cost, left}
+use Rattle.cog_client.specs.Progress.{BringsOn, IsAtWork, IsOwnAnswer, left}
 use Rattle.world.specs.declared.event.Event.{Event}
 use Rattle.world.specs.declared.event.Event.TheVariants.{Open, Exchange}
 use Rattle.world.specs.declared.event.Asked.{Asked}

@@ -2,11 +2,12 @@
 use Rattle.std.specs.Prelude.{◌≡◌, ℕ, suc, ◌≤◌, List, [], ◌∷◌, ◌++◌, length, replicate, take, drop, Option, Some, None, IfSome, slice_get}
 use Rattle.tiff_dir.specs.declared.query.Query.{Query}
 use Rattle.tiff_dir.specs.declared.span.Span.{Span}
+use Rattle.tiff_dir.specs.Query.{cost}
 use Rattle.http_range.specs.Ask.{request_text}
 use Rattle.http_range.specs.Book.{Publication, In, published}
 use Rattle.cog_client.specs.Report.{Told}
 use Rattle.cog_client.specs.Take.{first_span}
-use Rattle.cog_client.specs.Progress.{IsOfNeeded, cost}
+use Rattle.cog_client.specs.Progress.{IsOfNeeded}
 use Rattle.world.specs.declared.event.Event.{Event}
 use Rattle.world.specs.declared.event.Event.TheVariants.{Open, AskFrom, Exchange}
 use Rattle.world.specs.declared.event.Asked.{Asked}
