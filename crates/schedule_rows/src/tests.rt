@@ -1,5 +1,6 @@
 mod answers;
 mod random;
+mod stretches;
 mod whole;
 
 use fixtures::{f1, f1m, f2, f2b, f3, f5};

@@ -1,9 +1,11 @@
 //! Schedules at random, of several clients and names, with files that are replaced, servers that are restarted, and answers that
-//! are lost, cut, repeated or late: each report is what the plain program reads in the file of its tag.
+//! are lost, cut, repeated or late: each report is what the plain program reads in the file of its tag, and in a faithful stretch
+//! at the end one comes by the exchange after as many as the query costs.
 ghost use Rattle.std.specs.Prelude.{◌<◌};
 
 use beside::Plain;
 use fixtures::{Numbers, f1, f1m, f2, f2b, f3, f6};
+use reference::cost;
 use std::alloc::Global;
 use std::process::Abort;
 use std::test::Fail;
@@ -96,7 +98,7 @@ fn event(alloc: Global, numbers: &mut Numbers, files: &[Plain]) -> Result<Event,
     }
 }
 
-/// A schedule: two files, three clients, and thirty events at random.
+/// A schedule: two files, three clients of the least or the most blocks, and thirty events at random.
 fn schedule(alloc: Global, numbers: &mut Numbers, files: &[Plain]) -> Result<Vec<Event>, Fail> {
     let mut events = Vec::new(alloc);
     events.push(publication(alloc, numbers, files)?)?;
@@ -104,7 +106,7 @@ fn schedule(alloc: Global, numbers: &mut Numbers, files: &[Plain]) -> Result<Vec
     for _ in 0..3 {
         events.push(Event::NewClient {
             name: name(alloc, numbers)?,
-            blocks: 66,
+            blocks: [66, 4096][numbers.below(2)],
         })?;
     }
     for client in 0..3 {
@@ -117,6 +119,33 @@ fn schedule(alloc: Global, numbers: &mut Numbers, files: &[Plain]) -> Result<Vec
         events.push(event(alloc, numbers, files)?)?;
     }
     Ok(events)
+}
+
+/// Adds a faithful stretch of the first client: its file is published, it opens a query, and it exchanges once more often than
+/// the query costs by the plain program. Gives the place of its first exchange.
+fn push_stretch(
+    alloc: Global,
+    events: &mut Vec<Event>,
+    numbers: &mut Numbers,
+    files: &[Plain],
+) -> Result<usize, Fail> {
+    let Some(Event::NewClient { name, .. }) = events.get(2) else {
+        return Err(Fail::new("no client"));
+    };
+    let name = Vec::from_slice(alloc, name)?;
+    let plain = files.get(numbers.below(6)).ok_or("no file")?;
+    let query = query(numbers);
+    let cost = cost(alloc, &plain.file, query)?.ok_or("no cost")?;
+    events.push(Event::Publish {
+        name,
+        file: Vec::from_slice(alloc, &plain.file)?,
+    })?;
+    events.push(Event::Open { client: 0, query })?;
+    let first = events.len();
+    for _ in 0..cost.saturating_add(1) {
+        events.push(Event::Exchange(0))?;
+    }
+    Ok(first)
 }
 
 /// The file that was published under a tag.
@@ -148,10 +177,19 @@ fn is_right(
     Ok(plain.is_answer(alloc, report.query, &report.outcome)?)
 }
 
-/// Runs a schedule, and counts its reports; None where one of them isn't right.
-fn right_reports(alloc: Global, events: &[Event], files: &[Plain]) -> Result<Option<usize>, Fail> {
+/// Runs a schedule, and counts its reports; None where one of them isn't right, or none comes in the stretch.
+fn right_reports(
+    alloc: Global,
+    events: &[Event],
+    stretch: usize,
+    files: &[Plain],
+) -> Result<Option<usize>, Fail> {
     let mut log = Log::new(alloc);
     run(alloc, events, &mut log)?;
+    let exchanges = log.entries.get(stretch..).unwrap_or(&[]);
+    if exchanges.iter().all(|entry| entry.report.is_none()) {
+        return Ok(None);
+    }
     let mut count = 0usize;
     for report in log.entries.iter().filter_map(|entry| entry.report.as_ref()) {
         if !is_right(alloc, events, &log, files, report)? {
@@ -162,15 +200,16 @@ fn right_reports(alloc: Global, events: &[Event], files: &[Plain]) -> Result<Opt
     Ok(Some(count))
 }
 
-/// Expects that the reports of 250 schedules are right, and that enough of them come.
+/// Expects that the reports of 250 schedules are right, that one comes in the stretch after each, and that enough come.
 fn expect_right(rt: &(impl Abort + AllocGlobal), seed: u64) -> Result<(), Fail> {
     let alloc = rt.alloc();
     let files = plain_files(alloc)?;
     let mut numbers = Numbers::new(seed);
     let mut reports = 0usize;
     for _ in 0..250 {
-        let events = schedule(alloc, &mut numbers, &files)?;
-        let right = right_reports(alloc, &events, &files)?;
+        let mut events = schedule(alloc, &mut numbers, &files)?;
+        let stretch = push_stretch(alloc, &mut events, &mut numbers, &files)?;
+        let right = right_reports(alloc, &events, stretch, &files)?;
         assert!(rt; right.is_some());
         reports = reports.saturating_add(right.unwrap_or(0));
     }
