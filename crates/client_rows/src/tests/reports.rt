@@ -1,23 +1,32 @@
 //! Reports of each kind after one exchange, and their copies.
-use super::{expect, new_session, only};
+use super::{expect, only};
 use client_aid::Answer::Part;
-use client_aid::Step::{Asks, AsksNothing, Copies, Open, Opens, Reads, Reports, Takes};
-use client_aid::{Course, FIRST, NotDone, OLD, TAGS};
+use client_aid::Step::{Asks, AsksNothing, Copies, IsSilent, Open, Opens, Reports, Takes};
+use client_aid::{Course, FIRST, NotDone, OLD, TAGS, otherwise};
 use reader_aid::{FACTS_OF_F3, Facts, Fixture, NO_FACTS, Numbers, Want, change, of_level, window};
 use std::alloc::Global;
 use std::test::Fail;
 use tiff_dir::{FileFault, Pick, Query};
 
-/// The number of the first step that goes otherwise, where a new client is answered with the whole file.
+/// The number of the first step that goes otherwise, where a new client is answered with all bytes of a file of one block.
 fn exchange_otherwise(
     alloc: Global,
     file: &[u8],
     query: Query,
     want: Want<'_>,
 ) -> Result<Option<usize>, NotDone> {
-    let files = only(file);
-    let steps = [Open(query), Reads(0, 1), Reports(OLD, want), Copies];
-    new_session(alloc, &files)?.go(alloc, &steps)
+    let last = file.len().checked_sub(1).ok_or(NotDone::NoSuchPart)?;
+    let steps = [
+        Open(query),
+        Asks(FIRST, None),
+        IsSilent,
+        Takes(Part(0, 0, last), 1),
+        Reports(OLD, want),
+        Copies,
+        AsksNothing,
+        Reports(OLD, want),
+    ];
+    otherwise(alloc, 66, &only(file), &steps)
 }
 
 /// The window where three of f4's tiles meet a fourth.
@@ -247,9 +256,15 @@ const IN_TURN: [Course<'static>; 1] = [Course {
         Open(THIN_WINDOW),
         AsksNothing,
         Reports(OLD, THIN),
+        Open(Query::Info),
+        AsksNothing,
+        Reports(OLD, Want::Info(FACTS_OF_F3)),
         Opens(15, 15, 2, 1),
         AsksNothing,
         Reports(OLD, LARGE),
+        Open(THIN_WINDOW),
+        AsksNothing,
+        Reports(OLD, THIN),
     ],
 }];
 
