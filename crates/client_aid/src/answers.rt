@@ -157,10 +157,12 @@ pub enum Answer<'a> {
     CutPart(usize, usize, usize, usize),
     /// A whole file of which so many bytes at its end are lost.
     CutWhole(usize, usize),
-    /// A part, and bytes behind it that aren't announced.
-    LongPart(usize, usize, usize, &'a [u8]),
+    /// A part, and behind it the publication's next bytes up to a position, which aren't announced.
+    LongPart(usize, usize, usize, usize),
     /// A part that is told as one of a file of so many bytes.
     PartOf(usize, usize, usize, usize),
+    /// A publication without so many bytes at its end, told as a whole file.
+    ShortWhole(usize, usize),
     /// Bytes under a tag, from a first position on, of a file of so many bytes.
     Bytes(&'a str, usize, &'a [u8], usize),
     /// A whole file under a tag.
@@ -175,8 +177,16 @@ fn cut(mut text: Vec<u8>, lost: usize) -> Result<Vec<u8>, NotDone> {
     Ok(text)
 }
 
-/// A text, and bytes behind it.
-fn followed(mut text: Vec<u8>, bytes: &[u8]) -> Result<Vec<u8>, NotDone> {
+/// A part, and behind it the publication's next bytes up to a position.
+fn long_part(
+    alloc: Global,
+    publication: Publication<'_>,
+    (first, last): (usize, usize),
+    end: usize,
+) -> Result<Vec<u8>, NotDone> {
+    let next = last.checked_add(1).ok_or(NotDone::NoSuchPart)?;
+    let bytes = publication.bytes(next, end)?;
+    let mut text = publication.part(alloc, first, last)?;
     text.extend_from_slice(bytes)?;
     Ok(text)
 }
@@ -192,6 +202,21 @@ fn told_part(
     part_of(alloc, publication.tag, first, body, complete)
 }
 
+/// A publication without so many bytes at its end, told as a whole file.
+fn short_whole(
+    alloc: Global,
+    publication: Publication<'_>,
+    less: usize,
+) -> Result<Vec<u8>, NotDone> {
+    let len = publication
+        .file
+        .len()
+        .checked_sub(less)
+        .ok_or(NotDone::NoSuchPart)?;
+    let body = publication.file.get(..len).ok_or(NotDone::NoSuchPart)?;
+    whole_of(alloc, publication.tag, body)
+}
+
 impl Answer<'_> {
     /// The bytes of the answer.
     pub fn text(&self, alloc: Global, files: &[Publication<'_>]) -> Result<Vec<u8>, NotDone> {
@@ -202,12 +227,13 @@ impl Answer<'_> {
                 cut(published(files, which)?.part(alloc, first, last)?, lost)
             }
             Answer::CutWhole(which, lost) => cut(published(files, which)?.whole(alloc)?, lost),
-            Answer::LongPart(which, first, last, bytes) => {
-                followed(published(files, which)?.part(alloc, first, last)?, bytes)
+            Answer::LongPart(which, first, last, end) => {
+                long_part(alloc, published(files, which)?, (first, last), end)
             }
             Answer::PartOf(which, first, last, complete) => {
                 told_part(alloc, published(files, which)?, (first, last), complete)
             }
+            Answer::ShortWhole(which, less) => short_whole(alloc, published(files, which)?, less),
             Answer::Bytes(tag, first, body, complete) => part_of(alloc, tag, first, body, complete),
             Answer::WholeOf(tag, body) => whole_of(alloc, tag, body),
             Answer::Text(text) => Ok(Vec::from_slice(alloc, text)?),

@@ -1,6 +1,6 @@
 //! Courses of new clients, as tables.
 use crate::answers::{NEW, NotDone, OLD, Publication};
-use crate::session::{Session, client_of_a};
+use crate::session::{Session, client_of_a, otherwise};
 use crate::steps::Step;
 use reader_aid::Fixture;
 use std::alloc::Global;
@@ -33,8 +33,7 @@ impl<'a> Course<'a> {
         let [tag, next_tag] = self.tags;
         let (old, new) = (old.file(alloc)?, new.file(alloc)?);
         let files = Publication::in_turn(tag, &old, next_tag, &new);
-        let client = client_of_a(alloc, 66)?;
-        Session::new(client, &files).go(alloc, self.steps)
+        otherwise(alloc, 66, &files, self.steps)
     }
 }
 
@@ -49,4 +48,45 @@ pub fn first_otherwise<'a>(
         }
     }
     Ok(None)
+}
+
+/// Courses of new clients that begin with the same steps, each with an end of its own.
+#[derive(Clone, Copy)]
+pub struct Fork<'a> {
+    pub files: [Fixture; 2],
+    pub begin: &'a [Step<'a>],
+    pub ends: &'a [&'a [Step<'a>]],
+}
+
+/// Does the first steps with a new client, and then the others. The number of the first that went otherwise than expected,
+/// counted from the first.
+fn end_otherwise(
+    alloc: Global,
+    files: &[Publication<'_>],
+    begin: &[Step<'_>],
+    end: &[Step<'_>],
+) -> Result<Option<usize>, NotDone> {
+    let mut session = Session::new(client_of_a(alloc, 66)?, files);
+    match session.go(alloc, begin)? {
+        Some(step) => Ok(Some(step)),
+        None => match session.go(alloc, end)? {
+            Some(step) => Ok(Some(begin.len().saturating_add(step))),
+            None => Ok(None),
+        },
+    }
+}
+
+impl Fork<'_> {
+    /// Runs the courses. The first that went otherwise than expected: the number of its end, and of the step.
+    pub fn otherwise(&self, alloc: Global) -> Result<Option<(usize, usize)>, NotDone> {
+        let [old, new] = self.files;
+        let (old, new) = (old.file(alloc)?, new.file(alloc)?);
+        let files = Publication::in_turn(OLD, &old, NEW, &new);
+        for (i, end) in self.ends.iter().enumerate() {
+            if let Some(step) = end_otherwise(alloc, &files, self.begin, end)? {
+                return Ok(Some((i, step)));
+            }
+        }
+        Ok(None)
+    }
 }

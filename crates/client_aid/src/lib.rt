@@ -7,6 +7,6 @@ mod session;
 mod steps;
 
 pub use answers::{Answer, NEW, NOT_FOUND, NotDone, OLD, Publication, published};
-pub use courses::{Course, F2_REPLACED, F2_TWICE, Otherwise, TAGS, first_otherwise};
-pub use session::{Session, client_of_a};
-pub use steps::{FIRST, Positions, Said, Step};
+pub use courses::{Course, F2_REPLACED, F2_TWICE, Fork, Otherwise, TAGS, first_otherwise};
+pub use session::{Session, client_of_a, otherwise};
+pub use steps::{FIRST, Kind, Positions, Said, Step};

@@ -1,6 +1,6 @@
 //! A client between the steps of a course.
 use crate::answers::{Answer, NotDone, Publication, published};
-use crate::steps::{Positions, Said, Step};
+use crate::steps::{Kind, Positions, Said, Step};
 use cog_client::{Client, ClientError, Delivered, Memory, Query, Report};
 use reader_aid::{Want, is_wanted, of_level};
 use std::alloc::{AllocError, Global};
@@ -56,18 +56,35 @@ fn asks_nothing(client: &mut Client) -> Result<bool, Memory> {
     Ok(text.is_none() && client.asked().is_none())
 }
 
-/// Whether an answer is ignored under this number, and nothing that callers see is changed by it.
-fn ignores(client: &mut Client, answer: &[u8], number: u8) -> Result<bool, Memory> {
+/// What an answer does that changes neither what is asked, nor the revision's tag, nor whether a report stands. None where it
+/// changes one of them.
+fn does_quietly(client: &mut Client, answer: &[u8]) -> Result<Option<Delivered>, Memory> {
     let asked = client.asked();
     let tag = client.tag().map(|tag| tag.copy());
     let is_silent = client.report().is_none();
-    match client.deliver(answer)? {
-        Delivered::Ignored(why) => Ok(
-            why.number() == number
-                && client.asked() == asked
-                && client.tag() == tag.as_ref()
-                && client.report().is_none() == is_silent,
-        ),
+    let delivered = client.deliver(answer)?;
+    if client.asked() == asked
+        && client.tag() == tag.as_ref()
+        && client.report().is_none() == is_silent
+    {
+        Ok(Some(delivered))
+    } else {
+        Ok(None)
+    }
+}
+
+/// Whether an answer is ignored under this number, and nothing that callers see is changed by it.
+fn ignores(client: &mut Client, answer: &[u8], number: u8) -> Result<bool, Memory> {
+    match does_quietly(client, answer)? {
+        Some(Delivered::Ignored(why)) => Ok(why.number() == number),
+        _ => Ok(false),
+    }
+}
+
+/// Whether an answer is taken with so many blocks, and the client goes on asking for the same.
+fn takes_more(client: &mut Client, answer: &[u8], blocks: u32) -> Result<bool, Memory> {
+    match does_quietly(client, answer)? {
+        Some(Delivered::Took(count)) => Ok(count == blocks && client.report().is_none()),
         _ => Ok(false),
     }
 }
@@ -127,8 +144,15 @@ fn checks(client: &Client, want: Option<&str>) -> Result<bool, Memory> {
 }
 
 /// Whether each of these answers to a check says this.
-fn hears(client: &Client, answers: &[&str], said: Said) -> bool {
+fn says(client: &Client, answers: &[&str], said: Said) -> bool {
     answers.iter().all(|answer| Said::from(client.current(answer.as_bytes())) == said)
+}
+
+/// Whether answers to a check say what is expected of their kind.
+fn hears(client: &Client, kinds: &[Kind<'_>]) -> bool {
+    kinds
+        .iter()
+        .all(|(answers, said)| says(client, answers, *said))
 }
 
 /// A client, the publications that its answers are of, and its query.
@@ -188,6 +212,10 @@ impl<'a> Session<'a> {
                 let text = answer.text(alloc, self.files)?;
                 Ok(uses(&mut self.client, &text)?)
             }
+            Step::TakesMore(answer, blocks) => {
+                let text = answer.text(alloc, self.files)?;
+                Ok(takes_more(&mut self.client, &text, blocks)?)
+            }
             Step::Ignores(answer, number) => {
                 let text = answer.text(alloc, self.files)?;
                 Ok(ignores(&mut self.client, &text, number)?)
@@ -209,7 +237,7 @@ impl<'a> Session<'a> {
             Step::Reports(tag, want) => Ok(self.reports(tag, want)),
             Step::Copies => Ok(copies(alloc, &self.client)?),
             Step::Checks(want) => Ok(checks(&self.client, want)?),
-            Step::Hears(answers, said) => Ok(hears(&self.client, answers, said)),
+            Step::Hears(kinds) => Ok(hears(&self.client, kinds)),
             _ => Ok(false),
         }
     }
@@ -232,6 +260,7 @@ impl<'a> Session<'a> {
             Step::Asks(positions, tag) => asks(alloc, &mut self.client, positions, tag),
             Step::AsksNothing => Ok(asks_nothing(&mut self.client)?),
             Step::Takes(..)
+            | Step::TakesMore(..)
             | Step::Uses(_)
             | Step::Ignores(..)
             | Step::Refuses(_)
@@ -250,4 +279,15 @@ impl<'a> Session<'a> {
         }
         Ok(None)
     }
+}
+
+/// Does these steps with a new client that has so many blocks. The number of the first that went otherwise than expected.
+pub fn otherwise(
+    alloc: Global,
+    blocks: u32,
+    files: &[Publication<'_>],
+    steps: &[Step<'_>],
+) -> Result<Option<usize>, NotDone> {
+    let client = client_of_a(alloc, blocks)?;
+    Session::new(client, files).go(alloc, steps)
 }

@@ -27,6 +27,9 @@ impl From<Current> for Said {
     }
 }
 
+/// Answers to a check, and what each of them says.
+pub type Kind<'a> = (&'a [&'a str], Said);
+
 /// What is done with a client, and what is expected of it.
 #[derive(Clone, Copy)]
 pub enum Step<'a> {
@@ -39,6 +42,8 @@ pub enum Step<'a> {
     AsksNothing,
     /// An answer is taken, with so many blocks.
     Takes(Answer<'a>, u32),
+    /// An answer is taken, with so many blocks; what is asked and the revision stay, and no report stands.
+    TakesMore(Answer<'a>, u32),
     /// An answer isn't ignored.
     Uses(Answer<'a>),
     /// An answer is ignored, under this number, and nothing that callers see is changed.
@@ -59,6 +64,6 @@ pub enum Step<'a> {
     Copies,
     /// This is the check, or there is none.
     Checks(Option<&'a str>),
-    /// These answers to a check say this.
-    Hears(&'a [&'a str], Said),
+    /// Answers to a check say this.
+    Hears(&'a [Kind<'a>]),
 }

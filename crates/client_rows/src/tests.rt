@@ -1,10 +1,10 @@
-use client_aid::{Course, NotDone, OLD, Publication, Session, client_of_a, first_otherwise};
-use std::alloc::Global;
+use client_aid::{Course, Fork, OLD, Publication, first_otherwise};
 use std::process::Abort;
 use std::test::Fail;
 
 mod cases;
 mod checks;
+mod fronts;
 mod limits;
 mod reports;
 mod strange;
@@ -17,12 +17,13 @@ fn expect(rt: &(impl Abort + AllocGlobal), courses: &[Course<'_>]) -> Result<(),
     Ok(())
 }
 
+/// Expects that every course of the fork goes as its steps say.
+fn expect_ends(rt: &(impl Abort + AllocGlobal), fork: &Fork<'_>) -> Result<(), Fail> {
+    assert_eq!(rt; fork.otherwise(rt.alloc())?, None);
+    Ok(())
+}
+
 /// One publication, twice.
 fn only(file: &[u8]) -> [Publication<'_>; 2] {
     [Publication { tag: OLD, file }; 2]
-}
-
-/// A new client whose answers are of these publications.
-fn new_session<'a>(alloc: Global, files: &'a [Publication<'a>]) -> Result<Session<'a>, NotDone> {
-    Ok(Session::new(client_of_a(alloc, 66)?, files))
 }

@@ -1,11 +1,16 @@
 //! How an answer is taken, case by case.
-use super::expect;
 use super::worked::OF_ONES;
-use client_aid::Answer::{Bytes, CutPart, CutWhole, Part, Text, Whole, WholeOf};
+use super::{expect, expect_ends};
+use client_aid::Answer::{
+    Bytes, CutPart, CutWhole, Part, PartOf, ShortWhole, Text, Whole, WholeOf,
+};
 use client_aid::Step::{
     Asks, AsksNothing, Forgets, Ignores, IsSilent, Opens, Reads, Reports, Restarts, Stands, Takes,
+    TakesMore,
 };
-use client_aid::{Course, F2_REPLACED, F2_TWICE, FIRST, NEW, NOT_FOUND, OLD, Positions, TAGS};
+use client_aid::{
+    Course, F2_REPLACED, F2_TWICE, FIRST, Fork, NEW, NOT_FOUND, OLD, Positions, Step, TAGS,
+};
 use reader_aid::{Fixture, Want};
 use std::test::Fail;
 use tiff_dir::FileFault;
@@ -16,7 +21,10 @@ const END: Positions = (65536, 67705);
 /// The first block.
 const FRONT: Positions = (0, 16383);
 
-const IGNORED: [Course<'static>; 4] = [
+/// The head of a whole file that is a byte longer than f2.
+const LONGER: &[u8] = b"HTTP/1.1 200 OK\r\nETag: \"1-1\"\r\nContent-Length: 67707\r\n\r\n";
+
+const IGNORED: [Course<'static>; 3] = [
     // Before the first request, after `open`, `forget` or a request for nothing, and while a report stands.
     Course {
         name: "nothing is asked",
@@ -68,29 +76,9 @@ const IGNORED: [Course<'static>; 4] = [
             Reports(OLD, OF_ONES),
         ],
     },
-    // In a part or a whole file, inside of what is asked or beside it.
+    // A byte shorter, a byte longer or without bytes; in a part or a whole file, inside of what is asked or beside it.
     Course {
         name: "the client's tag with another length",
-        tags: [OLD, OLD],
-        files: [Fixture::F2, Fixture::F5],
-        steps: &[
-            Opens(240, 240, 16, 16),
-            Asks(FIRST, None),
-            Takes(Part(0, 0, 65535), 4),
-            Asks(END, Some(OLD)),
-            Ignores(Part(1, 65536, 67704), 11),
-            Ignores(Part(1, 0, 65535), 11),
-            Ignores(Bytes(OLD, 65536, b"abc", 67705), 11),
-            Ignores(Bytes(OLD, 65536, b"abc", 67707), 11),
-            Ignores(Bytes(OLD, 67706, b"a", 67707), 11),
-            Ignores(Whole(1), 11),
-            Ignores(WholeOf(OLD, b""), 11),
-            Asks(END, Some(OLD)),
-        ],
-    },
-    // Nothing of what is asked is left, and the same with one byte more.
-    Course {
-        name: "cut at what is asked",
         tags: TAGS,
         files: F2_TWICE,
         steps: &[
@@ -98,22 +86,66 @@ const IGNORED: [Course<'static>; 4] = [
             Asks(FIRST, None),
             Takes(Part(0, 0, 65535), 4),
             Asks(END, Some(OLD)),
-            Ignores(CutPart(0, 65000, 65536, 1), 12),
-            Takes(Part(0, 65000, 65536), 0),
-            Ignores(CutPart(0, 65536, 65536, 1), 12),
-            Takes(Part(0, 65536, 65536), 0),
-            Ignores(CutPart(0, 65536, 67705, 2170), 12),
-            Takes(CutPart(0, 65536, 67705, 2169), 0),
-            Ignores(CutPart(0, 67705, 67705, 1), 12),
-            Takes(Part(0, 67705, 67705), 0),
-            Ignores(CutPart(0, 0, 67705, 2170), 12),
-            Takes(CutPart(0, 0, 67705, 2169), 0),
-            Ignores(CutWhole(0, 2170), 12),
-            Takes(CutWhole(0, 2169), 0),
+            Ignores(PartOf(0, 65536, 67704, 67705), 11),
+            Ignores(PartOf(0, 0, 65535, 67705), 11),
+            Ignores(ShortWhole(0, 1), 11),
+            Ignores(PartOf(0, 65536, 67705, 67707), 11),
+            Ignores(Bytes(OLD, 65536, b"abc", 67707), 11),
+            Ignores(Bytes(OLD, 67706, b"a", 67707), 11),
+            Ignores(WholeOf(OLD, b""), 11),
+            Ignores(Text(LONGER), 11),
             Asks(END, Some(OLD)),
+            Takes(Part(0, 65536, 67705), 1),
+            Reports(OLD, OF_ONES),
         ],
     },
 ];
+
+/// A client that asks for the end of f2.
+const BEGIN: [Step<'static>; 4] = [
+    Opens(240, 240, 16, 16),
+    Asks(FIRST, None),
+    Takes(Part(0, 0, 65535), 4),
+    Asks(END, Some(OLD)),
+];
+
+/// Nothing of what is asked is left of an answer, and then there is one byte more.
+const CUTS: Fork<'static> = Fork {
+    files: F2_TWICE,
+    begin: &BEGIN,
+    ends: &[
+        &[
+            Ignores(CutPart(0, 65000, 65536, 1), 12),
+            TakesMore(Part(0, 65000, 65536), 0),
+            Asks(END, Some(OLD)),
+        ],
+        &[
+            Ignores(CutPart(0, 65536, 65536, 1), 12),
+            TakesMore(Part(0, 65536, 65536), 0),
+            Asks(END, Some(OLD)),
+        ],
+        &[
+            Ignores(CutPart(0, 65536, 67705, 2170), 12),
+            TakesMore(CutPart(0, 65536, 67705, 2169), 0),
+            Asks(END, Some(OLD)),
+        ],
+        &[
+            Ignores(CutPart(0, 67705, 67705, 1), 12),
+            TakesMore(Part(0, 67705, 67705), 0),
+            Asks(END, Some(OLD)),
+        ],
+        &[
+            Ignores(CutPart(0, 0, 67705, 2170), 12),
+            TakesMore(CutPart(0, 0, 67705, 2169), 0),
+            Asks(END, Some(OLD)),
+        ],
+        &[
+            Ignores(CutWhole(0, 2170), 12),
+            TakesMore(CutWhole(0, 2169), 0),
+            Asks(END, Some(OLD)),
+        ],
+    ],
+};
 
 /// What is asked is at an end of f2's bytes, at their front, and in the middle of them.
 const LIMITS: [Course<'static>; 2] = [
@@ -128,8 +160,8 @@ const LIMITS: [Course<'static>; 2] = [
             Asks(END, Some(OLD)),
             Ignores(Part(0, 0, 0), 12),
             Ignores(Part(0, 65535, 65535), 12),
-            Takes(Part(0, 65536, 65536), 0),
-            Takes(Part(0, 67705, 67705), 0),
+            TakesMore(Part(0, 65536, 65536), 0),
+            TakesMore(Part(0, 67705, 67705), 0),
         ],
     },
     Course {
@@ -143,15 +175,15 @@ const LIMITS: [Course<'static>; 2] = [
             Asks(FRONT, Some(OLD)),
             Ignores(Part(0, 16384, 16384), 12),
             Ignores(Part(0, 67705, 67705), 12),
-            Takes(Part(0, 0, 0), 0),
-            Takes(Part(0, 16383, 16383), 0),
-            Takes(Part(0, 0, 16383), 1),
+            TakesMore(Part(0, 0, 0), 0),
+            TakesMore(Part(0, 16383, 16383), 0),
+            TakesMore(Part(0, 0, 16383), 1),
             Opens(0, 99, 1, 1),
             Asks((16384, 32767), Some(OLD)),
             Ignores(Part(0, 16383, 16383), 12),
             Ignores(Part(0, 32768, 32768), 12),
-            Takes(Part(0, 16384, 16384), 0),
-            Takes(Part(0, 32767, 32767), 0),
+            TakesMore(Part(0, 16384, 16384), 0),
+            TakesMore(Part(0, 32767, 32767), 0),
         ],
     },
 ];
@@ -166,16 +198,15 @@ const TAKEN: [Course<'static>; 2] = [
             Opens(240, 240, 16, 16),
             Asks(FIRST, None),
             Takes(Part(0, 16384, 32767), 1),
-            Takes(Part(0, 0, 8191), 0),
-            Takes(Part(0, 8192, 16383), 0),
-            Takes(Part(0, 1, 16384), 0),
-            Takes(Part(0, 0, 65535), 3),
-            Stands(Some(FIRST), Some(OLD)),
-            Takes(Part(0, 0, 65535), 0),
-            Takes(Part(0, 0, 67705), 0),
-            Takes(Part(0, 65535, 65536), 0),
             Stands(Some(FIRST), Some(OLD)),
             IsSilent,
+            TakesMore(Part(0, 0, 8191), 0),
+            TakesMore(Part(0, 8192, 16383), 0),
+            TakesMore(Part(0, 1, 16384), 0),
+            TakesMore(Part(0, 0, 65535), 3),
+            TakesMore(Part(0, 0, 65535), 0),
+            TakesMore(Part(0, 0, 67705), 0),
+            TakesMore(Part(0, 65535, 65536), 0),
             Asks(END, Some(OLD)),
             Takes(Whole(0), 1),
             Reports(OLD, OF_ONES),
@@ -200,35 +231,46 @@ const TAKEN: [Course<'static>; 2] = [
     },
 ];
 
-/// A whole file of another revision is read from its beginning, whatever was asked.
-const RESTARTS: [Course<'static>; 4] = [
-    // Whole, or without so many bytes at its end.
-    Course {
-        name: "restarts by fronts",
-        tags: TAGS,
-        files: F2_REPLACED,
-        steps: &[
-            Opens(240, 240, 16, 16),
-            Asks(FIRST, None),
-            Takes(Part(0, 0, 65535), 4),
-            Asks(END, Some(OLD)),
+/// A whole file of another revision, of which so many bytes at its end are lost, is read from its beginning, whatever was asked.
+const RESTARTS_BY_FRONTS: Fork<'static> = Fork {
+    files: F2_REPLACED,
+    begin: &BEGIN,
+    ends: &[
+        &[
             Restarts(CutWhole(1, 67706)),
             IsSilent,
             Stands(Some(FIRST), Some(NEW)),
             Asks(FRONT, Some(NEW)),
-            Restarts(CutWhole(0, 51323)),
-            Stands(Some(FIRST), Some(OLD)),
-            Asks(FRONT, Some(OLD)),
+        ],
+        &[
+            Restarts(CutWhole(1, 51323)),
+            IsSilent,
+            Stands(Some(FIRST), Some(NEW)),
+            Asks(FRONT, Some(NEW)),
+        ],
+        &[
             Restarts(CutWhole(1, 51322)),
+            IsSilent,
             Stands(Some(FIRST), Some(NEW)),
             Asks(END, Some(NEW)),
-            Restarts(CutWhole(0, 1)),
-            Asks(END, Some(OLD)),
-            Restarts(CutWhole(1, 0)),
+        ],
+        &[
+            Restarts(CutWhole(1, 1)),
             IsSilent,
+            Stands(Some(FIRST), Some(NEW)),
             Asks(END, Some(NEW)),
         ],
-    },
+        &[
+            Restarts(CutWhole(1, 0)),
+            IsSilent,
+            Stands(Some(FIRST), Some(NEW)),
+            Asks(END, Some(NEW)),
+        ],
+    ],
+};
+
+/// A client that has restarted more than once, or to another image.
+const RESTARTS: [Course<'static>; 3] = [
     // The answer again: it is of the client's revision then.
     Course {
         name: "restarted twice",
@@ -240,7 +282,7 @@ const RESTARTS: [Course<'static>; 4] = [
             Takes(Part(0, 0, 65535), 4),
             Asks(END, Some(OLD)),
             Restarts(Whole(1)),
-            Takes(Whole(1), 0),
+            TakesMore(Whole(1), 0),
             Restarts(Whole(0)),
             Stands(Some(FIRST), Some(OLD)),
             Reads(0, 1),
@@ -286,6 +328,11 @@ fn ignored(rt: HostRuntime) -> Result<(), Fail> {
 }
 
 #[test]
+fn cut_at_what_is_asked(rt: HostRuntime) -> Result<(), Fail> {
+    expect_ends(&rt, &CUTS)
+}
+
+#[test]
 fn limits_of_what_is_asked(rt: HostRuntime) -> Result<(), Fail> {
     expect(&rt, &LIMITS)
 }
@@ -293,6 +340,11 @@ fn limits_of_what_is_asked(rt: HostRuntime) -> Result<(), Fail> {
 #[test]
 fn taken(rt: HostRuntime) -> Result<(), Fail> {
     expect(&rt, &TAKEN)
+}
+
+#[test]
+fn restarted_by_fronts(rt: HostRuntime) -> Result<(), Fail> {
+    expect_ends(&rt, &RESTARTS_BY_FRONTS)
 }
 
 #[test]

@@ -2,8 +2,10 @@
 use super::expect;
 use super::worked::OF_ONES;
 use client_aid::Answer::{Part, Whole};
-use client_aid::Step::{Asks, Checks, Forgets, Hears, Opens, Reports, Restarts, Stands, Takes};
-use client_aid::{Course, F2_TWICE, FIRST, OLD, Positions, Said, TAGS};
+use client_aid::Step::{
+    Asks, Checks, Forgets, Hears, Opens, Reports, Restarts, Stands, Takes, TakesMore,
+};
+use client_aid::{Course, F2_TWICE, FIRST, Kind, OLD, Positions, Said, TAGS};
 use std::test::Fail;
 
 /// Answers of a server that has the file under the tag `"1-1"`, or under another.
@@ -72,6 +74,47 @@ const MORE_FIELDS: &str = "HTTP/1.1 304 Not Modified\r\nETag: \"1-1\"\r\n\
     A: 1\r\nA: 1\r\nA: 1\r\nA: 1\r\nA: 1\r\nA: 1\r\nA: 1\r\nA: 1\r\n\
     \r\n";
 
+/// What the answers say to a client whose revision has the tag `"1-1"`.
+const ANSWERS: [Kind<'static>; 11] = [
+    (&SAME, Said::Same),
+    (&[MOST_FIELDS], Said::Same),
+    (&OTHER, Said::Other),
+    (&FRONTS, Said::Unknown(1)),
+    (&NO_HEADS, Said::Unknown(2)),
+    (&[MORE_FIELDS], Said::Unknown(2)),
+    (&STATUSES, Said::Unknown(3)),
+    (&NO_TAGS, Said::Unknown(4)),
+    (&WEAK_TAGS, Said::Unknown(5)),
+    (&LONG_TAGS, Said::Unknown(6)),
+    (&CODINGS, Said::Unknown(9)),
+];
+
+/// To one that has no revision.
+const NOTHING: [Kind<'static>; 11] = [
+    (&SAME, Said::Unknown(12)),
+    (&[MOST_FIELDS], Said::Unknown(12)),
+    (&OTHER, Said::Unknown(12)),
+    (&FRONTS, Said::Unknown(12)),
+    (&NO_HEADS, Said::Unknown(12)),
+    (&[MORE_FIELDS], Said::Unknown(12)),
+    (&STATUSES, Said::Unknown(12)),
+    (&NO_TAGS, Said::Unknown(12)),
+    (&WEAK_TAGS, Said::Unknown(12)),
+    (&LONG_TAGS, Said::Unknown(12)),
+    (&CODINGS, Said::Unknown(12)),
+];
+
+/// To one whose revision has the tag `"1-2"`.
+const REPLACED: [Kind<'static>; 4] = [
+    (
+        &["HTTP/1.1 304 Not Modified\r\nETag: \"1-2\"\r\n\r\n"],
+        Said::Same,
+    ),
+    (&SAME, Said::Other),
+    (&[MOST_FIELDS], Said::Other),
+    (&NO_TAGS, Said::Unknown(4)),
+];
+
 /// The checks of the two publications.
 const CHECK_OF_OLD: &str =
     "HEAD /a HTTP/1.1\r\nHost: cog.test\r\nIf-None-Match: \"1-1\"\r\nConnection: close\r\n\r\n";
@@ -82,7 +125,8 @@ const CHECK_OF_NEW: &str =
 /// What is missing after the first answer.
 const END: Positions = (65536, 67705);
 
-const COURSES: [Course<'static>; 3] = [
+const COURSES: [Course<'static>; 2] = [
+    // While something is asked, after a byte more, and after the report. A check changes nothing.
     Course {
         name: "answers to checks",
         tags: TAGS,
@@ -91,39 +135,17 @@ const COURSES: [Course<'static>; 3] = [
             Opens(240, 240, 16, 16),
             Asks(FIRST, None),
             Takes(Part(0, 0, 65535), 4),
-            Checks(Some(CHECK_OF_OLD)),
-            Hears(&SAME, Said::Same),
-            Hears(&OTHER, Said::Other),
-            Hears(&FRONTS, Said::Unknown(1)),
-            Hears(&NO_HEADS, Said::Unknown(2)),
-            Hears(&STATUSES, Said::Unknown(3)),
-            Hears(&NO_TAGS, Said::Unknown(4)),
-            Hears(&WEAK_TAGS, Said::Unknown(5)),
-            Hears(&LONG_TAGS, Said::Unknown(6)),
-            Hears(&CODINGS, Said::Unknown(9)),
-            Hears(&[MOST_FIELDS], Said::Same),
-            Hears(&[MORE_FIELDS], Said::Unknown(2)),
-            Asks(END, Some(OLD)),
-        ],
-    },
-    // A check changes nothing, while something is asked and after the report.
-    Course {
-        name: "checks between",
-        tags: TAGS,
-        files: F2_TWICE,
-        steps: &[
-            Opens(240, 240, 16, 16),
-            Asks(FIRST, None),
-            Takes(Part(0, 0, 65535), 4),
             Asks(END, Some(OLD)),
             Checks(Some(CHECK_OF_OLD)),
-            Hears(&SAME, Said::Same),
-            Hears(&OTHER, Said::Other),
+            Hears(&ANSWERS),
+            Stands(Some(END), Some(OLD)),
+            TakesMore(Part(0, 65536, 65536), 0),
+            Checks(Some(CHECK_OF_OLD)),
+            Hears(&ANSWERS),
             Stands(Some(END), Some(OLD)),
             Takes(Part(0, 65536, 67705), 1),
             Checks(Some(CHECK_OF_OLD)),
-            Hears(&SAME, Said::Same),
-            Hears(&OTHER, Said::Other),
+            Hears(&ANSWERS),
             Reports(OLD, OF_ONES),
         ],
     },
@@ -134,23 +156,18 @@ const COURSES: [Course<'static>; 3] = [
         files: F2_TWICE,
         steps: &[
             Checks(None),
-            Hears(&SAME, Said::Unknown(12)),
+            Hears(&NOTHING),
             Opens(240, 240, 16, 16),
             Asks(FIRST, None),
             Checks(None),
-            Hears(&SAME, Said::Unknown(12)),
-            Hears(&NO_TAGS, Said::Unknown(12)),
+            Hears(&NOTHING),
             Takes(Part(0, 0, 65535), 4),
             Restarts(Whole(1)),
             Checks(Some(CHECK_OF_NEW)),
-            Hears(
-                &["HTTP/1.1 304 Not Modified\r\nETag: \"1-2\"\r\n\r\n"],
-                Said::Same,
-            ),
-            Hears(&SAME, Said::Other),
+            Hears(&REPLACED),
             Forgets,
             Checks(None),
-            Hears(&SAME, Said::Unknown(12)),
+            Hears(&NOTHING),
         ],
     },
 ];

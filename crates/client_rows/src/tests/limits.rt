@@ -1,6 +1,5 @@
 //! Clients that are made, and those that aren't.
-use client_aid::NotDone;
-use cog_client::{Client, ClientError, Memory};
+use cog_client::{Client, ClientError};
 use reader_aid::of_level;
 use std::alloc::{AllocError, Global};
 use std::test::Fail;
@@ -79,28 +78,28 @@ fn first_request(alloc: Global, host: &[u8], name: &[u8]) -> Result<Vec<u8>, All
 }
 
 /// Whether a new client has nothing, and asks for the first bytes.
-fn is_new(client: &mut Client, request: &[u8]) -> Result<bool, Memory> {
+fn is_new(client: &mut Client, request: &[u8]) -> bool {
     let is_empty = client.asked().is_none() && client.tag().is_none() && client.report().is_none();
     client.open(of_level(0, 0, 1, 1, 0));
-    match client.request()? {
-        None => Ok(false),
-        Some(text) => Ok(is_empty && text.as_slice() == request),
+    match client.request() {
+        Ok(Some(text)) => is_empty && text.as_slice() == request,
+        _ => false,
     }
 }
 
-/// Whether a client is made, which asks for the first bytes.
-fn is_made(alloc: Global, host: &[u8], name: &[u8], blocks: u32) -> Result<bool, NotDone> {
-    let request = first_request(alloc, host, name)?;
+/// Whether a client is made, whose first request is this one.
+fn is_made(alloc: Global, host: &[u8], name: &[u8], blocks: u32, request: &[u8]) -> bool {
     match Client::new(alloc, host, name, blocks) {
-        Err(_) => Ok(false),
-        Ok(mut client) => Ok(is_new(&mut client, &request)?),
+        Ok(mut client) => is_new(&mut client, request),
+        Err(_refusal) => false,
     }
 }
 
 /// The first of these clients that isn't made.
-fn first_unmade(alloc: Global) -> Result<Option<usize>, NotDone> {
+fn first_unmade(alloc: Global) -> Result<Option<usize>, AllocError> {
     for (i, (host, name, blocks)) in MADE.iter().enumerate() {
-        if !is_made(alloc, host, name, *blocks)? {
+        let request = first_request(alloc, host, name)?;
+        if !is_made(alloc, host, name, *blocks, &request) {
             return Ok(Some(i));
         }
     }

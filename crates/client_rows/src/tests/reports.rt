@@ -1,23 +1,32 @@
 //! Reports of each kind after one exchange, and their copies.
-use super::{expect, new_session, only};
+use super::{expect, only};
 use client_aid::Answer::Part;
-use client_aid::Step::{Asks, AsksNothing, Copies, Open, Opens, Reads, Reports, Takes};
-use client_aid::{Course, FIRST, NotDone, OLD, TAGS};
+use client_aid::Step::{Asks, AsksNothing, Copies, IsSilent, Open, Opens, Reports, Takes};
+use client_aid::{Course, FIRST, NotDone, OLD, TAGS, otherwise};
 use reader_aid::{FACTS_OF_F3, Facts, Fixture, NO_FACTS, Numbers, Want, change, of_level, window};
 use std::alloc::Global;
 use std::test::Fail;
 use tiff_dir::{FileFault, Pick, Query};
 
-/// The number of the first step that goes otherwise, where a new client is answered with the whole file.
+/// The number of the first step that goes otherwise, where a new client is answered with all bytes of a file of one block.
 fn exchange_otherwise(
     alloc: Global,
     file: &[u8],
     query: Query,
     want: Want<'_>,
 ) -> Result<Option<usize>, NotDone> {
-    let files = only(file);
-    let steps = [Open(query), Reads(0, 1), Reports(OLD, want), Copies];
-    new_session(alloc, &files)?.go(alloc, &steps)
+    let last = file.len().checked_sub(1).ok_or(NotDone::NoSuchPart)?;
+    let steps = [
+        Open(query),
+        Asks(FIRST, None),
+        IsSilent,
+        Takes(Part(0, 0, last), 1),
+        Reports(OLD, want),
+        Copies,
+        AsksNothing,
+        Reports(OLD, want),
+    ];
+    otherwise(alloc, 66, &only(file), &steps)
 }
 
 /// The window where three of f4's tiles meet a fourth.
@@ -41,6 +50,12 @@ const FACTS_OF_F1: Facts<'static> = Facts {
     ..NO_FACTS
 };
 
+/// What Info tells of f3 without its scale.
+const WITHOUT_SCALE: Facts<'static> = Facts {
+    scale: None,
+    ..FACTS_OF_F3
+};
+
 /// A file, bytes that are put at a place of it, a window or else Info, and the outcome.
 type Row = (
     Fixture,
@@ -49,7 +64,7 @@ type Row = (
     Want<'static>,
 );
 
-const ROWS: [Row; 20] = [
+const ROWS: [Row; 22] = [
     (
         Fixture::F1,
         (0, b""),
@@ -160,6 +175,19 @@ const ROWS: [Row; 20] = [
     ),
     (Fixture::F1, (0, b""), None, Want::Info(FACTS_OF_F1)),
     (Fixture::F3, (0, b""), None, Want::Info(FACTS_OF_F3)),
+    // A tag that isn't named, of an unknown type, in the place of the scale's.
+    (
+        Fixture::F3,
+        (118, &[0x0f, 0x83, 0xff]),
+        None,
+        Want::Info(WITHOUT_SCALE),
+    ),
+    (
+        Fixture::F3,
+        (118, &[0x0f, 0x83, 0xff]),
+        Some((15, 15, 2, 2, Pick::Level(0))),
+        Want::Window(2, 2, 1, 8, &[0x10, 0x11, 0x12, 0x13]),
+    ),
 ];
 
 /// The first of these rows that goes otherwise, and the number of its step.
@@ -185,21 +213,31 @@ fn rows(rt: HostRuntime) -> Result<(), Fail> {
     Ok(())
 }
 
-/// The rows of level 1 of f3.
-fn small_rows(alloc: Global) -> Result<Vec<u8>, NotDone> {
-    let mut rows = Vec::new(alloc);
-    for row in 0..16u8 {
-        rows.extend_from_slice(&[row; 16])?;
+/// The samples of level 0 of f3: every one of tile t is 16 + t.
+fn large_samples(alloc: Global) -> Result<Vec<u8>, NotDone> {
+    let mut samples = Vec::new(alloc);
+    for row in 0..32u8 {
+        let tile = 16 + row / 16 * 2;
+        samples.extend_from_slice(&[tile; 16])?;
+        samples.extend_from_slice(&[tile + 1; 16])?;
     }
-    Ok(rows)
+    Ok(samples)
 }
 
-/// The first step that goes otherwise where f3 is asked for the level that has 16 columns.
-fn level_otherwise(alloc: Global) -> Result<Option<usize>, NotDone> {
-    let rows = small_rows(alloc)?;
+/// The samples of level 1 of f3: every one of row r is r.
+fn small_samples(alloc: Global) -> Result<Vec<u8>, NotDone> {
+    let mut samples = Vec::new(alloc);
+    for row in 0..16u8 {
+        samples.extend_from_slice(&[row; 16])?;
+    }
+    Ok(samples)
+}
+
+/// The first step that goes otherwise where f3 is asked for the level that has so many columns.
+fn level_otherwise(alloc: Global, columns: u32, want: Want<'_>) -> Result<Option<usize>, NotDone> {
     let file = Fixture::F3.file(alloc)?;
-    let query = window((0, 0, 32, 32, Pick::Columns(16)));
-    exchange_otherwise(alloc, &file, query, Want::Window(16, 16, 1, 8, &rows))
+    let query = window((0, 0, 32, 32, Pick::Columns(columns)));
+    exchange_otherwise(alloc, &file, query, want)
 }
 
 /// The first step that goes otherwise where f1 lacks its last byte.
@@ -211,8 +249,19 @@ fn short_otherwise(alloc: Global) -> Result<Option<usize>, NotDone> {
 }
 
 #[test]
-fn levels_and_ends(rt: HostRuntime) -> Result<(), Fail> {
-    assert_eq!(rt; level_otherwise(rt.alloc())?, None);
+fn levels_by_columns(rt: HostRuntime) -> Result<(), Fail> {
+    let (large, small) = (large_samples(rt.alloc())?, small_samples(rt.alloc())?);
+    for (columns, want) in [
+        (16, Want::Window(16, 16, 1, 8, &small)),
+        (17, Want::Window(32, 32, 1, 8, &large)),
+    ] {
+        assert_eq!(rt; level_otherwise(rt.alloc(), columns, want)?, None);
+    }
+    Ok(())
+}
+
+#[test]
+fn without_the_last_byte(rt: HostRuntime) -> Result<(), Fail> {
     assert_eq!(rt; short_otherwise(rt.alloc())?, None);
     Ok(())
 }
@@ -247,9 +296,15 @@ const IN_TURN: [Course<'static>; 1] = [Course {
         Open(THIN_WINDOW),
         AsksNothing,
         Reports(OLD, THIN),
+        Open(Query::Info),
+        AsksNothing,
+        Reports(OLD, Want::Info(FACTS_OF_F3)),
         Opens(15, 15, 2, 1),
         AsksNothing,
         Reports(OLD, LARGE),
+        Open(THIN_WINDOW),
+        AsksNothing,
+        Reports(OLD, THIN),
     ],
 }];
 

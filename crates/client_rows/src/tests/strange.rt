@@ -1,11 +1,8 @@
 //! Answers that no server of ours sends.
-use super::{expect, new_session, only};
-use client_aid::Answer::{Bytes, CutPart, LongPart, Part, PartOf, Text, WholeOf};
-use client_aid::Step::{Asks, Forgets, Ignores, IsSilent, Opens, Refuses, Reports, Stands, Takes};
-use client_aid::{
-    Course, F2_TWICE, FIRST, NotDone, OLD, Positions, Publication, Session, Step, TAGS,
-};
-use fixtures::f2;
+use super::{expect, expect_ends};
+use client_aid::Answer::{Bytes, LongPart, Part, PartOf, Text, WholeOf};
+use client_aid::Step::{Asks, Ignores, IsSilent, Opens, Refuses, Reports, Stands, Takes};
+use client_aid::{Course, F2_TWICE, FIRST, Fork, NotDone, OLD, Positions, Step, TAGS, otherwise};
 use reader_aid::Want;
 use std::alloc::{AllocError, Global};
 use std::test::Fail;
@@ -108,6 +105,7 @@ const LAST: usize = 18446744073709551614;
 /// What is missing behind the first bytes of the greatest file.
 const SIXTH: Positions = (65536, 81919);
 
+/// A client that asks for the first bytes.
 const ASKING: [Step<'static>; 2] = [Opens(240, 240, 16, 16), Asks(FIRST, None)];
 
 /// A head of 32 fields.
@@ -124,7 +122,7 @@ const MORE_FIELDS: &str = "HTTP/1.1 200 OK\r\nETag: \"1\"\r\nContent-Length: 0\r
     A: 1\r\nA: 1\r\nA: 1\r\nA: 1\r\nA: 1\r\nA: 1\r\nA: 1\r\n\
     \r\n";
 
-const COURSES: [Course<'static>; 8] = [
+const COURSES: [Course<'static>; 6] = [
     Course {
         name: "numbers of fields",
         tags: TAGS,
@@ -136,7 +134,7 @@ const COURSES: [Course<'static>; 8] = [
             Takes(Text(MOST_FIELDS), 0),
         ],
     },
-    // Bytes after the announced ones are passed over.
+    // The rest of the file comes after the announced bytes, and is passed over.
     Course {
         name: "long bodies",
         tags: TAGS,
@@ -144,10 +142,23 @@ const COURSES: [Course<'static>; 8] = [
         steps: &[
             Opens(240, 240, 16, 16),
             Asks(FIRST, None),
-            Takes(LongPart(0, 0, 16382, b"one"), 0),
+            Takes(LongPart(0, 0, 16382, 67705), 0),
             Asks((0, 16383), Some(OLD)),
-            Takes(LongPart(0, 0, 16383, b"more"), 1),
-            Asks((65536, 67705), Some(OLD)),
+            Takes(LongPart(0, 0, 16383, 67705), 1),
+            Opens(0, 99, 1, 1),
+            Asks((16384, 32767), Some(OLD)),
+        ],
+    },
+    Course {
+        name: "a long body of a new revision",
+        tags: TAGS,
+        files: F2_TWICE,
+        steps: &[
+            Opens(240, 240, 16, 16),
+            Asks(FIRST, None),
+            Takes(LongPart(0, 0, 16383, 67705), 1),
+            Opens(0, 99, 1, 1),
+            Asks((16384, 32767), Some(OLD)),
         ],
     },
     // Before the first revision and with one, whether something is asked or not.
@@ -197,40 +208,31 @@ const COURSES: [Course<'static>; 8] = [
             Asks(SIXTH, Some(OLD)),
         ],
     },
-    // Pieces of a new revision that bring nothing of what is asked.
-    Course {
-        name: "adopted by the last byte",
-        tags: TAGS,
-        files: F2_TWICE,
-        steps: &[
-            Opens(240, 240, 16, 16),
-            Asks(FIRST, None),
+];
+
+#[test]
+fn courses(rt: HostRuntime) -> Result<(), Fail> {
+    expect(&rt, &COURSES)
+}
+
+/// Pieces of a new revision that bring nothing of what is asked.
+const ADOPTED: Fork<'static> = Fork {
+    files: F2_TWICE,
+    begin: &ASKING,
+    ends: &[
+        &[
             Takes(Bytes(OLD, LAST, b"x", GREATEST), 0),
             IsSilent,
             Stands(Some(FIRST), Some(OLD)),
             Asks((0, 16383), Some(OLD)),
         ],
-    },
-    Course {
-        name: "adopted by the end",
-        tags: TAGS,
-        files: F2_TWICE,
-        steps: &[
-            Opens(240, 240, 16, 16),
-            Asks(FIRST, None),
+        &[
             Takes(Part(0, 65536, 67705), 0),
             IsSilent,
             Stands(Some(FIRST), Some(OLD)),
             Asks((0, 16383), Some(OLD)),
         ],
-    },
-    Course {
-        name: "adopted by a head alone",
-        tags: TAGS,
-        files: F2_TWICE,
-        steps: &[
-            Opens(240, 240, 16, 16),
-            Asks(FIRST, None),
+        &[
             Takes(
                 Text(b"HTTP/1.1 200 OK\r\nETag: \"1-1\"\r\nContent-Length: 67706\r\n\r\n"),
                 0,
@@ -239,12 +241,12 @@ const COURSES: [Course<'static>; 8] = [
             Stands(Some(FIRST), Some(OLD)),
             Asks((0, 16383), Some(OLD)),
         ],
-    },
-];
+    ],
+};
 
 #[test]
-fn courses(rt: HostRuntime) -> Result<(), Fail> {
-    expect(&rt, &COURSES)
+fn adopted_beside(rt: HostRuntime) -> Result<(), Fail> {
+    expect_ends(&rt, &ADOPTED)
 }
 
 /// A head that has so many bytes before its end.
@@ -256,111 +258,46 @@ fn long_line(alloc: Global, len: usize, end: &[u8]) -> Result<Vec<u8>, AllocErro
     Ok(text)
 }
 
-/// Bytes of a head before its end, the end, and the number under which it is ignored.
-const LONG_LINES: [(usize, &[u8], u8); 4] = [
-    (4095, b"", 1),
-    (4096, b"", 2),
-    (4096, b"\r\n\r\n", 2),
-    (4093, b"\r\n\r\n", 2),
+/// Bytes of a head before its end, the end, and the number under which it is ignored, if it is.
+const LONG_LINES: [(usize, &[u8], Option<u8>); 5] = [
+    (4095, b"", Some(1)),
+    (4096, b"", Some(2)),
+    (4096, b"\r\n\r\n", Some(2)),
+    (4093, b"\r\n\r\n", Some(2)),
+    (4092, b"\r\n\r\n", None),
 ];
 
-/// The first of these heads that isn't ignored under its number.
-fn line_otherwise(alloc: Global, session: &mut Session<'_>) -> Result<Option<usize>, NotDone> {
+/// The number of the first step that goes otherwise, where a new client is answered with a head alone.
+fn head_otherwise(
+    alloc: Global,
+    head: &[u8],
+    number: Option<u8>,
+) -> Result<Option<usize>, NotDone> {
+    let step = match number {
+        Some(number) => Ignores(Text(head), number),
+        None => Takes(Text(head), 0),
+    };
+    otherwise(
+        alloc,
+        66,
+        &[],
+        &[Opens(240, 240, 16, 16), Asks(FIRST, None), step],
+    )
+}
+
+/// The first of these heads that is taken otherwise.
+fn line_otherwise(alloc: Global) -> Result<Option<usize>, NotDone> {
     for (len, end, number) in LONG_LINES {
-        let text = long_line(alloc, len, end)?;
-        if !session.step(alloc, Ignores(Text(&text), number))? {
+        let head = long_line(alloc, len, end)?;
+        if head_otherwise(alloc, &head, number)?.is_some() {
             return Ok(Some(len));
         }
     }
     Ok(None)
-}
-
-/// Whether the longest head is taken.
-fn takes_longest(alloc: Global, session: &mut Session<'_>) -> Result<bool, NotDone> {
-    let longest = long_line(alloc, 4092, b"\r\n\r\n")?;
-    session.step(alloc, Takes(Text(&longest), 0))
-}
-
-/// A client that asks for the first bytes.
-fn asking<'a>(alloc: Global, files: &'a [Publication<'a>]) -> Result<Session<'a>, NotDone> {
-    let mut session = new_session(alloc, files)?;
-    session.go(alloc, &ASKING)?;
-    Ok(session)
-}
-
-/// Whether heads of every length beside the limit are taken as they have to be.
-fn are_lengths_right(alloc: Global) -> Result<bool, NotDone> {
-    let mut session = asking(alloc, &[])?;
-    let line = line_otherwise(alloc, &mut session)?;
-    Ok(line.is_none() && takes_longest(alloc, &mut session)?)
 }
 
 #[test]
 fn lengths_of_heads(rt: HostRuntime) -> Result<(), Fail> {
-    assert!(rt; are_lengths_right(rt.alloc())?);
-    Ok(())
-}
-
-/// The head of the answer has 171 bytes, its body 65536.
-const LEN: usize = 65707;
-
-/// The first front of a head that isn't ignored as one.
-fn head_otherwise(alloc: Global, session: &mut Session<'_>) -> Result<Option<usize>, NotDone> {
-    for len in 0..171usize {
-        let step = Ignores(CutPart(0, 0, 65535, LEN - len), 1);
-        if !session.step(alloc, step)? {
-            return Ok(Some(len));
-        }
-    }
-    Ok(None)
-}
-
-/// How many bytes of the body are lost, and how many blocks are there.
-const FRONTS: [(usize, u32); 12] = [
-    (65536, 0),
-    (49153, 0),
-    (49152, 1),
-    (49151, 1),
-    (32769, 1),
-    (32768, 2),
-    (32767, 2),
-    (16385, 2),
-    (16384, 3),
-    (16383, 3),
-    (1, 3),
-    (0, 4),
-];
-
-/// The first front of a body that doesn't bring its blocks.
-fn body_otherwise(alloc: Global, session: &mut Session<'_>) -> Result<Option<usize>, NotDone> {
-    for (lost, blocks) in FRONTS {
-        let steps = [
-            Forgets,
-            Asks(FIRST, None),
-            Takes(CutPart(0, 0, 65535, lost), blocks),
-            IsSilent,
-            Stands(Some(FIRST), Some(OLD)),
-        ];
-        if session.go(alloc, &steps)?.is_some() {
-            return Ok(Some(lost));
-        }
-    }
-    Ok(None)
-}
-
-/// The first front of a head that isn't ignored as one, or else of a body that doesn't bring its blocks.
-fn front_otherwise(alloc: Global, file: &[u8]) -> Result<Option<usize>, NotDone> {
-    let files = only(file);
-    let mut session = asking(alloc, &files)?;
-    match head_otherwise(alloc, &mut session)? {
-        None => body_otherwise(alloc, &mut session),
-        front => Ok(front),
-    }
-}
-
-#[test]
-fn fronts(rt: HostRuntime) -> Result<(), Fail> {
-    let file = f2(rt.alloc())?;
-    assert_eq!(rt; front_otherwise(rt.alloc(), &file)?, None);
+    assert_eq!(rt; line_otherwise(rt.alloc())?, None);
     Ok(())
 }

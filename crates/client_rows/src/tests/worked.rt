@@ -19,7 +19,7 @@ const SMALL: Want<'static> = Want::Window(3, 2, 1, 8, &[0x12, 0x13, 0x14, 0x22, 
 /// The tag of the first publication of a later epoch.
 const LATER: &str = "\"2-1\"";
 
-const ROWS: [Course<'static>; 8] = [
+const ROWS: [Course<'static>; 9] = [
     Course {
         name: "one window",
         tags: TAGS,
@@ -90,7 +90,7 @@ const ROWS: [Course<'static>; 8] = [
             Reports(LATER, OF_ONES),
         ],
     },
-    // The head has 171 bytes: fronts of 170, 16554 and 16555 bytes.
+    // The head has 171 bytes: fronts of 170 and 16554 bytes, and of 16555.
     Course {
         name: "cut answers",
         tags: TAGS,
@@ -102,7 +102,14 @@ const ROWS: [Course<'static>; 8] = [
             Asks(FIRST, None),
             Takes(CutPart(0, 0, 65535, 49153), 0),
             Asks((0, 16383), Some(OLD)),
-            Forgets,
+        ],
+    },
+    Course {
+        name: "cut after a block",
+        tags: TAGS,
+        files: F2_TWICE,
+        steps: &[
+            Opens(240, 240, 16, 16),
             Asks(FIRST, None),
             Takes(CutPart(0, 0, 65535, 49152), 1),
             Asks((65536, 67705), Some(OLD)),

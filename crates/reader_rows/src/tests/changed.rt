@@ -1,6 +1,6 @@
 //! Fixtures in which a few bytes are changed.
-use super::image::{Answer, Image, change};
-use super::{Fixture, Want, is_wanted, of_level};
+use super::image::{Answer, Image};
+use reader_aid::{Fixture, Want, change, is_wanted, of_level};
 use std::process::Abort;
 use std::test::Fail;
 use tiff_dir::{FileFault, Query};
@@ -37,8 +37,8 @@ fn expect(
     let mut image = Image::new(rt.alloc(), file);
     let answer = image.answer(rt.alloc(), query);
     let Answer { wanted, outcome } = answer.ok().ok_or("no memory")?;
-    assert!(rt; is_wanted(outcome, want), "{outcome:?} and not {want:?}");
-    assert_eq!(rt; wanted.len(), ranges, "{want:?}: {wanted:?}");
+    assert!(rt; is_wanted(outcome, want), "{query:?}: {outcome:?}");
+    assert_eq!(rt; wanted.len(), ranges, "{query:?}: {wanted:?}");
     Ok(())
 }
 

@@ -1,6 +1,6 @@
 //! Files that end early.
-use super::{Fixture, Want, is_wanted, of_level};
 use cog_reader::{Outcome, read_file};
+use reader_aid::{Fixture, Want, is_wanted, of_level};
 use std::test::Fail;
 use tiff_dir::{FileFault, Query};
 

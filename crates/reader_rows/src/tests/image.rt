@@ -88,12 +88,3 @@ impl Image {
         })
     }
 }
-
-/// Puts bytes in the place of those of a file.
-pub fn change(file: &mut [u8], place: usize, bytes: &[u8]) {
-    if let Some(rest) = file.get_mut(place..) {
-        for (here, byte) in rest.iter_mut().zip(bytes) {
-            *here = *byte;
-        }
-    }
-}

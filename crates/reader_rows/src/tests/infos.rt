@@ -1,11 +1,11 @@
 //! What Info says.
-use super::image::{Answer, Image, change};
-use super::{Fixture, Range, are_ranges};
-use cog_reader::{Info, Outcome, read_file};
+use super::image::{Answer, Image};
+use super::{Range, are_ranges};
+use cog_reader::read_file;
 use fixtures::{
     Field, FieldType, Order, Values, push_directory, push_double, push_header, push_short,
 };
-use geokeys::{Geo, Key, KeyValue};
+use reader_aid::{FACTS_OF_F3, Facts, Fixture, NO_FACTS, Value, Want, change, is_wanted};
 use std::alloc::{AllocError, Global};
 use std::test::Fail;
 use tiff_dir::Query;
@@ -29,72 +29,36 @@ const PLAIN: [(Fixture, (u32, u32), &[Range]); 8] = [
 #[test]
 fn without_geo_fields(rt: HostRuntime) -> Result<(), Fail> {
     for (fixture, sides, ranges) in PLAIN {
-        let want = Outcome::Info(Info {
-            sides: vec![in rt.alloc(); sides]?,
-            geo: Geo {
-                minor: 0,
-                keys: Vec::new(rt.alloc()),
-            },
-            scale: None,
-            tiepoints: None,
-            transformation: None,
-        });
+        let facts = Facts {
+            sides: &[sides],
+            ..NO_FACTS
+        };
         let mut image = Image::new(rt.alloc(), fixture.file(rt.alloc())?);
         let answer = image.answer(rt.alloc(), Query::Info);
         let Answer { wanted, outcome } = answer.ok().ok_or("no memory")?;
         assert!(rt; are_ranges(&wanted, ranges), "{fixture:?}: {wanted:?}");
-        assert_eq!(rt; outcome, Some(&want), "{fixture:?}");
+        assert!(rt;
+            is_wanted(outcome, Want::Info(facts)),
+            "{fixture:?}: {outcome:?}"
+        );
     }
     Ok(())
-}
-
-/// The keys of f3.
-fn keys_of_f3(alloc: Global) -> Result<Vec<Key>, AllocError> {
-    let citation = Vec::from_slice(alloc, b"WGS 84|")?;
-    let axis = vec![in alloc; [1, 2, 3, 4, 5, 6, 7, 8]]?;
-    let mut keys = Vec::new(alloc);
-    for (id, value) in [
-        (1024, KeyValue::Short(2)),
-        (1026, KeyValue::Ascii(citation)),
-        (2057, KeyValue::Doubles(axis)),
-    ] {
-        keys.push(Key { id, value })?;
-    }
-    Ok(keys)
-}
-
-/// What Info says of f3, with its scale or without.
-fn info_of_f3(alloc: Global, is_scaled: bool) -> Result<Outcome, AllocError> {
-    let one = [0x3f, 0xf0, 0, 0, 0, 0, 0, 0];
-    let scale = if is_scaled {
-        Some(vec![in alloc; one, one, one]?)
-    } else {
-        None
-    };
-    Ok(Outcome::Info(Info {
-        sides: vec![in alloc; (32, 32), (16, 16)]?,
-        geo: Geo {
-            minor: 0,
-            keys: keys_of_f3(alloc)?,
-        },
-        scale,
-        tiepoints: None,
-        transformation: None,
-    }))
 }
 
 #[test]
 fn two_levels(rt: HostRuntime) -> Result<(), Fail> {
     let mut file = Fixture::F3.file(rt.alloc())?;
     let found = read_file(rt.alloc(), &file, Query::Info);
-    let want = info_of_f3(rt.alloc(), true)?;
-    assert_eq!(rt; found.ok().ok_or("no memory")?, want);
+    assert!(rt; is_wanted(found.ok().as_ref(), Want::Info(FACTS_OF_F3)));
     // An unnamed tag of an unknown type in the place of the scale's.
     change(&mut file, 118, &[0x0f]);
     change(&mut file, 120, &[0xff]);
     let found = read_file(rt.alloc(), &file, Query::Info);
-    let want = info_of_f3(rt.alloc(), false)?;
-    assert_eq!(rt; found.ok().ok_or("no memory")?, want);
+    let facts = Facts {
+        scale: None,
+        ..FACTS_OF_F3
+    };
+    assert!(rt; is_wanted(found.ok().as_ref(), Want::Info(facts)));
     Ok(())
 }
 
@@ -155,33 +119,22 @@ fn file_of_all(alloc: Global, order: Order) -> Result<Vec<u8>, AllocError> {
     Ok(file)
 }
 
-/// Items with the bits of these numbers.
-fn items(alloc: Global, first: u64, end: u64) -> Result<Vec<[u8; 8]>, AllocError> {
-    let mut items = Vec::new(alloc);
-    for bits in first..end {
-        items.push(bits.to_be_bytes())?;
+/// Items with the bits of 0 to 24.
+fn items() -> [[u8; 8]; 25] {
+    let mut items = [[0; 8]; 25];
+    for (item, bits) in items.iter_mut().zip(0..25u8) {
+        item[7] = bits;
     }
-    Ok(items)
+    items
 }
 
-/// What Info says of it.
-fn info_of_all(alloc: Global) -> Result<Outcome, AllocError> {
-    let text = Vec::from_slice(alloc, b"efg")?;
-    let mut keys = Vec::new(alloc);
-    for (id, value) in [
-        (1025, KeyValue::Short(65535)),
-        (3073, KeyValue::Ascii(text)),
-    ] {
-        keys.push(Key { id, value })?;
-    }
-    Ok(Outcome::Info(Info {
-        sides: vec![in alloc; (16, 16)]?,
-        geo: Geo { minor: 7, keys },
-        scale: Some(items(alloc, 0, 3)?),
-        tiepoints: Some(items(alloc, 3, 9)?),
-        transformation: Some(items(alloc, 9, 25)?),
-    }))
-}
+/// What Info says of it, but for the items of the model fields.
+const FACTS_OF_ALL: Facts<'static> = Facts {
+    sides: &[(16, 16)],
+    minor: 7,
+    keys: &[(1025, Value::Short(65535)), (3073, Value::Ascii(b"efg"))],
+    ..NO_FACTS
+};
 
 const ALL_RANGES: [Range; 9] = [
     (0, 8),
@@ -197,14 +150,24 @@ const ALL_RANGES: [Range; 9] = [
 
 #[test]
 fn all_geo_fields(rt: HostRuntime) -> Result<(), Fail> {
-    let want = info_of_all(rt.alloc())?;
+    let items = items();
+    let items = &items[..];
+    let facts = Facts {
+        scale: Some(&items[..3]),
+        tiepoints: Some(&items[3..9]),
+        transformation: Some(&items[9..]),
+        ..FACTS_OF_ALL
+    };
     for order in [Order::Little, Order::Big] {
         let mut image = Image::new(rt.alloc(), file_of_all(rt.alloc(), order)?);
         assert_eq!(rt; image.file.len(), 434);
         let answer = image.answer(rt.alloc(), Query::Info);
         let Answer { wanted, outcome } = answer.ok().ok_or("no memory")?;
         assert!(rt; are_ranges(&wanted, &ALL_RANGES), "{order:?}: {wanted:?}");
-        assert_eq!(rt; outcome, Some(&want), "{order:?}");
+        assert!(rt;
+            is_wanted(outcome, Want::Info(facts)),
+            "{order:?}: {outcome:?}"
+        );
     }
     Ok(())
 }

@@ -3,8 +3,8 @@ ghost use Rattle.std.specs.Prelude.{◌<◌, ◌≤◌, IfOk, OnOk, length};
 ghost use Rattle.cog_reader.specs.Reader.{steps_of, IsWanted, Wants};
 
 use super::image::{Image, part};
-use super::{Fixture, Want, is_wanted, of_level};
 use cog_reader::{Outcome, Reader};
+use reader_aid::{FACTS_OF_F3, Fixture, Want, is_wanted, of_level};
 use std::process::Abort;
 use std::test::Fail;
 use tiff_dir::{FileFault, Memory, Query, Span};
@@ -42,22 +42,10 @@ fn read_again(reader: &mut Reader, file: &[u8]) -> Result<(), Memory> {
     Ok(())
 }
 
-/// Whether this is what Info says of f3.
-fn is_info(outcome: Option<&Outcome>) -> bool {
-    match outcome {
-        Some(Outcome::Info(info)) => {
-            info.sides.len() == 2
-                && info.geo.keys.len() == 3
-                && info.scale.as_ref().is_some_and(|scale| scale.len() == 3)
-        }
-        _ => false,
-    }
-}
-
 /// Whether this is the outcome of the query, one of the three of f3 that are asked here.
 fn is_right(outcome: Option<&Outcome>, query: Query) -> bool {
     if query == Query::Info {
-        is_info(outcome)
+        is_wanted(outcome, Want::Info(FACTS_OF_F3))
     } else if query == of_level(15, 15, 2, 2, 0) {
         let bytes = [0x10, 0x11, 0x12, 0x13];
         is_wanted(outcome, Want::Window(2, 2, 1, 8, &bytes))

@@ -1,7 +1,8 @@
 //! Queries in turn on one reader: only what isn't kept is wanted again.
-use super::image::{Answer, Image, change};
-use super::{Fixture, Numbers, Range, Want, are_ranges, is_wanted, window};
+use super::image::{Answer, Image};
+use super::{Range, are_ranges};
 use cog_reader::{Outcome, read_file};
+use reader_aid::{Fixture, Numbers, Want, change, is_wanted, window};
 use std::alloc::{AllocError, Global};
 use std::process::Abort;
 use std::test::Fail;

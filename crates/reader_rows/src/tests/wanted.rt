@@ -1,7 +1,7 @@
 //! The ranges that a reader wants, beside those that the plain program needs.
 use super::image::{Answer, Image};
-use super::{Fixture, Numbers, window};
 use cog_reader::Outcome;
+use reader_aid::{Fixture, Numbers, window};
 use reference::{Range, needs};
 use std::process::Abort;
 use std::test::Fail;

@@ -1,7 +1,7 @@
 //! Worked windows of the fixtures.
-use super::image::{Answer, Image, change};
-use super::{Fixture, Numbers, Want, is_wanted, window};
+use super::image::{Answer, Image};
 use cog_reader::{Outcome, Window, read_file};
+use reader_aid::{Fixture, Numbers, Want, change, is_wanted, window};
 use std::test::Fail;
 use tiff_dir::{FileFault, Pick};
 

@@ -1,0 +1,249 @@
+//! Windows that need several requests, blocks that leave a full cache, and a file that is replaced meanwhile.
+use super::other_file;
+use client_aid::Answer::{Part, Whole};
+use client_aid::Step::{
+    Asks, AsksNothing, Ignores, IsSilent, Opens, Reports, Restarts, Stands, Takes,
+};
+use client_aid::{FIRST, NEW, NotDone, OLD, Otherwise, Publication, Session, Step, client_of_a};
+use fixtures::f5;
+use reader_aid::Want;
+use std::alloc::{AllocError, Global};
+use std::test::Fail;
+
+/// The samples of f5: every one of tile t is t. In the other revision it is 255 - t.
+fn samples(alloc: Global, is_other: bool) -> Result<Vec<u8>, AllocError> {
+    let mut samples = Vec::new(alloc);
+    for i in 0..5120u32 {
+        let tile = (i / 1280 * 5 + i % 5) as u8;
+        let sample = if is_other { !tile } else { tile };
+        samples.extend_from_slice(&[sample; 256])?;
+    }
+    Ok(samples)
+}
+
+/// How a client with so many blocks reads the whole image: the steps before its report, the revision that is reported (0 or
+/// 1), and the steps after it.
+#[derive(Clone, Copy)]
+struct Reading {
+    name: &'static str,
+    blocks: u32,
+    before: &'static [Step<'static>],
+    revision: usize,
+    after: &'static [Step<'static>],
+}
+
+/// The first 16 tiles are one group of 1,048,576 bytes, the other four are another.
+const TWO_GROUPS: [Step<'static>; 8] = [
+    Opens(0, 0, 1280, 1024),
+    Asks(FIRST, None),
+    Takes(Part(0, 0, 65535), 4),
+    Asks((65536, 1064959), Some(OLD)),
+    Takes(Part(0, 65536, 1064959), 61),
+    IsSilent,
+    Asks((1064960, 1327103), Some(OLD)),
+    Takes(Part(0, 1064960, 1327103), 16),
+];
+
+/// The least cache keeps the last 66 blocks, so blocks 0 to 14 have left: of tile 0 there is no block, of tile 3 there are two
+/// of four, of tile 19 all.
+const LEAST: Reading = Reading {
+    name: "the least cache",
+    blocks: 66,
+    before: &TWO_GROUPS,
+    revision: 0,
+    after: &[
+        Opens(0, 0, 1, 1),
+        Asks((16384, 81919), Some(OLD)),
+        Takes(Part(0, 16384, 81919), 4),
+        Reports(OLD, Want::Window(1, 1, 1, 8, &[0])),
+    ],
+};
+
+const LEFT: Reading = Reading {
+    name: "blocks that have left",
+    blocks: 66,
+    before: &TWO_GROUPS,
+    revision: 0,
+    after: &[
+        Opens(768, 0, 1, 1),
+        Asks((212992, 245759), Some(OLD)),
+        Takes(Part(0, 212992, 245759), 2),
+        Reports(OLD, Want::Window(1, 1, 1, 8, &[3])),
+        Opens(1279, 1023, 1, 1),
+        AsksNothing,
+        Reports(OLD, Want::Window(1, 1, 1, 8, &[19])),
+        Opens(1024, 0, 1, 1),
+        Asks((278528, 311295), Some(OLD)),
+        Takes(Part(0, 278528, 311295), 2),
+        Reports(OLD, Want::Window(1, 1, 1, 8, &[4])),
+        Opens(0, 255, 1, 1),
+        Asks((16384, 81919), Some(OLD)),
+        Takes(Part(0, 16384, 81919), 4),
+        Reports(OLD, Want::Window(1, 1, 1, 8, &[0])),
+    ],
+};
+
+/// A cache that has room for every block.
+const GREATEST: Reading = Reading {
+    name: "the greatest cache",
+    blocks: 4096,
+    before: &TWO_GROUPS,
+    revision: 0,
+    after: &[
+        Opens(0, 0, 1, 1),
+        AsksNothing,
+        Reports(OLD, Want::Window(1, 1, 1, 8, &[0])),
+        Opens(0, 0, 1280, 1024),
+        AsksNothing,
+    ],
+};
+
+/// The limits of what is asked in the middle of a file, and the gaps that answers leave in it.
+const GAPS: Reading = Reading {
+    name: "gaps",
+    blocks: 66,
+    before: &[
+        Opens(0, 0, 1280, 1024),
+        Asks(FIRST, None),
+        Takes(Part(0, 0, 65535), 4),
+        Asks((65536, 1064959), Some(OLD)),
+        Ignores(Part(0, 65535, 65535), 12),
+        Ignores(Part(0, 1064960, 1064960), 12),
+        Takes(Part(0, 65536, 65536), 0),
+        Takes(Part(0, 1064959, 1064959), 0),
+        Takes(Part(0, 65535, 65536), 0),
+        Takes(Part(0, 1064959, 1064960), 0),
+        Takes(Part(0, 65536, 81919), 1),
+        Takes(Part(0, 98304, 114687), 1),
+        Takes(Part(0, 114688, 147456), 2),
+        Takes(Part(0, 1000000, 1327103), 3),
+        Asks((81920, 98303), Some(OLD)),
+        Takes(Part(0, 81920, 98303), 1),
+        Asks((147456, 1015807), Some(OLD)),
+        Takes(Part(0, 147456, 1015807), 53),
+        Asks((1064960, 1327103), Some(OLD)),
+        Takes(Part(0, 1064960, 1327103), 16),
+    ],
+    revision: 0,
+    after: &[],
+};
+
+/// The file is replaced by a longer one once 16 of the 20 tiles are read.
+const REPLACED: Reading = Reading {
+    name: "replaced midway",
+    blocks: 66,
+    before: &[
+        Opens(0, 0, 1280, 1024),
+        Asks(FIRST, None),
+        Takes(Part(0, 0, 65535), 4),
+        Asks((65536, 1064959), Some(OLD)),
+        Takes(Part(0, 65536, 1064959), 61),
+        Asks((1064960, 1327103), Some(OLD)),
+        Restarts(Whole(1)),
+        Stands(Some(FIRST), Some(NEW)),
+        Ignores(Part(0, 1064960, 1327103), 10),
+        Asks((65536, 1064959), Some(NEW)),
+        Takes(Part(1, 65536, 1064959), 61),
+        Asks((1064960, 1327103), Some(NEW)),
+        Takes(Part(1, 1064960, 1327103), 16),
+    ],
+    revision: 1,
+    after: &[],
+};
+
+/// Whether the report is the whole image.
+fn is_whole(
+    alloc: Global,
+    session: &mut Session<'_>,
+    tag: &str,
+    samples: &[u8],
+) -> Result<bool, NotDone> {
+    session.step(alloc, Reports(tag, Want::Window(1280, 1024, 1, 8, samples)))
+}
+
+impl Reading {
+    /// The steps of a session. The number of the first that goes otherwise: before the report, 100 for it, or after it.
+    fn go(
+        &self,
+        alloc: Global,
+        session: &mut Session<'_>,
+        samples: &[u8],
+    ) -> Result<Option<usize>, NotDone> {
+        let tag = if self.revision == 0 { OLD } else { NEW };
+        if let Some(step) = session.go(alloc, self.before)? {
+            return Ok(Some(step));
+        }
+        if !is_whole(alloc, session, tag, samples)? {
+            return Ok(Some(100));
+        }
+        session.go(alloc, self.after)
+    }
+
+    /// The number of the first step of a new client that goes otherwise.
+    fn otherwise(
+        &self,
+        alloc: Global,
+        files: &[Publication<'_>],
+        samples: &[u8],
+    ) -> Result<Option<usize>, NotDone> {
+        let client = client_of_a(alloc, self.blocks)?;
+        self.go(alloc, &mut Session::new(client, files), samples)
+    }
+}
+
+/// The first of these readings that goes otherwise.
+fn reading_otherwise(
+    alloc: Global,
+    files: &[Publication<'_>],
+    readings: &[Reading],
+) -> Result<Option<Otherwise<'static>>, NotDone> {
+    let samples = [samples(alloc, false)?, samples(alloc, true)?];
+    for reading in readings {
+        let samples = samples.get(reading.revision).ok_or(NotDone::NoSuchPart)?;
+        if let Some(step) = reading.otherwise(alloc, files, samples)? {
+            return Ok(Some((reading.name, step)));
+        }
+    }
+    Ok(None)
+}
+
+const READINGS: [Reading; 5] = [LEAST, LEFT, GREATEST, GAPS, REPLACED];
+
+#[test]
+fn readings(rt: HostRuntime) -> Result<(), Fail> {
+    let (old, new) = (f5(rt.alloc())?, other_file(rt.alloc())?);
+    let files = Publication::in_turn(OLD, &old, NEW, &new);
+    let found = reading_otherwise(rt.alloc(), &files, &READINGS)?;
+    assert_eq!(rt; found, None);
+    Ok(())
+}
+
+/// A window of the first revision, and then windows of the next.
+const TWO_REVISIONS: [Step<'static>; 17] = [
+    Opens(0, 0, 1, 1),
+    Asks(FIRST, None),
+    Takes(Part(0, 0, 65535), 4),
+    Asks((65536, 81919), Some(OLD)),
+    Takes(Part(0, 65536, 81919), 1),
+    Reports(OLD, Want::Window(1, 1, 1, 8, &[0])),
+    Opens(1279, 1023, 1, 1),
+    Asks((1261568, 1327103), Some(OLD)),
+    Restarts(Whole(1)),
+    IsSilent,
+    Asks((1261568, 1327103), Some(NEW)),
+    Takes(Part(1, 1261568, 1327103), 4),
+    Reports(NEW, Want::Window(1, 1, 1, 8, &[236])),
+    Opens(0, 0, 1, 1),
+    Asks((65536, 81919), Some(NEW)),
+    Takes(Part(1, 65536, 81919), 1),
+    Reports(NEW, Want::Window(1, 1, 1, 8, &[255])),
+];
+
+#[test]
+fn windows_of_two_revisions(rt: HostRuntime) -> Result<(), Fail> {
+    let (old, new) = (f5(rt.alloc())?, other_file(rt.alloc())?);
+    let files = Publication::in_turn(OLD, &old, NEW, &new);
+    let mut session = Session::new(client_of_a(rt.alloc(), 66)?, &files);
+    assert_eq!(rt; session.go(rt.alloc(), &TWO_REVISIONS)?, None);
+    Ok(())
+}
