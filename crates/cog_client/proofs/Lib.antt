@@ -6,3 +6,4 @@ pub mod DeliverLemmas
 pub mod FetchLemmas
 pub mod ProgressLemmas
 pub mod OwnLemmas
+pub mod Worked

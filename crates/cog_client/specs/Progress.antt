@@ -118,4 +118,5 @@ pub record BringsOn (p : Publication) (old new : Known) (what : Delivered) : Typ
 -- Such an answer is never ignored, and brings the client on.
 abbrev pub OwnAnswersBringOn : Type 0
 OwnAnswersBringOn = (old new : Known) (p : Publication) (span : Span) (text : List ℕ) (what : Delivered) →
-    IsOwnAnswer old p span text → (tag_of old ≡ Some p.tag → Knows p.file old) → Delivers old text what new → BringsOn p old new what
+    IsOwnAnswer old p span text → (tag_of old ≡ Some p.tag → Knows p.file old) →
+    Delivers old text what new → BringsOn p old new what
