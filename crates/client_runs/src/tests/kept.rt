@@ -2,6 +2,7 @@
 use client_aid::Answer::{Part, PartOf, Whole};
 use client_aid::Step::{
     Asks, AsksNothing, Forgets, Ignores, IsSilent, Open, Opens, Reads, Reports, Stands, Takes,
+    TakesMore,
 };
 use client_aid::{Course, F2_TWICE, FIRST, NEW, OLD, TAGS, first_otherwise};
 use reader_aid::{Fixture, Want};
@@ -89,12 +90,10 @@ const COURSES: [Course<'static>; 4] = [
             Asks(FIRST, None),
             Takes(Part(0, 0, 200), 0),
             IsSilent,
-            Takes(Part(0, 201, 377), 0),
-            IsSilent,
-            Takes(Part(0, 1, 377), 0),
-            IsSilent,
-            Takes(Part(0, 0, 376), 0),
-            IsSilent,
+            Stands(Some(FIRST), Some(OLD)),
+            TakesMore(Part(0, 201, 377), 0),
+            TakesMore(Part(0, 1, 377), 0),
+            TakesMore(Part(0, 0, 376), 0),
             Asks((0, 377), Some(OLD)),
             Ignores(PartOf(0, 0, 377, 379), 11),
             Takes(Whole(0), 1),
