@@ -84,19 +84,35 @@ const LEFT: Reading = Reading {
     ],
 };
 
-/// A cache that has room for every block.
+/// A cache that has room for every block: once the image is read, nothing is asked any more.
 const GREATEST: Reading = Reading {
     name: "the greatest cache",
     blocks: 4096,
-    before: &TWO_GROUPS,
-    is_replaced: false,
-    after: &[
+    before: &[
+        Opens(0, 0, 1280, 1024),
+        Asks(FIRST, None),
+        Takes(Part(0, 0, 65535), 4),
+        Asks((65536, 1064959), Some(OLD)),
+        TakesMore(Part(0, 65536, 1064959), 61),
+        Asks((1064960, 1327103), Some(OLD)),
+        Takes(Part(0, 1064960, 1327103), 16),
+        Stands(None, Some(OLD)),
         Opens(0, 0, 1, 1),
         AsksNothing,
         Reports(OLD, Want::Window(1, 1, 1, 8, &[0])),
         Opens(0, 0, 1280, 1024),
+        IsSilent,
         AsksNothing,
     ],
+    is_replaced: false,
+    after: &[],
+};
+
+/// One that has room for these 81 blocks and no more.
+const EXACT: Reading = Reading {
+    name: "a cache of as many blocks",
+    blocks: 81,
+    ..GREATEST
 };
 
 /// The limits of what is asked in the middle of a file, and the gaps that answers leave in it.
@@ -212,7 +228,7 @@ fn reading_otherwise(
     Ok(None)
 }
 
-const READINGS: [Reading; 5] = [LEAST, LEFT, GREATEST, GAPS, REPLACED];
+const READINGS: [Reading; 6] = [LEAST, LEFT, GREATEST, EXACT, GAPS, REPLACED];
 
 #[test]
 fn readings(rt: HostRuntime) -> Result<(), Fail> {
