@@ -1,6 +1,6 @@
 //! Courses of new clients, as tables.
 use crate::answers::{NEW, NotDone, OLD, Publication};
-use crate::session::{Session, client_of_a, otherwise};
+use crate::session::otherwise;
 use crate::steps::Step;
 use reader_aid::Fixture;
 use std::alloc::Global;
@@ -33,7 +33,7 @@ impl<'a> Course<'a> {
         let [tag, next_tag] = self.tags;
         let (old, new) = (old.file(alloc)?, new.file(alloc)?);
         let files = Publication::in_turn(tag, &old, next_tag, &new);
-        otherwise(alloc, 66, &files, self.steps)
+        otherwise(alloc, 66, &files, &[self.steps])
     }
 }
 
@@ -58,24 +58,6 @@ pub struct Fork<'a> {
     pub ends: &'a [&'a [Step<'a>]],
 }
 
-/// Does the first steps with a new client, and then the others. The number of the first that went otherwise than expected,
-/// counted from the first.
-fn end_otherwise(
-    alloc: Global,
-    files: &[Publication<'_>],
-    begin: &[Step<'_>],
-    end: &[Step<'_>],
-) -> Result<Option<usize>, NotDone> {
-    let mut session = Session::new(client_of_a(alloc, 66)?, files);
-    match session.go(alloc, begin)? {
-        Some(step) => Ok(Some(step)),
-        None => match session.go(alloc, end)? {
-            Some(step) => Ok(Some(begin.len().saturating_add(step))),
-            None => Ok(None),
-        },
-    }
-}
-
 impl Fork<'_> {
     /// Runs the courses. The first that went otherwise than expected: the number of its end, and of the step.
     pub fn otherwise(&self, alloc: Global) -> Result<Option<(usize, usize)>, NotDone> {
@@ -83,7 +65,7 @@ impl Fork<'_> {
         let (old, new) = (old.file(alloc)?, new.file(alloc)?);
         let files = Publication::in_turn(OLD, &old, NEW, &new);
         for (i, end) in self.ends.iter().enumerate() {
-            if let Some(step) = end_otherwise(alloc, &files, self.begin, end)? {
+            if let Some(step) = otherwise(alloc, 66, &files, &[self.begin, end])? {
                 return Ok(Some((i, step)));
             }
         }

@@ -279,15 +279,33 @@ impl<'a> Session<'a> {
         }
         Ok(None)
     }
+
+    /// Does these lists of steps, one after another. The number of the first step that went otherwise than expected, counted
+    /// from the first of all.
+    fn go_through(
+        &mut self,
+        alloc: Global,
+        parts: &[&[Step<'_>]],
+    ) -> Result<Option<usize>, NotDone> {
+        let mut done = 0usize;
+        for steps in parts {
+            if let Some(step) = self.go(alloc, steps)? {
+                return Ok(Some(done.saturating_add(step)));
+            }
+            done = done.saturating_add(steps.len());
+        }
+        Ok(None)
+    }
 }
 
-/// Does these steps with a new client that has so many blocks. The number of the first that went otherwise than expected.
+/// Does these lists of steps, one after another, with a new client that has so many blocks. The number of the first step that
+/// went otherwise than expected, counted from the first of all.
 pub fn otherwise(
     alloc: Global,
     blocks: u32,
     files: &[Publication<'_>],
-    steps: &[Step<'_>],
+    parts: &[&[Step<'_>]],
 ) -> Result<Option<usize>, NotDone> {
     let client = client_of_a(alloc, blocks)?;
-    Session::new(client, files).go(alloc, steps)
+    Session::new(client, files).go_through(alloc, parts)
 }

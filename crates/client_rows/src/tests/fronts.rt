@@ -28,7 +28,7 @@ fn front_otherwise(
         IsSilent,
         Stands(Some(FIRST), tag),
     ];
-    otherwise(alloc, 66, files, &steps)
+    otherwise(alloc, 66, files, &[&steps])
 }
 
 /// The first front of the answer that is taken otherwise, of those with so many bytes.

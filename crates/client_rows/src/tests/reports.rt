@@ -26,7 +26,7 @@ fn exchange_otherwise(
         AsksNothing,
         Reports(OLD, want),
     ];
-    otherwise(alloc, 66, &only(file), &steps)
+    otherwise(alloc, 66, &only(file), &[&steps])
 }
 
 /// The window where three of f4's tiles meet a fourth.

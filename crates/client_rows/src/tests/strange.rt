@@ -277,12 +277,8 @@ fn head_otherwise(
         Some(number) => Ignores(Text(head), number),
         None => Takes(Text(head), 0),
     };
-    otherwise(
-        alloc,
-        66,
-        &[],
-        &[Opens(240, 240, 16, 16), Asks(FIRST, None), step],
-    )
+    let steps = [Opens(240, 240, 16, 16), Asks(FIRST, None), step];
+    otherwise(alloc, 66, &[], &[&steps])
 }
 
 /// The first of these heads that is taken otherwise.

@@ -2,6 +2,7 @@
 use client_aid::Answer::{Part, PartOf, Whole};
 use client_aid::Step::{
     Asks, AsksNothing, Forgets, Ignores, IsSilent, Open, Opens, Reads, Reports, Stands, Takes,
+    TakesMore,
 };
 use client_aid::{Course, F2_TWICE, FIRST, NEW, OLD, TAGS, first_otherwise};
 use reader_aid::{Fixture, Want};
@@ -32,13 +33,18 @@ const COURSES: [Course<'static>; 4] = [
             AsksNothing,
             Reports(OLD, Want::Window(2, 2, 1, 8, &[18, 19, 34, 35])),
             Opens(240, 240, 16, 16),
+            IsSilent,
+            Stands(None, Some(OLD)),
             AsksNothing,
             Reports(OLD, OF_ONES),
             Opens(255, 255, 2, 1),
             IsSilent,
+            Stands(None, Some(OLD)),
             AsksNothing,
             Reports(OLD, Want::Fault(FileFault::Outside)),
             Opens(240, 240, 16, 16),
+            IsSilent,
+            Stands(None, Some(OLD)),
             AsksNothing,
             Reports(OLD, OF_ONES),
         ],
@@ -89,12 +95,10 @@ const COURSES: [Course<'static>; 4] = [
             Asks(FIRST, None),
             Takes(Part(0, 0, 200), 0),
             IsSilent,
-            Takes(Part(0, 201, 377), 0),
-            IsSilent,
-            Takes(Part(0, 1, 377), 0),
-            IsSilent,
-            Takes(Part(0, 0, 376), 0),
-            IsSilent,
+            Stands(Some(FIRST), Some(OLD)),
+            TakesMore(Part(0, 201, 377), 0),
+            TakesMore(Part(0, 1, 377), 0),
+            TakesMore(Part(0, 0, 376), 0),
             Asks((0, 377), Some(OLD)),
             Ignores(PartOf(0, 0, 377, 379), 11),
             Takes(Whole(0), 1),

@@ -2,9 +2,11 @@
 use super::other_file;
 use client_aid::Answer::{Part, Whole};
 use client_aid::Step::{
-    Asks, AsksNothing, Ignores, IsSilent, Opens, Reports, Restarts, Stands, Takes,
+    Asks, AsksNothing, Ignores, IsSilent, Opens, Reports, Restarts, Stands, Takes, TakesMore,
 };
-use client_aid::{FIRST, NEW, NotDone, OLD, Otherwise, Publication, Session, Step, client_of_a};
+use client_aid::{
+    FIRST, NEW, NotDone, OLD, Otherwise, Publication, Session, Step, client_of_a, otherwise,
+};
 use fixtures::f5;
 use reader_aid::Want;
 use std::alloc::{AllocError, Global};
@@ -21,25 +23,24 @@ fn samples(alloc: Global, is_other: bool) -> Result<Vec<u8>, AllocError> {
     Ok(samples)
 }
 
-/// How a client with so many blocks reads the whole image: the steps before its report, the revision that is reported (0 or
-/// 1), and the steps after it.
+/// How a client with so many blocks reads the whole image: the steps before its report, whether it is of the other revision,
+/// and the steps after it.
 #[derive(Clone, Copy)]
 struct Reading {
     name: &'static str,
     blocks: u32,
     before: &'static [Step<'static>],
-    revision: usize,
+    is_replaced: bool,
     after: &'static [Step<'static>],
 }
 
 /// The first 16 tiles are one group of 1,048,576 bytes, the other four are another.
-const TWO_GROUPS: [Step<'static>; 8] = [
+const TWO_GROUPS: [Step<'static>; 7] = [
     Opens(0, 0, 1280, 1024),
     Asks(FIRST, None),
     Takes(Part(0, 0, 65535), 4),
     Asks((65536, 1064959), Some(OLD)),
-    Takes(Part(0, 65536, 1064959), 61),
-    IsSilent,
+    TakesMore(Part(0, 65536, 1064959), 61),
     Asks((1064960, 1327103), Some(OLD)),
     Takes(Part(0, 1064960, 1327103), 16),
 ];
@@ -50,7 +51,7 @@ const LEAST: Reading = Reading {
     name: "the least cache",
     blocks: 66,
     before: &TWO_GROUPS,
-    revision: 0,
+    is_replaced: false,
     after: &[
         Opens(0, 0, 1, 1),
         Asks((16384, 81919), Some(OLD)),
@@ -63,7 +64,7 @@ const LEFT: Reading = Reading {
     name: "blocks that have left",
     blocks: 66,
     before: &TWO_GROUPS,
-    revision: 0,
+    is_replaced: false,
     after: &[
         Opens(768, 0, 1, 1),
         Asks((212992, 245759), Some(OLD)),
@@ -83,19 +84,35 @@ const LEFT: Reading = Reading {
     ],
 };
 
-/// A cache that has room for every block.
+/// A cache that has room for every block: once the image is read, nothing is asked any more.
 const GREATEST: Reading = Reading {
     name: "the greatest cache",
     blocks: 4096,
-    before: &TWO_GROUPS,
-    revision: 0,
-    after: &[
+    before: &[
+        Opens(0, 0, 1280, 1024),
+        Asks(FIRST, None),
+        Takes(Part(0, 0, 65535), 4),
+        Asks((65536, 1064959), Some(OLD)),
+        TakesMore(Part(0, 65536, 1064959), 61),
+        Asks((1064960, 1327103), Some(OLD)),
+        Takes(Part(0, 1064960, 1327103), 16),
+        Stands(None, Some(OLD)),
         Opens(0, 0, 1, 1),
         AsksNothing,
         Reports(OLD, Want::Window(1, 1, 1, 8, &[0])),
         Opens(0, 0, 1280, 1024),
+        IsSilent,
         AsksNothing,
     ],
+    is_replaced: false,
+    after: &[],
+};
+
+/// One that has room for these 81 blocks and no more.
+const EXACT: Reading = Reading {
+    name: "a cache of as many blocks",
+    blocks: 81,
+    ..GREATEST
 };
 
 /// The limits of what is asked in the middle of a file, and the gaps that answers leave in it.
@@ -109,22 +126,22 @@ const GAPS: Reading = Reading {
         Asks((65536, 1064959), Some(OLD)),
         Ignores(Part(0, 65535, 65535), 12),
         Ignores(Part(0, 1064960, 1064960), 12),
-        Takes(Part(0, 65536, 65536), 0),
-        Takes(Part(0, 1064959, 1064959), 0),
-        Takes(Part(0, 65535, 65536), 0),
-        Takes(Part(0, 1064959, 1064960), 0),
-        Takes(Part(0, 65536, 81919), 1),
-        Takes(Part(0, 98304, 114687), 1),
-        Takes(Part(0, 114688, 147456), 2),
-        Takes(Part(0, 1000000, 1327103), 3),
+        TakesMore(Part(0, 65536, 65536), 0),
+        TakesMore(Part(0, 1064959, 1064959), 0),
+        TakesMore(Part(0, 65535, 65536), 0),
+        TakesMore(Part(0, 1064959, 1064960), 0),
+        TakesMore(Part(0, 65536, 81919), 1),
+        TakesMore(Part(0, 98304, 114687), 1),
+        TakesMore(Part(0, 114688, 147456), 2),
+        TakesMore(Part(0, 1000000, 1327103), 3),
         Asks((81920, 98303), Some(OLD)),
-        Takes(Part(0, 81920, 98303), 1),
+        TakesMore(Part(0, 81920, 98303), 1),
         Asks((147456, 1015807), Some(OLD)),
-        Takes(Part(0, 147456, 1015807), 53),
+        TakesMore(Part(0, 147456, 1015807), 53),
         Asks((1064960, 1327103), Some(OLD)),
         Takes(Part(0, 1064960, 1327103), 16),
     ],
-    revision: 0,
+    is_replaced: false,
     after: &[],
 };
 
@@ -137,17 +154,17 @@ const REPLACED: Reading = Reading {
         Asks(FIRST, None),
         Takes(Part(0, 0, 65535), 4),
         Asks((65536, 1064959), Some(OLD)),
-        Takes(Part(0, 65536, 1064959), 61),
+        TakesMore(Part(0, 65536, 1064959), 61),
         Asks((1064960, 1327103), Some(OLD)),
         Restarts(Whole(1)),
         Stands(Some(FIRST), Some(NEW)),
         Ignores(Part(0, 1064960, 1327103), 10),
         Asks((65536, 1064959), Some(NEW)),
-        Takes(Part(1, 65536, 1064959), 61),
+        TakesMore(Part(1, 65536, 1064959), 61),
         Asks((1064960, 1327103), Some(NEW)),
         Takes(Part(1, 1064960, 1327103), 16),
     ],
-    revision: 1,
+    is_replaced: true,
     after: &[],
 };
 
@@ -162,21 +179,25 @@ fn is_whole(
 }
 
 impl Reading {
-    /// The steps of a session. The number of the first that goes otherwise: before the report, 100 for it, or after it.
+    /// The number of the first step of a session that goes otherwise; the report is a step between the others.
     fn go(
         &self,
         alloc: Global,
         session: &mut Session<'_>,
         samples: &[u8],
     ) -> Result<Option<usize>, NotDone> {
-        let tag = if self.revision == 0 { OLD } else { NEW };
+        let tag = if self.is_replaced { NEW } else { OLD };
+        let place = self.before.len();
         if let Some(step) = session.go(alloc, self.before)? {
             return Ok(Some(step));
         }
         if !is_whole(alloc, session, tag, samples)? {
-            return Ok(Some(100));
+            return Ok(Some(place));
         }
-        session.go(alloc, self.after)
+        match session.go(alloc, self.after)? {
+            Some(step) => Ok(Some(place.saturating_add(1).saturating_add(step))),
+            None => Ok(None),
+        }
     }
 
     /// The number of the first step of a new client that goes otherwise.
@@ -197,9 +218,9 @@ fn reading_otherwise(
     files: &[Publication<'_>],
     readings: &[Reading],
 ) -> Result<Option<Otherwise<'static>>, NotDone> {
-    let samples = [samples(alloc, false)?, samples(alloc, true)?];
+    let (old, new) = (samples(alloc, false)?, samples(alloc, true)?);
     for reading in readings {
-        let samples = samples.get(reading.revision).ok_or(NotDone::NoSuchPart)?;
+        let samples = if reading.is_replaced { &new } else { &old };
         if let Some(step) = reading.otherwise(alloc, files, samples)? {
             return Ok(Some((reading.name, step)));
         }
@@ -207,7 +228,7 @@ fn reading_otherwise(
     Ok(None)
 }
 
-const READINGS: [Reading; 5] = [LEAST, LEFT, GREATEST, GAPS, REPLACED];
+const READINGS: [Reading; 6] = [LEAST, LEFT, GREATEST, EXACT, GAPS, REPLACED];
 
 #[test]
 fn readings(rt: HostRuntime) -> Result<(), Fail> {
@@ -243,7 +264,7 @@ const TWO_REVISIONS: [Step<'static>; 17] = [
 fn windows_of_two_revisions(rt: HostRuntime) -> Result<(), Fail> {
     let (old, new) = (f5(rt.alloc())?, other_file(rt.alloc())?);
     let files = Publication::in_turn(OLD, &old, NEW, &new);
-    let mut session = Session::new(client_of_a(rt.alloc(), 66)?, &files);
-    assert_eq!(rt; session.go(rt.alloc(), &TWO_REVISIONS)?, None);
+    let found = otherwise(rt.alloc(), 66, &files, &[&TWO_REVISIONS])?;
+    assert_eq!(rt; found, None);
     Ok(())
 }

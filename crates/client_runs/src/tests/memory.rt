@@ -28,13 +28,15 @@ fn client_again(alloc: Global) -> Result<Client, ClientError> {
 }
 
 /// Whether the client's call that found no memory has left what it has to: after a request nothing is asked, and the revision is
-/// as before; after an answer something still is asked. No report stands after either.
+/// as before; after an answer something still is asked, and there is a revision. No report stands after either.
 fn is_left(client: &Client, step: Step<'_>, tag: Option<&Tag>) -> bool {
     match step {
         Asks(..) | AsksNothing => {
             client.asked().is_none() && client.report().is_none() && client.tag() == tag
         }
-        Uses(_) => client.asked().is_some() && client.report().is_none(),
+        Uses(_) => {
+            client.asked().is_some() && client.report().is_none() && client.tag().is_some()
+        }
         _ => true,
     }
 }
