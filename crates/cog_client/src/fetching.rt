@@ -1,10 +1,10 @@
 //! Fetching: a client's requests over a transport, until its report stands.
-ghost use Rattle.std.specs.Prelude.{◌≡◌, ◌+◌, ◌<◌, ◌≤◌, ◌^◌, ◌⊎◌, IfOk, IfSome, OnOk, false};
+ghost use Rattle.std.specs.Prelude.{◌≡◌, ◌+◌, ◌<◌, ◌≤◌, ◌^◌, ◌⊎◌, IfOk, IfSome, IsSome, OnOk, false};
 ghost use Rattle.std.specs.Prelude.{if◌then◌else◌, option_copied};
 ghost use Rattle.std.specs.Borrow.{sem};
 ghost use Rattle.std.specs.Io.BufRead.{Rests};
 ghost use Rattle.cog_client.specs.contracts.client.Client.{the_row};
-ghost use Rattle.cog_client.specs.Client.{query_of};
+ghost use Rattle.cog_client.specs.Client.{query_of, report_of};
 ghost use Rattle.cog_client.specs.Calls.{IsIdle, Stands};
 ghost use Rattle.cog_client.specs.Transport.{IsInVain, IsTrueOfOne, KeepsReading};
 
@@ -42,6 +42,7 @@ fn exchange_once<T: Transport>(client: &mut Client, transport: &mut T) -> Result
     ensures silent { IfOk result (λ asked. asked ≡ false → IsIdle client.new) }
     ensures idle { IsIdle client.old
         → (T.count transport.new ≡ T.count transport.old) × OnOk result (IsIdle client.new) }
+    ensures stands { IsSome (report_of client.old) → OnOk result (report_of client.new ≡ report_of client.old) }
 {
     let request = client.request()?;
     let Some(request) = request else {
@@ -62,6 +63,7 @@ fn exchange_up_to<T: Transport>(
     ensures ends { OnOk result ((T.count transport.new ≡ T.count transport.old + tries) ⊎ IsIdle client.new) }
     ensures few { T.count transport.new ≤ T.count transport.old + tries }
     ensures idle { IsIdle client.old → T.count transport.new ≡ T.count transport.old }
+    ensures stands { IsSome (report_of client.old) → OnOk result (report_of client.new ≡ report_of client.old) }
 {
     for _ in 0..tries {
         if !exchange_once(client, transport)? {
@@ -96,8 +98,10 @@ pub fn fetch<'c, T: Transport>(
         → IsInVain (query_of client.old) tries (T.count transport.old) (T.count transport.new)) }
     ensures few { T.count transport.new ≤ T.count transport.old + tries }
 
-    // Where there is no query, or the report stands already, nothing is sent.
+    // Where there is no query, or the report stands already, nothing is sent, and that report is given.
     ensures idle { IsIdle client.old → T.count transport.new ≡ T.count transport.old }
+    ensures stands { IsSome (report_of client.old)
+        → IfOk result (λ report. option_copied report ≡ report_of client.old) }
 {
     exchange_up_to(client, transport, tries)?;
     Ok(client.report())

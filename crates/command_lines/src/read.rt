@@ -95,7 +95,7 @@ fn window_command<'a>(alloc: Global) -> Result<Command<'a>, AllocError> {
         alloc,
         "columns",
         "C",
-        "The smallest level in which the window is at least C columns wide; X Y W H are of level 0",
+        "The smallest level in which the window is at least C columns wide; X Y W H are then of level 0 (no default)",
     );
     let about = "Writes a window of a file to standard output, as P5 or P6 (PGM, PPM)";
     command(alloc, "window", about, WINDOW_EXAMPLE)?
@@ -112,6 +112,7 @@ fn read_command<'a>(alloc: Global) -> Result<Command<'a>, AllocError> {
     let info = command(alloc, "info", about, INFO_EXAMPLE)?;
     Command::new(alloc, "cogread")
         .about("Reads a window or the info of a file over HTTP, by single byte ranges")
+        .after_help(INFO_EXAMPLE)
         .subcommand_required(true)
         .subcommand(window_command(alloc)?)?
         .subcommand(info)

@@ -1,4 +1,4 @@
-//! Tests of what the programs stand on: the words of their command lines, and a client and a server over sockets of one process.
+//! Tests over sockets of one process: a client and a server, and connections of `cogserve` with the lines that it prints.
 #![tactic(auto)]
 
 #[cfg(test)]

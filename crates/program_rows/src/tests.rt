@@ -1,2 +1,2 @@
-mod lines;
 mod loopback;
+mod serving;

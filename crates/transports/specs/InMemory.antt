@@ -1,6 +1,7 @@
 -- What a server in memory has.
-use Rattle.std.specs.Prelude.{◌≡◌, ◌⊎◌, ℕ, List, Option, Some, None}
-use Rattle.http_range.specs.Book.{Publication, Catalogue, IsCatalogue, published, publication_tag}
+use Rattle.std.specs.Prelude.{◌≡◌, ◌⊎◌, ℕ, List, [], Option, Some, None}
+use Rattle.http_range.specs.Book.{Publication, Catalogue, IsCatalogue, publish, published, publication_tag}
+use Rattle.cog_server.specs.Server.{ServerState}
 
 -- The catalogue, which is lawful, has this publication under the name.
 pub record Has (catalogue : Catalogue) (name : List ℕ) (p : Publication) : Type 0 where
@@ -11,6 +12,15 @@ pub record Has (catalogue : Catalogue) (name : List ℕ) (p : Publication) : Typ
 -- the first publication of an epoch
 abbrev pub first_of : ℕ → List ℕ → List ℕ → Publication
 first_of epoch name file = record { name = name; tag = publication_tag epoch 1; file = file }
+
+-- a server without files
+abbrev pub new_server : ℕ → ServerState
+new_server epoch = record { epoch = epoch; count = 0; catalogue = [] }
+
+-- a server whose first publication of the epoch is its only one
+abbrev pub server_of_one : ℕ → List ℕ → List ℕ → ServerState
+server_of_one epoch name file =
+    record { epoch = epoch; count = 1; catalogue = publish (first_of epoch name file) [] }
 
 -- an answer carries the tag of the file of this name, or none
 abbrev pub IsAbout : List ℕ → Option (List ℕ) → Type 0

@@ -1,7 +1,8 @@
 //! A server in memory.
-ghost use Rattle.std.specs.Prelude.{◌↔◌, IfOk, IsTrue, option_map};
+ghost use Rattle.std.specs.Prelude.{◌≡◌, ◌↔◌, IfErr, IfOk, IsTrue, OnOk, None, option_map};
 ghost use Rattle.cog_client.specs.Transport.{IsHonestToAll};
-ghost use Rattle.transports.specs.InMemory.{Has, IsAbout, first_of};
+ghost use Rattle.cog_server.specs.Server.{IsRefusal, refusal_of};
+ghost use Rattle.transports.specs.InMemory.{Has, IsAbout, first_of, new_server, server_of_one};
 
 use cog_client::{Lost, Transport};
 use cog_server::{PublishError, Server};
@@ -83,7 +84,14 @@ pub fn server_of_one(
     name: &[u8],
     file: Vec<u8>,
 ) -> Result<Server, PublishError>
-    ensures { IfOk result (λ server. Has server.catalogue name.now (first_of epoch name.now file.items)) }
+    ensures has { IfOk result (λ server. Has server.catalogue name.now (first_of epoch name.now file.items)) }
+
+    // It has no other file.
+    ensures one { IfOk result (λ server. server ≡ server_of_one epoch name.now file.items) }
+
+    // It is refused as the first publication of a new server is.
+    ensures accepted { OnOk result (refusal_of (new_server epoch) name.now file.items ≡ None) }
+    ensures refused { IfErr result (IsRefusal (refusal_of (new_server epoch) name.now file.items)) }
 {
     tags_tell_publications();
     let mut server = Server::new(alloc, epoch);

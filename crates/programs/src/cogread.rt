@@ -1,7 +1,9 @@
 //! `cogread`: reads a window or the info of a file over sockets.
+ghost use Rattle.std.specs.Prelude.{◌+◌, ◌<◌, ◌^◌};
+
 use crate::fault::Fault;
 use crate::number::number;
-use cog_client::{Client, ClientError, Outcome, Query, Report, fetch};
+use cog_client::{Client, ClientError, Outcome, Query, Report, Transport, fetch};
 use command_lines::{AskedWords, ReadLine, WindowWords, read_line};
 use report_text::{info_text, picture};
 use sockets::Socket;
@@ -70,6 +72,21 @@ fn write_report<R: Print + AllocGlobal>(rt: &R, report: &Report) -> Result<(), F
     Ok(io::writer(rt).write_all(&text)?)
 }
 
+/// Reads what the client asks over a transport, in so many exchanges at most, and writes the report.
+pub fn fetch_report<R: Print + AllocGlobal, T: Transport>(
+    rt: &R,
+    client: &mut Client,
+    transport: &mut T,
+    requests: u32,
+) -> Result<(), Fault>
+    requires { T.count transport.old + requests < 2 ^ 64 }
+{
+    match fetch(client, transport, requests)? {
+        Some(report) => write_report(rt, report),
+        None => Err(Fault::NoReport),
+    }
+}
+
 /// Runs the program on its words, of which the first is its own name.
 pub fn run_line<R>(rt: &R, words: &[String]) -> Result<(), Fault>
 where
@@ -85,8 +102,5 @@ where
     };
     client.open(numbers.query);
     let mut socket = Socket::new(rt, line.server);
-    match fetch(&mut client, &mut socket, numbers.requests)? {
-        Some(report) => write_report(rt, report),
-        None => Err(Fault::NoReport),
-    }
+    fetch_report(rt, &mut client, &mut socket, numbers.requests)
 }

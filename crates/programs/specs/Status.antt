@@ -3,9 +3,9 @@ use Rattle.std.specs.Prelude.{◌≡◌, ◌≢◌, ℕ}
 use Rattle.clap.specs.Words.{kind_of}
 use Rattle.clap.specs.declared.error.kind.ErrorKind.TheVariants as kind
 use Rattle.scripts.specs.declared.line.ScriptError.TheVariants as script
-use Rattle.cogtools.specs.declared.fault.Fault.{Fault}
-use Rattle.cogtools.specs.declared.fault.Fault.TheVariants.{NotText, NotAProgram, CommandLine, NotANumber, NotAFile, Script}
-use Rattle.cogtools.specs.declared.fault.Fault.TheVariants.{RefusedClient, OfFile, NoReport, CantRead, Refused, CantListen, CantAccept, CantWrite, Memory}
+use Rattle.programs.specs.declared.fault.Fault.{Fault}
+use Rattle.programs.specs.declared.fault.Fault.TheVariants.{NotText, NotAProgram, CommandLine, NotANumber, NotAFile, Script}
+use Rattle.programs.specs.declared.fault.Fault.TheVariants.{RefusedClient, OfFile, NoReport, CantRead, Refused, CantListen, CantAccept, CantWrite, Memory}
 
 -- 1 for files, sockets, publications and memory, 2 for the command line and scripts, 3 for a fault of the file that is read, 4
 -- where there is no report; to ask for help is no fault

@@ -17,6 +17,10 @@ open 0 level 0 2 1 3 2
 exchange 0
 ";
 
+const EXAMPLE: &str = "\
+Example:
+  cogtools cogworld one_window.txt";
+
 /// Runs a script and prints its log; want of memory ends it after the log up to there.
 fn run_script<R: Print + AllocGlobal, S: Source>(
     rt: &R,
@@ -41,10 +45,13 @@ pub fn run_stored<R: Print + AllocGlobal>(rt: &R) -> Result<(), Fault> {
 /// Runs the script that the program's words name, of which the first is its own name.
 pub fn run_line<R: Files + Print + AllocGlobal>(rt: &R, words: &[String]) -> Result<(), Fault> {
     let path = Arg::new(rt.alloc(), "SCRIPT")
-        .help("The file of the script")
+        .help(
+            "The file of the script: lines of events, its paths from the current folder on (no default)",
+        )
         .required(true);
     let command = Command::new(rt.alloc(), "cogworld")
         .about("Runs a script of events and prints its log")
+        .after_help(EXAMPLE)
         .arg(path)?;
     let matches = command.try_get_matches_from(words)?;
     match matches.get_str("SCRIPT") {

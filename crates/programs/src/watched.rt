@@ -1,7 +1,7 @@
 //! A file of the disk that is published, and when it has to be read again.
 ghost use Rattle.std.specs.Prelude.{◌↔◌, IsTrue};
 ghost use Rattle.std.specs.Duration.{as_nanos};
-ghost use Rattle.cogtools.specs.Settled.{IsSettled};
+ghost use Rattle.programs.specs.Settled.{IsSettled};
 
 use crate::fault::Fault;
 use cog_server::{PublishError, Server};

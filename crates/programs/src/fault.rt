@@ -40,7 +40,7 @@ pub enum Fault {
 }
 
 impl Fault {
-    ghost use Rattle.cogtools.specs.Status.{HasStatus};
+    ghost use Rattle.programs.specs.Status.{HasStatus};
 
     /// The exit status: 1 for files, sockets, publications and memory, 2 for the command line and scripts, 3 for a fault of the file
     /// that is read, and 4 where there is no report.
@@ -79,9 +79,9 @@ impl Fault {
 
 /// A fault as the line that a program tells.
 #[derive(Drop)]
-pub struct FaultLine<'a> {
-    pub program: &'a str,
-    pub fault: &'a Fault,
+struct FaultLine<'a> {
+    program: &'a str,
+    fault: &'a Fault,
 }
 
 impl fmt::Display for FaultLine<'_> {

@@ -1,0 +1,53 @@
+//! What a command line prints and ends with.
+use crate::paper::Paper;
+use programs::run;
+use std::alloc::{AllocError, Global};
+use std::convert::AsStr;
+use std::net::{Net, TcpListener, TcpStream};
+use std::rt::{Clock, Files};
+
+/// What a command line prints to standard output and to standard error, and its exit status.
+#[derive(Debug, Drop)]
+pub struct Told {
+    pub out: Vec<u8>,
+    pub err: Vec<u8>,
+    pub status: u8,
+}
+
+impl Told {
+    /// Whether exactly this is printed.
+    pub fn is(&self, out: &str, err: &str, status: u8) -> bool {
+        self.out.as_slice() == out.as_bytes()
+            && self.err.as_slice() == err.as_bytes()
+            && self.status == status
+    }
+}
+
+/// The command's own name, and these words.
+fn line_of<S: AsStr>(alloc: Global, words: &[S]) -> Result<Vec<String>, AllocError> {
+    let mut line = Vec::new(alloc);
+    line.push(String::from_str(alloc, "cogtools")?)?;
+    for word in words {
+        line.push(String::from_str(alloc, word.as_str())?)?;
+    }
+    Ok(line)
+}
+
+/// What the command prints and ends with over this runtime, for these words after its own name.
+pub fn tell_on<R, S: AsStr>(paper: Paper<'_, R>, words: &[S]) -> Result<Told, AllocError>
+where
+    R: Files + Clock + AllocGlobal + Net<Listener = TcpListener, Stream = TcpStream>,
+{
+    let line = line_of(paper.alloc(), words)?;
+    let status = run(&paper, &line);
+    let (out, err) = paper.into_texts();
+    Ok(Told { out, err, status })
+}
+
+/// What the command prints and ends with, for these words after its own name.
+pub fn tell<R, S: AsStr>(rt: &R, words: &[S]) -> Result<Told, AllocError>
+where
+    R: Files + Clock + AllocGlobal + Net<Listener = TcpListener, Stream = TcpStream>,
+{
+    tell_on(Paper::new(rt), words)
+}

@@ -1,0 +1,16 @@
+//! The programs `cogserve`, `cogread` and `cogworld`, as one command whose first word names one of them.
+#![tactic(auto)]
+
+mod cogread;
+mod cogserve;
+mod cogworld;
+mod command;
+mod fault;
+mod number;
+mod watched;
+
+pub use cogread::fetch_report;
+pub use cogserve::{publish_all, serve_connections};
+pub use command::run;
+pub use fault::Fault;
+pub use watched::Watched;
