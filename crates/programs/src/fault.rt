@@ -1,4 +1,5 @@
 //! Why a program ends early.
+use clap::error::ErrorKind;
 use cog_client::FetchError;
 use http_range::Memory;
 use scripts::ScriptError;
@@ -114,18 +115,33 @@ impl fmt::Display for FaultLine<'_> {
 }
 
 impl From<AllocError> for Fault {
+    ghost use Rattle.std.specs.Prelude.{◌≡◌};
+    ghost use Rattle.programs.specs.declared.fault.Fault.TheVariants.{Memory};
+
+    ghost from_gives = { λ _ fault. fault ≡ Memory };
+
     fn from(_refused: AllocError) -> Fault {
         Fault::Memory
     }
 }
 
 impl From<Memory> for Fault {
+    ghost use Rattle.std.specs.Prelude.{◌≡◌};
+    ghost use Rattle.programs.specs.declared.fault.Fault.TheVariants.{Memory};
+
+    ghost from_gives = { λ _ fault. fault ≡ Memory };
+
     fn from(_refused: Memory) -> Fault {
         Fault::Memory
     }
 }
 
 impl From<FetchError> for Fault {
+    ghost use Rattle.std.specs.Prelude.{◌≡◌};
+    ghost use Rattle.programs.specs.declared.fault.Fault.TheVariants.{Memory};
+
+    ghost from_gives = { λ _ fault. fault ≡ Memory };
+
     fn from(error: FetchError) -> Fault {
         match error {
             FetchError::Memory => Fault::Memory,
@@ -134,12 +150,22 @@ impl From<FetchError> for Fault {
 }
 
 impl From<ScriptError> for Fault {
+    ghost use Rattle.std.specs.Prelude.{◌≡◌};
+    ghost use Rattle.programs.specs.declared.fault.Fault.TheVariants.{Script};
+
+    ghost from_gives = { λ error fault. fault ≡ Script error };
+
     fn from(error: ScriptError) -> Fault {
         Fault::Script(error)
     }
 }
 
 impl From<io::Error> for Fault {
+    ghost use Rattle.std.specs.Prelude.{◌≡◌, ◌⊎◌};
+    ghost use Rattle.programs.specs.declared.fault.Fault.TheVariants.{CantWrite, Memory};
+
+    ghost from_gives = { λ _ fault. (fault ≡ Memory) ⊎ (fault ≡ CantWrite) };
+
     fn from(error: io::Error) -> Fault {
         match error.kind() {
             io::ErrorKind::OutOfMemory => Fault::Memory,
@@ -149,9 +175,17 @@ impl From<io::Error> for Fault {
 }
 
 impl From<clap::Error> for Fault {
+    ghost use Rattle.std.specs.Prelude.{◌≡◌, ◌≢◌};
+    ghost use Rattle.programs.specs.declared.fault.Fault.TheVariants.{CommandLine, Memory};
+    ghost use Rattle.clap.specs.Words.{kind_of};
+    ghost use Rattle.clap.specs.declared.error.kind.ErrorKind.TheVariants.{OutOfMemory};
+
+    ghost from_gives = { λ error fault. (kind_of error ≡ OutOfMemory → fault ≡ Memory)
+        × (kind_of error ≢ OutOfMemory → fault ≡ CommandLine error) };
+
     fn from(error: clap::Error) -> Fault {
         match error.kind() {
-            clap::error::ErrorKind::OutOfMemory => Fault::Memory,
+            ErrorKind::OutOfMemory => Fault::Memory,
             _ => Fault::CommandLine(error),
         }
     }

@@ -1,5 +1,5 @@
 //! A file of the disk that is published, and when it has to be read again.
-ghost use Rattle.std.specs.Prelude.{◌↔◌, IsTrue};
+ghost use Rattle.std.specs.Prelude.{◌≡◌, ◌↔◌, IfOk, IsTrue, None, OnErr};
 ghost use Rattle.std.specs.Duration.{as_nanos};
 ghost use Rattle.programs.specs.Settled.{IsSettled};
 
@@ -69,7 +69,10 @@ fn publish_other(
     server: &mut Server,
     name: &[u8],
     file: Vec<u8>,
-) -> Result<Option<Tag>, PublishError> {
+) -> Result<Option<Tag>, PublishError>
+    ensures same { IfOk result (λ tag. tag ≡ None → server.new ≡ server.old) }
+    ensures err { OnErr result (server.new ≡ server.old) }
+{
     if let Some(old) = server.file(name)
         && old == file.as_slice()
     {
@@ -81,7 +84,10 @@ fn publish_other(
 
 impl<'a> Watched<'a> {
     /// A file that wasn't read yet.
-    pub fn new(name: &'a str, path: &'a str) -> Watched<'a> {
+    pub fn new(name: &'a str, path: &'a str) -> Watched<'a>
+        ensures name { result.name ≡ name.entry }
+        ensures path { result.path ≡ path.entry }
+    {
         Watched {
             name,
             path,
@@ -89,12 +95,14 @@ impl<'a> Watched<'a> {
         }
     }
 
-    /// Reads the file and publishes it.
+    /// Reads the file and publishes it. A fault changes nothing of the server.
     pub fn publish<R: Files + Clock + AllocGlobal>(
         &mut self,
         rt: &R,
         server: &mut Server,
-    ) -> Result<Tag, Fault> {
+    ) -> Result<Tag, Fault>
+        ensures err { OnErr result (server.new ≡ server.old) }
+    {
         let seen = stamp_of(rt, self.path);
         let bytes = match (Disk { rt }).load(self.path.as_bytes()) {
             Ok(bytes) => bytes,
@@ -122,7 +130,9 @@ impl<'a> Watched<'a> {
         &mut self,
         rt: &R,
         server: &mut Server,
-    ) -> Option<Tag> {
+    ) -> Option<Tag>
+        ensures same { result ≡ None → server.new ≡ server.old }
+    {
         let seen = stamp_of(rt, self.path);
         if seen.is_some() && seen == self.seen {
             return None;

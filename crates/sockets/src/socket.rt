@@ -1,6 +1,6 @@
 //! One connection for each request, to a server that is named by its address.
-ghost use Rattle.std.specs.Prelude.{◌≡◌};
-ghost use Rattle.sockets.specs.Sockets.{exchanges_of};
+ghost use Rattle.std.specs.Prelude.{◌≡◌, IsErr, OnOk};
+ghost use Rattle.sockets.specs.Sockets.{exchanges_of, server_of, IsConnected};
 
 use cog_client::{Lost, Transport};
 use std::io::{ErrorKind, Read, Write};
@@ -22,7 +22,9 @@ pub struct Socket<'r, R> {
 impl<'r, R> Socket<'r, R> {
     /// A transport to the server at `HOST:PORT`, without exchanges.
     pub fn new(rt: &'r R, server: &'r str) -> Self
-        ensures { exchanges_of result ≡ 0 }
+        ensures server { server_of result ≡ server.entry.now }
+        ensures exchanges { exchanges_of result ≡ 0 }
+        ensures alone { ¬ IsConnected result }
     {
         Socket {
             rt,
@@ -36,7 +38,9 @@ impl<'r, R> Socket<'r, R> {
 impl<'r, R: Net<Stream = TcpStream> + AllocGlobal> Socket<'r, R> {
     /// Connects, and writes a request.
     pub fn send(&mut self, request: &[u8]) -> Result<(), Lost>
-        ensures { exchanges_of self.new ≡ exchanges_of self.old }
+        ensures server { server_of self.new ≡ server_of self.old }
+        ensures exchanges { exchanges_of self.new ≡ exchanges_of self.old }
+        ensures connected { OnOk result (IsConnected self.new) }
     {
         let mut stream = TcpStream::connect(self.rt, self.server).map_err(|_| Lost)?;
         stream.write_all(request).map_err(|_| Lost)?;
@@ -46,7 +50,10 @@ impl<'r, R: Net<Stream = TcpStream> + AllocGlobal> Socket<'r, R> {
 
     /// Reads what comes, to the end of the stream, to a failed read or to 1,069,056 bytes. Lost where nothing came.
     pub fn receive(&mut self) -> Result<Vec<u8>, Lost>
-        ensures { exchanges_of self.new ≡ exchanges_of self.old }
+        ensures server { server_of self.new ≡ server_of self.old }
+        ensures exchanges { exchanges_of self.new ≡ exchanges_of self.old }
+        ensures alone { ¬ IsConnected self.new }
+        ensures unsent { ¬ IsConnected self.old → IsErr result }
     {
         let Some(stream) = self.stream.take() else {
             return Err(Lost);
