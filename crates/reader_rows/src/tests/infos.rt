@@ -8,7 +8,7 @@ use fixtures::{
 use reader_aid::{FACTS_OF_F3, Facts, Fixture, NO_FACTS, Value, Want, change, is_wanted};
 use std::alloc::{AllocError, Global};
 use std::test::Fail;
-use tiff_dir::Query;
+use tiff_dir::{Memory, Query};
 
 /// The sides of the level of each fixture without geo fields, and what is wanted of it: nothing but the directories.
 const PLAIN: [(Fixture, (u32, u32), &[Range]); 8] = [
@@ -26,6 +26,28 @@ const PLAIN: [(Fixture, (u32, u32), &[Range]); 8] = [
     (Fixture::F6m, (16, 16), &[(0, 8), (8, 2), (10, 112)]),
 ];
 
+/// Whether Info of a file wants these ranges, and says these facts.
+fn informs(
+    alloc: Global,
+    image: &mut Image,
+    ranges: &[Range],
+    facts: Facts<'_>,
+) -> Result<bool, Memory> {
+    let Answer { wanted, outcome } = image.answer(alloc, Query::Info)?;
+    Ok(are_ranges(&wanted, ranges) && is_wanted(outcome, Want::Info(facts)))
+}
+
+/// The same of a new reader.
+fn is_told(
+    alloc: Global,
+    file: Vec<u8>,
+    ranges: &[Range],
+    facts: Facts<'_>,
+) -> Result<bool, Memory> {
+    let mut image = Image::new(alloc, file);
+    informs(alloc, &mut image, ranges, facts)
+}
+
 #[test]
 fn without_geo_fields(rt: HostRuntime) -> Result<(), Fail> {
     for (fixture, sides, ranges) in PLAIN {
@@ -33,32 +55,31 @@ fn without_geo_fields(rt: HostRuntime) -> Result<(), Fail> {
             sides: &[sides],
             ..NO_FACTS
         };
-        let mut image = Image::new(rt.alloc(), fixture.file(rt.alloc())?);
-        let answer = image.answer(rt.alloc(), Query::Info);
-        let Answer { wanted, outcome } = answer.ok().ok_or("no memory")?;
-        assert!(rt; are_ranges(&wanted, ranges), "{fixture:?}: {wanted:?}");
-        assert!(rt;
-            is_wanted(outcome, Want::Info(facts)),
-            "{fixture:?}: {outcome:?}"
-        );
+        let file = fixture.file(rt.alloc())?;
+        let told = is_told(rt.alloc(), file, ranges, facts);
+        assert!(rt; told.ok().ok_or("no memory")?, "{fixture:?}");
     }
     Ok(())
+}
+
+/// Whether Info of a whole file says these facts.
+fn is_said(alloc: Global, file: &[u8], facts: Facts<'_>) -> bool {
+    let found = read_file(alloc, file, Query::Info);
+    is_wanted(found.ok().as_ref(), Want::Info(facts))
 }
 
 #[test]
 fn two_levels(rt: HostRuntime) -> Result<(), Fail> {
     let mut file = Fixture::F3.file(rt.alloc())?;
-    let found = read_file(rt.alloc(), &file, Query::Info);
-    assert!(rt; is_wanted(found.ok().as_ref(), Want::Info(FACTS_OF_F3)));
+    assert!(rt; is_said(rt.alloc(), &file, FACTS_OF_F3));
     // An unnamed tag of an unknown type in the place of the scale's.
     change(&mut file, 118, &[0x0f]);
     change(&mut file, 120, &[0xff]);
-    let found = read_file(rt.alloc(), &file, Query::Info);
     let facts = Facts {
         scale: None,
         ..FACTS_OF_F3
     };
-    assert!(rt; is_wanted(found.ok().as_ref(), Want::Info(facts)));
+    assert!(rt; is_said(rt.alloc(), &file, facts));
     Ok(())
 }
 
@@ -159,15 +180,10 @@ fn all_geo_fields(rt: HostRuntime) -> Result<(), Fail> {
         ..FACTS_OF_ALL
     };
     for order in [Order::Little, Order::Big] {
-        let mut image = Image::new(rt.alloc(), file_of_all(rt.alloc(), order)?);
-        assert_eq!(rt; image.file.len(), 434);
-        let answer = image.answer(rt.alloc(), Query::Info);
-        let Answer { wanted, outcome } = answer.ok().ok_or("no memory")?;
-        assert!(rt; are_ranges(&wanted, &ALL_RANGES), "{order:?}: {wanted:?}");
-        assert!(rt;
-            is_wanted(outcome, Want::Info(facts)),
-            "{order:?}: {outcome:?}"
-        );
+        let file = file_of_all(rt.alloc(), order)?;
+        assert_eq!(rt; file.len(), 434);
+        let told = is_told(rt.alloc(), file, &ALL_RANGES, facts);
+        assert!(rt; told.ok().ok_or("no memory")?, "{order:?}");
     }
     Ok(())
 }

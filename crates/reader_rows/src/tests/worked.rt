@@ -2,8 +2,9 @@
 use super::image::{Answer, Image};
 use cog_reader::{Outcome, Window, read_file};
 use reader_aid::{Fixture, Numbers, Want, change, is_wanted, window};
+use std::alloc::{AllocError, Global};
 use std::test::Fail;
-use tiff_dir::{FileFault, Pick};
+use tiff_dir::{FileFault, Memory, Pick};
 
 /// The window where three of f4's tiles meet a fourth.
 const CORNER: [u8; 27] = [
@@ -161,29 +162,51 @@ const ROWS: [Row; 25] = [
     ),
 ];
 
+/// The file of a row.
+fn file_of(
+    alloc: Global,
+    fixture: Fixture,
+    changed: Option<(usize, u8)>,
+) -> Result<Vec<u8>, AllocError> {
+    let mut file = fixture.file(alloc)?;
+    if let Some((place, byte)) = changed {
+        change(&mut file, place, &[byte]);
+    }
+    Ok(file)
+}
+
+/// Whether a reader of the file has this outcome for a window, range by range.
+fn reads(alloc: Global, file: Vec<u8>, numbers: Numbers, want: &Outcome) -> Result<bool, Memory> {
+    let mut image = Image::new(alloc, file);
+    has_outcome(alloc, &mut image, numbers, want)
+}
+
+fn has_outcome(
+    alloc: Global,
+    image: &mut Image,
+    numbers: Numbers,
+    want: &Outcome,
+) -> Result<bool, Memory> {
+    let Answer { outcome, .. } = image.answer(alloc, window(numbers))?;
+    Ok(outcome == Some(want))
+}
+
+/// Whether the outcome of a row comes from the whole file, and range by range.
+fn is_right(alloc: Global, (fixture, changed, numbers, want): Row) -> Result<bool, Memory> {
+    let file = file_of(alloc, fixture, changed)?;
+    let whole = read_file(alloc, &file, window(numbers))?;
+    if !is_wanted(Some(&whole), want) {
+        return Ok(false);
+    }
+    reads(alloc, file, numbers, &whole)
+}
+
 #[test]
 fn rows(rt: HostRuntime) -> Result<(), Fail> {
-    for (fixture, changed, numbers, want) in ROWS {
-        let mut file = fixture.file(rt.alloc())?;
-        if let Some((place, byte)) = changed {
-            change(&mut file, place, &[byte]);
-        }
-        let whole = read_file(rt.alloc(), &file, window(numbers));
-        let whole = whole.ok().ok_or("no memory")?;
-        assert!(rt;
-            is_wanted(Some(&whole), want),
-            "{fixture:?} {changed:?} {numbers:?}: {whole:?}"
-        );
-        let mut image = Image::new(rt.alloc(), file);
-        let Answer { outcome, .. } = image
-            .answer(rt.alloc(), window(numbers))
-            .ok()
-            .ok_or("no memory")?;
-        assert_eq!(rt;
-            outcome,
-            Some(&whole),
-            "{fixture:?} {changed:?} {numbers:?}"
-        );
+    for row in ROWS {
+        let right = is_right(rt.alloc(), row).ok().ok_or("no memory")?;
+        let (fixture, changed, numbers, _) = row;
+        assert!(rt; right, "{fixture:?} {changed:?} {numbers:?}");
     }
     Ok(())
 }
