@@ -1,8 +1,8 @@
 //! Aids of tests of the programs: a runtime that keeps what is printed, and what a command line prints and ends with.
 #![tactic(auto)]
 
-mod paper;
+mod capture;
 mod telling;
 
-pub use paper::Paper;
+pub use capture::Capture;
 pub use telling::{Told, tell, tell_on};

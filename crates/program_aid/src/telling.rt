@@ -1,5 +1,5 @@
 //! What a command line prints and ends with.
-use crate::paper::Paper;
+use crate::capture::Capture;
 use programs::run;
 use std::alloc::{AllocError, Global};
 use std::convert::AsStr;
@@ -34,13 +34,13 @@ fn line_of<S: AsStr>(alloc: Global, words: &[S]) -> Result<Vec<String>, AllocErr
 }
 
 /// What the command prints and ends with over this runtime, for these words after its own name.
-pub fn tell_on<R, S: AsStr>(paper: Paper<'_, R>, words: &[S]) -> Result<Told, AllocError>
+pub fn tell_on<R, S: AsStr>(capture: Capture<'_, R>, words: &[S]) -> Result<Told, AllocError>
 where
     R: Files + Clock + AllocGlobal + Net<Listener = TcpListener, Stream = TcpStream>,
 {
-    let line = line_of(paper.alloc(), words)?;
-    let status = run(&paper, &line);
-    let (out, err) = paper.into_texts();
+    let line = line_of(capture.alloc(), words)?;
+    let status = run(&capture, &line);
+    let (out, err) = capture.into_texts();
     Ok(Told { out, err, status })
 }
 
@@ -49,5 +49,5 @@ pub fn tell<R, S: AsStr>(rt: &R, words: &[S]) -> Result<Told, AllocError>
 where
     R: Files + Clock + AllocGlobal + Net<Listener = TcpListener, Stream = TcpStream>,
 {
-    tell_on(Paper::new(rt), words)
+    tell_on(Capture::new(rt), words)
 }

@@ -1,6 +1,6 @@
 //! Faults that no command line of a test meets, told as they are.
 use cog_server::PublishError;
-use program_aid::Paper;
+use program_aid::Capture;
 use programs::Fault;
 use scripts::ScriptError;
 use std::test::Fail;
@@ -8,14 +8,14 @@ use tiff_dir::FileFault;
 
 /// Whether the fault is told by this line on standard error, and ends with this status.
 fn is_told(
-    paper: Paper<'_, HostRuntime>,
+    capture: Capture<'_, HostRuntime>,
     program: &str,
     fault: &Fault,
     line: &str,
     status: u8,
 ) -> bool {
-    fault.print(&paper, program);
-    let (out, err) = paper.into_texts();
+    fault.print(&capture, program);
+    let (out, err) = capture.into_texts();
     out.is_empty() && err.as_slice() == line.as_bytes() && fault.status() == status
 }
 
@@ -41,7 +41,7 @@ fn faults(rt: HostRuntime) {
     ];
     for (fault, program, line, status) in table {
         assert!(rt;
-            is_told(Paper::new(&rt), program, &fault, line, status),
+            is_told(Capture::new(&rt), program, &fault, line, status),
             "{line}"
         );
     }
@@ -73,7 +73,7 @@ const OF_FILES: [(FileFault, &str); 18] = [
 fn faults_of_the_file(rt: HostRuntime) {
     for (fault, line) in OF_FILES {
         assert!(rt;
-            is_told(Paper::new(&rt), "cogread", &Fault::OfFile(fault), line, 3),
+            is_told(Capture::new(&rt), "cogread", &Fault::OfFile(fault), line, 3),
             "{line}"
         );
     }
@@ -88,7 +88,7 @@ fn an_exhausted_epoch(rt: HostRuntime) -> Result<(), Fail> {
     );
     assert!(rt;
         is_told(
-            Paper::new(&rt),
+            Capture::new(&rt),
             "cogserve",
             &refused,
             "cogserve: refused 5 a\n",

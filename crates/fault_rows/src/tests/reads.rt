@@ -3,7 +3,7 @@ use super::{Row, is_told};
 use cog_client::{Client, Query};
 use cog_server::Server;
 use fixtures::f1;
-use program_aid::Paper;
+use program_aid::Capture;
 use programs::{Fault, fetch_report};
 use std::test::Fail;
 use tiff_dir::Pick;
@@ -146,29 +146,33 @@ fn faults_of_words(rt: HostRuntime) -> Result<(), Fail> {
 }
 
 /// What is read of a server in memory, over a runtime, and whether it is written.
-fn read<R: AllocGlobal>(paper: &Paper<'_, R>, server: &Server, query: Query) -> Result<(), Fault> {
-    let Ok(mut client) = Client::new(paper.alloc(), b"cog.test", b"a", 66) else {
+fn read<R: AllocGlobal>(
+    capture: &Capture<'_, R>,
+    server: &Server,
+    query: Query,
+) -> Result<(), Fault> {
+    let Ok(mut client) = Client::new(capture.alloc(), b"cog.test", b"a", 66) else {
         return Err(Fault::Memory);
     };
     client.open(query);
-    fetch_report(paper, &mut client, &mut InMemory::new(server, b"a"), 3)
+    fetch_report(capture, &mut client, &mut InMemory::new(server, b"a"), 3)
 }
 
 /// What is printed of a query, told and ended with.
 fn is_printed<R: AllocGlobal>(
-    paper: Paper<'_, R>,
+    capture: Capture<'_, R>,
     server: &Server,
     query: Query,
     (out, err, status): (&[u8], &[u8], u8),
 ) -> bool {
-    let found = match read(&paper, server, query) {
+    let found = match read(&capture, server, query) {
         Ok(()) => 0,
         Err(fault) => {
-            fault.print(&paper, "cogread");
+            fault.print(&capture, "cogread");
             fault.status()
         }
     };
-    let (printed, told) = paper.into_texts();
+    let (printed, told) = capture.into_texts();
     printed.as_slice() == out && told.as_slice() == err && found == status
 }
 
@@ -204,12 +208,12 @@ fn reports(rt: HostRuntime) -> Result<(), Fail> {
     for (query, out, err, status) in printed() {
         let want = (out, err, status);
         assert!(rt;
-            is_printed(Paper::new(&rt), &server, query, want),
+            is_printed(Capture::new(&rt), &server, query, want),
             "{query:?}"
         );
     }
     let want = (b"".as_slice(), b"cogread: can't write\n".as_slice(), 1);
-    assert!(rt; is_printed(Paper::closed(&rt), &server, Query::Info, want));
+    assert!(rt; is_printed(Capture::closed(&rt), &server, Query::Info, want));
     Ok(())
 }
 
@@ -221,6 +225,6 @@ fn a_fault_with_its_tag(rt: HostRuntime) -> Result<(), Fail> {
     file[54] = 5;
     let server = server_of_one(rt.alloc(), 1, b"a", file)?;
     let want = (b"".as_slice(), b"cogread: fault 9 259\n".as_slice(), 3);
-    assert!(rt; is_printed(Paper::new(&rt), &server, Query::Info, want));
+    assert!(rt; is_printed(Capture::new(&rt), &server, Query::Info, want));
     Ok(())
 }

@@ -1,6 +1,6 @@
 //! `cogworld`, and words that name no program.
 use super::{Row, is_told};
-use program_aid::{Paper, tell, tell_on};
+use program_aid::{Capture, tell, tell_on};
 use std::fs;
 use std::test::Fail;
 
@@ -18,7 +18,7 @@ report 0 \"1-1\" window 3 2 1 121314222324
 fn stored_script(rt: HostRuntime) -> Result<(), Fail> {
     let words: [&str; 0] = [];
     assert!(rt; tell(&rt, &words)?.is(LOG, "", 0));
-    assert!(rt; tell_on(Paper::closed(&rt), &words)?.is("", "cogworld: can't write\n", 1));
+    assert!(rt; tell_on(Capture::closed(&rt), &words)?.is("", "cogworld: can't write\n", 1));
     Ok(())
 }
 

@@ -1,7 +1,7 @@
 //! Connections of `cogserve`, in turn: before each the file of the disk is written anew.
 use cog_server::Server;
 use fixtures::f1;
-use program_aid::Paper;
+use program_aid::Capture;
 use programs::{Fault, Watched, publish_all, serve_connections};
 use std::io::{Read, Write};
 use std::net::{Net, OpenListener, Shutdown, SocketAddr, TcpListener, TcpStream};
@@ -134,9 +134,9 @@ where
     R: Files + Clock + AllocGlobal + Net<Listener = TcpListener, Stream = TcpStream>,
 {
     put_file(rt, turn.file)?;
-    let paper = Paper::new(rt);
-    let answer = answer_of(&paper, server, files, listener)?;
-    let (out, err) = paper.into_texts();
+    let capture = Capture::new(rt);
+    let answer = answer_of(&capture, server, files, listener)?;
+    let (out, err) = capture.into_texts();
     let is_printed = out.as_slice() == turn.out.as_bytes() && err.is_empty();
     Ok(is_printed && answer.as_str() == wanted(rt, turn)?.as_str())
 }
@@ -148,11 +148,11 @@ fn is_published<R: Files + Clock + AllocGlobal>(
     files: &mut [Watched<'_>],
     lines: &str,
 ) -> bool {
-    let paper = Paper::new(rt);
-    if publish_all(&paper, server, files).is_err() {
+    let capture = Capture::new(rt);
+    if publish_all(&capture, server, files).is_err() {
         return false;
     }
-    let (out, err) = paper.into_texts();
+    let (out, err) = capture.into_texts();
     out.as_slice() == lines.as_bytes() && err.is_empty()
 }
 
@@ -183,10 +183,10 @@ fn connections_are_counted(rt: HostRuntime) -> Result<(), Fail> {
     let _silent = connect(&rt, address, "")?;
     let _refused = connect(&rt, address, "\r\n?\r\n\r\n")?;
     let _asking = connect(&rt, address, ASK)?;
-    let paper = Paper::new(&rt);
-    assert!(rt; serve_connections(&paper, &mut server, &mut [], &listener, 3).is_ok());
+    let capture = Capture::new(&rt);
+    assert!(rt; serve_connections(&capture, &mut server, &mut [], &listener, 3).is_ok());
     assert_eq!(rt;
-        paper.into_texts().0.as_slice(),
+        capture.into_texts().0.as_slice(),
         b"served 1\nserved 2\nserved 3\n".as_slice()
     );
     Ok(())
@@ -206,10 +206,10 @@ fn two_files_of_one_name(rt: HostRuntime) -> Result<(), Fail> {
     assert!(rt; is_published(&rt, &mut server, &mut files, lines));
     fs::write(&rt, "program_rows_first", "changed")?;
     let listener = TcpListener::bind(&rt, "127.0.0.1:0")?;
-    let paper = Paper::new(&rt);
-    let answer = answer_of(&paper, &mut server, &mut files, &listener)?;
+    let capture = Capture::new(&rt);
+    let answer = answer_of(&capture, &mut server, &mut files, &listener)?;
     assert!(rt; answer.as_str().ends_with("\r\n\r\nbcde"));
-    assert_eq!(rt; paper.into_texts().0.as_slice(), b"served 1\n".as_slice());
+    assert_eq!(rt; capture.into_texts().0.as_slice(), b"served 1\n".as_slice());
     fs::remove_file(&rt, "program_rows_first")?;
     fs::remove_file(&rt, "program_rows_last")?;
     Ok(())
@@ -241,11 +241,11 @@ impl OpenListener for Deaf {
 
 #[test]
 fn a_failed_accept(rt: HostRuntime) {
-    let paper = Paper::new(&rt);
+    let capture = Capture::new(&rt);
     let mut server = Server::new(rt.alloc(), 1);
-    let served = serve_connections(&paper, &mut server, &mut [], &Deaf, 1);
+    let served = serve_connections(&capture, &mut server, &mut [], &Deaf, 1);
     assert!(rt; matches!(served, Err(Fault::CantAccept)));
-    let (out, _) = paper.into_texts();
+    let (out, _) = capture.into_texts();
     assert!(rt; out.is_empty());
     assert_eq!(rt; Fault::CantAccept.status(), 1);
 }

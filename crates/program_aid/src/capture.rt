@@ -12,7 +12,7 @@ use std::time::Duration;
 
 /// A runtime whose standard output and standard error are kept in memory, or closed. All else is another one's.
 #[derive(Drop)]
-pub struct Paper<'r, R> {
+pub struct Capture<'r, R> {
     rt: &'r R,
     out: RefCell<Vec<u8>>,
     err: RefCell<Vec<u8>>,
@@ -27,10 +27,10 @@ fn keep(kept: &RefCell<Vec<u8>>, bytes: &[u8]) -> io::Result<()> {
     }
 }
 
-impl<'r, R: AllocGlobal> Paper<'r, R> {
+impl<'r, R: AllocGlobal> Capture<'r, R> {
     /// One with nothing on it.
     pub fn new(rt: &'r R) -> Self {
-        Paper {
+        Capture {
             rt,
             out: RefCell::new(Vec::new(rt.alloc())),
             err: RefCell::new(Vec::new(rt.alloc())),
@@ -40,9 +40,9 @@ impl<'r, R: AllocGlobal> Paper<'r, R> {
 
     /// One whose standard output is closed.
     pub fn closed(rt: &'r R) -> Self {
-        Paper {
+        Capture {
             is_closed: true,
-            ..Paper::new(rt)
+            ..Capture::new(rt)
         }
     }
 
@@ -52,7 +52,7 @@ impl<'r, R: AllocGlobal> Paper<'r, R> {
     }
 }
 
-impl<R: AllocGlobal> Print for Paper<'_, R> {
+impl<R: AllocGlobal> Print for Capture<'_, R> {
     fn print<D: Display + Drop>(&self, value: D) -> io::Result<()> {
         let text = format!(in self.rt.alloc(); "{value}")?;
         self.write_all(text.as_bytes())
@@ -71,7 +71,7 @@ impl<R: AllocGlobal> Print for Paper<'_, R> {
     }
 }
 
-impl<R: AllocGlobal> Eprint for Paper<'_, R> {
+impl<R: AllocGlobal> Eprint for Capture<'_, R> {
     fn eprint<D: Display + Drop>(&self, value: D) -> io::Result<()> {
         let text = format!(in self.rt.alloc(); "{value}")?;
         keep(&self.err, text.as_bytes())
@@ -83,7 +83,7 @@ impl<R: AllocGlobal> Eprint for Paper<'_, R> {
     }
 }
 
-impl<R: AllocGlobal> Alloc for Paper<'_, R> {
+impl<R: AllocGlobal> Alloc for Capture<'_, R> {
     type A = Global;
 
     fn alloc(&self) -> Global {
@@ -91,7 +91,7 @@ impl<R: AllocGlobal> Alloc for Paper<'_, R> {
     }
 }
 
-impl<R: Clock> Clock for Paper<'_, R> {
+impl<R: Clock> Clock for Capture<'_, R> {
     fn monotonic(&self) -> io::Result<Duration> {
         self.rt.monotonic()
     }
@@ -101,7 +101,7 @@ impl<R: Clock> Clock for Paper<'_, R> {
     }
 }
 
-impl<R: Files> Files for Paper<'_, R> {
+impl<R: Files> Files for Capture<'_, R> {
     type File = R::File;
 
     type Dir = R::Dir;
@@ -147,7 +147,7 @@ impl<R: Files> Files for Paper<'_, R> {
     }
 }
 
-impl<R: Net> Net for Paper<'_, R> {
+impl<R: Net> Net for Capture<'_, R> {
     type Stream = R::Stream;
 
     type Listener = R::Listener;
