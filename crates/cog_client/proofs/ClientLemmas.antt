@@ -13,19 +13,19 @@ use Rattle.range_cache.specs.Cache.{Blocks, Holds}
 use Rattle.range_cache.specs.Laws.{FrontHolds}
 use Rattle.cog_reader.specs.Outcome.{IsTrueOf}
 use Rattle.cog_reader.specs.Reader as reader
-use Rattle.cog_reader.specs.Reader.{Held}
+use Rattle.cog_reader.specs.Reader.{ReaderState}
 use Rattle.cog_client.specs.declared.report.Report.{Report}
 use Rattle.cog_client.specs.declared.source.Source.{Source}
 use Rattle.cog_client.specs.Case.{Revision}
 use Rattle.cog_client.specs.Take.{emptied, stored_front}
-use Rattle.cog_client.specs.Client.{Known, Knows, KnowsBy, KnowsOne, Agrees, IsClient, IsFew, IsReadingOf, IsReportOf, asked_of, blocks_of, host_of, name_of, query_of, report_of, revision_at, revision_of, tag_of, to_come}
+use Rattle.cog_client.specs.Client.{ClientState, Knows, KnowsBy, KnowsOne, ClientAgrees, IsClient, IsFew, IsReadingOf, IsReportOf, asked_of, blocks_of, host_of, name_of, query_of, report_of, revision_at, revision_of, tag_of, to_come, unread}
 use Rattle.cog_client.specs.Calls.{GoesOn, Opens, SameClient, StaysOf}
 use Rattle.cog_client.specs.Going as going
 use Rattle.cog_client.specs.Going.{work}
 use Rattle.cog_client.specs.Steps.{Adopts, Concludes, Stores}
 use Rattle.cog_client.proofs.GoingLemmas.{end_nil, end_refl, end_trans, same_refl, same_trans as blocks_trans}
 
-abbrev pub known : List ℕ → List ℕ → Option Query → Option Span → Option Source → Blocks → Option Report → Known
+abbrev pub known : List ℕ → List ℕ → Option Query → Option Span → Option Source → Blocks → Option Report → ClientState
 known h n q a s b r = record { host = h; name = n; query = q; asked = a; source = s; cache = b; report = r }
 
 pub known_is : (h n : List ℕ) (q q' : Option Query) (a : Option Span) (s s' : Option Source) (b : Blocks) (r r' : Option Report) → q ≡ q' → s ≡ s' → r ≡ r' → known h n q a s b r ≡ known h n q' a s' b r'
@@ -38,21 +38,21 @@ by_source P h None none = absurd (false≢true none)
 by_source P h (Some s) some = h s
 
 -- the tag is that of what is read
-pub tag_is : (c : Known) (s : Source) → c.source ≡ Some s → tag_of c ≡ Some s.tag
+pub tag_is : (c : ClientState) (s : Source) → c.source ≡ Some s → tag_of c ≡ Some s.tag
 unfolding revision_of
 tag_is c s is = ap (λ o. option_map (λ (v : Revision). v.tag) (revision_at o)) is
 
 -- ---- agreement goes by files
 
-pub some_knows : (f : List ℕ) (c : Known) (s : Source) → c.source ≡ Some s → Knows f c → KnowsBy f c s
+pub some_knows : (f : List ℕ) (c : ClientState) (s : Source) → c.source ≡ Some s → Knows f c → KnowsBy f c s
 unfolding Knows
 some_knows f c s is k = subst (λ o. IfSome o (KnowsBy f c)) is k
 
-pub knows_some : (f : List ℕ) (c : Known) (s : Source) → c.source ≡ Some s → KnowsBy f c s → Knows f c
+pub knows_some : (f : List ℕ) (c : ClientState) (s : Source) → c.source ≡ Some s → KnowsBy f c s → Knows f c
 unfolding Knows
 knows_some f c s is k = subst (λ o. IfSome o (KnowsBy f c)) (sym is) k
 
-agrees_as : (v : Option Revision) (old new : Known) (book : Book) → name_of new ≡ name_of old → ((f : List ℕ) → Knows f old → Knows f new)
+agrees_as : (v : Option Revision) (old new : ClientState) (book : Book) → name_of new ≡ name_of old → ((f : List ℕ) → Knows f old → Knows f new)
     → IfSome v (KnowsOne old book) → IfSome v (KnowsOne new book)
 agrees_as None old new book name knows k = tt
 agrees_as (Some v) old new book name knows k = record {
@@ -63,13 +63,13 @@ agrees_as (Some v) old new book name knows k = record {
   knows = knows k.source.file k.knows;
 }
 
-pub agrees_by : (old new : Known) → name_of new ≡ name_of old → revision_of new ≡ revision_of old → ((f : List ℕ) → Knows f old → Knows f new)
-    → (book : Book) → Agrees old book → Agrees new book
-unfolding Agrees
+pub agrees_by : (old new : ClientState) → name_of new ≡ name_of old → revision_of new ≡ revision_of old → ((f : List ℕ) → Knows f old → Knows f new)
+    → (book : Book) → ClientAgrees old book → ClientAgrees new book
+unfolding ClientAgrees
 agrees_by old new name revision knows book agrees =
     subst (λ v. IfSome v (KnowsOne new book)) (sym revision) (agrees_as (revision_of old) old new book name knows agrees)
 
-pub goes_by : (old new : Known) → SameClient old new → revision_of new ≡ revision_of old → going.AreSame (blocks_of old) (blocks_of new)
+pub goes_by : (old new : ClientState) → SameClient old new → revision_of new ≡ revision_of old → going.AreSame (blocks_of old) (blocks_of new)
     → ((f : List ℕ) → Knows f old → StaysOf f old new) → GoesOn old new
 goes_by old new same revision blocks file = record {
   same = same;
@@ -109,7 +109,7 @@ module _ (h n : List ℕ) (q : Option Query) (a : Option Span) (s : Source) (b :
   -- ---- going on
 
   pub gone_sound : (s' : Source) (new : Blocks) → s'.complete ≡ s.complete → IsClient (known h n q a (Some s) b r)
-      → going.GoesOn (work s.reader b) (work s'.reader new) → IsClient (known h n q a (Some s') new r)
+      → going.ReaderGoesOn (work s.reader b) (work s'.reader new) → IsClient (known h n q a (Some s') new r)
   gone_sound s' new complete c goes = record {
     hosted = c.hosted;
     named = c.named;
@@ -124,7 +124,7 @@ module _ (h n : List ℕ) (q : Option Query) (a : Option Span) (s : Source) (b :
   gone_report f s' (Some x) tag h = (h.0 ∙ sym tag, h.1)
 
   pub gone : (s' : Source) (new : Blocks) → s'.tag ≡ s.tag → s'.complete ≡ s.complete → IsClient (known h n q a (Some s) b r)
-      → going.GoesOn (work s.reader b) (work s'.reader new) → GoesOn (known h n q a (Some s) b r) (known h n q a (Some s') new r)
+      → going.ReaderGoesOn (work s.reader b) (work s'.reader new) → GoesOn (known h n q a (Some s) b r) (known h n q a (Some s') new r)
   unfolding host_of name_of query_of revision_of blocks_of to_come Knows
   gone s' new tag complete c goes =
       goes_by (known h n q a (Some s) b r) (known h n q a (Some s') new r) (record { host = refl; name = refl; query = refl })
@@ -149,12 +149,12 @@ module _ (h n : List ℕ) (q : Query) (a : Option Span) (s s' : Source) (b : Blo
     few = tt;
   }
 
-  concluded_true : (f : List ℕ) (x : Report) → IsClient (known h n (Some q) a (Some s) b None) → Concludes q s (Some x) s' → reader.Agrees s.reader f → IsReportOf f s' x
+  concluded_true : (f : List ℕ) (x : Report) → IsClient (known h n (Some q) a (Some s) b None) → Concludes q s (Some x) s' → reader.ReaderAgrees s.reader f → IsReportOf f s' x
   concluded_true f x c d agrees =
       let of : IsTrueOf f q x.outcome = subst (λ o. IsSomeAnd o (λ k. IsTrueOf f k x.outcome)) c.reading.1 (d.true_of f agrees) in
       (d.report.1 ∙ sym d.tag, subst (λ k. IsTrueOf f k x.outcome) d.report.0 of)
 
-  pub concluded : (x : Report) → ((r : Held) (f : List ℕ) → reader.query_of r ≡ None → reader.to_come r f ≡ []) → IsClient (known h n (Some q) a (Some s) b None) → Concludes q s (Some x) s'
+  pub concluded : (x : Report) → ((r : ReaderState) (f : List ℕ) → reader.query_of r ≡ None → reader.to_come r f ≡ []) → IsClient (known h n (Some q) a (Some s) b None) → Concludes q s (Some x) s'
       → GoesOn (known h n (Some q) a (Some s) b None) (known h n (Some q) None (Some s') b (Some x))
   unfolding host_of name_of query_of revision_of blocks_of to_come Knows
   concluded x none c d =
@@ -165,17 +165,17 @@ module _ (h n : List ℕ) (q : Query) (a : Option Span) (s s' : Source) (b : Blo
         come = subst (λ rs. IsEndOf rs (reader.to_come s.reader f)) (sym (none s'.reader f (d.unasked refl))) (end_nil (reader.to_come s.reader f));
       })
 
-pub goes_refl : (c : Known) → GoesOn c c
+pub goes_refl : (c : ClientState) → GoesOn c c
 goes_refl c =
     goes_by c c (record { host = refl; name = refl; query = refl }) refl (same_refl (blocks_of c)) (λ f knows. record { knows = knows; come = end_refl (to_come c f) })
 
-pub same_trans : (a b c : Known) → SameClient a b → SameClient b c → SameClient a c
+pub same_trans : (a b c : ClientState) → SameClient a b → SameClient b c → SameClient a c
 same_trans a b c h k = record { host = k.host ∙ h.host; name = k.name ∙ h.name; query = k.query ∙ h.query }
 
-pub stays_trans : (f : List ℕ) (a b c : Known) → StaysOf f a b → StaysOf f b c → StaysOf f a c
+pub stays_trans : (f : List ℕ) (a b c : ClientState) → StaysOf f a b → StaysOf f b c → StaysOf f a c
 stays_trans f a b c h k = record { knows = k.knows; come = end_trans (to_come a f) (to_come b f) (to_come c f) h.come k.come }
 
-pub goes_trans : (a b c : Known) → GoesOn a b → GoesOn b c → GoesOn a c
+pub goes_trans : (a b c : ClientState) → GoesOn a b → GoesOn b c → GoesOn a c
 goes_trans a b c h k = record {
   same = same_trans a b c h.same k.same;
   revision = k.revision ∙ h.revision;
@@ -187,11 +187,11 @@ goes_trans a b c h k = record {
 -- ---- a query is asked
 
 abbrev pub EndsAreWanted : Type 0
-EndsAreWanted = (r : Held) (f : List ℕ) → reader.Agrees r f → IfSome (reader.query_of r) (λ q. IsEndOf (reader.to_come r f) (needs f q))
+EndsAreWanted = (r : ReaderState) (f : List ℕ) → reader.ReaderAgrees r f → IfSome (reader.query_of r) (λ q. IsEndOf (reader.to_come r f) (needs f q))
 
 module _ (h n : List ℕ) (q : Option Query) (a : Option Span) (b : Blocks) (r : Option Report) (query : Query) where
   pub opened_alone : Opens query (known h n q a None b r) (known h n (Some query) None None b None)
-  unfolding host_of name_of query_of asked_of revision_of report_of blocks_of to_come Knows Agrees
+  unfolding host_of name_of query_of asked_of revision_of report_of blocks_of to_come unread Knows ClientAgrees
   opened_alone = record {
     host = refl;
     name = refl;
@@ -202,19 +202,20 @@ module _ (h n : List ℕ) (q : Option Query) (a : Option Span) (b : Blocks) (r :
     report = refl;
     knows = λ f k. tt;
     come = λ f k. end_nil (needs f query);
+    held = λ f. refl;
     agrees = λ book k. tt;
   }
 
-  opened_sound : (s : Source) (x : Held) → reader.complete_of x ≡ reader.complete_of s.reader → reader.query_of x ≡ Some query → IsClient (known h n q a (Some s) b r)
+  opened_sound : (s : Source) (x : ReaderState) → reader.complete_of x ≡ reader.complete_of s.reader → reader.query_of x ≡ Some query → IsClient (known h n q a (Some s) b r)
       → IsClient (known h n (Some query) None (Some (record s { reader = x })) b None)
   opened_sound s x complete asks c =
       record { hosted = c.hosted; named = c.named; alone = tt; reading = (c.reading.0 ∙ sym complete, asks); standing = tt; few = tt }
 
-  pub opened : (s : Source) (x : Held) → EndsAreWanted → reader.complete_of x ≡ reader.complete_of s.reader → reader.query_of x ≡ Some query
-      → ((f : List ℕ) → reader.Agrees s.reader f → reader.Agrees x f) → IsClient (known h n q a (Some s) b r)
+  pub opened : (s : Source) (x : ReaderState) → EndsAreWanted → reader.complete_of x ≡ reader.complete_of s.reader → reader.query_of x ≡ Some query
+      → ((f : List ℕ) → reader.ReaderAgrees s.reader f → reader.ReaderAgrees x f) → ((f : List ℕ) → reader.to_come x f ≡ reader.unread s.reader f query) → IsClient (known h n q a (Some s) b r)
       → Opens query (known h n q a (Some s) b r) (known h n (Some query) None (Some (record s { reader = x })) b None)
-  unfolding host_of name_of query_of asked_of revision_of report_of blocks_of to_come Knows
-  opened s x law complete asks agrees c =
+  unfolding host_of name_of query_of asked_of revision_of report_of blocks_of to_come unread Knows
+  opened s x law complete asks agrees held c =
       let knows : (f : List ℕ) → Knows f (known h n q a (Some s) b r) → Knows f (known h n (Some query) None (Some (record s { reader = x })) b None) =
       λ f k. record { reader = agrees f k.reader; blocks = k.blocks; report = tt; sound = opened_sound s x complete asks c } in
       record {
@@ -227,6 +228,7 @@ module _ (h n : List ℕ) (q : Option Query) (a : Option Span) (b : Blocks) (r :
         report = refl;
         knows = knows;
         come = λ f k. subst (λ o. IfSome o (λ q. IsEndOf (reader.to_come x f) (needs f q))) asks (law x f (agrees f k.reader));
+        held = held;
         agrees = agrees_by (known h n q a (Some s) b r) (known h n (Some query) None (Some (record s { reader = x })) b None) refl refl knows;
       }
 
@@ -234,7 +236,7 @@ module _ (h n : List ℕ) (q : Option Query) (a : Option Span) (b : Blocks) (r :
 
 module _ (h n : List ℕ) (q : Option Query) (a asked : Option Span) (before : Option Source) (s : Source) (b new : Blocks) where
   pub adopted : (p : SeenPiece) → s.tag ≡ p.tag → s.complete ≡ p.complete → new ≡ emptied b → ((f : List ℕ) → Holds f new)
-      → ((f : List ℕ) → length f ≡ p.complete → reader.Agrees s.reader f) → reader.complete_of s.reader ≡ p.complete → reader.query_of s.reader ≡ q
+      → ((f : List ℕ) → length f ≡ p.complete → reader.ReaderAgrees s.reader f) → reader.complete_of s.reader ≡ p.complete → reader.query_of s.reader ≡ q
       → IfSome asked IsFew → IsClient (known h n q a before b None) → Adopts p asked (known h n q a before b None) (known h n q asked (Some s) new None)
   unfolding host_of name_of query_of asked_of revision_of report_of blocks_of Knows
   adopted p tag complete empty holds agrees size query few c = record {
@@ -253,8 +255,8 @@ module _ (h n : List ℕ) (q : Option Query) (a asked : Option Span) (before : O
 
 -- ---- what is still to come
 
-comes_by : (f : List ℕ) (c : Known) (s : Source) → EndsAreWanted → ((r : Held) (g : List ℕ) → reader.query_of r ≡ None → reader.to_come r g ≡ [])
-    → (q : Query) → c.query ≡ Some q → (r : Option Report) → c.report ≡ r → reader.Agrees s.reader f → IsReadingOf c.query c.report s → IsEndOf (reader.to_come s.reader f) (needs f q)
+comes_by : (f : List ℕ) (c : ClientState) (s : Source) → EndsAreWanted → ((r : ReaderState) (g : List ℕ) → reader.query_of r ≡ None → reader.to_come r g ≡ [])
+    → (q : Query) → c.query ≡ Some q → (r : Option Report) → c.report ≡ r → reader.ReaderAgrees s.reader f → IsReadingOf c.query c.report s → IsEndOf (reader.to_come s.reader f) (needs f q)
 comes_by f c s ends none q asks None silent agrees reading =
     let is : reader.query_of s.reader ≡ Some q = reading.1 ∙ ap (λ o. if is_some o then None else c.query) silent ∙ asks in
     subst (λ o. IfSome o (λ q. IsEndOf (reader.to_come s.reader f) (needs f q))) is (ends s.reader f agrees)
@@ -262,8 +264,8 @@ comes_by f c s ends none q asks (Some r) stands agrees reading =
     let is : reader.query_of s.reader ≡ None = reading.1 ∙ ap (λ o. if is_some o then None else c.query) stands in
     subst (λ rs. IsEndOf rs (needs f q)) (sym (none s.reader f is)) (end_nil (needs f q))
 
-pub comes : EndsAreWanted → ((r : Held) (g : List ℕ) → reader.query_of r ≡ None → reader.to_come r g ≡ [])
-    → (c : Known) (f : List ℕ) → Knows f c → IfSome (query_of c) (λ q. IsEndOf (to_come c f) (needs f q))
+pub comes : EndsAreWanted → ((r : ReaderState) (g : List ℕ) → reader.query_of r ≡ None → reader.to_come r g ≡ [])
+    → (c : ClientState) (f : List ℕ) → Knows f c → IfSome (query_of c) (λ q. IsEndOf (to_come c f) (needs f q))
 unfolding query_of to_come Knows
 comes ends none c f knows = asked c.query refl
   where

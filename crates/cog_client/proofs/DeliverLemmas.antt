@@ -17,7 +17,7 @@ use Rattle.http_range.specs.Reading.{ReadsAnswer}
 use Rattle.range_cache.specs.Cache.{Blocks}
 use Rattle.range_cache.specs.Piece.{IsPieceOf}
 use Rattle.cog_reader.specs.Reader as reader
-use Rattle.cog_reader.specs.Reader.{Held}
+use Rattle.cog_reader.specs.Reader.{ReaderState}
 use Rattle.cog_client.specs.declared.case.Case.{Case}
 use Rattle.cog_client.specs.declared.case.Case.TheVariants as cases
 use Rattle.cog_client.specs.declared.delivered.Delivered.{Delivered}
@@ -27,11 +27,11 @@ use Rattle.cog_client.specs.declared.delivered.Ignored.TheVariants.{NotUsed}
 use Rattle.cog_client.specs.declared.report.Report.{Report}
 use Rattle.cog_client.specs.declared.source.Source.{Source}
 use Rattle.cog_client.specs.Case.{Revision, case_of, is_beside}
-use Rattle.cog_client.specs.Take.{Holding, Taken, IsIgnored, asked_or_first, base_of, keep, count_of, emptied, first_span, revision_of_piece, stored_front, stored_of, take as taken, take_by}
-use Rattle.cog_client.specs.Client.{Known, Knows, KnowsOne, Agrees, KnowsBy, IsReadingOf, IsStanding, asked_of, blocks_of, holding, name_of, report_of, revision_at, revision_in, revision_of, to_come}
-use Rattle.cog_client.specs.Calls.{Delivers, StaysOf, StopsTaking, unless_reported}
+use Rattle.cog_client.specs.Take.{Holding, Taken, IsIgnored, asked_or_first, base_of, keep, stored_count, emptied, first_span, revision_of_piece, stored_front, stored_of, take as taken, take_by}
+use Rattle.cog_client.specs.Client.{ClientState, Knows, KnowsOne, ClientAgrees, KnowsBy, IsReadingOf, IsStanding, asked_of, blocks_of, holding, name_of, report_of, revision_at, revision_in, revision_of, to_come}
+use Rattle.cog_client.specs.Calls.{Delivers, StaysOf, StopsDelivery, unless_reported}
 use Rattle.cog_client.specs.Going.{AreSame}
-use Rattle.cog_client.specs.Steps.{Adopts, StopsStoring, Takes}
+use Rattle.cog_client.specs.Steps.{Adopts, StopsStoring, AcceptsPiece}
 use Rattle.cog_client.proofs.GoingLemmas.{end_refl, same_refl}
 use Rattle.cog_client.proofs.ClientLemmas.{same_trans}
 
@@ -42,7 +42,7 @@ nothing_asked v None p is = cc
 nothing_asked None (Some s) p is = refl
 nothing_asked (Some v) (Some s) p is = absurd (never (not (bytes_eq v.tag p.tag)) (not (v.complete == p.complete)) (is_beside s p) p.whole is)
   where
-    never : (other length beside whole : Bool) → (if other then (if whole then cases.Restarted else cases.Ignored why.TheVariants.OtherRevision) else if length then cases.Ignored why.TheVariants.OtherLength else if beside then cases.Ignored why.TheVariants.NotAsked else cases.Taken) ≡ cases.Adopted → ⊥
+    never : (other length beside whole : Bool) → (if other then (if whole then cases.Restarted else cases.Ignored why.TheVariants.OtherRevision) else if length then cases.Ignored why.TheVariants.OtherLength else if beside then cases.Ignored why.TheVariants.NotAsked else cases.Accepted) ≡ cases.Adopted → ⊥
     never true length beside true is = cc
     never true length beside false is = cc
     never false true beside whole is = cc
@@ -55,14 +55,14 @@ was_asked v None p k is used = absurd (used why.TheVariants.NotAsked (sym is))
 was_asked v (Some s) p k is used = refl
 
 -- a piece that is taken is of the client's revision
-pub same_revision : (v : Option Revision) (a : Option Span) (p : SeenPiece) → case_of v a p ≡ cases.Taken → v ≡ Some (revision_of_piece p)
+pub same_revision : (v : Option Revision) (a : Option Span) (p : SeenPiece) → case_of v a p ≡ cases.Accepted → v ≡ Some (revision_of_piece p)
 same_revision v None p is = cc
 same_revision None (Some s) p is = cc
 same_revision (Some v) (Some s) p is =
     let both = tests (bytes_eq v.tag p.tag) (v.complete == p.complete) (is_beside s p) p.whole is in
     ap Some (ap (λ t. record { tag = t; complete = v.complete }) ((bytes_eq-Decides v.tag p.tag).0 both.0) ∙ ap (λ l. record { tag = p.tag; complete = l }) (eqb-true v.complete p.complete both.1))
   where
-    tests : (tag length beside whole : Bool) → (if not tag then (if whole then cases.Restarted else cases.Ignored why.TheVariants.OtherRevision) else if not length then cases.Ignored why.TheVariants.OtherLength else if beside then cases.Ignored why.TheVariants.NotAsked else cases.Taken) ≡ cases.Taken → (tag ≡ true) × (length ≡ true)
+    tests : (tag length beside whole : Bool) → (if not tag then (if whole then cases.Restarted else cases.Ignored why.TheVariants.OtherRevision) else if not length then cases.Ignored why.TheVariants.OtherLength else if beside then cases.Ignored why.TheVariants.NotAsked else cases.Accepted) ≡ cases.Accepted → (tag ≡ true) × (length ≡ true)
     tests true true beside whole is = (refl, refl)
     tests true false beside whole is = cc
     tests false length beside true is = cc
@@ -73,7 +73,7 @@ pub other_tag : (v : Revision) (a : Option Span) (p : SeenPiece) → case_of (So
 other_tag v None p is same = cc
 other_tag v (Some s) p is same = differ (bytes_eq v.tag p.tag) (not (v.complete == p.complete)) (is_beside s p) p.whole is ((bytes_eq-Decides v.tag p.tag).1 same)
   where
-    differ : (tag length beside whole : Bool) → (if not tag then (if whole then cases.Restarted else cases.Ignored why.TheVariants.OtherRevision) else if length then cases.Ignored why.TheVariants.OtherLength else if beside then cases.Ignored why.TheVariants.NotAsked else cases.Taken) ≡ cases.Restarted → tag ≡ true → ⊥
+    differ : (tag length beside whole : Bool) → (if not tag then (if whole then cases.Restarted else cases.Ignored why.TheVariants.OtherRevision) else if length then cases.Ignored why.TheVariants.OtherLength else if beside then cases.Ignored why.TheVariants.NotAsked else cases.Accepted) ≡ cases.Restarted → tag ≡ true → ⊥
     differ true true beside whole is same = cc
     differ true false true whole is same = cc
     differ true false false whole is same = cc
@@ -95,16 +95,16 @@ piece_at source p of = by of.body
         sym (ap (λ k. take k (drop p.first source.file)) count ∙ ap (take (length p.body)) (sym joined) ∙ take-append_seam p.body rest)
 
 -- what a file of this length is to a client, and what it keeps of it when it takes a piece
-abbrev Begins : SeenPiece → Known → Type 0
+abbrev Begins : SeenPiece → ClientState → Type 0
 Begins p c = (f : List ℕ) → length f ≡ p.complete → Knows f c
 
-abbrev Keeps : SeenPiece → Known → Known → Type 0
+abbrev Keeps : SeenPiece → ClientState → ClientState → Type 0
 Keeps p old new = (f : List ℕ) → p.complete ≡ length f → IsPieceOf f p.first p.body → Knows f old → StaysOf f old new
 
 module _ (law : FrontsAreRead) (p : SeenPiece) (text : List ℕ) (reads : ReadsAnswer text (Ok p)) where
-  begun_agrees : (old mid new : Known) → name_of new ≡ name_of old → revision_of new ≡ Some (revision_of_piece p) → Begins p mid → Keeps p mid new
-      → (book : Book) → IsHonest text (name_of old) book → Agrees new book
-  unfolding Agrees
+  begun_agrees : (old mid new : ClientState) → name_of new ≡ name_of old → revision_of new ≡ Some (revision_of_piece p) → Begins p mid → Keeps p mid new
+      → (book : Book) → IsHonest text (name_of old) book → ClientAgrees new book
+  unfolding ClientAgrees
   begun_agrees old mid new name revision begins keeps book honest = at (law.book text (name_of old) book (Ok p) honest reads)
     where
       at : IsPieceOfBook (name_of old) book p → IfSome (revision_of new) (KnowsOne new book)
@@ -116,9 +116,9 @@ module _ (law : FrontsAreRead) (p : SeenPiece) (text : List ℕ) (reads : ReadsA
         knows = (keeps source.file of.complete (piece_at source p of) (begins source.file (sym of.complete))).knows;
       })
 
-  kept_agrees : (old new : Known) → name_of new ≡ name_of old → revision_of old ≡ Some (revision_of_piece p) → revision_of new ≡ Some (revision_of_piece p) → Keeps p old new
-      → (book : Book) → HasDistinctTags book → Agrees old book → IsHonest text (name_of old) book → Agrees new book
-  unfolding Agrees
+  kept_agrees : (old new : ClientState) → name_of new ≡ name_of old → revision_of old ≡ Some (revision_of_piece p) → revision_of new ≡ Some (revision_of_piece p) → Keeps p old new
+      → (book : Book) → HasDistinctTags book → ClientAgrees old book → IsHonest text (name_of old) book → ClientAgrees new book
+  unfolding ClientAgrees
   kept_agrees old new name before after keeps book distinct agrees honest = at (law.book text (name_of old) book (Ok p) honest reads) (subst (λ v. IfSome v (KnowsOne old book)) before agrees)
     where
       at : IsPieceOfBook (name_of old) book p → KnowsOne old book (revision_of_piece p) → IfSome (revision_of new) (KnowsOne new book)
@@ -135,9 +135,9 @@ module _ (law : FrontsAreRead) (p : SeenPiece) (text : List ℕ) (reads : ReadsA
 
   -- ---- another revision is read from now on
 
-  pub begins_delivers : (old mid new : Known) (a : Span) (what : Delivered) (count : ℕ) → what ≡ (taken (holding old) (Ok p)).says
+  pub begins_delivers : (old mid new : ClientState) (a : Span) (what : Delivered) (count : ℕ) → what ≡ (taken (holding old) (Ok p)).says
       → (taken (holding old) (Ok p)).leaves ≡ keep (revision_of_piece p) a (emptied (blocks_of old)) p → (IsIgnored what → ⊥)
-      → (revision_of old ≡ Some (revision_of_piece p) → ⊥) → Adopts p (Some a) old mid → Takes p mid new count → Delivers old text what new
+      → (revision_of old ≡ Some (revision_of_piece p) → ⊥) → Adopts p (Some a) old mid → AcceptsPiece p mid new count → Delivers old text what new
   begins_delivers old mid new a what count says leaves used other adopts takes =
       let revision : revision_of new ≡ Some (revision_of_piece p) = takes.revision ∙ adopts.revision in
       let same = same_trans old mid new adopts.same takes.same in
@@ -156,9 +156,9 @@ module _ (law : FrontsAreRead) (p : SeenPiece) (text : List ℕ) (reads : ReadsA
         agrees = λ book distinct agrees honest. begun_agrees old mid new same.name revision adopts.knows takes.file book honest;
       }
 
-  pub begins_stops : (old mid new : Known) (a : Span) (k : Case) → case_of (revision_of old) (asked_of old) p ≡ k → base_of k (blocks_of old) ≡ emptied (blocks_of old)
+  pub begins_stops : (old mid new : ClientState) (a : Span) (k : Case) → case_of (revision_of old) (asked_of old) p ≡ k → base_of k (blocks_of old) ≡ emptied (blocks_of old)
       → (taken (holding old) (Ok p)).leaves ≡ keep (revision_of_piece p) a (emptied (blocks_of old)) p
-      → Adopts p (Some a) old mid → StopsStoring p mid new → StopsTaking old text new
+      → Adopts p (Some a) old mid → StopsStoring p mid new → StopsDelivery old text new
   begins_stops old mid new a k is base leaves adopts stops =
       let revision : revision_of new ≡ Some (revision_of_piece p) = stops.revision ∙ adopts.revision in
       let asked : asked_of new ≡ Some a = stops.asked ∙ adopts.asks in
@@ -181,11 +181,11 @@ module _ (law : FrontsAreRead) (p : SeenPiece) (text : List ℕ) (reads : ReadsA
 
   -- ---- the revision that is read
 
-  pub keeps_delivers : (old new : Known) (count : ℕ) → case_of (revision_of old) (asked_of old) p ≡ cases.Taken → revision_of old ≡ Some (revision_of_piece p)
-      → IsSome (asked_of old) → ((f : List ℕ) → Knows f old → p.complete ≡ length f) → Takes p old new count → Delivers old text (Took count) new
+  pub keeps_delivers : (old new : ClientState) (count : ℕ) → case_of (revision_of old) (asked_of old) p ≡ cases.Accepted → revision_of old ≡ Some (revision_of_piece p)
+      → IsSome (asked_of old) → ((f : List ℕ) → Knows f old → p.complete ≡ length f) → AcceptsPiece p old new count → Delivers old text (Took count) new
   keeps_delivers old new count is before asked size takes =
       let revision : revision_of new ≡ Some (revision_of_piece p) = takes.revision ∙ before in
-      let t : taken (holding old) (Ok p) ≡ take_by cases.Taken (holding old) p = ap (λ k. take_by k (holding old) p) is in
+      let t : taken (holding old) (Ok p) ≡ take_by cases.Accepted (holding old) p = ap (λ k. take_by k (holding old) p) is in
       record {
         same = takes.same;
         reading = Ok p;
@@ -200,10 +200,10 @@ module _ (law : FrontsAreRead) (p : SeenPiece) (text : List ℕ) (reads : ReadsA
         agrees = kept_agrees old new takes.same.name before revision takes.file;
       }
 
-  pub keeps_stops : (old new : Known) → case_of (revision_of old) (asked_of old) p ≡ cases.Taken → revision_of old ≡ Some (revision_of_piece p) → StopsStoring p old new → StopsTaking old text new
+  pub keeps_stops : (old new : ClientState) → case_of (revision_of old) (asked_of old) p ≡ cases.Accepted → revision_of old ≡ Some (revision_of_piece p) → StopsStoring p old new → StopsDelivery old text new
   keeps_stops old new is before stops =
       let revision : revision_of new ≡ Some (revision_of_piece p) = stops.revision ∙ before in
-      let t : taken (holding old) (Ok p) ≡ take_by cases.Taken (holding old) p = ap (λ k. take_by k (holding old) p) is in
+      let t : taken (holding old) (Ok p) ≡ take_by cases.Accepted (holding old) p = ap (λ k. take_by k (holding old) p) is in
       record {
         same = stops.same;
         reading = Ok p;
@@ -226,7 +226,7 @@ pub asks_still : (q : Option Query) (a : Option Span) (r : Option Report) → If
 asks_still q a None h = refl
 asks_still q a (Some r) h = h.1
 
-pub ignores : (old : Known) (text : List ℕ) (w : why.Ignored) (reading : Result SeenPiece Why) → ReadsAnswer text reading
+pub ignores : (old : ClientState) (text : List ℕ) (w : why.Ignored) (reading : Result SeenPiece Why) → ReadsAnswer text reading
     → taken (holding old) reading ≡ record { says = Ignored w; leaves = holding old } → asked_of old ≡ unless_reported (report_of old) (asked_of old) → Delivers old text (Ignored w) old
 ignores old text w reading reads is asked = record {
   same = record { host = refl; name = refl; query = refl };
@@ -249,7 +249,7 @@ some_or_first None none = absurd (false≢true none)
 some_or_first (Some s) some = refl
 
 -- the length of what is read is that of every file that is known
-known_length : ((r : Held) (f : List ℕ) → reader.Agrees r f → length f ≡ reader.complete_of r) → (c : Known) (v : Revision) → revision_of c ≡ Some v
+known_length : ((r : ReaderState) (f : List ℕ) → reader.ReaderAgrees r f → length f ≡ reader.complete_of r) → (c : ClientState) (v : Revision) → revision_of c ≡ Some v
     → (f : List ℕ) → Knows f c → v.complete ≡ length f
 unfolding revision_of Knows
 known_length law c v is f knows = at c.source refl is knows
@@ -262,43 +262,43 @@ known_length law c v is f knows = at c.source refl is knows
         let long : s.complete ≡ reader.complete_of s.reader = reading.0 in
         sym (ap (λ (w : Revision). w.complete) same) ∙ long ∙ sym (law s.reader f k.reader)
 
-module _ (law : FrontsAreRead) (p : SeenPiece) (text : List ℕ) (reads : ReadsAnswer text (Ok p)) (old mid new : Known) where
+module _ (law : FrontsAreRead) (p : SeenPiece) (text : List ℕ) (reads : ReadsAnswer text (Ok p)) (old mid new : ClientState) where
   pub adopted_asks : case_of (revision_of old) (asked_of old) p ≡ cases.Adopted → asked_of old ≡ Some (asked_or_first (asked_of old))
   adopted_asks is = some_or_first (asked_of old) (was_asked (revision_of old) (asked_of old) p cases.Adopted is (λ w e. cc))
 
-  pub adopted_delivers : (count : ℕ) → case_of (revision_of old) (asked_of old) p ≡ cases.Adopted → Adopts p (asked_of old) old mid → Takes p mid new count → Delivers old text (Took count) new
+  pub adopted_delivers : (count : ℕ) → case_of (revision_of old) (asked_of old) p ≡ cases.Adopted → Adopts p (asked_of old) old mid → AcceptsPiece p mid new count → Delivers old text (Took count) new
   adopted_delivers count is adopts takes =
       let a = asked_or_first (asked_of old) in
       let t : taken (holding old) (Ok p) ≡ take_by cases.Adopted (holding old) p = ap (λ k. take_by k (holding old) p) is in
       let e : Adopts p (Some a) old mid = subst (λ o. Adopts p o old mid) (adopted_asks is) adopts in
       begins_delivers law p text reads old mid new a (Took count) count
-      (ap Took (takes.counted ∙ ap (λ x. count_of p (asked_or_first x) (blocks_of mid)) e.asks ∙ ap (count_of p a) e.blocks) ∙ ap (λ (x : Taken). x.says) (sym t))
+      (ap Took (takes.counted ∙ ap (λ x. stored_count p (asked_or_first x) (blocks_of mid)) e.asks ∙ ap (stored_count p a) e.blocks) ∙ ap (λ (x : Taken). x.says) (sym t))
       (ap (λ (x : Taken). x.leaves) t) (λ i. i)
       (λ some. none-some (revision_of_piece p) (sym (nothing_asked (revision_of old) (asked_of old) p is) ∙ some)) e takes
 
-  pub adopted_stops : case_of (revision_of old) (asked_of old) p ≡ cases.Adopted → Adopts p (asked_of old) old mid → StopsStoring p mid new → StopsTaking old text new
+  pub adopted_stops : case_of (revision_of old) (asked_of old) p ≡ cases.Adopted → Adopts p (asked_of old) old mid → StopsStoring p mid new → StopsDelivery old text new
   adopted_stops is adopts stops =
       let t : taken (holding old) (Ok p) ≡ take_by cases.Adopted (holding old) p = ap (λ k. take_by k (holding old) p) is in
       begins_stops law p text reads old mid new (asked_or_first (asked_of old)) cases.Adopted is refl (ap (λ (x : Taken). x.leaves) t)
       (subst (λ o. Adopts p o old mid) (adopted_asks is) adopts) stops
 
-  pub restarted_delivers : (count : ℕ) → case_of (revision_of old) (asked_of old) p ≡ cases.Restarted → Adopts p (Some first_span) old mid → Takes p mid new count → Delivers old text Restarted new
+  pub restarted_delivers : (count : ℕ) → case_of (revision_of old) (asked_of old) p ≡ cases.Restarted → Adopts p (Some first_span) old mid → AcceptsPiece p mid new count → Delivers old text Restarted new
   restarted_delivers count is adopts takes =
       let t : taken (holding old) (Ok p) ≡ take_by cases.Restarted (holding old) p = ap (λ k. take_by k (holding old) p) is in
       begins_delivers law p text reads old mid new first_span Restarted count (ap (λ (x : Taken). x.says) (sym t)) (ap (λ (x : Taken). x.leaves) t) (λ i. i)
       (λ some. other_tag (revision_of_piece p) (asked_of old) p (subst (λ v. case_of v (asked_of old) p ≡ cases.Restarted) some is) refl) adopts takes
 
-  pub restarted_stops : case_of (revision_of old) (asked_of old) p ≡ cases.Restarted → Adopts p (Some first_span) old mid → StopsStoring p mid new → StopsTaking old text new
+  pub restarted_stops : case_of (revision_of old) (asked_of old) p ≡ cases.Restarted → Adopts p (Some first_span) old mid → StopsStoring p mid new → StopsDelivery old text new
   restarted_stops is adopts stops =
       let t : taken (holding old) (Ok p) ≡ take_by cases.Restarted (holding old) p = ap (λ k. take_by k (holding old) p) is in
       begins_stops law p text reads old mid new first_span cases.Restarted is refl (ap (λ (x : Taken). x.leaves) t) adopts stops
 
-module _ (law : FrontsAreRead) (p : SeenPiece) (text : List ℕ) (reads : ReadsAnswer text (Ok p)) (old new : Known) where
-  pub taken_delivers : ((r : Held) (f : List ℕ) → reader.Agrees r f → length f ≡ reader.complete_of r) → (count : ℕ) → case_of (revision_of old) (asked_of old) p ≡ cases.Taken → Takes p old new count → Delivers old text (Took count) new
-  taken_delivers lengths count is takes =
+module _ (law : FrontsAreRead) (p : SeenPiece) (text : List ℕ) (reads : ReadsAnswer text (Ok p)) (old new : ClientState) where
+  pub accepted_delivers : ((r : ReaderState) (f : List ℕ) → reader.ReaderAgrees r f → length f ≡ reader.complete_of r) → (count : ℕ) → case_of (revision_of old) (asked_of old) p ≡ cases.Accepted → AcceptsPiece p old new count → Delivers old text (Took count) new
+  accepted_delivers lengths count is takes =
       let before = same_revision (revision_of old) (asked_of old) p is in
-      keeps_delivers law p text reads old new count is before (was_asked (revision_of old) (asked_of old) p cases.Taken is (λ w e. cc))
+      keeps_delivers law p text reads old new count is before (was_asked (revision_of old) (asked_of old) p cases.Accepted is (λ w e. cc))
       (known_length lengths old (revision_of_piece p) before) takes
 
-  pub taken_stops : case_of (revision_of old) (asked_of old) p ≡ cases.Taken → StopsStoring p old new → StopsTaking old text new
-  taken_stops is stops = keeps_stops law p text reads old new is (same_revision (revision_of old) (asked_of old) p is) stops
+  pub accepted_stops : case_of (revision_of old) (asked_of old) p ≡ cases.Accepted → StopsStoring p old new → StopsDelivery old text new
+  accepted_stops is stops = keeps_stops law p text reads old new is (same_revision (revision_of old) (asked_of old) p is) stops

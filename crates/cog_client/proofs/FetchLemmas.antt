@@ -2,7 +2,7 @@
 use Rattle.std.proofs.Common.{ℕ, List, [], ◌∷◌, refl, sym, ◌∙◌, inl, inr}
 use Rattle.http_range.specs.Book.{Publication, Book, HasDistinctTags}
 use Rattle.http_range.specs.Honest.{IsHonest}
-use Rattle.cog_client.specs.Client.{Known, Agrees, name_of}
+use Rattle.cog_client.specs.Client.{ClientState, ClientAgrees, name_of}
 use Rattle.cog_client.specs.Calls.{SameClient}
 use Rattle.cog_client.specs.Transport.{IsHonestToAll, KeepsReading, SpeaksOn}
 
@@ -14,9 +14,9 @@ distinct p q r i j tags = elim i [
 ]
 
 -- what came of an answer is delivered, whatever becomes of it
-pub keeps_taking : (before after : Publication → Type 0) (old new : Known) (text : List ℕ) → SpeaksOn before after
+pub keeps_taking : (before after : Publication → Type 0) (old new : ClientState) (text : List ℕ) → SpeaksOn before after
     → IsHonestToAll before text → SameClient old new
-    → ((book : Book) → HasDistinctTags book → Agrees old book → IsHonest text (name_of old) book → Agrees new book)
+    → ((book : Book) → HasDistinctTags book → ClientAgrees old book → IsHonest text (name_of old) book → ClientAgrees new book)
     → KeepsReading before after old new
 keeps_taking before after old new text on honest same agrees = record {
   same = same;

@@ -3,29 +3,29 @@ use Rattle.std.proofs.Common.{◌≡◌, ℕ, ◌+◌, ◌-◌, ◌/◌, cond, a
 use Rattle.std.proofs.lemmas.Bool.Decides.{eqb_tells}
 use Rattle.std.specs.Prelude.{IsSome, IsSomeAnd, OnErr}
 use Rattle.tiff_dir.specs.declared.span.Span.{Span}
-use Rattle.tiff_dir.specs.Needs.{Range, IsEndOf, bytes_in, max_range_bytes}
+use Rattle.tiff_dir.specs.Needs.{Extent, IsEndOf, bytes_in, max_range_bytes}
 use Rattle.range_cache.specs.Cache.{Blocks, Holds, block_at, numbers}
-use Rattle.range_cache.specs.Block.{first_block, blocks}
+use Rattle.tiff_dir.specs.Block.{first_block, blocks}
 use Rattle.range_cache.specs.Numbers.{has, IsGap, IsLed}
-use Rattle.range_cache.specs.Missing.{Lacks}
+use Rattle.range_cache.specs.Missing.{IsFirstGap}
 use Rattle.range_cache.specs.declared.missing.Missing.{Missing}
 use Rattle.cog_reader.specs.Reader as reader
-use Rattle.cog_reader.specs.Reader.{Held, Agrees, IsWantedOf, complete_of, outcome_of, query_of, to_come, wanted}
+use Rattle.cog_reader.specs.Reader.{ReaderState, ReaderAgrees, IsWantedOf, complete_of, outcome_of, query_of, to_come, wanted}
 use Rattle.cog_reader.specs.declared.outcome.Outcome.{Outcome}
-use Rattle.cog_client.specs.Going.{Work, work, AreSame, GoesOn, IsMissing}
+use Rattle.cog_client.specs.Going.{CachedReader, work, AreSame, ReaderGoesOn, IsMissing}
 
 -- ---- ends of lists
 
-pub end_refl : (rs : List Range) → IsEndOf rs rs
+pub end_refl : (rs : List Extent) → IsEndOf rs rs
 end_refl rs = record { front = []; joined = refl }
 
-pub end_nil : (rs : List Range) → IsEndOf [] rs
+pub end_nil : (rs : List Extent) → IsEndOf [] rs
 end_nil rs = record { front = rs; joined = sym (append-nil rs) }
 
-pub end_cons : (r : Range) (rs : List Range) → IsEndOf rs (r ∷ rs)
+pub end_cons : (r : Extent) (rs : List Extent) → IsEndOf rs (r ∷ rs)
 end_cons r rs = record { front = r ∷ []; joined = refl }
 
-pub end_trans : (xs ys zs : List Range) → IsEndOf ys xs → IsEndOf zs ys → IsEndOf zs xs
+pub end_trans : (xs ys zs : List Extent) → IsEndOf ys xs → IsEndOf zs ys → IsEndOf zs xs
 end_trans xs ys zs h k = record {
   front = h.front ++ k.front;
   joined = h.joined ∙ ap (λ l. h.front ++ l) k.joined ∙ sym (append_assoc h.front k.front zs);
@@ -41,7 +41,7 @@ same_trans a b c h k = record { capacity = k.capacity ∙ h.capacity; blocks = �
 
 -- ---- going on
 
-pub goes_refl : (w : Work) → GoesOn w w
+pub goes_refl : (w : CachedReader) → ReaderGoesOn w w
 goes_refl w = record {
   complete = refl;
   query = refl;
@@ -49,7 +49,7 @@ goes_refl w = record {
   file = λ f agrees holds. record { reader = agrees; cache = holds; come = end_refl (to_come w.reader f) };
 }
 
-pub goes_trans : (a b c : Work) → GoesOn a b → GoesOn b c → GoesOn a c
+pub goes_trans : (a b c : CachedReader) → ReaderGoesOn a b → ReaderGoesOn b c → ReaderGoesOn a c
 goes_trans a b c h k = record {
   complete = k.complete ∙ h.complete;
   query = k.query ∙ h.query;
@@ -65,18 +65,18 @@ goes_trans a b c h k = record {
 }
 
 -- the reader says what it needs
-come_of : (f : List ℕ) (old new : Held) (o : Option Outcome) → outcome_of new ≡ o
+come_of : (f : List ℕ) (old new : ReaderState) (o : Option Outcome) → outcome_of new ≡ o
     → (outcome_of new ≡ None → to_come new f ≡ to_come old f) → (IsSome (outcome_of new) → to_come new f ≡ []) → IsEndOf (to_come new f) (to_come old f)
 come_of f old new None is same none =
     subst (λ rs. IsEndOf rs (to_come old f)) (sym (same is)) (end_refl (to_come old f))
 come_of f old new (Some o) is same none =
     subst (λ rs. IsEndOf rs (to_come old f)) (sym (none (subst (λ x. IsSome x) (sym is) refl))) (end_nil (to_come old f))
 
-pub needed : (old new : Held) (cache : Blocks) → complete_of new ≡ complete_of old → query_of new ≡ query_of old
-    → ((f : List ℕ) → Agrees old f → Agrees new f)
-    → ((f : List ℕ) → Agrees old f → outcome_of new ≡ None → to_come new f ≡ to_come old f)
+pub needed : (old new : ReaderState) (cache : Blocks) → complete_of new ≡ complete_of old → query_of new ≡ query_of old
+    → ((f : List ℕ) → ReaderAgrees old f → ReaderAgrees new f)
+    → ((f : List ℕ) → ReaderAgrees old f → outcome_of new ≡ None → to_come new f ≡ to_come old f)
     → ((f : List ℕ) → IsSome (outcome_of new) → to_come new f ≡ [])
-    → GoesOn (work old cache) (work new cache)
+    → ReaderGoesOn (work old cache) (work new cache)
 needed old new cache complete query agrees come none = record {
   complete = complete;
   query = query;
@@ -89,9 +89,9 @@ needed old new cache complete query agrees come none = record {
 }
 
 -- a range is read from the cache, whose blocks change their order alone
-pub read : (r : Held) (old new : Blocks) → new.capacity ≡ old.capacity → ((k : ℕ) → block_at k new.entries ≡ block_at k old.entries)
+pub read : (r : ReaderState) (old new : Blocks) → new.capacity ≡ old.capacity → ((k : ℕ) → block_at k new.entries ≡ block_at k old.entries)
     → ((f : List ℕ) → Holds f old → Holds f new)
-    → GoesOn (work r old) (work r new)
+    → ReaderGoesOn (work r old) (work r new)
 read r old new capacity kept holds = record {
   complete = refl;
   query = refl;
@@ -100,20 +100,20 @@ read r old new capacity kept holds = record {
 }
 
 -- the reader is given the range that it wants
-given_end : (f : List ℕ) (old new : Held) (o : Option Range) → wanted old ≡ o → reader.GoesOn f old new → IsEndOf (to_come new f) (to_come old f)
+given_end : (f : List ℕ) (old new : ReaderState) (o : Option Extent) → wanted old ≡ o → reader.AcceptsFirstRange f old new → IsEndOf (to_come new f) (to_come old f)
 given_end f old new o is (inl done) = subst (λ rs. IsEndOf rs (to_come old f)) (sym done.1) (end_nil (to_come old f))
 given_end f old new None is (inr next) = absurd (subst (λ w. IsSomeAnd w (λ r. to_come old f ≡ r ∷ to_come new f)) is next)
 given_end f old new (Some r) is (inr next) =
     let more : to_come old f ≡ r ∷ to_come new f = subst (λ w. IsSomeAnd w (λ r. to_come old f ≡ r ∷ to_come new f)) is next in
     subst (λ rs. IsEndOf (to_come new f) rs) (sym more) (end_cons r (to_come new f))
 
-pub given : (old new : Held) (before after : Blocks) (r : Range) (bytes : List ℕ) → wanted old ≡ Some r
-    → ((f : List ℕ) → Agrees old f → Holds f before → bytes ≡ bytes_in f r)
+pub given : (old new : ReaderState) (before after : Blocks) (r : Extent) (bytes : List ℕ) → wanted old ≡ Some r
+    → ((f : List ℕ) → ReaderAgrees old f → Holds f before → bytes ≡ bytes_in f r)
     → (complete_of new ≡ complete_of old) × (query_of new ≡ query_of old)
-    → GoesOn (work old before) (work old after)
-    → ((f : List ℕ) → Agrees old f → IsWantedOf f old bytes → Agrees new f)
-    → ((f : List ℕ) → Agrees old f → IsWantedOf f old bytes → reader.GoesOn f old new)
-    → GoesOn (work old before) (work new after)
+    → ReaderGoesOn (work old before) (work old after)
+    → ((f : List ℕ) → ReaderAgrees old f → IsWantedOf f old bytes → ReaderAgrees new f)
+    → ((f : List ℕ) → ReaderAgrees old f → IsWantedOf f old bytes → reader.AcceptsFirstRange f old new)
+    → ReaderGoesOn (work old before) (work new after)
 given old new before after r bytes is of same goes agrees come = record {
   complete = same.0;
   query = same.1;
@@ -146,12 +146,12 @@ few_blocks first len small = elim (eqb_tells len 0) [
   | inr e ↦ let some : blocks first len ≡ (first + len - 1) / 16384 - first / 16384 + 1 = ap (λ t. cond t 0 ((first + len - 1) / 16384 - first / 16384 + 1)) e.0 in omega arith
 ]
 
-pub lacking : (old new : Blocks) (complete len : ℕ) (r : Range) (missing : Missing) (span : Span) → len ≡ r.len → 0 < r.len → r.first + r.len ≤ complete → r.len ≤ max_range_bytes → 66 ≤ new.capacity
-    → ((k : ℕ) → has k (numbers new.entries) ≡ has k (numbers old.entries)) → Lacks old complete r.first len missing
+pub lacking : (old new : Blocks) (complete len : ℕ) (r : Extent) (missing : Missing) (span : Span) → len ≡ r.len → 0 < r.len → r.first + r.len ≤ complete → r.len ≤ max_range_bytes → 66 ≤ new.capacity
+    → ((k : ℕ) → has k (numbers new.entries) ≡ has k (numbers old.entries)) → IsFirstGap old complete r.first len missing
     → IsLed (numbers new.entries) (first_block r.first) (blocks r.first len) → span.first ≡ missing.first → span.last ≡ missing.last
     → IsMissing new complete r span
 lacking old new complete len r missing span size some within small room same l led first last =
-    let e : Lacks old complete r.first r.len missing = subst (λ n. Lacks old complete r.first n missing) size l in
+    let e : IsFirstGap old complete r.first r.len missing = subst (λ n. IsFirstGap old complete r.first n missing) size l in
     record {
       some = some;
       within = within;

@@ -1,6 +1,6 @@
 pub mod GoingLemmas
 pub mod ClientLemmas
-pub mod TakeLemmas
+pub mod AcceptLemmas
 pub mod RequestLemmas
 pub mod DeliverLemmas
 pub mod FetchLemmas

@@ -9,7 +9,7 @@ use Rattle.std.proofs.lemmas.List.{length-append, take_all}
 use Rattle.std.proofs.lemmas.Option.{none-some, same_Some}
 use Rattle.std.proofs.lemmas.Slice.Eq.{bytes_eq-Decides}
 use Rattle.tiff_dir.specs.declared.span.Span.{Span}
-use Rattle.tiff_dir.specs.Needs.{Range}
+use Rattle.tiff_dir.specs.Needs.{Extent}
 use Rattle.http_range.specs.declared.range.Resolved.TheVariants.{Part, Whole}
 use Rattle.http_range.specs.declared.reading.Why.{Why}
 use Rattle.http_range.specs.declared.reading.Why.TheVariants.{Cut}
@@ -22,7 +22,7 @@ use Rattle.http_range.specs.Reading.{front_seen, reply_seen}
 use Rattle.http_range.specs.declared.reply.Reply.TheVariants.{R416}
 use Rattle.http_range.specs.Reply.{head_text}
 use Rattle.http_range.specs.Response.{Response, IsAnswer, is_current, refused, response_to_client, serve_part, text_of}
-use Rattle.range_cache.specs.Block.{blocks, first_block, is_whole}
+use Rattle.tiff_dir.specs.Block.{blocks, first_block, is_whole}
 use Rattle.range_cache.specs.Cache.{Blocks, numbers}
 use Rattle.range_cache.specs.Laws.{FoundAreThere, MissingIsFew, MissingIsSame, StoredStay, StoresAreSome, WholeAreBrought}
 use Rattle.range_cache.specs.Piece.{IsPieceOf, is_brought}
@@ -33,8 +33,8 @@ use Rattle.cog_client.specs.declared.delivered.Ignored.TheVariants.{NotAsked, Ot
 use Rattle.cog_client.specs.declared.delivered.Delivered.TheVariants.{Took, Restarted}
 use Rattle.cog_client.specs.Case.{Revision, case_of, is_beside}
 use Rattle.cog_client.specs.Take.{Holding, IsIgnored, asked_or_first, brought_by, stored_of, take as taken, take_by}
-use Rattle.cog_client.specs.Client.{Known, Knows, asked_of, blocks_of, holding, host_of, name_of, revision_of, tag_of, to_come}
-use Rattle.cog_client.specs.Calls.{Asks, Delivers, Lacks, StaysOf}
+use Rattle.cog_client.specs.Client.{ClientState, Knows, asked_of, blocks_of, holding, host_of, name_of, revision_of, tag_of, to_come}
+use Rattle.cog_client.specs.Calls.{AsksFor, Delivers, Lacks, StaysOf}
 use Rattle.cog_client.specs.Going.{AreSame}
 use Rattle.cog_client.specs.Progress.{BringsOn, IsOwnAnswer, OwnAnswersBringOn, left, left_of}
 use Rattle.cog_client.proofs.DeliverLemmas.{piece_at}
@@ -84,7 +84,7 @@ part_named p first last true true = inl refl
 part_named p first last true false = inr refl
 part_named p first last false fits = inl refl
 
-own_response : ClientsAreAnswered → (c : Known) (p : Publication) (span : Span) (text : List ℕ) → (own : IsOwnAnswer c p span text)
+own_response : ClientsAreAnswered → (c : ClientState) (p : Publication) (span : Span) (text : List ℕ) → (own : IsOwnAnswer c p span text)
     → own.response ≡ response_to_client (Some p) span.first span.last (tag_of c)
 own_response answered c p span text own =
     let message = request_text (host_of c) (name_of c) span.first span.last (tag_of c) in
@@ -93,7 +93,7 @@ own_response answered c p span text own =
     ∙ ap (λ o. response_to_client o span.first span.last (tag_of c)) own.has
 
 module _ (answered : ClientsAreAnswered) (fronts : FrontsAreRead) where
-  pub own_reading : (old new : Known) (p : Publication) (span : Span) (text : List ℕ) (what : Delivered) → (own : IsOwnAnswer old p span text) → (d : Delivers old text what new)
+  pub own_reading : (old new : ClientState) (p : Publication) (span : Span) (text : List ℕ) (what : Delivered) → (own : IsOwnAnswer old p span text) → (d : Delivers old text what new)
       → (is_current (tag_of old) p.tag ≡ true → span.first < length p.file) → d.reading ≡ Ok (piece_for p span.first span.last (tag_of old))
   own_reading old new p span text what own d fits =
       let tag = tag_of old in
@@ -108,12 +108,12 @@ module _ (answered : ClientsAreAnswered) (fronts : FrontsAreRead) where
 -- ---- what each case of it does
 
 -- what the delivery of a piece in this case does
-record Does (k : Case) (p : SeenPiece) (old new : Known) (what : Delivered) : Type 0 where
+record Does (k : Case) (p : SeenPiece) (old new : ClientState) (what : Delivered) : Type 0 where
   says : what ≡ (take_by k (holding old) p).says
   revision : revision_of new ≡ (take_by k (holding old) p).leaves.revision
   blocks : AreSame (take_by k (holding old) p).leaves.blocks (blocks_of new)
 
-does_of : (k : Case) (p : SeenPiece) (old new : Known) (text : List ℕ) (what : Delivered) → (d : Delivers old text what new) → d.reading ≡ Ok p → case_of (revision_of old) (asked_of old) p ≡ k → Does k p old new what
+does_of : (k : Case) (p : SeenPiece) (old new : ClientState) (text : List ℕ) (what : Delivered) → (d : Delivers old text what new) → d.reading ≡ Ok p → case_of (revision_of old) (asked_of old) p ≡ k → Does k p old new what
 does_of k p old new text what d reading is =
     let same : taken (holding old) d.reading ≡ take_by k (holding old) p = ap (taken (holding old)) reading ∙ ap (λ c. take_by c (holding old) p) is in
     record {
@@ -128,7 +128,7 @@ took what n is i = subst (λ w. IsIgnored w) is i
 restarted : (what : Delivered) → what ≡ Restarted → IsIgnored what → ⊥
 restarted what is i = subst (λ w. IsIgnored w) is i
 
-tag_in : (c : Known) (o : Option Revision) → revision_of c ≡ o → tag_of c ≡ option_map (λ (v : Revision). v.tag) o
+tag_in : (c : ClientState) (o : Option Revision) → revision_of c ≡ o → tag_of c ≡ option_map (λ (v : Revision). v.tag) o
 tag_in c o is = ap (λ x. option_map (λ (v : Revision). v.tag) x) is
 
 -- what each of them leaves, but for the blocks
@@ -145,7 +145,7 @@ restarts : (p : Publication) (v : Revision) → IsCase cases.Restarted p (Some v
 restarts p v = record { used = λ what h is. restarted what is; revision = λ h is. refl }
 
 -- with this one
-takes : (p : Publication) (v : Revision) (a b : ℕ) → v.tag ≡ p.tag → v.complete ≡ length p.file → IsCase cases.Taken p (Some v) (part p a b)
+takes : (p : Publication) (v : Revision) (a b : ℕ) → v.tag ≡ p.tag → v.complete ≡ length p.file → IsCase cases.Accepted p (Some v) (part p a b)
 takes p v a b tag complete = record {
   used = λ what h is. took what _ is;
   revision = λ h is. is ∙ ap Some (ap (λ t. record { tag = t; complete = v.complete }) tag ∙ ap (λ n. record { tag = p.tag; complete = n }) complete);
@@ -154,9 +154,9 @@ takes p v a b tag complete = record {
 -- ---- what is asked of the revision that the client has
 
 -- the span of whole blocks that a client lacks of a file
-record IsAskedOf (f : List ℕ) (c : Known) (s : Span) : Type 0 where
-  range : Range
-  rest : List Range
+record IsAskedOf (f : List ℕ) (c : ClientState) (s : Span) : Type 0 where
+  range : Extent
+  rest : List Extent
   come : to_come c f ≡ range ∷ rest
   from : ℕ
   to : ℕ
@@ -169,7 +169,7 @@ record IsAskedOf (f : List ℕ) (c : Known) (s : Span) : Type 0 where
   fits : min s.last (length f - 1) ≡ s.last
   within : range.first + range.len ≤ length f
 
-asked_of_file : (f : List ℕ) (c : Known) (v : Revision) (s : Span) → length f ≡ v.complete → Knows f c → Lacks c v s → IsAskedOf f c s
+asked_of_file : (f : List ℕ) (c : ClientState) (v : Revision) (s : Span) → length f ≡ v.complete → Knows f c → Lacks c v s → IsAskedOf f c s
 asked_of_file f c v s size knows l =
     let m = l.missing in
     let gap = m.lacks.gap in
@@ -211,7 +211,7 @@ part_length p a b low high =
     omega (arith, length-take n (take n (drop a p.file)), length-take n (drop a p.file), length-drop a p.file)
 
 case_taken : (p : Publication) (v : Revision) (s : Span) → bytes_eq v.tag p.tag ≡ true → v.complete ≡ length p.file → s.last < length p.file
-    → case_of (Some v) (Some s) (part p s.first s.last) ≡ cases.Taken
+    → case_of (Some v) (Some s) (part p s.first s.last) ≡ cases.Accepted
 case_taken p v s tag complete high =
     let size = part_length p s.first s.last s.ascending high in
     let low = s.ascending in
@@ -220,7 +220,7 @@ case_taken p v s tag complete high =
     pick (bytes_eq v.tag p.tag) (v.complete == length p.file) (is_beside s (part p s.first s.last)) tag same beside
   where
     pick : (tag length beside : Bool) → tag ≡ true → length ≡ true → beside ≡ false
-        → cond (not tag) (cases.Ignored OtherRevision) (cond (not length) (cases.Ignored OtherLength) (cond beside (cases.Ignored NotAsked) cases.Taken)) ≡ cases.Taken
+        → cond (not tag) (cases.Ignored OtherRevision) (cond (not length) (cases.Ignored OtherLength) (cond beside (cases.Ignored NotAsked) cases.Accepted)) ≡ cases.Accepted
     pick true true false t l b = refl
     pick true true true t l b = cc
     pick true false beside t l b = cc
@@ -232,7 +232,7 @@ whole_at complete first end n there begins ends = grind (arith, nat_tests)
 -- ---- less is left
 
 -- the blocks of the piece are stored: one of them was missing, and none of the range leaves
-fewer : StoredStay → WholeAreBrought → StoresAreSome → (p : Publication) (c : Known) (v : Revision) (s : Span) → length p.file ≡ v.complete → Knows p.file c → Lacks c v s
+fewer : StoredStay → WholeAreBrought → StoresAreSome → (p : Publication) (c : ClientState) (v : Revision) (s : Span) → length p.file ≡ v.complete → Knows p.file c → Lacks c v s
     → left_of p.file (numbers (stored_of (part p s.first s.last) s (blocks_of c)).entries) (to_come c p.file) + 1 ≤ left p.file c
 unfolding left asked_of_file
 fewer law brought some p c v s size knows l =
@@ -271,7 +271,7 @@ fewer law brought some p c v s size knows l =
 
 -- ---- the three cases
 
-module _ (answered : ClientsAreAnswered) (fronts : FrontsAreRead) (named : PublishedIsNamed) (old new : Known) (p : Publication) (span : Span) (text : List ℕ) (what : Delivered)
+module _ (answered : ClientsAreAnswered) (fronts : FrontsAreRead) (named : PublishedIsNamed) (old new : ClientState) (p : Publication) (span : Span) (text : List ℕ) (what : Delivered)
     (own : IsOwnAnswer old p span text) (d : Delivers old text what new) where
   -- whatever case applies to the piece that is read
   brings : (k : Case) (v : Option Revision) (piece : SeenPiece) → IsCase k p v piece → revision_of old ≡ v → d.reading ≡ Ok piece → case_of v (Some span) piece ≡ k
@@ -290,7 +290,7 @@ module _ (answered : ClientsAreAnswered) (fronts : FrontsAreRead) (named : Publi
       own_reading answered fronts old new p span text what own d (λ t. fits (ap (λ o. is_current o p.tag) (sym is) ∙ t))
       ∙ ap (λ o. Ok (piece_for p span.first span.last o)) is
 
-  begins : revision_of old ≡ None → Asks old None span → BringsOn p old new what
+  begins : revision_of old ≡ None → AsksFor old None span → BringsOn p old new what
   begins is asks =
       let none = tag_in old None is in
       let first = ap (λ (s : Span). s.first) asks in
@@ -309,7 +309,7 @@ module _ (answered : ClientsAreAnswered) (fronts : FrontsAreRead) (named : Publi
       (λ e. absurd (wrong ((bytes_eq-Decides v.tag p.tag).1 (same_Some _ _ (sym tag ∙ e)))))
     where
       restarts_by : bytes_eq v.tag p.tag ≡ false → case_of (Some v) (Some span) (all_of p) ≡ cases.Restarted
-      restarts_by e = ap (λ t. cond (not t) cases.Restarted (cond (not (v.complete == length p.file)) (cases.Ignored OtherLength) (cond (is_beside span (all_of p)) (cases.Ignored NotAsked) cases.Taken))) e
+      restarts_by e = ap (λ t. cond (not t) cases.Restarted (cond (not (v.complete == length p.file)) (cases.Ignored OtherLength) (cond (is_beside span (all_of p)) (cases.Ignored NotAsked) cases.Accepted))) e
 
   same : LengthsAreKnown → FoundAreThere → MissingIsFew → MissingIsSame → StoredStay → WholeAreBrought → StoresAreSome
       → (v : Revision) → revision_of old ≡ Some v → bytes_eq v.tag p.tag ≡ true → Knows p.file old → Lacks old v span → BringsOn p old new what
@@ -327,8 +327,8 @@ module _ (answered : ClientsAreAnswered) (fronts : FrontsAreRead) (named : Publi
       ∙ ap (λ b. Ok (part p span.first b)) fits in
       let applies = case_taken p v span equal (sym size) high in
       let case = takes p v span.first span.last own_tag (sym size) in
-      let at : case_of (revision_of old) (asked_of old) piece ≡ cases.Taken = ap (λ o. case_of o (asked_of old) piece) is ∙ ap (λ a. case_of (Some v) a piece) own.asked ∙ applies in
-      let does = does_of cases.Taken piece old new text what d reading at in
+      let at : case_of (revision_of old) (asked_of old) piece ≡ cases.Accepted = ap (λ o. case_of o (asked_of old) piece) is ∙ ap (λ a. case_of (Some v) a piece) own.asked ∙ applies in
+      let does = does_of cases.Accepted piece old new text what d reading at in
       let honest : IsHonestFor text p = record {
         catalogue = own.catalogue;
         message = request_text (host_of old) (name_of old) span.first span.last (tag_of old);
@@ -346,7 +346,7 @@ module _ (answered : ClientsAreAnswered) (fronts : FrontsAreRead) (named : Publi
       let blocks : AreSame (stored_of piece span (blocks_of old)) (blocks_of new) =
       subst (λ a. AreSame (stored_of piece (asked_or_first a) (blocks_of old)) (blocks_of new)) own.asked does.blocks in
       let on = left_on there few missing p.file old new (stored_of piece span (blocks_of old)) blocks stays.come in
-      brings cases.Taken (Some v) piece case is reading applies
+      brings cases.Accepted (Some v) piece case is reading applies
       (λ _. omega (arith, on, fewer law brought some p old v span size knows l))
     where
       piece_of : (r : Result SeenPiece Why) → IfOk r (IsOf p) → IfOk r (λ x. IsPieceOf p.file x.first x.body)
@@ -360,7 +360,7 @@ module _ (answered : ClientsAreAnswered) (fronts : FrontsAreRead) (named : Publi
   pub own_answers : OwnAnswersBringOn
   own_answers old new p span text what own knows d = at (revision_of old) refl own.asks
     where
-      at : (v : Option Revision) → revision_of old ≡ v → Asks old v span → BringsOn p old new what
+      at : (v : Option Revision) → revision_of old ≡ v → AsksFor old v span → BringsOn p old new what
       at None is asks = begins answered fronts named old new p span text what own d is asks
       at (Some v) is l = elim (cases_Bool (bytes_eq v.tag p.tag)) [
         | inl equal ↦

@@ -9,55 +9,55 @@ use Rattle.std.proofs.lemmas.List.Elements.{filter-append}
 use Rattle.std.proofs.lemmas.Option.{none-some, same_Some}
 use Rattle.tiff_dir.specs.declared.query.Query.{Query}
 use Rattle.tiff_dir.specs.declared.span.Span.{Span}
-use Rattle.tiff_dir.specs.Needs.{Range, IsEndOf, ends_past}
-use Rattle.tiff_dir.specs.Query.{blocks as touched, cost, needs}
-use Rattle.range_cache.specs.Block.{blocks, end_of, first_block}
+use Rattle.tiff_dir.specs.Needs.{Extent, IsEndOf, ends_past}
+use Rattle.tiff_dir.specs.Query.{blocks_of_extent as touched, cost, needs}
+use Rattle.tiff_dir.specs.Block.{blocks, end_of, first_block}
 use Rattle.range_cache.specs.Cache.{Blocks, numbers}
 use Rattle.range_cache.specs.Laws.{FoundAreThere, HaveSame, MissingIsFew, MissingIsSame, MissingIsSome}
 use Rattle.range_cache.specs.Numbers.{missing}
 use Rattle.cog_reader.specs.Reader as reader
 use Rattle.cog_client.specs.declared.source.Source.{Source}
 use Rattle.cog_client.specs.Case.{Revision}
-use Rattle.cog_client.specs.Client.{Known, Knows, KnowsBy, IsReadingOf, asked_of, blocks_of, query_of, report_of, revision_at, revision_of, to_come}
-use Rattle.cog_client.specs.Calls.{Asks, IsFirst, Lacks, Misses}
+use Rattle.cog_client.specs.Client.{ClientState, Knows, KnowsBy, IsReadingOf, asked_of, blocks_of, query_of, report_of, revision_at, revision_of, to_come}
+use Rattle.cog_client.specs.Calls.{AsksFor, ComesFirst, Lacks, Misses}
 use Rattle.cog_client.specs.Going.{AreSame}
 use Rattle.cog_client.specs.Progress.{CostIsMost, DeliveryReports, GoingOnLeavesNoMore, IsAtWork, IsGone, IsOfNeeded, NeededAreAsked, OpeningLeavesCost, RequestReports, blocks_of_ranges, left, left_of, missing_of_range}
 
 -- ---- sums over ranges
 
-ranges_cons : (f : List ℕ) (r : Range) (rs : List Range) → blocks_of_ranges f (r ∷ rs) ≡ cond (ends_past f r) 0 (blocks r.first r.len) + blocks_of_ranges f rs
+ranges_cons : (f : List ℕ) (r : Extent) (rs : List Extent) → blocks_of_ranges f (r ∷ rs) ≡ cond (ends_past f r) 0 (blocks r.first r.len) + blocks_of_ranges f rs
 ranges_cons f r rs = by (ends_past f r)
   where
     by : (t : Bool) → sum_by touched (cond (not t) (r ∷ filter (λ r. not (ends_past f r)) rs) (filter (λ r. not (ends_past f r)) rs)) ≡ cond t 0 (blocks r.first r.len) + blocks_of_ranges f rs
     by true = omega arith
     by false = sum_by-cons touched r (filter (λ r. not (ends_past f r)) rs)
 
-ranges_append : (f : List ℕ) (front few : List Range) → blocks_of_ranges f (front ++ few) ≡ blocks_of_ranges f front + blocks_of_ranges f few
+ranges_append : (f : List ℕ) (front few : List Extent) → blocks_of_ranges f (front ++ few) ≡ blocks_of_ranges f front + blocks_of_ranges f few
 ranges_append f front few =
     ap (sum_by touched) (filter-append (λ r. not (ends_past f r)) front few)
     ∙ sum_by-append touched (filter (λ r. not (ends_past f r)) front) (filter (λ r. not (ends_past f r)) few)
 
-ranges_end : (f : List ℕ) (few many : List Range) → IsEndOf few many → blocks_of_ranges f few ≤ blocks_of_ranges f many
+ranges_end : (f : List ℕ) (few many : List Extent) → IsEndOf few many → blocks_of_ranges f few ≤ blocks_of_ranges f many
 ranges_end f few many h = omega (arith, ap (blocks_of_ranges f) h.joined, ranges_append f h.front few)
 
-missing_few : MissingIsFew → (f there : List ℕ) (r : Range) → missing_of_range f there r ≤ cond (ends_past f r) 0 (blocks r.first r.len)
+missing_few : MissingIsFew → (f there : List ℕ) (r : Extent) → missing_of_range f there r ≤ cond (ends_past f r) 0 (blocks r.first r.len)
 missing_few few f there r = elim (ends_past f r) as (λ t. cond t 0 (missing there (first_block r.first) (blocks r.first r.len)) ≤ cond t 0 (blocks r.first r.len)) [
   | true ↦ omega arith
   | false ↦ few there (first_block r.first) (blocks r.first r.len)
 ]
 
-left_few : MissingIsFew → (f there : List ℕ) (rs : List Range) → left_of f there rs ≤ blocks_of_ranges f rs
+left_few : MissingIsFew → (f there : List ℕ) (rs : List Extent) → left_of f there rs ≤ blocks_of_ranges f rs
 left_few few f there [] = omega arith
 left_few few f there (r ∷ rs) = omega (arith, missing_few few f there r, ranges_cons f r rs)
 
-left_end : MissingIsFew → (f there : List ℕ) (few many : List Range) → IsEndOf few many → left_of f there few ≤ left_of f there many
+left_end : MissingIsFew → (f there : List ℕ) (few many : List Extent) → IsEndOf few many → left_of f there few ≤ left_of f there many
 left_end law f there few many h = by h.front h.joined
   where
-    by : (front : List Range) → many ≡ front ++ few → left_of f there few ≤ left_of f there many
+    by : (front : List Extent) → many ≡ front ++ few → left_of f there few ≤ left_of f there many
     by [] e = omega (arith, ap (left_of f there) e)
     by (r ∷ front) e = omega (arith, ap (left_of f there) e, left_few law f there few, ranges_append f front few)
 
-left_same : MissingIsSame → (f ns ms : List ℕ) (rs : List Range) → HaveSame ns ms → left_of f ns rs ≡ left_of f ms rs
+left_same : MissingIsSame → (f ns ms : List ℕ) (rs : List Extent) → HaveSame ns ms → left_of f ns rs ≡ left_of f ms rs
 left_same law f ns ms [] same = refl
 left_same law f ns ms (r ∷ rs) same =
     ap (λ k. cond (ends_past f r) 0 k + blocks_of_ranges f rs) (law ns ms (first_block r.first) (blocks r.first r.len) same)
@@ -66,7 +66,7 @@ have_same : FoundAreThere → (old new : Blocks) → AreSame old new → HaveSam
 have_same there old new same = λ k. there k new.entries ∙ ap is_some (same.blocks k) ∙ sym (there k old.entries)
 
 -- what is left of a client, by the blocks and the ranges before its order of blocks and the ranges went on
-pub left_on : FoundAreThere → MissingIsFew → MissingIsSame → (f : List ℕ) (old new : Known) (b : Blocks) → AreSame b (blocks_of new) → IsEndOf (to_come new f) (to_come old f)
+pub left_on : FoundAreThere → MissingIsFew → MissingIsSame → (f : List ℕ) (old new : ClientState) (b : Blocks) → AreSame b (blocks_of new) → IsEndOf (to_come new f) (to_come old f)
     → left f new ≤ left_of f (numbers b.entries) (to_come old f)
 unfolding left
 left_on there few same f old new b are come =
@@ -86,12 +86,12 @@ some_map : {A : Type 0} (o : Option A) (P Q : A → Type 0) → ((a : A) → P a
 some_map None P Q step h = tt
 some_map (Some a) P Q step h = step a h
 
-end_cost : MissingIsFew → (f : List ℕ) (c : Known) (q : Query) → IsEndOf (to_come c f) (needs f q) → left f c ≤ cost f q
+end_cost : MissingIsFew → (f : List ℕ) (c : ClientState) (q : Query) → IsEndOf (to_come c f) (needs f q) → left f c ≤ cost f q
 unfolding left cost
 end_cost few f c q ends =
     omega (arith, left_few few f (numbers (blocks_of c).entries) (to_come c f), ranges_end f (to_come c f) (needs f q) ends)
 
-pub cost_left : MissingIsFew → ((c : Known) (f : List ℕ) → Knows f c → IfSome (query_of c) (λ q. IsEndOf (to_come c f) (needs f q))) → CostIsMost
+pub cost_left : MissingIsFew → ((c : ClientState) (f : List ℕ) → Knows f c → IfSome (query_of c) (λ q. IsEndOf (to_come c f) (needs f q))) → CostIsMost
 cost_left few ends c f knows = some_map (query_of c) (λ q. IsEndOf (to_come c f) (needs f q)) (λ q. left f c ≤ cost f q) (end_cost few f c) (ends c f knows)
 
 pub opening_left : MissingIsFew → OpeningLeavesCost
@@ -101,9 +101,9 @@ opening_left few old new q f opens knows = end_cost few f new q (opens.come f kn
 
 -- what a reader agrees with has the reader's length
 abbrev pub LengthsAreKnown : Type 0
-LengthsAreKnown = (r : reader.Held) (f : List ℕ) → reader.Agrees r f → length f ≡ reader.complete_of r
+LengthsAreKnown = (r : reader.ReaderState) (f : List ℕ) → reader.ReaderAgrees r f → length f ≡ reader.complete_of r
 
-pub known_length : LengthsAreKnown → (f : List ℕ) (c : Known) (v : Revision) → revision_of c ≡ Some v → Knows f c → length f ≡ v.complete
+pub known_length : LengthsAreKnown → (f : List ℕ) (c : ClientState) (v : Revision) → revision_of c ≡ Some v → Knows f c → length f ≡ v.complete
 unfolding Knows revision_of
 known_length lengths f c v is knows = at c.source refl is knows
   where
@@ -113,17 +113,17 @@ known_length lengths f c v is knows = at c.source refl is knows
         let reading = subst (λ o. IfSome o (IsReadingOf c.query c.report)) e k.sound.reading in
         lengths s.reader f k.reader ∙ sym reading.0 ∙ ap (λ (w : Revision). w.complete) (same_Some _ _ is)
 
-pub first_split : (r : Range) (rs : List Range) → IsFirst r rs → (rest : List Range) × (rs ≡ r ∷ rest)
+pub first_split : (r : Extent) (rs : List Extent) → ComesFirst r rs → (rest : List Extent) × (rs ≡ r ∷ rest)
 first_split r [] is = absurd (none-some r is)
 first_split r (x ∷ rest) is = (rest, ap (λ y. y ∷ rest) (same_Some _ _ is))
 
-pub inside : (f : List ℕ) (r : Range) (complete : ℕ) → length f ≡ complete → r.first + r.len ≤ complete → ends_past f r ≡ false
+pub inside : (f : List ℕ) (r : Extent) (complete : ℕ) → length f ≡ complete → r.first + r.len ≤ complete → ends_past f r ≡ false
 inside f r complete size within = grind (arith, nat_tests)
 
-pub missing_inside : (f there : List ℕ) (r : Range) → ends_past f r ≡ false → missing_of_range f there r ≡ missing there (first_block r.first) (blocks r.first r.len)
+pub missing_inside : (f there : List ℕ) (r : Extent) → ends_past f r ≡ false → missing_of_range f there r ≡ missing there (first_block r.first) (blocks r.first r.len)
 missing_inside f there r e = ap (λ t. cond t 0 (missing there (first_block r.first) (blocks r.first r.len))) e
 
-lacks_left : LengthsAreKnown → MissingIsSome → (f : List ℕ) (c : Known) (v : Revision) (s : Span) → revision_of c ≡ Some v → Knows f c → Lacks c v s → 1 ≤ left f c
+lacks_left : LengthsAreKnown → MissingIsSome → (f : List ℕ) (c : ClientState) (v : Revision) (s : Span) → revision_of c ≡ Some v → Knows f c → Lacks c v s → 1 ≤ left f c
 unfolding left
 lacks_left lengths some f c v s is knows l =
     let r = l.range in
@@ -138,21 +138,21 @@ lacks_left lengths some f c v s is knows l =
 
 -- ---- where nothing is left
 
-reports : LengthsAreKnown → MissingIsSome → (f : List ℕ) (c : Known) → IsAtWork f c → left f c ≡ 0 → (o : Option Span) → Misses c o → IsSome (report_of c)
+reports : LengthsAreKnown → MissingIsSome → (f : List ℕ) (c : ClientState) → IsAtWork f c → left f c ≡ 0 → (o : Option Span) → Misses c o → IsSome (report_of c)
 reports lengths some f c work zero None idle = elim idle [
   | inl none ↦ absurd (false≢true (sym (ap is_some none) ∙ work.query))
   | inr report ↦ report
 ]
 reports lengths some f c work zero (Some s) asks = at (revision_of c) refl asks
   where
-    at : (v : Option Revision) → revision_of c ≡ v → Asks c v s → IsSome (report_of c)
+    at : (v : Option Revision) → revision_of c ≡ v → AsksFor c v s → IsSome (report_of c)
     at None is asks = absurd (false≢true (sym (ap is_some is) ∙ work.revision))
     at (Some v) is l = absurd (omega (arith, lacks_left lengths some f c v s is work.knows l, zero))
 
 pub request_reports : LengthsAreKnown → MissingIsSome → RequestReports
 request_reports lengths some old new request f h work zero = reports lengths some f new work zero (asked_of new) (misses (asked_of new) refl h.asks)
   where
-    misses : (o : Option Span) → asked_of new ≡ o → IfSome o (Asks new (revision_of new)) → Misses new o
+    misses : (o : Option Span) → asked_of new ≡ o → IfSome o (AsksFor new (revision_of new)) → Misses new o
     misses None is asks = h.silent is
     misses (Some s) is asks = asks
 
@@ -164,7 +164,7 @@ delivery_reports lengths some old new text what f h used work zero = elim h.rest
 
 -- ---- what is asked
 
-needed_by : LengthsAreKnown → (c : Known) (v : Revision) (f : List ℕ) (s : Span) (q : Query) → revision_of c ≡ Some v → Knows f c → Lacks c v s → IsEndOf (to_come c f) (needs f q) → IsOfNeeded f q s
+needed_by : LengthsAreKnown → (c : ClientState) (v : Revision) (f : List ℕ) (s : Span) (q : Query) → revision_of c ≡ Some v → Knows f c → Lacks c v s → IsEndOf (to_come c f) (needs f q) → IsOfNeeded f q s
 needed_by lengths c v f s q is knows l ends =
     let next = first_split l.range (to_come c f) (l.next f knows) in
     let gap = l.missing.lacks.gap in
@@ -181,7 +181,7 @@ needed_by lengths c v f s q is knows l ends =
       ends = gap.within;
     }
 
-gone_of : (c : Known) (v : Revision) (s : Span) → Lacks c v s → IsGone (numbers (blocks_of c).entries) s
+gone_of : (c : ClientState) (v : Revision) (s : Span) → Lacks c v s → IsGone (numbers (blocks_of c).entries) s
 gone_of c v s l k low high =
     let m = l.missing in
     let some = m.lacks.gap.some in
@@ -190,7 +190,7 @@ gone_of c v s l k low high =
     let last_is = m.lacks.last_is in
     m.lacks.gap.gone k (omega arith) (omega arith)
 
-pub needed_asked : LengthsAreKnown → ((c : Known) (f : List ℕ) → Knows f c → IfSome (query_of c) (λ q. IsEndOf (to_come c f) (needs f q))) → NeededAreAsked
+pub needed_asked : LengthsAreKnown → ((c : ClientState) (f : List ℕ) → Knows f c → IfSome (query_of c) (λ q. IsEndOf (to_come c f) (needs f q))) → NeededAreAsked
 needed_asked lengths ends c v f s is knows l = (
   some_map (query_of c) (λ q. IsEndOf (to_come c f) (needs f q)) (λ q. IsOfNeeded f q s) (λ q. needed_by lengths c v f s q is knows l) (ends c f knows),
   gone_of c v s l,

@@ -5,21 +5,21 @@ use Rattle.std.proofs.lemmas.Option.{none-some}
 use Rattle.std.proofs.lemmas.Bool.{false≢true}
 use Rattle.tiff_dir.specs.declared.query.Query.{Query}
 use Rattle.tiff_dir.specs.declared.span.Span.{Span}
-use Rattle.tiff_dir.specs.Needs.{Range}
+use Rattle.tiff_dir.specs.Needs.{Extent}
 use Rattle.http_range.specs.Ask.{CanAsk}
 use Rattle.std.specs.Option.{option_map}
-use Rattle.range_cache.specs.Block.{blocks}
+use Rattle.tiff_dir.specs.Block.{blocks}
 use Rattle.range_cache.specs.Cache.{Blocks}
 use Rattle.cog_client.specs.declared.report.Report.{Report}
 use Rattle.cog_client.specs.declared.source.Source.{Source}
 use Rattle.cog_client.specs.Case.{Revision}
-use Rattle.cog_client.specs.Client.{Known, Knows, IsClient, IsFew, IsStanding, asked_of, blocks_of, host_of, name_of, query_of, report_of, revision_of, tag_of, to_come}
-use Rattle.cog_client.specs.Calls.{Asks, GoesOn, IsFirst, Lacks, Requests, request_for, unless_reported}
+use Rattle.cog_client.specs.Client.{ClientState, Knows, IsClient, IsFew, IsStanding, asked_of, blocks_of, host_of, name_of, query_of, report_of, revision_of, tag_of, to_come}
+use Rattle.cog_client.specs.Calls.{AsksFor, GoesOn, ComesFirst, Lacks, Requests, request_for, unless_reported}
 use Rattle.cog_client.specs.Going.{IsMissing}
 use Rattle.cog_client.proofs.GoingLemmas.{end_refl, few_blocks, same_refl}
 use Rattle.cog_client.proofs.ClientLemmas.{goes_by, goes_trans, known}
 
-pub few_missing : (b : Blocks) (complete : ℕ) (r : Range) (span : Span) → IsMissing b complete r span → IsFew span
+pub few_missing : (b : Blocks) (complete : ℕ) (r : Extent) (span : Span) → IsMissing b complete r span → IsFew span
 few_missing b complete r span m =
     let count : blocks r.first r.len ≤ 65 = few_blocks r.first r.len m.small in
     let g = m.lacks.gap in
@@ -64,10 +64,10 @@ none_asked (Some r) a b is none = is
 
 -- where a client asks, its request is for what is missing
 
-same_text : (old new : Known) (span : Span) → host_of new ≡ host_of old → name_of new ≡ name_of old → revision_of new ≡ revision_of old → request_for new (Some span) ≡ request_for old (Some span)
+same_text : (old new : ClientState) (span : Span) → host_of new ≡ host_of old → name_of new ≡ name_of old → revision_of new ≡ revision_of old → request_for new (Some span) ≡ request_for old (Some span)
 same_text old new span host name revision = cc
 
-same_lawful : (old new : Known) (span : Span) → host_of new ≡ host_of old → name_of new ≡ name_of old → revision_of new ≡ revision_of old
+same_lawful : (old new : ClientState) (span : Span) → host_of new ≡ host_of old → name_of new ≡ name_of old → revision_of new ≡ revision_of old
     → CanAsk (host_of new) (name_of new) span.first span.last (tag_of new) → CanAsk (host_of old) (name_of old) span.first span.last (tag_of old)
 same_lawful old new span host name revision can =
     let tag : tag_of new ≡ tag_of old = ap (λ o. option_map (λ (v : Revision). v.tag) o) revision in
@@ -75,32 +75,32 @@ same_lawful old new span host name revision can =
     (subst (λ n. CanAsk (host_of old) n span.first span.last (tag_of new)) name (subst (λ h. CanAsk h (name_of new) span.first span.last (tag_of new)) host can))
 
 -- the range that is needed next, of what is known before
-lacks_back : (old new : Known) (v : Revision) (span : Span) → blocks_of new ≡ blocks_of old → ((f : List ℕ) → Knows f new → Knows f old) → ((f : List ℕ) → to_come new f ≡ to_come old f)
+lacks_back : (old new : ClientState) (v : Revision) (span : Span) → blocks_of new ≡ blocks_of old → ((f : List ℕ) → Knows f new → Knows f old) → ((f : List ℕ) → to_come new f ≡ to_come old f)
     → Lacks old v span → Lacks new v span
 lacks_back old new v span blocks knows come l = record {
   range = l.range;
-  next = λ f k. subst (IsFirst l.range) (sym (come f)) (l.next f (knows f k));
+  next = λ f k. subst (ComesFirst l.range) (sym (come f)) (l.next f (knows f k));
   missing = subst (λ b. IsMissing b v.complete l.range span) (sym blocks) l.missing;
 }
 
-asks_back : (old new : Known) (v : Option Revision) (span : Span) → blocks_of new ≡ blocks_of old → ((f : List ℕ) → Knows f new → Knows f old) → ((f : List ℕ) → to_come new f ≡ to_come old f)
-    → Asks old v span → Asks new v span
+asks_back : (old new : ClientState) (v : Option Revision) (span : Span) → blocks_of new ≡ blocks_of old → ((f : List ℕ) → Knows f new → Knows f old) → ((f : List ℕ) → to_come new f ≡ to_come old f)
+    → AsksFor old v span → AsksFor new v span
 asks_back old new None span blocks knows come asks = asks
 asks_back old new (Some v) span blocks knows come l = lacks_back old new v span blocks knows come l
 
-few_asked : (c : Known) (v : Option Revision) (span : Span) → Asks c v span → IsFew span
+few_asked : (c : ClientState) (v : Option Revision) (span : Span) → AsksFor c v span → IsFew span
 few_asked c None span is = let first = ap (λ (s : Span). s.first) is in let last = ap (λ (s : Span). s.last) is in omega arith
 few_asked c (Some v) span l = few_missing (blocks_of c) v.complete l.range span l.missing
 
 module _ (h n : List ℕ) (q : Option Query) (a : Option Span) (s : Option Source) (b : Blocks) (r : Option Report) (span : Span) where
   -- the same client, before and after it asks for this
-  abbrev pub mid : Known
+  abbrev pub mid : ClientState
   mid = known h n q a s b r
 
-  abbrev pub new : Known
+  abbrev pub new : ClientState
   new = known h n q (Some span) s b r
 
-  pub asking_sound : IsClient mid → report_of mid ≡ None → Asks mid (revision_of mid) span → IsClient new
+  pub asking_sound : IsClient mid → report_of mid ≡ None → AsksFor mid (revision_of mid) span → IsClient new
   unfolding report_of
   asking_sound c none asks = record {
     hosted = c.hosted;
@@ -111,8 +111,8 @@ module _ (h n : List ℕ) (q : Option Query) (a : Option Span) (s : Option Sourc
     few = few_asked mid (revision_of mid) span asks;
   }
 
-  pub requested : (old : Known) (text : List ℕ) → GoesOn old mid → IsClient mid → IsClient new → is_some (query_of old) ≡ true → is_some (report_of old) ≡ false → report_of mid ≡ None
-      → Some text ≡ request_for mid (Some span) → CanAsk (host_of mid) (name_of mid) span.first span.last (tag_of mid) → Asks mid (revision_of mid) span → Requests old (Some text) new
+  pub requested : (old : ClientState) (text : List ℕ) → GoesOn old mid → IsClient mid → IsClient new → is_some (query_of old) ≡ true → is_some (report_of old) ≡ false → report_of mid ≡ None
+      → Some text ≡ request_for mid (Some span) → CanAsk (host_of mid) (name_of mid) span.first span.last (tag_of mid) → AsksFor mid (revision_of mid) span → Requests old (Some text) new
   unfolding host_of name_of query_of asked_of revision_of report_of blocks_of to_come
   requested old text goes c d query quiet none is can asks = record {
     goes = goes_trans old mid new goes (reasked h n q a (Some span) b r s d);

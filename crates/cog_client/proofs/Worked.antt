@@ -1,17 +1,17 @@
 -- What is left of ranges of a file of 20 bytes, which is one block.
 use Rattle.std.proofs.Common.{◌≡◌, ℕ, List, [], ◌∷◌, replicate, refl}
-use Rattle.tiff_dir.specs.Needs.{Range}
+use Rattle.tiff_dir.specs.Needs.{Extent}
 use Rattle.range_cache.specs.Numbers.{missing}
 use Rattle.cog_client.specs.Progress.{blocks_of_ranges, left_of}
 
 abbrev file : List ℕ
 file = replicate 20 0
 
-abbrev range : ℕ → ℕ → Range
+abbrev range : ℕ → ℕ → Extent
 range first len = record { first = first; len = len }
 
 -- two ranges in the file, one past its end, and one without bytes
-abbrev ranges : List Range
+abbrev ranges : List Extent
 ranges = range 0 8 ∷ range 8 12 ∷ range 8 13 ∷ range 20 0 ∷ []
 
 all_of_them : blocks_of_ranges file ranges ≡ 2

@@ -4,7 +4,7 @@ use Rattle.std.specs.Str.{bytes_eq}
 use Rattle.tiff_dir.specs.declared.span.Span.{Span}
 use Rattle.http_range.specs.Piece.{SeenPiece}
 use Rattle.cog_client.specs.declared.case.Case.{Case}
-use Rattle.cog_client.specs.declared.case.Case.TheVariants.{Ignored, Adopted, Restarted, Taken}
+use Rattle.cog_client.specs.declared.case.Case.TheVariants.{Ignored, Adopted, Restarted, Accepted}
 use Rattle.cog_client.specs.declared.delivered.Ignored.TheVariants.{OtherRevision, OtherLength, NotAsked}
 
 -- what is read at a server: the tag and the length of one publication
@@ -22,7 +22,7 @@ case_of_piece v s p =
     if not (bytes_eq v.tag p.tag) then (if p.whole then Restarted else Ignored OtherRevision)
     else if not (v.complete == p.complete) then Ignored OtherLength
     else if is_beside s p then Ignored NotAsked
-    else Taken
+    else Accepted
 
 -- The first case that applies to a piece: nothing is asked, no revision yet, or those above.
 abbrev pub case_of : Option Revision → Option Span → SeenPiece → Case

@@ -12,7 +12,7 @@ use Rattle.cog_client.specs.declared.delivered.Current.{Current}
 use Rattle.cog_client.specs.declared.delivered.Current.TheVariants.{Same, Other, Unknown}
 use Rattle.cog_client.specs.declared.delivered.Unknown as unknown
 use Rattle.cog_client.specs.declared.delivered.Unknown.TheVariants.{NotUsed, NoRevision}
-use Rattle.cog_client.specs.Client.{Known, host_of, name_of, tag_of}
+use Rattle.cog_client.specs.Client.{ClientState, host_of, name_of, tag_of}
 
 -- the numbers under which unknown answers are told
 abbrev pub number_of_unknown : unknown.Unknown → ℕ
@@ -20,7 +20,7 @@ number_of_unknown (NotUsed w) = number_of_why w
 number_of_unknown NoRevision = 12
 
 -- the text of the client's check, none without a revision
-abbrev pub check_of : Known → Option (List ℕ)
+abbrev pub check_of : ClientState → Option (List ℕ)
 check_of c = option_map (check_text (host_of c) (name_of c)) (tag_of c)
 
 -- what the answer to a check that is read so says to a client with this tag

@@ -3,11 +3,11 @@ use Rattle.std.specs.Prelude.{◌≡◌, ℕ, ◌+◌, ◌*◌, ◌<◌, not, �
 use Rattle.std.specs.Option.{option_map, option_map_or}
 use Rattle.tiff_dir.specs.declared.query.Query.{Query}
 use Rattle.tiff_dir.specs.declared.span.Span.{Span}
-use Rattle.tiff_dir.specs.Needs.{Range}
+use Rattle.tiff_dir.specs.Needs.{Extent}
 use Rattle.http_range.specs.Names.{is_host, is_name}
 use Rattle.http_range.specs.Book.{Publication, Book, In}
-use Rattle.range_cache.specs.Block.{block_size}
-use Rattle.range_cache.specs.Cache.{Blocks, Holds}
+use Rattle.tiff_dir.specs.Block.{block_size}
+use Rattle.range_cache.specs.Cache.{Blocks, Holds, max_capacity, min_capacity}
 use Rattle.cog_reader.specs.Outcome.{IsTrueOf}
 use Rattle.cog_reader.specs.Reader as reader
 use Rattle.cog_client.specs.declared.error.ClientError.{ClientError}
@@ -20,29 +20,29 @@ use Rattle.cog_client.specs.Take.{Holding}
 -- ---- making a client
 
 -- the numbers under which refusals are told
-abbrev pub number_of_refusal : ClientError → ℕ
-number_of_refusal Host = 1
-number_of_refusal Name = 2
-number_of_refusal BadBlocks = 3
-number_of_refusal Memory = 4
+abbrev pub number_of_client_error : ClientError → ℕ
+number_of_client_error Host = 1
+number_of_client_error Name = 2
+number_of_client_error BadBlocks = 3
+number_of_client_error Memory = 4
 
 -- why no client is made, the first that holds
 abbrev pub client_refusal : List ℕ → List ℕ → ℕ → Option ClientError
 client_refusal host name blocks =
     if not (is_host host) then Some Host
     else if not (is_name name) then Some Name
-    else if nat_lt blocks 66 || nat_lt 4096 blocks then Some BadBlocks
+    else if nat_lt blocks min_capacity || nat_lt max_capacity blocks then Some BadBlocks
     else None
 
 -- The client is refused for this, and for want of memory only where nothing else stands against it.
-abbrev pub IsRefusedBy : Option ClientError → ClientError → Type 0
-IsRefusedBy refusal Memory = refusal ≡ None
-IsRefusedBy refusal error = refusal ≡ Some error
+abbrev pub IsClientRefusal : Option ClientError → ClientError → Type 0
+IsClientRefusal refusal Memory = refusal ≡ None
+IsClientRefusal refusal error = refusal ≡ Some error
 
 -- ---- what callers know of it
 
 -- host and name; the query, what is asked for, the revision that is read, the blocks and the report
-pub record Known : Type 0 where
+pub record ClientState : Type 0 where
   pub host : List ℕ
   pub name : List ℕ
   pub query : Option Query
@@ -51,18 +51,18 @@ pub record Known : Type 0 where
   pub cache : Blocks
   pub report : Option Report
 
-unfoldable pub host_of : Known → List ℕ
+unfoldable pub host_of : ClientState → List ℕ
 host_of c = c.host
 
-unfoldable pub name_of : Known → List ℕ
+unfoldable pub name_of : ClientState → List ℕ
 name_of c = c.name
 
 -- The query of the last opening.
-unfoldable pub query_of : Known → Option Query
+unfoldable pub query_of : ClientState → Option Query
 query_of c = c.query
 
 -- The bytes that are asked for, if any are.
-unfoldable pub asked_of : Known → Option Span
+unfoldable pub asked_of : ClientState → Option Span
 asked_of c = c.asked
 
 abbrev pub revision_in : Source → Revision
@@ -72,26 +72,30 @@ abbrev pub revision_at : Option Source → Option Revision
 revision_at s = option_map revision_in s
 
 -- The tag and the length of the file that is read.
-unfoldable pub revision_of : Known → Option Revision
+unfoldable pub revision_of : ClientState → Option Revision
 revision_of c = revision_at c.source
 
 -- The blocks, the most recently used first, and how many there may be.
-unfoldable pub blocks_of : Known → Blocks
+unfoldable pub blocks_of : ClientState → Blocks
 blocks_of c = c.cache
 
 -- The report that stands.
-unfoldable pub report_of : Known → Option Report
+unfoldable pub report_of : ClientState → Option Report
 report_of c = c.report
 
 -- The ranges of the file that the query still needs, none without a revision.
-unfoldable pub to_come : Known → List ℕ → List Range
+unfoldable pub to_come : ClientState → List ℕ → List Extent
 to_come c f = option_map_or (λ (s : Source). reader.to_come s.reader f) c.source []
 
-abbrev pub tag_of : Known → Option (List ℕ)
+-- What a query needs of the file but for the directories and the arrays that are held.
+unfoldable pub unread : ClientState → List ℕ → Query → List Extent
+unread c f q = option_map_or (λ (s : Source). reader.unread s.reader f q) c.source []
+
+abbrev pub tag_of : ClientState → Option (List ℕ)
 tag_of c = option_map (λ (v : Revision). v.tag) (revision_of c)
 
 -- what it holds of a server's file
-abbrev pub holding : Known → Holding
+abbrev pub holding : ClientState → Holding
 holding c = record { revision = revision_of c; asked = asked_of c; blocks = blocks_of c }
 
 -- ---- what is true of it
@@ -117,7 +121,7 @@ max_blocks = 65
 abbrev pub IsFew : Span → Type 0
 IsFew s = s.last < s.first + max_blocks * block_size
 
-pub record IsClient (c : Known) : Type 0 where
+pub record IsClient (c : ClientState) : Type 0 where
   pub hosted : IsTrue (is_host c.host)
   pub named : IsTrue (is_name c.name)
   pub alone : IsAlone c.source c.cache c.report
@@ -131,18 +135,18 @@ pub record IsClient (c : Known) : Type 0 where
 abbrev pub IsReportOf : List ℕ → Source → Report → Type 0
 IsReportOf f s r = (r.tag ≡ s.tag) × IsTrueOf f r.query r.outcome
 
-pub record KnowsBy (f : List ℕ) (c : Known) (s : Source) : Type 0 where
-  pub reader : reader.Agrees s.reader f
+pub record KnowsBy (f : List ℕ) (c : ClientState) (s : Source) : Type 0 where
+  pub reader : reader.ReaderAgrees s.reader f
   pub blocks : Holds f c.cache
   pub report : IfSome c.report (IsReportOf f s)
   pub sound : IsClient c
 
 -- All that the client holds is of this file. A client without a revision holds nothing.
-unfoldable pub Knows : List ℕ → Known → Type 0
+unfoldable pub Knows : List ℕ → ClientState → Type 0
 Knows f c = IfSome c.source (KnowsBy f c)
 
 -- it is of one publication of the client's name, which has the revision's tag
-pub record KnowsOne (c : Known) (book : Book) (v : Revision) : Type 0 where
+pub record KnowsOne (c : ClientState) (book : Book) (v : Revision) : Type 0 where
   pub source : Publication
   pub published : In source book
   pub of_name : source.name ≡ name_of c
@@ -150,5 +154,5 @@ pub record KnowsOne (c : Known) (book : Book) (v : Revision) : Type 0 where
   pub knows : Knows source.file c
 
 -- What the client holds agrees with the book.
-unfoldable pub Agrees : Known → Book → Type 0
-Agrees c book = IfSome (revision_of c) (KnowsOne c book)
+unfoldable pub ClientAgrees : ClientState → Book → Type 0
+ClientAgrees c book = IfSome (revision_of c) (KnowsOne c book)

@@ -3,80 +3,80 @@ use Rattle.std.specs.Prelude.{◌≡◌, ℕ, ◌+◌, ◌-◌, ◌*◌, ◌<◌
 use Rattle.std.specs.List.{filter}
 use Rattle.tiff_dir.specs.declared.query.Query.{Query}
 use Rattle.tiff_dir.specs.declared.span.Span.{Span}
-use Rattle.tiff_dir.specs.Needs.{Range, ends_past}
-use Rattle.tiff_dir.specs.Query.{blocks as touched, cost, needs}
+use Rattle.tiff_dir.specs.Needs.{Extent, ends_past}
+use Rattle.tiff_dir.specs.Query.{blocks_of_extent as touched, cost, needs}
 use Rattle.http_range.specs.Ask.{CanAsk, request_text}
 use Rattle.http_range.specs.Book.{Publication, Catalogue, IsCatalogue, published}
 use Rattle.http_range.specs.Response.{Response, IsAnswer, text_of}
-use Rattle.range_cache.specs.Block.{block_size, first_block, blocks, end_of}
+use Rattle.tiff_dir.specs.Block.{block_size, first_block, blocks, end_of}
 use Rattle.range_cache.specs.Numbers.{has, missing}
 use Rattle.range_cache.specs.Cache.{numbers}
 use Rattle.cog_client.specs.declared.delivered.Delivered.{Delivered}
 use Rattle.cog_client.specs.Case.{Revision}
 use Rattle.cog_client.specs.Take.{IsIgnored}
-use Rattle.cog_client.specs.Client.{Known, Knows, asked_of, blocks_of, host_of, name_of, query_of, report_of, revision_of, tag_of, to_come}
-use Rattle.cog_client.specs.Calls.{Asks, Delivers, GoesOn, Opens, Requests}
+use Rattle.cog_client.specs.Client.{ClientState, Knows, asked_of, blocks_of, host_of, name_of, query_of, report_of, revision_of, tag_of, to_come}
+use Rattle.cog_client.specs.Calls.{AsksFor, Delivers, GoesOn, Opens, Requests}
 
 -- ---- counting
 
 -- the blocks of those ranges that end in the file: of all that a query needs this is its cost
-abbrev pub blocks_of_ranges : List ℕ → List Range → ℕ
+abbrev pub blocks_of_ranges : List ℕ → List Extent → ℕ
 blocks_of_ranges f rs = sum_by touched (filter (λ r. not (ends_past f r)) rs)
 
 -- those of a range's blocks that aren't there, none where it ends after the file
-abbrev pub missing_of_range : List ℕ → List ℕ → Range → ℕ
+abbrev pub missing_of_range : List ℕ → List ℕ → Extent → ℕ
 missing_of_range f there r = if ends_past f r then 0 else missing there (first_block r.first) (blocks r.first r.len)
 
 -- of ranges in the order in which they are needed: what isn't there of the first one, and the later ones whole
-abbrev pub left_of : List ℕ → List ℕ → List Range → ℕ
+abbrev pub left_of : List ℕ → List ℕ → List Extent → ℕ
 left_of f there [] = 0
 left_of f there (r ∷ rs) = missing_of_range f there r + blocks_of_ranges f rs
 
 -- What is left for a client to get of a file.
-unfoldable pub left : List ℕ → Known → ℕ
+unfoldable pub left : List ℕ → ClientState → ℕ
 left f c = left_of f (numbers (blocks_of c).entries) (to_come c f)
 
 -- A client that knows the file has at most the whole cost of its query left.
 abbrev pub CostIsMost : Type 0
-CostIsMost = (c : Known) (f : List ℕ) → Knows f c → IfSome (query_of c) (λ q. left f c ≤ cost f q)
+CostIsMost = (c : ClientState) (f : List ℕ) → Knows f c → IfSome (query_of c) (λ q. left f c ≤ cost f q)
 
 -- So it is after an opening.
 abbrev pub OpeningLeavesCost : Type 0
-OpeningLeavesCost = (old new : Known) (q : Query) (f : List ℕ) → Opens q old new → Knows f old → left f new ≤ cost f q
+OpeningLeavesCost = (old new : ClientState) (q : Query) (f : List ℕ) → Opens q old new → Knows f old → left f new ≤ cost f q
 
 -- Going on, as each request does, never leaves more.
 abbrev pub GoingOnLeavesNoMore : Type 0
-GoingOnLeavesNoMore = (old new : Known) (f : List ℕ) → GoesOn old new → Knows f old → left f new ≤ left f old
+GoingOnLeavesNoMore = (old new : ClientState) (f : List ℕ) → GoesOn old new → Knows f old → left f new ≤ left f old
 
 -- ---- nothing left
 
 -- The client has a revision, of which it knows this file, and a query.
-pub record IsAtWork (f : List ℕ) (c : Known) : Type 0 where
+pub record IsAtWork (f : List ℕ) (c : ClientState) : Type 0 where
   pub revision : IsSome (revision_of c)
   pub knows : Knows f c
   pub query : IsSome (query_of c)
 
 -- After a request that leaves nothing the report stands.
 abbrev pub RequestReports : Type 0
-RequestReports = (old new : Known) (request : Option (List ℕ)) (f : List ℕ) →
+RequestReports = (old new : ClientState) (request : Option (List ℕ)) (f : List ℕ) →
     Requests old request new → IsAtWork f new → left f new ≡ 0 → IsSome (report_of new)
 
 -- So it does after an answer that isn't ignored.
 abbrev pub DeliveryReports : Type 0
-DeliveryReports = (old new : Known) (text : List ℕ) (what : Delivered) (f : List ℕ) →
+DeliveryReports = (old new : ClientState) (text : List ℕ) (what : Delivered) (f : List ℕ) →
     Delivers old text what new → (IsIgnored what → ⊥) → IsAtWork f new → left f new ≡ 0 → IsSome (report_of new)
 
 -- ---- what is asked
 
 -- the range is among those that the query needs of the file
-pub record IsNeeded (f : List ℕ) (q : Query) (r : Range) : Type 0 where
-  pub before : List Range
-  pub after : List Range
+pub record IsNeeded (f : List ℕ) (q : Query) (r : Extent) : Type 0 where
+  pub before : List Extent
+  pub after : List Extent
   pub among : needs f q ≡ before ++ r ∷ after
 
 -- The span is of whole blocks, each of which touches one range that the query needs of the file.
 pub record IsOfNeeded (f : List ℕ) (q : Query) (s : Span) : Type 0 where
-  pub range : Range
+  pub range : Extent
   pub needed : IsNeeded f q range
   pub from : ℕ
   pub to : ℕ
@@ -92,31 +92,31 @@ IsGone there s = (k : ℕ) → s.first ≤ k * block_size → k * block_size ≤
 
 -- What a client with a revision asks for are blocks of one range that it needs, and none of them is there.
 abbrev pub NeededAreAsked : Type 0
-NeededAreAsked = (c : Known) (v : Revision) (f : List ℕ) (s : Span) → revision_of c ≡ Some v → Knows f c →
-    Asks c (Some v) s → IfSome (query_of c) (λ q. IsOfNeeded f q s) × IsGone (numbers (blocks_of c).entries) s
+NeededAreAsked = (c : ClientState) (v : Revision) (f : List ℕ) (s : Span) → revision_of c ≡ Some v → Knows f c →
+    AsksFor c (Some v) s → IfSome (query_of c) (λ q. IsOfNeeded f q s) × IsGone (numbers (blocks_of c).entries) s
 
 -- ---- the answer to what is asked
 
 -- The text is a server's whole answer to what the client asks for, and the server has p under the client's name.
-pub record IsOwnAnswer (c : Known) (p : Publication) (span : Span) (text : List ℕ) : Type 0 where
+pub record IsOwnAnswer (c : ClientState) (p : Publication) (span : Span) (text : List ℕ) : Type 0 where
   pub catalogue : Catalogue
   pub lawful : IsCatalogue catalogue
   pub has : published (name_of c) catalogue ≡ Some p
   pub asked : asked_of c ≡ Some span
-  pub asks : Asks c (revision_of c) span
+  pub asks : AsksFor c (revision_of c) span
   pub can : CanAsk (host_of c) (name_of c) span.first span.last (tag_of c)
   pub response : Response
   pub answers : IsAnswer catalogue (request_text (host_of c) (name_of c) span.first span.last (tag_of c)) response
   pub shown : text ≡ text_of response
 
 -- The client has p's revision then, and where it had it before, less is left.
-pub record BringsOn (p : Publication) (old new : Known) (what : Delivered) : Type 0 where
+pub record BringsOn (p : Publication) (old new : ClientState) (what : Delivered) : Type 0 where
   pub used : IsIgnored what → ⊥
   pub revision : revision_of new ≡ Some (record { tag = p.tag; complete = length p.file })
   pub less : tag_of old ≡ Some p.tag → left p.file new + 1 ≤ left p.file old
 
 -- Such an answer is never ignored, and brings the client on.
 abbrev pub OwnAnswersBringOn : Type 0
-OwnAnswersBringOn = (old new : Known) (p : Publication) (span : Span) (text : List ℕ) (what : Delivered) →
+OwnAnswersBringOn = (old new : ClientState) (p : Publication) (span : Span) (text : List ℕ) (what : Delivered) →
     IsOwnAnswer old p span text → (tag_of old ≡ Some p.tag → Knows p.file old) →
     Delivers old text what new → BringsOn p old new what

@@ -8,8 +8,8 @@ use Rattle.cog_reader.specs.Outcome.{IsTrueOf}
 use Rattle.cog_reader.specs.Reader as reader
 use Rattle.cog_client.specs.declared.report.Report.{Report}
 use Rattle.cog_client.specs.declared.source.Source.{Source}
-use Rattle.cog_client.specs.Take.{asked_or_first, count_of, emptied, revision_of_piece, stored_front, stored_of}
-use Rattle.cog_client.specs.Client.{Known, Knows, asked_of, blocks_of, report_of, revision_of}
+use Rattle.cog_client.specs.Take.{asked_or_first, stored_count, emptied, revision_of_piece, stored_front, stored_of}
+use Rattle.cog_client.specs.Client.{ClientState, Knows, asked_of, blocks_of, report_of, revision_of}
 use Rattle.cog_client.specs.Going.{AreSame}
 use Rattle.cog_client.specs.Calls.{Rests, SameClient, StaysOf, unless_reported}
 
@@ -26,12 +26,12 @@ pub record Concludes (query : Query) (old : Source) (r : Option Report) (new : S
   pub unasked : IsSome r → reader.query_of new.reader ≡ None
   pub told : IsSome (reader.outcome_of old.reader) → IsSome r
   pub silent : r ≡ None → new ≡ old
-  pub true_of : (f : List ℕ) → reader.Agrees old.reader f
+  pub true_of : (f : List ℕ) → reader.ReaderAgrees old.reader f
       → IfSome r (λ r. IsSomeAnd (reader.query_of old.reader) (λ q. IsTrueOf f q r.outcome))
-  pub agrees : (f : List ℕ) → reader.Agrees old.reader f → reader.Agrees new.reader f
+  pub agrees : (f : List ℕ) → reader.ReaderAgrees old.reader f → reader.ReaderAgrees new.reader f
 
 -- A revision is read that nothing is known of but tag and length.
-pub record Adopts (p : SeenPiece) (asked : Option Span) (old new : Known) : Type 0 where
+pub record Adopts (p : SeenPiece) (asked : Option Span) (old new : ClientState) : Type 0 where
   pub same : SameClient old new
   pub asks : asked_of new ≡ asked
   pub revision : revision_of new ≡ Some (revision_of_piece p)
@@ -40,7 +40,7 @@ pub record Adopts (p : SeenPiece) (asked : Option Span) (old new : Known) : Type
   pub knows : (f : List ℕ) → length f ≡ p.complete → Knows f new
 
 -- The first k of the blocks that a piece brings of what is asked for are stored.
-pub record Stores (p : SeenPiece) (span : Span) (k : ℕ) (old new : Known) : Type 0 where
+pub record Stores (p : SeenPiece) (span : Span) (k : ℕ) (old new : ClientState) : Type 0 where
   pub same : SameClient old new
   pub asked : asked_of new ≡ asked_of old
   pub revision : revision_of new ≡ revision_of old
@@ -49,17 +49,17 @@ pub record Stores (p : SeenPiece) (span : Span) (k : ℕ) (old new : Known) : Ty
   pub file : (f : List ℕ) → p.complete ≡ length f → IsPieceOf f p.first p.body → Knows f old → StaysOf f old new
 
 -- A piece of the revision that is read is stored, so many blocks of it, and the client goes on.
-pub record Takes (p : SeenPiece) (old new : Known) (count : ℕ) : Type 0 where
+pub record AcceptsPiece (p : SeenPiece) (old new : ClientState) (count : ℕ) : Type 0 where
   pub same : SameClient old new
   pub asked : asked_of new ≡ unless_reported (report_of new) (asked_of old)
   pub revision : revision_of new ≡ revision_of old
   pub blocks : AreSame (stored_of p (asked_or_first (asked_of old)) (blocks_of old)) (blocks_of new)
-  pub counted : count ≡ count_of p (asked_or_first (asked_of old)) (blocks_of old)
+  pub counted : count ≡ stored_count p (asked_or_first (asked_of old)) (blocks_of old)
   pub rests : Rests new
   pub file : (f : List ℕ) → p.complete ≡ length f → IsPieceOf f p.first p.body → Knows f old → StaysOf f old new
 
 -- The same until memory was wanting: a beginning of the blocks is stored.
-pub record StopsStoring (p : SeenPiece) (old new : Known) : Type 0 where
+pub record StopsStoring (p : SeenPiece) (old new : ClientState) : Type 0 where
   pub same : SameClient old new
   pub asked : asked_of new ≡ asked_of old
   pub revision : revision_of new ≡ revision_of old

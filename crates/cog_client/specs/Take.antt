@@ -51,8 +51,8 @@ brought_by p span = whole_blocks p.complete p.first p.body span
 abbrev pub stored_of : SeenPiece → Span → Blocks → Blocks
 stored_of p span b = record b { entries = stored b.capacity (brought_by p span) b.entries }
 
-abbrev pub count_of : SeenPiece → Span → Blocks → ℕ
-count_of p span b = stores b.capacity (brought_by p span) b.entries
+abbrev pub stored_count : SeenPiece → Span → Blocks → ℕ
+stored_count p span b = stores b.capacity (brought_by p span) b.entries
 
 -- what is asked for, where something is
 abbrev pub asked_or_first : Option Span → Span
@@ -67,7 +67,7 @@ stored_front k p span b = record b { entries = stored b.capacity (front k (broug
 abbrev pub base_of : case.Case → Blocks → Blocks
 base_of cases.Adopted b = emptied b
 base_of cases.Restarted b = emptied b
-base_of cases.Taken b = b
+base_of cases.Accepted b = b
 base_of (cases.Ignored w) b = b
 
 -- the piece goes to the blocks of this revision
@@ -79,12 +79,12 @@ abbrev pub take_by : case.Case → Holding → SeenPiece → Taken
 take_by (cases.Ignored w) h p = record { says = Ignored w; leaves = h }
 take_by cases.Adopted h p =
     let span = asked_or_first h.asked in let b = emptied h.blocks in
-    record { says = Took (count_of p span b); leaves = keep (revision_of_piece p) span b p }
+    record { says = Took (stored_count p span b); leaves = keep (revision_of_piece p) span b p }
 take_by cases.Restarted h p =
     record { says = Restarted; leaves = keep (revision_of_piece p) first_span (emptied h.blocks) p }
-take_by cases.Taken h p =
+take_by cases.Accepted h p =
     let span = asked_or_first h.asked in
-    record { says = Took (count_of p span h.blocks); leaves = record h { blocks = stored_of p span h.blocks } }
+    record { says = Took (stored_count p span h.blocks); leaves = record h { blocks = stored_of p span h.blocks } }
 
 -- What an answer that is read so is to a client that holds this.
 abbrev pub take : Holding → Result SeenPiece Why → Taken

@@ -5,7 +5,7 @@ use Rattle.http_range.specs.Book.{Publication}
 use Rattle.http_range.specs.Honest.{IsHonestFor}
 use Rattle.cog_client.specs.declared.report.Report.{Report}
 use Rattle.cog_client.specs.Report.{IsTrueReport, told}
-use Rattle.cog_client.specs.Client.{Known, Agrees, name_of, query_of}
+use Rattle.cog_client.specs.Client.{ClientState, ClientAgrees, name_of, query_of}
 use Rattle.cog_client.specs.Calls.{SameClient}
 
 -- In what follows speaks is what a transport speaks for, before and after are this at two moments.
@@ -19,20 +19,20 @@ abbrev pub SpeaksOn : (Publication → Type 0) → (Publication → Type 0) → 
 SpeaksOn before after = (p : Publication) → before p → after p
 
 -- The transport speaks for a publication of the client's name, and the client agrees with the book of that one.
-pub record IsReading (speaks : Publication → Type 0) (c : Known) (p : Publication) : Type 0 where
+pub record ReadsPublication (speaks : Publication → Type 0) (c : ClientState) (p : Publication) : Type 0 where
   pub named : p.name ≡ name_of c
   pub spoken : speaks p
-  pub agrees : Agrees c (p ∷ [])
+  pub agrees : ClientAgrees c (p ∷ [])
 
 -- Host, name and query stay, and so does the one publication that the client reads.
-pub record KeepsReading (before after : Publication → Type 0) (old new : Known) : Type 0 where
+pub record KeepsReading (before after : Publication → Type 0) (old new : ClientState) : Type 0 where
   pub same : SameClient old new
-  pub reads : (p : Publication) → IsReading before old p → IsReading after new p
+  pub reads : (p : Publication) → ReadsPublication before old p → ReadsPublication after new p
 
 -- The report is true of the one publication that the client reads.
-abbrev pub IsTrueOfOne : (Publication → Type 0) → Known → Report → Type 0
+abbrev pub IsTrueOfOne : (Publication → Type 0) → ClientState → Report → Type 0
 IsTrueOfOne speaks c r =
-    (p : Publication) → IsReading speaks c p → IsTrueReport (told r) (name_of c) (query_of c) (p ∷ [])
+    (p : Publication) → ReadsPublication speaks c p → IsTrueReport (told r) (name_of c) (query_of c) (p ∷ [])
 
 -- there is no report: so many exchanges more are used up, or there is no query
 abbrev pub IsInVain : Option Query → ℕ → ℕ → ℕ → Type 0

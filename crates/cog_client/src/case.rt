@@ -1,4 +1,4 @@
-//! How an answer is taken.
+//! The case of the table by which a piece of a file is taken.
 ghost use Rattle.std.specs.Prelude.{◌≡◌};
 ghost use Rattle.http_range.specs.Piece.{piece_seen, IsInside};
 ghost use Rattle.cog_client.specs.Case.{case_of, case_of_piece, is_beside};
@@ -17,7 +17,7 @@ pub enum Case {
     /// It is a whole file of another revision.
     Restarted,
     /// It is of the client's revision, and asked for.
-    Taken,
+    Accepted,
 }
 
 /// Whether no byte of the piece's body is asked for.
@@ -29,6 +29,7 @@ fn is_beside(span: Span, piece: &Piece<'_>) -> bool
     end <= piece.first.max(span.first) || span.last < piece.first.max(span.first)
 }
 
+/// The case of a piece, where there is a revision and something is asked.
 fn case_of_piece(source: &Source, span: Span, piece: &Piece<'_>) -> Case
     requires { IsInside (piece_seen piece.now) }
     ensures { result ≡ case_of_piece (revision_in source.now) span (piece_seen piece.now) }
@@ -46,7 +47,7 @@ fn case_of_piece(source: &Source, span: Span, piece: &Piece<'_>) -> Case
     if is_beside(span, piece) {
         return Case::Ignored(Ignored::NotAsked);
     }
-    Case::Taken
+    Case::Accepted
 }
 
 /// The first case that applies to a piece.

@@ -45,9 +45,9 @@ pub struct Client {
 }
 
 impl Model for Client {
-    ghost use Rattle.cog_client.specs.Client.{IsClient, Known};
+    ghost use Rattle.cog_client.specs.Client.{IsClient, ClientState};
 
-    ghost Value = { Known };
+    ghost Value = { ClientState };
 
     ghost view = { λ c. record {
       host = c.host.items;
@@ -70,7 +70,7 @@ impl Model for Client {
     }) };
 }
 
-#[tactic(auto, unfolding(crate::specs::Client::host_of, crate::specs::Client::name_of, crate::specs::Client::query_of, crate::specs::Client::asked_of, crate::specs::Client::revision_of, crate::specs::Client::blocks_of, crate::specs::Client::report_of, crate::specs::Client::to_come, crate::specs::Client::Knows, crate::specs::Client::Agrees))]
+#[tactic(auto, unfolding(crate::specs::Client::host_of, crate::specs::Client::name_of, crate::specs::Client::query_of, crate::specs::Client::asked_of, crate::specs::Client::revision_of, crate::specs::Client::blocks_of, crate::specs::Client::report_of, crate::specs::Client::to_come, crate::specs::Client::Knows, crate::specs::Client::ClientAgrees))]
 impl Client {
     ghost use Rattle.std.specs.Prelude.{◌≡◌, ℕ, None, Some, IfErr, IfOk, IfSome, IsSome, IsTrue, OnErr, OnOk, length, option_copied};
     ghost use Rattle.std.specs.Option.{option_map};
@@ -78,18 +78,28 @@ impl Client {
     ghost use Rattle.http_range.specs.Piece.{piece_seen, IsInside};
     ghost use Rattle.http_range.specs.Tag.{is_kept_tag};
     ghost use Rattle.cog_client.specs.declared.delivered.Current.TheVariants.{Same};
-    ghost use Rattle.cog_client.specs.Client.{client_refusal, IsFew, IsRefusedBy, asked_of, host_of, name_of, blocks_of, query_of, report_of, revision_of, tag_of};
-    ghost use Rattle.cog_client.specs.Take.{brought_by, count_of, revision_of_piece};
-    ghost use Rattle.cog_client.specs.Calls.{Delivers, Forgets, GoesOn, Misses, Opens, Requests, Stands, Starts, StopsAsking, StopsTaking, request_for, unless_reported};
+    ghost use Rattle.cog_client.specs.Client.{client_refusal, IsFew, IsClientRefusal, asked_of, host_of, name_of, blocks_of, query_of, report_of, revision_of, tag_of};
+    ghost use Rattle.cog_client.specs.Take.{brought_by, stored_count, revision_of_piece};
+    ghost use Rattle.cog_client.specs.Calls.{Delivers, Forgets, GoesOn, Misses, Opens, Requests, Stands, Starts, StopsAsking, StopsDelivery, request_for, unless_reported};
     ghost use Rattle.cog_reader.specs.Reader.{outcome_of};
-    ghost use Rattle.cog_client.specs.Steps.{Adopts, Stores, StopsStoring, Takes};
+    ghost use Rattle.cog_client.specs.Steps.{Adopts, Stores, StopsStoring, AcceptsPiece};
     ghost use Rattle.cog_client.specs.Check.{IsCurrent, IsStillThere, check_of};
 
-    /// A client of a file's name at a host, with a cache of `blocks` blocks of 16,384 bytes.
+    /// A client of a file's name at a host, with a cache of `blocks` blocks of 16,384 bytes. The errors, the first that holds:
+    /// `Host`, a host that isn't 1 to 64 letters, digits, `.`, `-`, `:`; `Name`, a name that isn't 1 to 200 bytes of
+    /// `A-Z a-z 0-9 . _ - /`; `Blocks`, not 66 to 4,096 blocks; `Memory`.
+    ///
+    /// ```
+    /// let mut client = Client::new(rt.alloc(), b"localhost:8080", b"image.tif", 66)?;
+    /// client.open(Query::Info);
+    /// if let Some(report) = fetch(&mut client, &mut transport, 10)? {
+    ///     println!(rt; "{:?}", report.outcome)?;
+    /// }
+    /// ```
     pub fn new(alloc: Global, host: &[u8], name: &[u8], blocks: u32) -> Result<Client, ClientError>
         ensures starts { IfOk result (Starts host.now name.now blocks) }
         ensures ok { OnOk result (client_refusal host.now name.now blocks ≡ None) }
-        ensures refused { IfErr result (IsRefusedBy (client_refusal host.now name.now blocks)) }
+        ensures refused { IfErr result (IsClientRefusal (client_refusal host.now name.now blocks)) }
     {
         if !is_host(host) {
             return Err(ClientError::Host);
@@ -116,7 +126,7 @@ impl Client {
     }
 
     /// Asks a query, in the place of the one before. Nothing is asked of the server any more, and no report stands; what is
-    /// known of the file stays. It takes no memory.
+    /// known of the file stays: its revision, directories, the tile arrays that were read, and blocks. It takes no memory.
     pub fn open(&mut self, query: Query)
         ensures { Opens query self.old self.new }
     {
@@ -140,7 +150,7 @@ impl Client {
         self.cache.clear();
     }
 
-    /// The report that stands. It takes no memory.
+    /// The report that stands, until `open` or `forget`. It takes no memory.
     pub fn report(&self) -> Option<&Report>
         ensures { Stands self.now (option_copied result) }
     {
@@ -154,7 +164,7 @@ impl Client {
         &self.name
     }
 
-    /// What is asked for, in bytes from 0. It takes no memory.
+    /// What is asked for: the first byte and the last one, from 0. It takes no memory.
     pub fn asked(&self) -> Option<Span>
         ensures { result ≡ asked_of self.now }
     {
@@ -175,8 +185,9 @@ impl Client {
         }
     }
 
-    /// Goes on as far as the blocks reach, and makes the next request. There is none without a query, or where a report
-    /// stands. After want of memory nothing is asked.
+    /// Goes on as far as the blocks reach, and makes the next request: a GET with a Range of bytes (RFC 9110, section 14.2),
+    /// and with an If-Range of the revision's tag (section 13.1.5), if there is one. There is none without a query, or where a
+    /// report stands. After `Memory`, the only error, nothing is asked.
     pub fn request(&mut self) -> Result<Option<Vec<u8>>, Memory>
         ensures ok { IfOk result (λ o. Requests self.old (option_map (λ v. v.items) o) self.new) }
         ensures err { OnErr result (StopsAsking self.old self.new) }
@@ -230,7 +241,7 @@ impl Client {
         ensures err { OnErr result (report_of self.new ≡ None) }
     {
         let Some(source) = &mut self.source else {
-            return Ok(None);
+            unreachable!()
         };
         let missing = going::fill(
             &mut source.reader,
@@ -271,10 +282,12 @@ impl Client {
         }
     }
 
-    /// Takes an answer, or a front of one, and goes on as far as the blocks reach.
+    /// Takes an answer, or a front of one, and goes on as far as the blocks reach. Says what the answer did: it was ignored and
+    /// changed nothing, so many blocks of it were stored, or another revision is read from now on. After `Memory`, the only
+    /// error, some of its blocks may be stored.
     pub fn deliver(&mut self, answer: &[u8]) -> Result<Delivered, Memory>
         ensures ok { IfOk result (λ what. Delivers self.old answer.now what self.new) }
-        ensures err { OnErr result (StopsTaking self.old answer.now self.new) }
+        ensures err { OnErr result (StopsDelivery self.old answer.now self.new) }
     {
         fronts_are_read();
         lengths_are_known();
@@ -287,17 +300,17 @@ impl Client {
             Case::Ignored(why) => Ok(Delivered::Ignored(why)),
             Case::Adopted => {
                 self.adopt(&piece, asked);
-                let count = self.take(&piece)?;
+                let count = self.accept(&piece)?;
                 Ok(Delivered::Took(count))
             }
             Case::Restarted => {
                 let first = first_span();
                 self.adopt(&piece, Some(first));
-                self.take(&piece)?;
+                self.accept(&piece)?;
                 Ok(Delivered::Restarted)
             }
-            Case::Taken => {
-                let count = self.take(&piece)?;
+            Case::Accepted => {
+                let count = self.accept(&piece)?;
                 Ok(Delivered::Took(count))
             }
         }
@@ -320,7 +333,7 @@ impl Client {
         requires few { IsFew span }
         requires reads { IsSome (revision_of self.old) }
         ensures ok { IfOk result (λ count. let p = piece_seen piece.now in
-            Stores p span (length (brought_by p span)) self.old self.new × (count ≡ count_of p span (blocks_of self.old))) }
+            Stores p span (length (brought_by p span)) self.old self.new × (count ≡ stored_count p span (blocks_of self.old))) }
         ensures err { OnErr result ((k : ℕ) × Stores (piece_seen piece.now) span k self.old self.new) }
     {
         stores_are_counted();
@@ -332,23 +345,24 @@ impl Client {
         Ok(count)
     }
 
-    /// Takes a piece of the revision that is read: stores its blocks, and goes on.
-    fn take(&mut self, piece: &Piece<'_>) -> Result<u32, Memory>
+    /// Accepts a piece of the revision that is read: stores its blocks, and goes on.
+    fn accept(&mut self, piece: &Piece<'_>) -> Result<u32, Memory>
         requires inside { IsInside (piece_seen piece.now) }
         requires asked { IsSome (asked_of self.old) }
         requires revision { revision_of self.old ≡ Some (revision_of_piece (piece_seen piece.now)) }
-        ensures ok { IfOk result (Takes (piece_seen piece.now) self.old self.new) }
+        ensures ok { IfOk result (AcceptsPiece (piece_seen piece.now) self.old self.new) }
         ensures err { OnErr result (StopsStoring (piece_seen piece.now) self.old self.new) }
     {
         let Some(span) = self.asked else {
-            return Ok(0);
+            unreachable!()
         };
         let count = self.store(piece, span)?;
         self.go_on()?;
         Ok(count)
     }
 
-    /// The check whether the file still has the revision's tag. There is none without a revision.
+    /// The check whether the file still has the revision's tag: a HEAD request with If-None-Match (RFC 9110, section 13.1.2).
+    /// There is none without a revision. `Memory` is the only error.
     pub fn check(&self) -> Result<Option<Vec<u8>>, Memory>
         ensures text { IfOk result (λ o. option_map (λ v. v.items) o ≡ check_of self.now) }
         ensures lawful { IfSome (tag_of self.now) (CanCheck (host_of self.now) (name_of self.now)) }
@@ -362,7 +376,7 @@ impl Client {
         }
     }
 
-    /// What the answer to a check, or a front of it, says. It takes no memory.
+    /// What the answer to a check, or a front of it, says: the same tag, another one, or why it says nothing. It takes no memory.
     pub fn current(&self, answer: &[u8]) -> Current
         ensures current { IsCurrent (tag_of self.now) answer.now result }
         ensures same { result ≡ Same → IsStillThere (tag_of self.now) answer.now }

@@ -10,19 +10,21 @@ pub enum ClientError {
     /// The name isn't 1 to 200 bytes of `A-Z a-z 0-9 . _ - /`.
     #[error("not a name of a file")]
     Name,
+    /// The cache has fewer than 66 or more than 4,096 blocks.
     #[error("a cache has 66 to 4,096 blocks")]
     Blocks,
+    /// There is no memory for the client.
     #[error("out of memory")]
     Memory,
 }
 
 impl ClientError {
     ghost use Rattle.std.specs.Prelude.{◌≡◌};
-    ghost use Rattle.cog_client.specs.Client.{number_of_refusal};
+    ghost use Rattle.cog_client.specs.Client.{number_of_client_error};
 
     /// The number under which the refusal is told, 1 to 4.
     pub fn number(&self) -> u8
-        ensures { result ≡ number_of_refusal self.now }
+        ensures { result ≡ number_of_client_error self.now }
     {
         match self {
             ClientError::Host => 1,
@@ -48,6 +50,7 @@ impl From<std::alloc::AllocError> for ClientError {
 /// Why fetching ended.
 #[derive(Clone, Copy, Debug, Error, PartialEq, Eq)]
 pub enum FetchError {
+    /// There was no memory for a request or its answer. The client can go on.
     #[error("out of memory")]
     Memory,
 }

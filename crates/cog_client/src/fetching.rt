@@ -74,8 +74,8 @@ fn exchange_up_to<T: Transport>(
 }
 
 /// Sends the client's requests over a transport and delivers what comes of the answers, until a report stands, in at
-/// most `tries` exchanges, those that bring nothing included. Gives the report, if one stands. Want of memory ends it,
-/// and the client can go on from there.
+/// most `tries` exchanges, those that bring nothing included. Gives the report, if one stands. Want of memory (`Memory`,
+/// the only error) ends it, and the client can go on from there.
 pub fn fetch<'c, T: Transport>(
     client: &'c mut Client,
     transport: &mut T,

@@ -1,9 +1,9 @@
 //! Going on: the reader is given what the cache has.
 ghost use Rattle.std.specs.Prelude.{◌≡◌, ◌+◌, ◌-◌, ◌<◌, ◌≤◌, Some, IfOk, length};
 ghost use Rattle.tiff_dir.specs.Needs.{max_range_bytes};
-ghost use Rattle.tiff_dir.specs.Walk.{range_of_span};
+ghost use Rattle.tiff_dir.specs.Walk.{extent_of_span};
 ghost use Rattle.cog_reader.specs.Reader.{complete_of, steps_of, wanted};
-ghost use Rattle.cog_client.specs.Going.{work, GoesOn, IsFilled, IsGiven};
+ghost use Rattle.cog_client.specs.Going.{work, ReaderGoesOn, IsFilled, IsGiven};
 
 use cog_reader::{Reader, lengths_are_known, nothing_comes};
 use http_range::Span;
@@ -28,13 +28,13 @@ fn give_from(
     span: Span,
     out: &mut [u8],
 ) -> Result<Option<Span>, Memory>
-    requires wanted { wanted reader.old ≡ Some (range_of_span span) }
+    requires wanted { wanted reader.old ≡ Some (extent_of_span span) }
     requires inside { span.last < complete }
     requires small { span.last + 1 ≤ span.first + max_range_bytes }
     requires complete { complete_of reader.old ≡ complete }
     requires room { length out.old ≡ span.last + 1 - span.first }
-    ensures goes { GoesOn (work reader.old cache.old) (work reader.new cache.new) }
-    ensures given { IfOk result (IsGiven (range_of_span span) (work reader.old cache.old) (work reader.new cache.new)) }
+    ensures goes { ReaderGoesOn (work reader.old cache.old) (work reader.new cache.new) }
+    ensures given { IfOk result (IsGiven (extent_of_span span) (work reader.old cache.old) (work reader.new cache.new)) }
 {
     lengths_are_known();
     match cache.read_into(complete, span.first, out) {
@@ -54,12 +54,12 @@ fn give_next(
     complete: u64,
     span: Span,
 ) -> Result<Option<Span>, Memory>
-    requires wanted { wanted reader.old ≡ Some (range_of_span span) }
+    requires wanted { wanted reader.old ≡ Some (extent_of_span span) }
     requires inside { span.last < complete }
     requires small { span.last + 1 ≤ span.first + max_range_bytes }
     requires complete { complete_of reader.old ≡ complete }
-    ensures goes { GoesOn (work reader.old cache.old) (work reader.new cache.new) }
-    ensures given { IfOk result (IsGiven (range_of_span span) (work reader.old cache.old) (work reader.new cache.new)) }
+    ensures goes { ReaderGoesOn (work reader.old cache.old) (work reader.new cache.new) }
+    ensures given { IfOk result (IsGiven (extent_of_span span) (work reader.old cache.old) (work reader.new cache.new)) }
 {
     let len = (span.last - span.first) as usize + 1;
     if buffer.len() < len {
@@ -76,7 +76,7 @@ pub fn fill(
     complete: u64,
 ) -> Result<Option<Span>, Memory>
     requires { complete_of reader.old ≡ complete }
-    ensures goes { GoesOn (work reader.old cache.old) (work reader.new cache.new) }
+    ensures goes { ReaderGoesOn (work reader.old cache.old) (work reader.new cache.new) }
     ensures filled { IfOk result (IsFilled (work reader.new cache.new)) }
 {
     nothing_comes();

@@ -2,7 +2,7 @@
 ghost use Rattle.std.specs.Prelude.{ℕ, List, IfSome};
 ghost use Rattle.tiff_dir.specs.Needs.{IsEndOf};
 ghost use Rattle.tiff_dir.specs.Query.{needs};
-ghost use Rattle.cog_client.specs.Client.{query_of, to_come, Known, Knows};
+ghost use Rattle.cog_client.specs.Client.{query_of, to_come, ClientState, Knows};
 ghost use Rattle.cog_client.specs.Progress.{CostIsMost, DeliveryReports, GoingOnLeavesNoMore, NeededAreAsked, OpeningLeavesCost, OwnAnswersBringOn, RequestReports};
 
 use cog_reader::{end_is_wanted, lengths_are_known, nothing_comes};
@@ -11,7 +11,7 @@ use range_cache::{missing_is_exact, pieces_bring_blocks, stored_stay, stores_are
 
 /// What a client still needs of a file for its query is the end of what the query needs of it.
 pub fn end_is_needed()
-    ensures { (c : Known) (f : List ℕ) → Knows f c → IfSome (query_of c) (λ q. IsEndOf (to_come c f) (needs f q)) }
+    ensures { (c : ClientState) (f : List ℕ) → Knows f c → IfSome (query_of c) (λ q. IsEndOf (to_come c f) (needs f q)) }
 {
     end_is_wanted();
     nothing_comes();

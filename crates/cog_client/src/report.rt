@@ -13,10 +13,12 @@ use tiff_dir::{Memory, Query};
 #[derive(Debug, Drop)]
 pub struct Report {
     pub query: Query,
+    /// The entity tag (RFC 9110, section 8.8.3).
     pub tag: Tag,
     pub outcome: Outcome,
 }
 
+/// An equal value of a key.
 fn copy_value(alloc: Global, value: &KeyValue) -> Result<KeyValue, Memory>
     ensures { IfOk result (λ v. content_of v ≡ content_of value.now) }
 {
@@ -27,6 +29,7 @@ fn copy_value(alloc: Global, value: &KeyValue) -> Result<KeyValue, Memory>
     }
 }
 
+/// Equal keys.
 fn copy_geo(alloc: Global, geo: &Geo) -> Result<Geo, Memory>
     ensures { IfOk result (λ g. (g.minor ≡ geo.now.minor) × (contents g.keys.items ≡ contents geo.now.keys.items)) }
 {
@@ -41,6 +44,7 @@ fn copy_geo(alloc: Global, geo: &Geo) -> Result<Geo, Memory>
     })
 }
 
+/// Equal items of a geo field.
 fn copy_items(alloc: Global, items: &Option<Vec<[u8; 8]>>) -> Result<Option<Vec<[u8; 8]>>, Memory>
     ensures { IfOk result (λ o. items_in o ≡ items_in items.now) }
 {
@@ -50,6 +54,7 @@ fn copy_items(alloc: Global, items: &Option<Vec<[u8; 8]>>) -> Result<Option<Vec<
     }
 }
 
+/// What Info says, again.
 fn copy_info(alloc: Global, info: &Info) -> Result<Info, Memory>
     ensures { IfOk result (λ i. facts_of i ≡ facts_of info.now) }
 {
@@ -67,6 +72,7 @@ fn copy_info(alloc: Global, info: &Info) -> Result<Info, Memory>
     })
 }
 
+/// An equal window.
 fn copy_window(alloc: Global, window: &Window) -> Result<Window, Memory>
     ensures { IfOk result (λ w. samples_of w ≡ samples_of window.now) }
 {
@@ -80,6 +86,7 @@ fn copy_window(alloc: Global, window: &Window) -> Result<Window, Memory>
     })
 }
 
+/// An equal outcome.
 fn copy_outcome(alloc: Global, outcome: &Outcome) -> Result<Outcome, Memory>
     ensures { IfOk result (λ o. said_of o ≡ said_of outcome.now) }
 {
@@ -94,7 +101,7 @@ impl Report {
     ghost use Rattle.std.specs.Prelude.{◌≡◌, IfOk};
     ghost use Rattle.cog_client.specs.Report.{told};
 
-    /// An equal report.
+    /// An equal report. `Memory` is the only error.
     pub fn copy(&self, alloc: Global) -> Result<Report, Memory>
         ensures { IfOk result (λ report. told report ≡ told self.now) }
     {

@@ -16,14 +16,14 @@ pub struct Source {
 
 impl Source {
     ghost use Rattle.std.specs.Prelude.{◌≡◌, ℕ, List, length};
-    ghost use Rattle.cog_reader.specs.Reader.{complete_of, query_of, Agrees};
+    ghost use Rattle.cog_reader.specs.Reader.{complete_of, query_of, ReaderAgrees};
     ghost use Rattle.cog_client.specs.Steps.{Concludes};
 
     /// The piece's revision, of which nothing is known yet. It is asked the query, if there is one.
     pub fn new(alloc: Global, piece: &Piece<'_>, query: Option<Query>) -> Source
         ensures tag { result.tag ≡ piece.now.tag }
         ensures complete { result.complete ≡ piece.now.complete }
-        ensures agrees { (f : List ℕ) → length f ≡ piece.now.complete → Agrees result.reader f }
+        ensures agrees { (f : List ℕ) → length f ≡ piece.now.complete → ReaderAgrees result.reader f }
         ensures length { complete_of result.reader ≡ piece.now.complete }
         ensures query { query_of result.reader ≡ query }
     {

@@ -1,19 +1,18 @@
 -- The range that is wanted is the first of those that are still to come.
-use Rattle.std.proofs.Common.{◌≡◌, ℕ, zero, suc, ◌+◌, ◌++◌, ◌∷◌, [], inl, inr, List, length, drop, Option, Some, None, refl, sym, subst, ap, ◌∙◌, arith}
-use Rattle.std.specs.Prelude.{slice_get, IsSome, IsSomeAnd, MatchOption}
+use Rattle.std.proofs.Common.{◌≡◌, ℕ, zero, suc, ◌+◌, ◌++◌, ◌∷◌, [], inl, inr, List, drop, Option, Some, None, refl, sym, subst, ap, ◌∙◌}
+use Rattle.std.specs.Prelude.{slice_get, IsSomeAnd}
 use Rattle.std.specs.Option.{option_map}
-use Rattle.std.proofs.lemmas.Bool.{false≢true}
-use Rattle.std.proofs.lemmas.Option.{none-some, slice_get_past, slice_get-map}
+use Rattle.std.proofs.lemmas.Option.{none-some, slice_get-map}
 use Rattle.tiff_dir.specs.declared.level.Level.{Level}
 use Rattle.tiff_dir.specs.declared.level.Place.{Place}
 use Rattle.tiff_dir.specs.declared.query.Query.{Query}
 use Rattle.tiff_dir.specs.declared.span.Span.{Span}
 use Rattle.tiff_dir.specs.Geo.{geo_ranges}
-use Rattle.tiff_dir.specs.Known.{Known}
-use Rattle.tiff_dir.specs.Needs.{Range, range_of_place}
+use Rattle.tiff_dir.specs.WalkState.{WalkState}
+use Rattle.tiff_dir.specs.Needs.{Extent, extent_of_place}
 use Rattle.tiff_dir.specs.Query.{needs_of_query}
 use Rattle.tiff_dir.specs.Walk as walk
-use Rattle.tiff_dir.specs.Walk.{levels_of, range_of_span}
+use Rattle.tiff_dir.specs.Walk.{levels_of, extent_of_span}
 use Rattle.tile_plan.specs.declared.asked.Rectangle.{Rectangle}
 use Rattle.tile_plan.specs.declared.plan.Group.{Group}
 use Rattle.cog_reader.specs.declared.arrays.Arrays.{Arrays}
@@ -21,37 +20,37 @@ use Rattle.cog_reader.specs.declared.fields.Fields.{Fields}
 use Rattle.cog_reader.specs.declared.kept.Kept.{Kept}
 use Rattle.cog_reader.specs.declared.kept.Kept.TheVariants as kept
 use Rattle.cog_reader.specs.declared.mosaic.Mosaic.{Mosaic}
-use Rattle.cog_reader.specs.declared.task.Task.TheVariants.{Begin, Arrays as Reads, Tiles, Fields as Geo}
+use Rattle.cog_reader.specs.declared.state.State.TheVariants.{Directories, Arrays as Reads, Tiles, Fields as Geo}
 use Rattle.cog_reader.specs.Fields.{present_in}
-use Rattle.cog_reader.specs.Kept.{held, next_array}
-use Rattle.cog_reader.specs.Mosaic.{IsUnderway}
-use Rattle.cog_reader.specs.Reader.{come_by, outcome_in, own_taken, wanted_by, HasBoth, IsTaskOf}
-use Rattle.cog_reader.specs.Turn.{IsBase, IsFair, IsSettled, IsWantedBy}
+use Rattle.cog_reader.specs.Kept.{arrays_held, next_array, HasBoth}
+use Rattle.cog_reader.specs.Mosaic.{IsPlan, IsUnderway}
+use Rattle.cog_reader.specs.Reader.{come_by, own_given, StateAgrees}
+use Rattle.cog_reader.specs.Step.{IsBase, IsFair, IsWantedBy}
 use Rattle.cog_reader.proofs.FieldLemmas.{geo_ranges_are}
-use Rattle.cog_reader.proofs.TakeLemmas.{group_needed, which_next}
-use Rattle.cog_reader.proofs.TurnLemmas.{needs_split, IsLevelOf}
+use Rattle.cog_reader.proofs.GiveLemmas.{group_needed, which_next}
+use Rattle.cog_reader.proofs.StepLemmas.{fair_group, needs_split, IsLevelOf}
 
-first_of_drop : (xs : List Range) (n : ℕ) → slice_get (drop n xs) 0 ≡ slice_get xs n
+first_of_drop : (xs : List Extent) (n : ℕ) → slice_get (drop n xs) 0 ≡ slice_get xs n
 first_of_drop [] zero = refl
 first_of_drop [] (suc n) = refl
 first_of_drop (x ∷ xs) zero = refl
 first_of_drop (x ∷ xs) (suc n) = first_of_drop xs n
 
-front_first : (xs ys : List Range) (r : Range) → slice_get xs 0 ≡ Some r → slice_get (xs ++ ys) 0 ≡ Some r
+front_first : (xs ys : List Extent) (r : Extent) → slice_get xs 0 ≡ Some r → slice_get (xs ++ ys) 0 ≡ Some r
 front_first [] ys r is = absurd (none-some r is)
 front_first (x ∷ xs) ys r is = is
 
-pub first_of_directories : (complete : ℕ) (w : Known) (k : Kept) (r : Range) → walk.wanted w ≡ Some r → ((f : List ℕ) → walk.Agrees w f → slice_get (walk.to_come w f) 0 ≡ walk.wanted w)
-    → (f : List ℕ) (q : Query) → IsBase f complete w k → slice_get (come_by f w k q Begin) 0 ≡ Some r
-first_of_directories complete w k r is first f q base = front_first (walk.to_come w f) (drop (own_taken f q k Begin) (needs_of_query f q)) r (first f base.walked ∙ is)
+pub first_of_directories : (complete : ℕ) (w : WalkState) (k : Kept) (r : Extent) → walk.wanted w ≡ Some r → ((f : List ℕ) → walk.WalkAgrees w f → slice_get (walk.to_come w f) 0 ≡ walk.wanted w)
+    → (f : List ℕ) (q : Query) → IsBase f complete w k → slice_get (come_by f w k q Directories) 0 ≡ Some r
+first_of_directories complete w k r is first f q base = front_first (walk.to_come w f) (drop (own_given f q k Directories) (needs_of_query f q)) r (first f base.walked ∙ is)
 
-pub first_array : (complete : ℕ) (w : Known) (k : Kept) (r : Rectangle) (l : Level) (p : Place) → IsLevelOf w r.level l → next_array k r.level l ≡ Some p
-    → (f : List ℕ) (q : Query) → IsBase f complete w k → IsTaskOf f q k (Reads r) → slice_get (come_by f w k q (Reads r)) 0 ≡ Some (range_of_place p)
+pub first_array : (complete : ℕ) (w : WalkState) (k : Kept) (r : Rectangle) (l : Level) (p : Place) → IsLevelOf w r.level l → next_array k r.level l ≡ Some p
+    → (f : List ℕ) (q : Query) → IsBase f complete w k → StateAgrees f q k (Reads r) → slice_get (come_by f w k q (Reads r)) 0 ≡ Some (extent_of_place p)
 first_array complete w k r l p of_level next f q base here =
     let split = needs_split f q r l here.0 here.1 (of_level.layout f base.walked) in
-    first_of_drop (needs_of_query f q) (held k r.level) ∙ elim (which_next k r.level l p next) [
-      | inl h ↦ ap (λ n. slice_get (needs_of_query f q) n) h.0 ∙ ap (λ xs. slice_get xs 0) split ∙ ap (λ x. Some (range_of_place x)) (sym h.1)
-      | inr h ↦ ap (λ n. slice_get (needs_of_query f q) n) h.0 ∙ ap (λ xs. slice_get xs 1) split ∙ ap (λ x. Some (range_of_place x)) (sym h.1)
+    first_of_drop (needs_of_query f q) (arrays_held k r.level) ∙ elim (which_next k r.level l p next) [
+      | inl h ↦ ap (λ n. slice_get (needs_of_query f q) n) h.0 ∙ ap (λ xs. slice_get xs 0) split ∙ ap (λ x. Some (extent_of_place x)) (sym h.1)
+      | inr h ↦ ap (λ n. slice_get (needs_of_query f q) n) h.0 ∙ ap (λ xs. slice_get xs 1) split ∙ ap (λ x. Some (extent_of_place x)) (sym h.1)
     ]
 
 some_both : (k : Kept) (P : Arrays → Type 0) (R : Type 0) → HasBoth k P → ((a : Arrays) → P a → R) → R
@@ -59,58 +58,53 @@ some_both kept.Nothing P R bad more = absurd bad
 some_both (kept.Offsets n o) P R bad more = absurd bad
 some_both (kept.Both n a) P R good more = more a good
 
-pub first_group : (complete : ℕ) (w : Known) (k : Kept) (m : Mosaic) (g : Group) → slice_get m.groups m.taken ≡ Some g
-    → (f : List ℕ) (q : Query) → IsTaskOf f q k (Tiles m) → slice_get (come_by f w k q (Tiles m)) 0 ≡ Some (range_of_span g.span)
+pub first_group : (complete : ℕ) (w : WalkState) (k : Kept) (m : Mosaic) (g : Group) → slice_get m.groups m.given ≡ Some g
+    → (f : List ℕ) (q : Query) → StateAgrees f q k (Tiles m) → slice_get (come_by f w k q (Tiles m)) 0 ≡ Some (extent_of_span g.span)
 first_group complete w k m g is f q here =
-    first_of_drop (needs_of_query f q) (2 + m.taken)
-    ∙ some_both k (λ a. IsUnderway f q a m) (slice_get (needs_of_query f q) (2 + m.taken) ≡ Some (range_of_span g.span)) here.0 (λ a u. group_needed f q a m g u is)
+    first_of_drop (needs_of_query f q) (2 + m.given)
+    ∙ some_both k (λ a. IsUnderway f q a m) (slice_get (needs_of_query f q) (2 + m.given) ≡ Some (extent_of_span g.span)) here.0 (λ a u. group_needed f q a m g u is)
 
-pub first_field : (complete : ℕ) (w : Known) (k : Kept) (x : Fields) (p : Place) → slice_get (present_in x.places) x.taken ≡ Some p
-    → (f : List ℕ) (q : Query) → IsTaskOf f q k (Geo x) → slice_get (come_by f w k q (Geo x)) 0 ≡ Some (range_of_place p)
+pub first_field : (complete : ℕ) (w : WalkState) (k : Kept) (x : Fields) (p : Place) → slice_get (present_in x.places) x.given ≡ Some p
+    → (f : List ℕ) (q : Query) → StateAgrees f q k (Geo x) → slice_get (come_by f w k q (Geo x)) 0 ≡ Some (extent_of_place p)
 unfolding needs_of_query
 first_field complete w k x p is f q here =
     let needs : needs_of_query f q ≡ geo_ranges f = ap (needs_of_query f) here.0 in
-    first_of_drop (needs_of_query f q) x.taken
-    ∙ ap (λ l. slice_get l x.taken) (needs ∙ geo_ranges_are f x.places here.1.places) ∙ slice_get-map range_of_place (present_in x.places) x.taken ∙ ap (option_map range_of_place) is
+    first_of_drop (needs_of_query f q) x.given
+    ∙ ap (λ l. slice_get l x.given) (needs ∙ geo_ranges_are f x.places here.1.places) ∙ slice_get-map extent_of_place (present_in x.places) x.given ∙ ap (option_map extent_of_place) is
 
-pub tiles_wanted : (complete : ℕ) (w : Known) (k : Kept) (m : Mosaic) (o : Option Span) → MatchOption o (m.taken ≡ length m.groups) (λ span. IsSomeAnd (slice_get m.groups m.taken) (λ g. g.span ≡ span)) → IsSettled complete w k (Tiles m)
-    → MatchOption o (IsSome (outcome_in (Tiles m))) (λ span. IsWantedBy complete w k (Tiles m) (range_of_span span))
-tiles_wanted complete w k m o needs (inl bad) = absurd (false≢true bad)
-tiles_wanted complete w k m None all (inr some) = absurd (subst (λ (x : Option Group). IsSomeAnd (option_map (λ (g : Group). range_of_span g.span) x) (IsFair complete)) (slice_get_past m.groups m.taken (omega (arith, all))) some)
-tiles_wanted complete w k m (Some span) next (inr some) = at (slice_get m.groups m.taken) refl next some where
-  at : (x : Option Group) → slice_get m.groups m.taken ≡ x → IsSomeAnd x (λ g. g.span ≡ span) → IsSomeAnd (option_map (λ (g : Group). range_of_span g.span) x) (IsFair complete) → IsWantedBy complete w k (Tiles m) (range_of_span span)
-  at None is bad fair = absurd bad
-  at (Some g) is same fair = record {
-    is = ap (option_map (λ (g : Group). range_of_span g.span)) is ∙ ap (λ s. Some (range_of_span s)) same;
-    fair = subst (λ s. IsFair complete (range_of_span s)) same fair;
+-- ---- a range that is wanted, and can be given
+
+pub directories_wanted : (complete : ℕ) (w : WalkState) (k : Kept) (r : Extent) → walk.wanted w ≡ Some r → IsFair complete r → ((f : List ℕ) → walk.WalkAgrees w f → slice_get (walk.to_come w f) 0 ≡ walk.wanted w)
+    → IsWantedBy complete w k Directories r
+directories_wanted complete w k r is fair first = record { is = is; fair = fair; undone = refl; first = λ f q base here. first_of_directories complete w k r is first f q base }
+
+pub tiles_wanted : (complete : ℕ) (w : WalkState) (k : Kept) (a : Arrays) (m : Mosaic) (span : Span) → IsPlan complete a m → IsSomeAnd (slice_get m.groups m.given) (λ g. g.span ≡ span) → IsWantedBy complete w k (Tiles m) (extent_of_span span)
+tiles_wanted complete w k a m span plan next = at (slice_get m.groups m.given) refl next where
+  at : (x : Option Group) → slice_get m.groups m.given ≡ x → IsSomeAnd x (λ g. g.span ≡ span) → IsWantedBy complete w k (Tiles m) (extent_of_span span)
+  at None is bad = absurd bad
+  at (Some g) is same = record {
+    is = ap (option_map (λ (g : Group). extent_of_span g.span)) is ∙ ap (λ s. Some (extent_of_span s)) same;
+    fair = subst (λ s. IsFair complete (extent_of_span s)) same (fair_group complete a m g plan is);
     undone = refl;
-    first = λ f q base here. first_group complete w k m g is f q here ∙ ap (λ s. Some (range_of_span s)) same;
+    first = λ f q base here. first_group complete w k m g is f q here ∙ ap (λ s. Some (extent_of_span s)) same;
   }
 
-fair_at : (complete : ℕ) (o : Option Range) (r : Range) → o ≡ Some r → IsSomeAnd o (IsFair complete) → IsFair complete r
-fair_at complete None r is bad = absurd bad
-fair_at complete (Some x) r is good = (let same : x ≡ r = cc in subst (IsFair complete) same good)
-
-pub array_wanted : (complete : ℕ) (w : Known) (k : Kept) (r : Rectangle) (l : Level) (p : Place) (s : Span) → IsLevelOf w r.level l → next_array k r.level l ≡ Some p → range_of_span s ≡ range_of_place p → IsSettled complete w k (Reads r)
-    → IsWantedBy complete w k (Reads r) (range_of_span s)
-array_wanted complete w k r l p s of_level next same (inl bad) = absurd (false≢true bad)
-array_wanted complete w k r l p s of_level next same (inr some) =
-    let is : wanted_by w k (Reads r) ≡ Some (range_of_place p) = (let there = of_level.there in rw (there, next) refl) in
+pub array_wanted : (complete : ℕ) (w : WalkState) (k : Kept) (r : Rectangle) (l : Level) (p : Place) (s : Span) → IsLevelOf w r.level l → next_array k r.level l ≡ Some p → extent_of_span s ≡ extent_of_place p → IsFair complete (extent_of_place p)
+    → IsWantedBy complete w k (Reads r) (extent_of_span s)
+array_wanted complete w k r l p s of_level next same fair =
     subst (IsWantedBy complete w k (Reads r)) (sym same) (record {
-      is = is;
-      fair = fair_at complete (wanted_by w k (Reads r)) (range_of_place p) is some;
+      is = (let there = of_level.there in rw (there, next) refl);
+      fair = fair;
       undone = refl;
       first = λ f q base here. first_array complete w k r l p of_level next f q base here;
     })
 
-pub field_wanted : (complete : ℕ) (w : Known) (k : Kept) (x : Fields) (p : Place) (s : Span) → slice_get (present_in x.places) x.taken ≡ Some p → range_of_span s ≡ range_of_place p → IsSettled complete w k (Geo x)
-    → IsWantedBy complete w k (Geo x) (range_of_span s)
-field_wanted complete w k x p s next same (inl bad) = absurd (false≢true bad)
-field_wanted complete w k x p s next same (inr some) =
-    let is : wanted_by w k (Geo x) ≡ Some (range_of_place p) = ap (option_map range_of_place) next in
+pub field_wanted : (complete : ℕ) (w : WalkState) (k : Kept) (x : Fields) (p : Place) (s : Span) → slice_get (present_in x.places) x.given ≡ Some p → extent_of_span s ≡ extent_of_place p → IsFair complete (extent_of_place p)
+    → IsWantedBy complete w k (Geo x) (extent_of_span s)
+field_wanted complete w k x p s next same fair =
     subst (IsWantedBy complete w k (Geo x)) (sym same) (record {
-      is = is;
-      fair = fair_at complete (wanted_by w k (Geo x)) (range_of_place p) is some;
+      is = ap (option_map extent_of_place) next;
+      fair = fair;
       undone = refl;
       first = λ f q base here. first_field complete w k x p next f q here;
     })

@@ -19,7 +19,7 @@ use Rattle.tiff_dir.specs.declared.order.Order.{Order}
 use Rattle.tiff_dir.specs.declared.query.Query.TheVariants.{Info}
 use Rattle.tiff_dir.specs.File.{◌>>=◌, Field, kind_of, size_of, order_of, number, field, field_value, value, values_at, absent_value, has_all_tags}
 use Rattle.tiff_dir.specs.Level.{Grid, Layout, compression_of, grid_at, layout_at, layouts, level_directories, place_of}
-use Rattle.tiff_dir.specs.Needs.{bytes_in, ends_past, range_of_place}
+use Rattle.tiff_dir.specs.Needs.{bytes_in, ends_past, extent_of_place}
 use Rattle.tiff_dir.specs.Number.{number_in}
 use Rattle.tiff_dir.specs.Geo.{geo_place, geo_ranges, item_count}
 use Rattle.tiff_dir.specs.Geo as file
@@ -32,45 +32,45 @@ use Rattle.tiff_dir.specs.Fault.{sides, IsFaultOfDirectories}
 use Rattle.tiff_dir.specs.Faulty.{IsFaulty, IsFaultOfInfo}
 use Rattle.tiff_dir.specs.Query.{needs_of_query}
 use Rattle.geokeys.specs.Doubles.{doubles_in}
-use Rattle.cog_reader.specs.Outcome.{sides_of, items_of}
-use Rattle.cog_reader.specs.Turn.{IsInfoError}
+use Rattle.cog_reader.specs.Outcome.{level_sides, items_of}
+use Rattle.cog_reader.specs.Step.{IsInfoError}
 use Rattle.tiff_dir.specs.Walk.{AreGeoPlaces, AreTyped, IsGeoFieldAt, IsGeoPlace}
 use Rattle.geokeys.specs.Keys as keys
 use Rattle.geokeys.specs.Keys.{number_at}
-use Rattle.cog_reader.specs.Fields.{geo_bytes, len_of, present_in, AreParts, IsReadOf, Reading}
+use Rattle.cog_reader.specs.Fields.{geo_bytes, len_of_field, present_in, AreFieldParts, IsReadOf, FieldsState}
 use Rattle.cog_reader.proofs.FieldLemmas.{geo_ranges_are}
 use Rattle.cog_reader.proofs.SampleLemmas.{same_number}
 
 -- ---- the bytes of a field
 
 abbrev field_bytes : List ℕ → Option Place → List ℕ
-field_bytes f o = option_map_or (λ p. bytes_in f (range_of_place p)) o []
+field_bytes f o = option_map_or (λ p. bytes_in f (extent_of_place p)) o []
 
 bytes_at : (f : List ℕ) (tag : ℕ) (o : Option Place) → IsGeoFieldAt f tag o → field_bytes f o ≡ geo_bytes f tag
 unfolding geo_place
-bytes_at f tag None is = ap (λ o. option_map_or (λ p. bytes_in f (range_of_place p)) (o >>= place_of f) []) (sym is)
-bytes_at f tag (Some p) is = ap (λ o. option_map_or (λ p. bytes_in f (range_of_place p)) o []) (sym is)
+bytes_at f tag None is = ap (λ o. option_map_or (λ p. bytes_in f (extent_of_place p)) (o >>= place_of f) []) (sym is)
+bytes_at f tag (Some p) is = ap (λ o. option_map_or (λ p. bytes_in f (extent_of_place p)) o []) (sym is)
 
 -- the field ends in the file
 abbrev IsInside : List ℕ → Option Place → Type 0
 IsInside f o = IfSome o (λ p. p.first + p.len ≤ length f)
 
-slice_len : (f : List ℕ) (p : Place) → p.first + p.len ≤ length f → length (bytes_in f (range_of_place p)) ≡ p.len
+slice_len : (f : List ℕ) (p : Place) → p.first + p.len ≤ length f → length (bytes_in f (extent_of_place p)) ≡ p.len
 slice_len f p fits = (let cut = length-take (p.first + p.len - p.first) (drop p.first f) in omega (arith, cut, length-drop p.first f, fits))
 
-bytes_len : (f : List ℕ) (o : Option Place) → IsInside f o → length (field_bytes f o) ≡ len_of o
+bytes_len : (f : List ℕ) (o : Option Place) → IsInside f o → length (field_bytes f o) ≡ len_of_field o
 bytes_len f None inside = refl
 bytes_len f (Some p) inside = slice_len f p inside
 
 -- ---- all of them, one after the other
 
-joined_cons : (f : List ℕ) (o : Option Place) (ps : List Place) → flat_map (bytes_in f) (map range_of_place (cons_option o ps)) ≡ field_bytes f o ++ flat_map (bytes_in f) (map range_of_place ps)
+joined_cons : (f : List ℕ) (o : Option Place) (ps : List Place) → flat_map (bytes_in f) (map extent_of_place (cons_option o ps)) ≡ field_bytes f o ++ flat_map (bytes_in f) (map extent_of_place ps)
 joined_cons f None ps = refl
 joined_cons f (Some p) ps = refl
 
-inside_cons : (f : List ℕ) (o : Option Place) (ps : List Place) → list_any (ends_past f) (map range_of_place (cons_option o ps)) ≡ false → IsInside f o × (list_any (ends_past f) (map range_of_place ps) ≡ false)
+inside_cons : (f : List ℕ) (o : Option Place) (ps : List Place) → list_any (ends_past f) (map extent_of_place (cons_option o ps)) ≡ false → IsInside f o × (list_any (ends_past f) (map extent_of_place ps) ≡ false)
 inside_cons f None ps is = (tt, is)
-inside_cons f (Some p) ps is = (let parts = both (ends_past f (range_of_place p)) (list_any (ends_past f) (map range_of_place ps)) is in (ltb-false (length f) (p.first + p.len) parts.0, parts.1)) where
+inside_cons f (Some p) ps is = (let parts = both (ends_past f (extent_of_place p)) (list_any (ends_past f) (map extent_of_place ps)) is in (ltb-false (length f) (p.first + p.len) parts.0, parts.1)) where
   both : (a b : Bool) → (a || b) ≡ false → (a ≡ false) × (b ≡ false)
   both true b is = absurd (false≢true (sym is))
   both false b is = (refl, is)
@@ -103,12 +103,12 @@ pub record AreInside (f : List ℕ) (g : GeoPlaces) : Type 0 where
   pub tiepoints : IsInside f g.tiepoints
   pub transformation : IsInside f g.transformation
 
-all_ranges : (f : List ℕ) (r : Reading) → IsReadOf f r → r.taken ≡ length (present_in r.places) → take r.taken (geo_ranges f) ≡ map range_of_place (present_in r.places)
+all_ranges : (f : List ℕ) (r : FieldsState) → IsReadOf f r → r.given ≡ length (present_in r.places) → take r.given (geo_ranges f) ≡ map extent_of_place (present_in r.places)
 all_ranges f r read all =
     let same = geo_ranges_are f r.places read.places in
-    take_all r.taken (geo_ranges f) (omega (arith, all, ap length same, length-map (present_in r.places) range_of_place)) ∙ same
+    take_all r.given (geo_ranges f) (omega (arith, all, ap length same, length-map (present_in r.places) extent_of_place)) ∙ same
 
-pub all_inside : (f : List ℕ) (r : Reading) → IsReadOf f r → r.taken ≡ length (present_in r.places) → AreInside f r.places
+pub all_inside : (f : List ℕ) (r : FieldsState) → IsReadOf f r → r.given ≡ length (present_in r.places) → AreInside f r.places
 all_inside f r read all =
     let g = r.places in
     let a = inside_cons f g.directory _ (sym (ap (list_any (ends_past f)) (all_ranges f r read all)) ∙ read.inside) in
@@ -119,7 +119,7 @@ all_inside f r read all =
     let h = inside_cons f g.transformation [] e.1 in
     record { directory = a.0; doubles = b.0; ascii = c.0; scale = d.0; tiepoints = e.0; transformation = h.0 }
 
-pub file_parts : (f : List ℕ) (r : Reading) (a b c d e h : List ℕ) → IsReadOf f r → r.taken ≡ length (present_in r.places) → AreParts r.places r.bytes a b c d e h → AreFilesParts f a b c d e h
+pub file_parts : (f : List ℕ) (r : FieldsState) (a b c d e h : List ℕ) → IsReadOf f r → r.given ≡ length (present_in r.places) → AreFieldParts r.places r.bytes a b c d e h → AreFilesParts f a b c d e h
 file_parts f r a b c d e h read all parts =
     let g = r.places in
     let i = all_inside f r read all in
@@ -182,9 +182,9 @@ count_at f tag p is = of_field (field f 0 tag) refl is where
 -- ---- what keys are read from
 
 -- a number of the directory, in its bytes and in the file
-number_same : (f : List ℕ) (order : Order) (p : Place) (i : ℕ) → p.first + p.len ≤ length f → p.len ≡ p.count * 2 → i < p.count → number_in order (2 * i) 2 (bytes_in f (range_of_place p)) ≡ number_in order (p.first + i * 2) 2 f
+number_same : (f : List ℕ) (order : Order) (p : Place) (i : ℕ) → p.first + p.len ≤ length f → p.len ≡ p.count * 2 → i < p.count → number_in order (2 * i) 2 (bytes_in f (extent_of_place p)) ≡ number_in order (p.first + i * 2) 2 f
 number_same f order p i inside len less =
-    same_number order 2 (2 * i) (p.first + i * 2) (bytes_in f (range_of_place p)) f (λ b two.
+    same_number order 2 (2 * i) (p.first + i * 2) (bytes_in f (extent_of_place p)) f (λ b two.
     get_or-take (p.first + p.len - p.first) (drop p.first f) (2 * i + b) 0 (omega (arith, len, less, two)) ∙ get_or-drop p.first f (2 * i + b) 0 ∙ ap (λ k. get_or f k 0) (place i b)) where
       place : (i b : ℕ) → p.first + (2 * i + b) ≡ p.first + i * 2 + b
       place i b = omega arith
@@ -204,21 +204,21 @@ source_value f order (Some p) i named whole is typed inside = at (nat_lt i p.cou
   len : p.len ≡ p.count * 2
   len = typed.1
 
-  size : length (bytes_in f (range_of_place p)) ≡ p.count * 2
+  size : length (bytes_in f (extent_of_place p)) ≡ p.count * 2
   size = slice_len f p inside ∙ len
 
   told : value f 0 34735 i ≡ (if nat_lt i p.count then number f (p.first + i * 2) 2 else None)
   told = value_at f 34735 i p is ∙ ap (λ k. if nat_lt i p.count then number f (p.first + i * size_of k) (size_of k) else None) typed.0
 
-  at : (b : Bool) → nat_lt i p.count ≡ b → (if nat_le (2 * i + 2) (length (bytes_in f (range_of_place p))) then Some (number_in order (2 * i) 2 (bytes_in f (range_of_place p))) else None) ≡ value f 0 34735 i
+  at : (b : Bool) → nat_lt i p.count ≡ b → (if nat_le (2 * i + 2) (length (bytes_in f (extent_of_place p))) then Some (number_in order (2 * i) 2 (bytes_in f (extent_of_place p))) else None) ≡ value f 0 34735 i
   at true less =
       let lt = ltb-true i p.count less in
-      ap (λ b. if b then Some (number_in order (2 * i) 2 (bytes_in f (range_of_place p))) else None) (le-leb (2 * i + 2) (length (bytes_in f (range_of_place p))) (omega (arith, size, lt)))
+      ap (λ b. if b then Some (number_in order (2 * i) 2 (bytes_in f (extent_of_place p))) else None) (le-leb (2 * i + 2) (length (bytes_in f (extent_of_place p))) (omega (arith, size, lt)))
       ∙ ap Some (number_same f order p i inside len lt) ∙ sym (number_there f order (p.first + i * 2) named (omega (arith, inside, len, lt)))
       ∙ sym (ap (λ b. if b then number f (p.first + i * 2) 2 else None) less) ∙ sym told
   at false past =
       let ge = ltb-false i p.count past in
-      ap (λ b. if b then Some (number_in order (2 * i) 2 (bytes_in f (range_of_place p))) else None) (lt-leb (2 * i + 2) (length (bytes_in f (range_of_place p))) (omega (arith, size, ge)))
+      ap (λ b. if b then Some (number_in order (2 * i) 2 (bytes_in f (extent_of_place p))) else None) (lt-leb (2 * i + 2) (length (bytes_in f (extent_of_place p))) (omega (arith, size, ge)))
       ∙ sym (ap (λ b. if b then number f (p.first + i * 2) 2 else None) past) ∙ sym told
 
 source_count : (f : List ℕ) (o : Option Place) → IsGeoFieldAt f 34735 o → IsGeoPlace kind.Short o → IsInside f o
@@ -227,8 +227,8 @@ source_count f None is typed inside = sym (ap (λ o. o >>= λ (e : Field). e.cou
 source_count f (Some p) is typed inside =
     let (e, there, count) = count_at f 34735 p is in
     let size = slice_len f p inside ∙ typed.1 in
-    let some : (length (bytes_in f (range_of_place p)) == 0) ≡ false = ne_eqb (length (bytes_in f (range_of_place p))) 0 (λ none. absurd (let t = typed.2 in omega (arith, none, size, t, typed.1))) in
-    ap (λ b. if b then None else Some (length (bytes_in f (range_of_place p)) / 2)) some ∙ ap (λ n. Some (n / 2)) size ∙ ap Some (half p.count)
+    let some : (length (bytes_in f (extent_of_place p)) == 0) ≡ false = ne_eqb (length (bytes_in f (extent_of_place p))) 0 (λ none. absurd (let t = typed.2 in omega (arith, none, size, t, typed.1))) in
+    ap (λ b. if b then None else Some (length (bytes_in f (extent_of_place p)) / 2)) some ∙ ap (λ n. Some (n / 2)) size ∙ ap Some (half p.count)
     ∙ sym (ap (λ o. o >>= λ (e : Field). e.count) there ∙ count) where
       half : (n : ℕ) → n * 2 / 2 ≡ n
       half n = ap (λ k. k / 2) (plain n) ∙ div-mul-add n 2 0 (omega arith) where
@@ -272,7 +272,7 @@ source_is f order g named are typed inside =
       same e h k = cc
 
 -- the source that keys are read from, in the parts
-pub parts_source : (f : List ℕ) (order : Order) (r : Reading) (a b c d e h : List ℕ) → order_of f ≡ Some order → AreTyped r.places → IsReadOf f r → r.taken ≡ length (present_in r.places) → AreFilesParts f a b c d e h
+pub parts_source : (f : List ℕ) (order : Order) (r : FieldsState) (a b c d e h : List ℕ) → order_of f ≡ Some order → AreTyped r.places → IsReadOf f r → r.given ≡ length (present_in r.places) → AreFilesParts f a b c d e h
     → keys.key_source order a b c ≡ file.key_source f
 parts_source f order r a b c d e h named typed read all parts =
     let g = r.places in
@@ -294,13 +294,13 @@ unfolding IsFaulty
 info_error f (File fault) bad = inr (key_fault f fault bad)
 info_error f Memory bad = tt
 
-none_past : (f : List ℕ) (r : Reading) → IsReadOf f r → r.taken ≡ length (present_in r.places) → list_any (ends_past f) (geo_ranges f) ≡ false
+none_past : (f : List ℕ) (r : FieldsState) → IsReadOf f r → r.given ≡ length (present_in r.places) → list_any (ends_past f) (geo_ranges f) ≡ false
 none_past f r read all =
     let same = geo_ranges_are f r.places read.places in
-    let whole = take_all r.taken (geo_ranges f) (omega (arith, all, ap length same, length-map (present_in r.places) range_of_place)) in
+    let whole = take_all r.given (geo_ranges f) (omega (arith, all, ap length same, length-map (present_in r.places) extent_of_place)) in
     ap (list_any (ends_past f)) (sym whole) ∙ read.inside
 
-pub info_sound : (f : List ℕ) (r : Reading) → ((fault : FileFault) → IsFaultOfDirectories f fault → ⊥) → IsReadOf f r → r.taken ≡ length (present_in r.places)
+pub info_sound : (f : List ℕ) (r : FieldsState) → ((fault : FileFault) → IsFaultOfDirectories f fault → ⊥) → IsReadOf f r → r.given ≡ length (present_in r.places)
     → ((fault : FileFault) → IsFaultOfKeys (file.key_source f) fault → ⊥) → (fault : FileFault) → IsFaulty f Info fault → ⊥
 unfolding IsFaulty needs_of_query
 info_sound f r clean read all sound fault (inl bad) = clean fault bad
@@ -338,16 +338,16 @@ sides_at f k l is =
           let same : record { grid = grid; samples = s; bits = b; compression = c; offsets = o; counts = n } ≡ l = cc in
           ap (λ (m : Layout). two m.grid.width m.grid.length) same
 
-each_sides : (f : List ℕ) (ls : List Level) (ds : List ℕ) → map described ls ≡ map (layout_at f) ds → map Some (map sides_of ls) ≡ map (sides f) ds
+each_sides : (f : List ℕ) (ls : List Level) (ds : List ℕ) → map described ls ≡ map (layout_at f) ds → map Some (map level_sides ls) ≡ map (sides f) ds
 each_sides f [] [] is = refl
 each_sides f [] (d ∷ ds) is = absurd (let e = ap length is in omega (arith, e))
 each_sides f (l ∷ ls) [] is = absurd (let e = ap length is in omega (arith, e))
 each_sides f (l ∷ ls) (d ∷ ds) is =
     let head : described l ≡ layout_at f d = cc in
     let tail : map described ls ≡ map (layout_at f) ds = cc in
-    ap (λ o. o ∷ map Some (map sides_of ls)) (sym (sides_at f d (layout_of l) (sym head))) ∙ ap (λ xs. sides f d ∷ xs) (each_sides f ls ds tail)
+    ap (λ o. o ∷ map Some (map level_sides ls)) (sym (sides_at f d (layout_of l) (sym head))) ∙ ap (λ xs. sides f d ∷ xs) (each_sides f ls ds tail)
 
-pub sides_told : (f : List ℕ) (ls : List Level) → AreLevels f ls → map Some (map sides_of ls) ≡ map (sides f) (level_directories f)
+pub sides_told : (f : List ℕ) (ls : List Level) → AreLevels f ls → map Some (map level_sides ls) ≡ map (sides f) (level_directories f)
 unfolding layouts
 sides_told f ls are = each_sides f ls (level_directories f) are
 
@@ -356,7 +356,7 @@ sides_told f ls are = each_sides f ls (level_directories f) are
 pub items_are : (f : List ℕ) (order : Order) (tag : ℕ) (o : Option Place) (bytes : List ℕ) (items : Option (List (List ℕ))) → IsGeoFieldAt f tag o → bytes ≡ geo_bytes f tag → items ≡ option_map (λ _. doubles_in order bytes) o
     → items ≡ items_of order f tag
 unfolding geo_place
-items_are f order tag None bytes items is same told = told ∙ ap (λ x. option_map (λ p. doubles_in order (bytes_in f (range_of_place p))) (x >>= place_of f)) (sym is)
+items_are f order tag None bytes items is same told = told ∙ ap (λ x. option_map (λ p. doubles_in order (bytes_in f (extent_of_place p))) (x >>= place_of f)) (sym is)
 items_are f order tag (Some p) bytes items is same told =
-    let here : geo_bytes f tag ≡ bytes_in f (range_of_place p) = ap (λ o. option_map_or (λ p. bytes_in f (range_of_place p)) o []) is in
-    told ∙ ap (λ b. Some (doubles_in order b)) (same ∙ here) ∙ sym (ap (option_map (λ p. doubles_in order (bytes_in f (range_of_place p)))) is)
+    let here : geo_bytes f tag ≡ bytes_in f (extent_of_place p) = ap (λ o. option_map_or (λ p. bytes_in f (extent_of_place p)) o []) is in
+    told ∙ ap (λ b. Some (doubles_in order b)) (same ∙ here) ∙ sym (ap (option_map (λ p. doubles_in order (bytes_in f (extent_of_place p)))) is)

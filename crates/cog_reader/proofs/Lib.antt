@@ -1,12 +1,12 @@
 pub mod PaintLemmas
-pub mod WorkLemmas
+pub mod MosaicLemmas
 pub mod SampleLemmas
 pub mod WindowSamples
 pub mod SoundLemmas
 pub mod KeptLemmas
 pub mod FieldLemmas
-pub mod TurnLemmas
-pub mod TakeLemmas
+pub mod StepLemmas
+pub mod GiveLemmas
 pub mod ReaderLemmas
 pub mod InfoLemmas
 pub mod EndLemmas

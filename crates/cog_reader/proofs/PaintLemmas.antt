@@ -8,7 +8,7 @@ use Rattle.std.proofs.lemmas.Grind.{get_or_default_zero}
 use Rattle.std.proofs.lemmas.List.Elements.{All-push}
 use Rattle.tiff_dir.specs.declared.level.Level.{Level}
 use Rattle.tiff_dir.specs.Level.{level_value, segment}
-use Rattle.tiff_dir.specs.Needs.{Range}
+use Rattle.tiff_dir.specs.Needs.{Extent}
 use Rattle.tile_plan.specs.declared.asked.Rectangle.{Rectangle}
 use Rattle.tile_plan.specs.Plan.{Adjoin}
 use Rattle.tile_plan.specs.Canvas.{Picture, IsBlit, byte_at, place}
@@ -17,23 +17,23 @@ use Rattle.cog_reader.specs.Paint.{IsPaint}
 
 -- ---- the bytes of a tile in those of its group
 
-pub adjoin_step : (range : ℕ → Range) (at : ℕ) (ts : List ℕ) (i t end : ℕ) → Adjoin range at (drop i ts) end → i < length ts → t ≡ get_or ts i t
+pub adjoin_step : (range : ℕ → Extent) (at : ℕ) (ts : List ℕ) (i t end : ℕ) → Adjoin range at (drop i ts) end → i < length ts → t ≡ get_or ts i t
     → ((range t).first ≡ at) × Adjoin range (at + (range t).len) (drop (i + 1) ts) end
 adjoin_step range at ts i t end adjoin less is =
     let here : drop i ts ≡ t ∷ drop (i + 1) ts = drop_more ts i t less ∙ ap (λ k. k ∷ drop (i + 1) ts) (sym is) in
     let next = subst (λ l. Adjoin range at l end) here adjoin in
     (next.0, next.1)
 
-pub adjoin_within : (range : ℕ → Range) (at : ℕ) (ts : List ℕ) (end : ℕ) → Adjoin range at ts end → at ≤ end
+pub adjoin_within : (range : ℕ → Extent) (at : ℕ) (ts : List ℕ) (end : ℕ) → Adjoin range at ts end → at ≤ end
 adjoin_within range at [] end is = omega (arith, is)
 adjoin_within range at (t ∷ ts) end (first, rest) = (let more = adjoin_within range (at + (range t).len) ts end rest in omega (arith, more))
 
 -- tile i of some tiles, which end within so many bytes
-pub tile_step : (range : ℕ → Range) (at : ℕ) (ts : List ℕ) (i end : ℕ) → Adjoin range at (drop i ts) end → i < length ts
+pub tile_step : (range : ℕ → Extent) (at : ℕ) (ts : List ℕ) (i end : ℕ) → Adjoin range at (drop i ts) end → i < length ts
     → ((range (get_or ts i 0)).first ≡ at) × Adjoin range (at + (range (get_or ts i 0)).len) (drop (i + 1) ts) end
 tile_step range at ts i end adjoin less = adjoin_step range at ts i (get_or ts i 0) end adjoin less (sym (get_or_default_zero ts i (get_or ts i 0) less))
 
-pub tile_end : (range : ℕ → Range) (first at len : ℕ) (ts : List ℕ) (i : ℕ) → Adjoin range (first + at) (drop i ts) (first + len) → i < length ts → at + (range (get_or ts i 0)).len ≤ len
+pub tile_end : (range : ℕ → Extent) (first at len : ℕ) (ts : List ℕ) (i : ℕ) → Adjoin range (first + at) (drop i ts) (first + len) → i < length ts → at + (range (get_or ts i 0)).len ≤ len
 tile_end range first at len ts i adjoin less =
     let next = tile_step range (first + at) ts i (first + len) adjoin less in
     let within = adjoin_within range (first + at + (range (get_or ts i 0)).len) (drop (i + 1) ts) (first + len) next.1 in

@@ -21,20 +21,20 @@ use Rattle.tiff_dir.specs.declared.fault.FileFault.TheVariants.{PastEnd, TileSiz
 use Rattle.tiff_dir.specs.File.{◌>>=◌, field, value, size_of}
 use Rattle.tiff_dir.specs.Level.{segment, Grid, Layout, level_directory, level_layout, layout_at, grid_at, compression_of, place_of, plain_row, plain_size}
 use Rattle.tiff_dir.specs.Profile.{tiles_along}
-use Rattle.tiff_dir.specs.Needs.{ends_past, field_range, range_of_place}
+use Rattle.tiff_dir.specs.Needs.{ends_past, field_range, extent_of_place}
 use Rattle.tiff_dir.specs.Described.{layout_of}
 use Rattle.tiff_dir.specs.Walk.{IsArrayOf}
 use Rattle.tiff_dir.specs.Fault.{IsFaultOfDirectories}
 use Rattle.tiff_dir.specs.Faulty.{level_compression, level_plain_row, level_plain_size, HasBadPackets, IsFaultOfWindow, IsFaulty, IsWindow}
-use Rattle.tiff_dir.specs.Query as asked
+use Rattle.tiff_dir.specs.Query as queries
 use Rattle.tiff_dir.specs.Query.{array_range, array_ranges, needs_of_query, rectangle, is_outside, is_too_large}
 use Rattle.tiff_dir.specs.Window.{HasSamples, IsUnpacked, IsUnpackedBy}
 use Rattle.tiff_dir.specs.Packets.{Packs}
 use Rattle.tile_plan.specs.Levels.{rectangle_of}
 use Rattle.tile_plan.specs.Plan.{tiles_of}
 use Rattle.cog_reader.specs.declared.arrays.Arrays.{Arrays}
-use Rattle.cog_reader.specs.Mosaic.{Work, IsPainted, IsUnderway}
-use Rattle.cog_reader.proofs.WorkLemmas.{window_is}
+use Rattle.cog_reader.specs.Mosaic.{MosaicState, IsPainted, IsUnderway}
+use Rattle.cog_reader.proofs.MosaicLemmas.{window_is}
 
 -- ---- the arrays are in the file
 
@@ -55,13 +55,13 @@ at_directory f k l is = go (grid_at f k) (value f k 277 0) (value f k 258 0) (va
       let same : record { grid = g; samples = s; bits = b; compression = c; offsets = o; counts = n } ≡ l = cc in
       (ap (λ (m : Layout). Some m.offsets) same, ap (λ (m : Layout). Some m.counts) same)
 
-pub ranges_are : (f : List ℕ) (n : ℕ) (l : Layout) → level_layout f n ≡ Some l → (array_range f n 324 ≡ Some (range_of_place l.offsets)) × (array_range f n 325 ≡ Some (range_of_place l.counts))
+pub ranges_are : (f : List ℕ) (n : ℕ) (l : Layout) → level_layout f n ≡ Some l → (array_range f n 324 ≡ Some (extent_of_place l.offsets)) × (array_range f n 325 ≡ Some (extent_of_place l.counts))
 unfolding level_layout array_range field_range
 ranges_are f n l is = at (level_directory f n) is where
-  at : (o : Option ℕ) → (o >>= layout_at f) ≡ Some l → ((o >>= λ k. field f k 324 >>= place_of f >>= λ p. Some (range_of_place p)) ≡ Some (range_of_place l.offsets))
-      × ((o >>= λ k. field f k 325 >>= place_of f >>= λ p. Some (range_of_place p)) ≡ Some (range_of_place l.counts))
+  at : (o : Option ℕ) → (o >>= layout_at f) ≡ Some l → ((o >>= λ k. field f k 324 >>= place_of f >>= λ p. Some (extent_of_place p)) ≡ Some (extent_of_place l.offsets))
+      × ((o >>= λ k. field f k 325 >>= place_of f >>= λ p. Some (extent_of_place p)) ≡ Some (extent_of_place l.counts))
   at None is = absurd (none-some l is)
-  at (Some k) is = (let parts = at_directory f k l is in (ap (λ o. o >>= λ p. Some (range_of_place p)) parts.0, ap (λ o. o >>= λ p. Some (range_of_place p)) parts.1))
+  at (Some k) is = (let parts = at_directory f k l is in (ap (λ o. o >>= λ p. Some (extent_of_place p)) parts.0, ap (λ o. o >>= λ p. Some (extent_of_place p)) parts.1))
 
 some_size_of : (k : Kind) → 0 < size_of k
 some_size_of kind.Byte = omega arith
@@ -83,7 +83,7 @@ some_product a b x y = omega (arith, mul-le-mul_left a y, x)
 some_along : (side tile : ℕ) → 0 < side → 0 < tile → 0 < tiles_along side tile
 some_along side tile some some_tile = le-div 1 (side + tile - 1) tile some_tile (omega arith)
 
-pub inside_array : (f : List ℕ) (p : Place) (bytes : List ℕ) → IsArrayOf f p bytes → length bytes ≡ p.len → 0 < p.len → ends_past f (range_of_place p) ≡ false
+pub inside_array : (f : List ℕ) (p : Place) (bytes : List ℕ) → IsArrayOf f p bytes → length bytes ≡ p.len → 0 < p.len → ends_past f (extent_of_place p) ≡ false
 inside_array f p bytes is size some =
     let cut : length (take (p.first + p.len - p.first) (drop p.first f)) ≡ min (p.first + p.len - p.first) (length (drop p.first f)) = length-take (p.first + p.len - p.first) (drop p.first f) in
     le-ltb (length f) (p.first + p.len) (omega (arith, cut, length-drop p.first f, ap length is, size))
@@ -104,8 +104,8 @@ array_some l =
     (omega (arith, offsets, l.lens.0), omega (arith, counts, l.lens.1))
 
 -- they end in the file
-arrays_inside : (f : List ℕ) (q : Query) (a : Arrays) (w : Work) → IsUnderway f q a w
-    → (ends_past f (range_of_place a.level.offsets) ≡ false) × (ends_past f (range_of_place a.level.counts) ≡ false)
+arrays_inside : (f : List ℕ) (q : Query) (a : Arrays) (w : MosaicState) → IsUnderway f q a w
+    → (ends_past f (extent_of_place a.level.offsets) ≡ false) × (ends_past f (extent_of_place a.level.counts) ≡ false)
 arrays_inside f q a w u =
     let some = array_some a.level in (
       inside_array f a.level.offsets a.offsets.items u.planned.offsets_are a.offsets_whole some.0,
@@ -114,7 +114,7 @@ arrays_inside f q a w u =
 
 -- ---- each fault
 
-no_past : (f : List ℕ) (q : Query) (a : Arrays) (w : Work) → IsUnderway f q a w → list_any (ends_past f) (needs_of_query f q) ≡ false
+no_past : (f : List ℕ) (q : Query) (a : Arrays) (w : MosaicState) → IsUnderway f q a w → list_any (ends_past f) (needs_of_query f q) ≡ false
 unfolding needs_of_query array_ranges rectangle
 no_past f Info a w u = absurd (none-some (rectangle_of w.picture.rectangle) u.planned.rectangle_is)
 no_past f (Window x y wide tall p) a w u =
@@ -122,28 +122,28 @@ no_past f (Window x y wide tall p) a w u =
     let r = w.picture.rectangle in
     let parts = ranges_are f r.level (layout_of a.level) u.planned.layout_is in
     let inside = arrays_inside f q a w u in
-    list_any-append (ends_past f) (array_ranges f q) (map (λ (g : asked.Group). g.range) (asked.groups f q))
+    list_any-append (ends_past f) (array_ranges f q) (map (λ (g : queries.Group). g.range) (queries.groups f q))
     ∙ ap (λ b. list_any (ends_past f) (array_ranges f q) || b) u.needed.inside ∙ last (list_any (ends_past f) (array_ranges f q)) (two f q a w u parts.0 parts.1 inside.0 inside.1) where
       last : (b : Bool) → b ≡ false → (b || false) ≡ false
       last true is = is
       last false is = refl
 
-      two : (f : List ℕ) (q : Query) (a : Arrays) (w : Work) → IsUnderway f q a w → array_range f w.picture.rectangle.level 324 ≡ Some (range_of_place a.level.offsets)
-          → array_range f w.picture.rectangle.level 325 ≡ Some (range_of_place a.level.counts)
-          → ends_past f (range_of_place a.level.offsets) ≡ false → ends_past f (range_of_place a.level.counts) ≡ false → list_any (ends_past f) (array_ranges f q) ≡ false
+      two : (f : List ℕ) (q : Query) (a : Arrays) (w : MosaicState) → IsUnderway f q a w → array_range f w.picture.rectangle.level 324 ≡ Some (extent_of_place a.level.offsets)
+          → array_range f w.picture.rectangle.level 325 ≡ Some (extent_of_place a.level.counts)
+          → ends_past f (extent_of_place a.level.offsets) ≡ false → ends_past f (extent_of_place a.level.counts) ≡ false → list_any (ends_past f) (array_ranges f q) ≡ false
       two f q a w u first second x y = rw (u.planned.good, u.planned.rectangle_is, first, second, x, y) refl
 
 both_false : (a b : Bool) → (a || b) ≡ false → (a ≡ false) × (b ≡ false)
 both_false true b is = absurd (false≢true (sym is))
 both_false false b is = (refl, is)
 
-no_damage : (f : List ℕ) (q : Query) (a : Arrays) (w : Work) → IsUnderway f q a w → ((t : ℕ) → IsAmong (tiles_of a.level w.picture.rectangle) t → IsPainted f w.picture.rectangle.level w.picture t)
+no_damage : (f : List ℕ) (q : Query) (a : Arrays) (w : MosaicState) → IsUnderway f q a w → ((t : ℕ) → IsAmong (tiles_of a.level w.picture.rectangle) t → IsPainted f w.picture.rectangle.level w.picture t)
     → HasBadPackets f q → ⊥
 no_damage f q a w u painted h =
     let r = w.picture.rectangle in
     let l = a.level in
     let asked_same : h.of_window.asked ≡ rectangle_of r = cc (h.of_window.asked_is, u.planned.rectangle_is) in
-    let level : h.level ≡ r.level = sym h.of_window.level_is ∙ ap (λ (s : asked.Rectangle). s.level) asked_same in
+    let level : h.level ≡ r.level = sym h.of_window.level_is ∙ ap (λ (s : queries.Rectangle). s.level) asked_same in
     let among = subst (λ ts. IsAmong ts h.tile) (window_is f q a r u.planned) h.of_window.among in
     let here = painted h.tile among in
     let bytes_are = subst (λ n. segment f n h.tile ≡ Some h.bytes) level h.bytes_are in
@@ -155,7 +155,7 @@ no_damage f q a w u painted h =
     let packs = subst (λ c. IsUnpackedBy c (plain_row (layout_of l)) (plain_size (layout_of l)) here.bytes here.plain) packed unpacked in
     h.wrong here.plain (packs.0 ∙ size) (subst (λ b. Packs h.row b here.plain) bytes (subst (λ n. Packs n here.bytes here.plain) row packs.1))
 
-no_fault_of_window : (f : List ℕ) (q : Query) (a : Arrays) (w : Work) (fault : FileFault) → IsUnderway f q a w
+no_fault_of_window : (f : List ℕ) (q : Query) (a : Arrays) (w : MosaicState) (fault : FileFault) → IsUnderway f q a w
     → ((t : ℕ) → IsAmong (tiles_of a.level w.picture.rectangle) t → IsPainted f w.picture.rectangle.level w.picture t) → IsFaultOfWindow f q fault → ⊥
 no_fault_of_window f q a w PastEnd u painted bad = false≢true (sym (no_past f q a w u) ∙ bad)
 no_fault_of_window f q a w TileSize u painted bad = u.needed.right bad
@@ -164,7 +164,7 @@ no_fault_of_window f q a w Outside u painted bad = false≢true (sym (both_false
 no_fault_of_window f q a w TooLarge u painted bad = false≢true (sym (both_false (is_outside f q) (is_too_large f q) u.planned.good).1 ∙ bad)
 no_fault_of_window f q a w _ u painted bad = absurd bad
 
-pub whole_window : (f : List ℕ) (q : Query) (a : Arrays) (w : Work) (v : List ℕ) → IsUnderway f q a w → ((t : ℕ) → IsAmong (tiles_of a.level w.picture.rectangle) t → IsPainted f w.picture.rectangle.level w.picture t)
+pub whole_window : (f : List ℕ) (q : Query) (a : Arrays) (w : MosaicState) (v : List ℕ) → IsUnderway f q a w → ((t : ℕ) → IsAmong (tiles_of a.level w.picture.rectangle) t → IsPainted f w.picture.rectangle.level w.picture t)
     → ((fault : FileFault) → IsFaultOfDirectories f fault → ⊥) → HasSamples f (rectangle_of w.picture.rectangle) v → IsWindow f q v
 unfolding IsFaulty rectangle
 whole_window f Info a w v u painted clean samples = absurd (none-some (rectangle_of w.picture.rectangle) u.planned.rectangle_is)

@@ -21,7 +21,7 @@ use Rattle.tile_plan.specs.Levels.{rectangle_of}
 use Rattle.tile_plan.specs.Covered.{TilesCover}
 use Rattle.tile_plan.specs.Canvas.{Picture, picture_size}
 use Rattle.cog_reader.specs.declared.arrays.Arrays.{Arrays}
-use Rattle.cog_reader.specs.Mosaic.{Work, tiles_in, IsPainted, IsUnderway}
+use Rattle.cog_reader.specs.Mosaic.{MosaicState, tiles_of_groups, IsPainted, IsUnderway}
 use Rattle.cog_reader.specs.Samples.{sample_at, samples_in}
 use Rattle.cog_reader.proofs.SampleLemmas.{same_number, depth}
 
@@ -136,13 +136,13 @@ filled f n order p new is level same turned =
       )
 
 -- each tile of the window is on the picture
-pub painted_all : (f : List ℕ) (q : Query) (a : Arrays) (w : Work) → IsUnderway f q a w → w.taken ≡ length w.groups → (t : ℕ) → IsAmong (tiles_of a.level w.picture.rectangle) t
+pub painted_all : (f : List ℕ) (q : Query) (a : Arrays) (w : MosaicState) → IsUnderway f q a w → w.given ≡ length w.groups → (t : ℕ) → IsAmong (tiles_of a.level w.picture.rectangle) t
     → IsPainted f w.picture.rectangle.level w.picture t
 painted_all f q a w u done t among =
-    let all = subst (All (IsPainted f w.picture.rectangle.level w.picture)) (ap tiles_in (take_all w.taken w.groups (omega (arith, done))) ∙ u.are.tiles) u.painted in
+    let all = subst (All (IsPainted f w.picture.rectangle.level w.picture)) (ap tiles_of_groups (take_all w.given w.groups (omega (arith, done))) ∙ u.are.tiles) u.painted in
     subst (IsPainted f w.picture.rectangle.level w.picture) (sym among.1.1) (all among.0 t among.1.0)
 
-pub window_is : (f : List ℕ) (q : Query) (a : Arrays) (w : Work) (new : List ℕ) → TilesCover → IsUnderway f q a w → w.taken ≡ length w.groups → length new ≡ length w.picture.bytes
+pub window_is : (f : List ℕ) (q : Query) (a : Arrays) (w : MosaicState) (new : List ℕ) → TilesCover → IsUnderway f q a w → w.given ≡ length w.groups → length new ≡ length w.picture.bytes
     → ((k : ℕ) → k * sample_bytes a.level.bits + sample_bytes a.level.bits ≤ length w.picture.bytes
     → sample_at a.level.bits new k ≡ number_in a.order (k * sample_bytes a.level.bits) (sample_bytes a.level.bits) w.picture.bytes)
     → HasSamples f (rectangle_of w.picture.rectangle) (samples_in a.level.bits new)

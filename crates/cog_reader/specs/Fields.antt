@@ -5,7 +5,7 @@ use Rattle.std.specs.List.{filter_map, flat_map, list_any, sum_by}
 use Rattle.tiff_dir.specs.declared.geo.GeoPlaces.{GeoPlaces}
 use Rattle.tiff_dir.specs.declared.level.Place.{Place}
 use Rattle.tiff_dir.specs.Geo.{geo_place, geo_ranges}
-use Rattle.tiff_dir.specs.Needs.{ends_past, range_of_place}
+use Rattle.tiff_dir.specs.Needs.{ends_past, extent_of_place}
 use Rattle.tiff_dir.specs.Walk.{AreGeoPlaces, AreTyped, bytes_in}
 
 -- the places of the six fields in the order in which they are read
@@ -20,38 +20,38 @@ abbrev pub total : List Place → ℕ
 total ps = sum_by (λ (p : Place). p.len) ps
 
 -- where the geo fields stand, how many of them were read, and the bytes of those, one after the other
-pub record Reading : Type 0 where
+pub record FieldsState : Type 0 where
   pub places : GeoPlaces
-  pub taken : ℕ
+  pub given : ℕ
   pub bytes : List ℕ
 
 -- the bounds that it keeps: all bytes of the fields that were read are there
-pub record IsReading (places : GeoPlaces) (present : List Place) (taken : ℕ) (bytes : List ℕ) : Type 0 where
+pub record AreFields (places : GeoPlaces) (present : List Place) (given : ℕ) (bytes : List ℕ) : Type 0 where
   pub typed : AreTyped places
   pub all : present ≡ present_in places
-  pub within : taken ≤ length present
-  pub whole : length bytes ≡ total (take taken present)
+  pub within : given ≤ length present
+  pub whole : length bytes ≡ total (take given present)
 
 -- how many bytes a field has: none where it is absent
-abbrev pub len_of : Option Place → ℕ
-len_of o = option_map_or (λ (p : Place). p.len) o 0
+abbrev pub len_of_field : Option Place → ℕ
+len_of_field o = option_map_or (λ (p : Place). p.len) o 0
 
 -- the bytes of a geo field of the file, none where it is absent
 abbrev pub geo_bytes : List ℕ → ℕ → List ℕ
-geo_bytes f tag = option_map_or (λ p. bytes_in f (range_of_place p)) (geo_place f tag) []
+geo_bytes f tag = option_map_or (λ p. bytes_in f (extent_of_place p)) (geo_place f tag) []
 
 -- The bytes are those of the six fields, one after the other.
-pub record AreParts (p : GeoPlaces) (bytes directory doubles ascii scale tiepoints transformation : List ℕ) : Type 0 where
+pub record AreFieldParts (p : GeoPlaces) (bytes directory doubles ascii scale tiepoints transformation : List ℕ) : Type 0 where
   pub joined : bytes ≡ directory ++ (doubles ++ (ascii ++ (scale ++ (tiepoints ++ transformation))))
-  pub directory_len : length directory ≡ len_of p.directory
-  pub doubles_len : length doubles ≡ len_of p.doubles
-  pub ascii_len : length ascii ≡ len_of p.ascii
-  pub scale_len : length scale ≡ len_of p.scale
-  pub tiepoints_len : length tiepoints ≡ len_of p.tiepoints
-  pub transformation_len : length transformation ≡ len_of p.transformation
+  pub directory_len : length directory ≡ len_of_field p.directory
+  pub doubles_len : length doubles ≡ len_of_field p.doubles
+  pub ascii_len : length ascii ≡ len_of_field p.ascii
+  pub scale_len : length scale ≡ len_of_field p.scale
+  pub tiepoints_len : length tiepoints ≡ len_of_field p.tiepoints
+  pub transformation_len : length transformation ≡ len_of_field p.transformation
 
 -- The places are the file's, and the bytes are those of the first ranges, which end in the file.
-pub record IsReadOf (f : List ℕ) (r : Reading) : Type 0 where
+pub record IsReadOf (f : List ℕ) (r : FieldsState) : Type 0 where
   pub places : AreGeoPlaces f r.places
-  pub bytes_are : r.bytes ≡ flat_map (bytes_in f) (take r.taken (geo_ranges f))
-  pub inside : list_any (ends_past f) (take r.taken (geo_ranges f)) ≡ false
+  pub bytes_are : r.bytes ≡ flat_map (bytes_in f) (take r.given (geo_ranges f))
+  pub inside : list_any (ends_past f) (take r.given (geo_ranges f)) ≡ false

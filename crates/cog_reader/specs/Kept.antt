@@ -2,18 +2,24 @@
 use Rattle.std.specs.Prelude.{◌≡◌, ℕ, ⊤, ◌==◌, if◌then◌else◌, List, length, slice_get, Option, Some, None, IsSomeAnd}
 use Rattle.tiff_dir.specs.declared.level.Level.{Level}
 use Rattle.tiff_dir.specs.declared.level.Place.{Place}
-use Rattle.tiff_dir.specs.Known.{Known}
+use Rattle.tiff_dir.specs.WalkState.{WalkState}
 use Rattle.tiff_dir.specs.Query.{array_range}
 use Rattle.tiff_dir.specs.Walk.{levels_of, HasEnded, bytes_in}
+use Rattle.cog_reader.specs.declared.arrays.Arrays.{Arrays}
 use Rattle.cog_reader.specs.declared.kept.Kept.{Kept}
 use Rattle.cog_reader.specs.declared.kept.Kept.TheVariants.{Nothing, Offsets, Both}
 use Rattle.cog_reader.specs.Mosaic.{AreArraysOf}
 
 -- how many arrays of level n are kept
-abbrev pub held : Kept → ℕ → ℕ
-held Nothing n = 0
-held (Offsets k offsets) n = if k == n then 1 else 0
-held (Both k arrays) n = if k == n then 2 else 0
+abbrev pub arrays_held : Kept → ℕ → ℕ
+arrays_held Nothing n = 0
+arrays_held (Offsets k offsets) n = if k == n then 1 else 0
+arrays_held (Both k arrays) n = if k == n then 2 else 0
+
+-- both arrays of a level are kept, and this holds of them
+abbrev pub HasBoth : Kept → (Arrays → Type 0) → Type 0
+HasBoth (Both n arrays) P = P arrays
+HasBoth _ P = ⊥
 
 -- where the next array of the level stands that is to be read
 abbrev pub next_array : Kept → ℕ → Level → Option Place
@@ -28,14 +34,14 @@ HoldsOffsets (Offsets k offsets) n l = k ≡ n → length offsets.items ≡ l.of
 HoldsOffsets (Both k arrays) n l = ⊤
 
 -- they are of a level of a walk that has ended
-abbrev pub IsKeptOf : Known → Kept → Type 0
+abbrev pub IsKeptOf : WalkState → Kept → Type 0
 IsKeptOf w Nothing = ⊤
 IsKeptOf w (Offsets n offsets) =
     HasEnded w × IsSomeAnd (slice_get (levels_of w) n) (λ l. length offsets.items ≡ l.offsets.len)
 IsKeptOf w (Both n arrays) = HasEnded w × (slice_get (levels_of w) n ≡ Some arrays.level)
 
 -- they are the file's
-abbrev pub AreKept : List ℕ → Kept → Type 0
-AreKept f Nothing = ⊤
-AreKept f (Offsets n offsets) = IsSomeAnd (array_range f n 324) (λ r. offsets.items ≡ bytes_in f r)
-AreKept f (Both n arrays) = AreArraysOf f n arrays
+abbrev pub KeptAgrees : List ℕ → Kept → Type 0
+KeptAgrees f Nothing = ⊤
+KeptAgrees f (Offsets n offsets) = IsSomeAnd (array_range f n 324) (λ r. offsets.items ≡ bytes_in f r)
+KeptAgrees f (Both n arrays) = AreArraysOf f n arrays

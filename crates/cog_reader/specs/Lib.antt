@@ -1,10 +1,10 @@
 pub mod Fields
+pub mod Give
 pub mod Kept
 pub mod Mosaic
-pub mod Next
+pub mod NextArray
 pub mod Outcome
 pub mod Paint
 pub mod Reader
 pub mod Samples
-pub mod Take
-pub mod Turn
+pub mod Step

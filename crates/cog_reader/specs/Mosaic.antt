@@ -9,9 +9,9 @@ use Rattle.tiff_dir.specs.Packets.{Packs}
 use Rattle.tiff_dir.specs.declared.query.Query.{Query}
 use Rattle.tiff_dir.specs.File.{order_of}
 use Rattle.tiff_dir.specs.Level.{level_layout, segment, plain_row, plain_size, tile_total}
-use Rattle.tiff_dir.specs.Needs.{Range}
+use Rattle.tiff_dir.specs.Needs.{Extent}
 use Rattle.tiff_dir.specs.Described.{grid_of, layout_of}
-use Rattle.tiff_dir.specs.Walk.{IsArrayOf, bytes_in, range_of_span}
+use Rattle.tiff_dir.specs.Walk.{IsArrayOf, bytes_in, extent_of_span}
 use Rattle.tiff_dir.specs.Window.{tile_at, IsUnpacked}
 use Rattle.tile_plan.specs.declared.plan.Group.{Group}
 use Rattle.tile_plan.specs.Plan.{Adjoin, range_in, AreGroups, AreNeeded, IsPlanned}
@@ -19,19 +19,19 @@ use Rattle.tile_plan.specs.Levels.{IsSmall}
 use Rattle.tile_plan.specs.Canvas.{Picture, picture_size, pixel_bytes, byte_at, byte_in_tile}
 use Rattle.cog_reader.specs.declared.arrays.Arrays.{Arrays}
 
--- the groups of the window, how many of them were taken, and the picture so far
-pub record Work : Type 0 where
+-- the groups of the window, how many of them were given, and the picture so far
+pub record MosaicState : Type 0 where
   pub groups : List Group
-  pub taken : ℕ
+  pub given : ℕ
   pub picture : Picture
 
 -- where the arrays say that a tile stands
-abbrev pub range_of : Arrays → ℕ → Range
-range_of a = range_in a.order a.level a.offsets.items a.counts.items
+abbrev pub tile_extent : Arrays → ℕ → Extent
+tile_extent a = range_in a.order a.level a.offsets.items a.counts.items
 
 -- the tiles of some groups
-abbrev pub tiles_in : List Group → List ℕ
-tiles_in gs = flat_map (λ g. g.tiles.items) gs
+abbrev pub tiles_of_groups : List Group → List ℕ
+tiles_of_groups gs = flat_map (λ g. g.tiles.items) gs
 
 -- tile t of level n of the file is on the picture: its pixels have the bytes that its segment stands for
 pub record IsPainted (f : List ℕ) (n : ℕ) (p : Picture) (t : ℕ) : Type 0 where
@@ -52,38 +52,38 @@ pub record AreArraysOf (f : List ℕ) (n : ℕ) (a : Arrays) : Type 0 where
   pub counts_are : IsArrayOf f a.level.counts a.counts.items
 
 -- the groups are those that the arrays give for the picture's rectangle, in a file of so many bytes
-pub record IsPlan (complete : ℕ) (a : Arrays) (w : Work) : Type 0 where
+pub record IsPlan (complete : ℕ) (a : Arrays) (w : MosaicState) : Type 0 where
   pub level : w.picture.level ≡ a.level
-  pub are : AreGroups (range_of a) a.level w.picture.rectangle complete w.groups
+  pub are : AreGroups (tile_extent a) a.level w.picture.rectangle complete w.groups
 
-abbrev pub HasPlan : Arrays → Work → Type 0
+abbrev pub HasPlan : Arrays → MosaicState → Type 0
 HasPlan a w = (complete : ℕ) × IsPlan complete a w
 
--- The work is the query's in this file: its groups are those that the query needs, and the tiles of those that were taken
+-- The work is the query's in this file: its groups are those that the query needs, and the tiles of those that were given
 -- are on the picture.
-pub record IsUnderway (f : List ℕ) (q : Query) (a : Arrays) (w : Work) : Type 0 where
+pub record IsUnderway (f : List ℕ) (q : Query) (a : Arrays) (w : MosaicState) : Type 0 where
   pub planned : IsPlanned f q a.order a.level w.picture.rectangle (length f) a.offsets.items a.counts.items
-  pub are : AreGroups (range_of a) a.level w.picture.rectangle (length f) w.groups
+  pub are : AreGroups (tile_extent a) a.level w.picture.rectangle (length f) w.groups
   pub level : w.picture.level ≡ a.level
   pub small : IsSmall a.level w.picture.rectangle
   pub size : length w.picture.bytes ≡ picture_size a.level w.picture.rectangle
   pub needed : AreNeeded f q w.groups
-  pub painted : All (IsPainted f w.picture.rectangle.level w.picture) (tiles_in (take w.taken w.groups))
+  pub painted : All (IsPainted f w.picture.rectangle.level w.picture) (tiles_of_groups (take w.given w.groups))
 
 -- the bytes of the file that are wanted next
-abbrev pub IsNextOf : List ℕ → Work → List ℕ → Type 0
-IsNextOf f w bytes = IsSomeAnd (slice_get w.groups w.taken) (λ g. bytes ≡ bytes_in f (range_of_span g.span))
+abbrev pub IsWantedGroup : List ℕ → MosaicState → List ℕ → Type 0
+IsWantedGroup f w bytes = IsSomeAnd (slice_get w.groups w.given) (λ g. bytes ≡ bytes_in f (extent_of_span g.span))
 
 -- as many bytes as are wanted next
-abbrev pub IsNext : Work → ℕ → Type 0
-IsNext w len = IsSomeAnd (slice_get w.groups w.taken) (λ g. len ≡ (range_of_span g.span).len)
+abbrev pub IsGroupLen : MosaicState → ℕ → Type 0
+IsGroupLen w len = IsSomeAnd (slice_get w.groups w.given) (λ g. len ≡ (extent_of_span g.span).len)
 
 -- tiles that stand one after the other and have so many bytes, of which plain ones are each as long as its samples
 pub record IsWhole (a : Arrays) (ts : List ℕ) (len : ℕ) : Type 0 where
   pub within : All (λ t. t < tile_total (grid_of a.level)) ts
-  pub plain : All (λ t. a.level.compression ≡ Plain → (range_of a t).len ≡ plain_size (layout_of a.level)) ts
+  pub plain : All (λ t. a.level.compression ≡ Plain → (tile_extent a t).len ≡ plain_size (layout_of a.level)) ts
   pub first : ℕ
-  pub adjoin : Adjoin (range_of a) first ts (first + len)
+  pub adjoin : Adjoin (tile_extent a) first ts (first + len)
 
 -- these are the bytes of the file from one place on
 pub record AreBytesOf (f : List ℕ) (first : ℕ) (bytes : List ℕ) : Type 0 where

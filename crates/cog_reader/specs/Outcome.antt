@@ -11,7 +11,7 @@ use Rattle.tiff_dir.specs.Fault.{sides}
 use Rattle.tiff_dir.specs.Faulty.{IsFaulty, IsWindow}
 use Rattle.tiff_dir.specs.Geo.{geo_place, key_source}
 use Rattle.tiff_dir.specs.Level.{level_directories, level_value}
-use Rattle.tiff_dir.specs.Needs.{range_of_place}
+use Rattle.tiff_dir.specs.Needs.{extent_of_place}
 use Rattle.tiff_dir.specs.Profile.{sample_bytes}
 use Rattle.tiff_dir.specs.Query.{Rectangle, rectangle}
 use Rattle.tiff_dir.specs.Walk.{bytes_in}
@@ -25,8 +25,8 @@ use Rattle.cog_reader.specs.Fields.{geo_bytes}
 use Rattle.cog_reader.specs.Samples.{samples_in}
 
 -- the width and the length of a level
-abbrev pub sides_of : Level → ℕ × ℕ
-sides_of l = (l.width, l.length)
+abbrev pub level_sides : Level → ℕ × ℕ
+level_sides l = (l.width, l.length)
 
 -- The window is the one that the query asks for, and its bytes are the window's samples.
 pub record IsWindowOf (f : List ℕ) (q : Query) (v : Window) : Type 0 where
@@ -41,7 +41,7 @@ pub record IsWindowOf (f : List ℕ) (q : Query) (v : Window) : Type 0 where
 
 -- the items of eight bytes of a geo field, if it is there, each with its most significant byte first
 abbrev pub items_of : Order → List ℕ → ℕ → Option (List (List ℕ))
-items_of order f tag = option_map (λ p. doubles_in order (bytes_in f (range_of_place p))) (geo_place f tag)
+items_of order f tag = option_map (λ p. doubles_in order (bytes_in f (extent_of_place p))) (geo_place f tag)
 
 -- Nothing is wrong with the file for Info, and it says these sides, keys and items (OGC 19-008, sections 7 and 8).
 pub record IsInfoOf (f : List ℕ) (i : Info) : Type 0 where

@@ -19,13 +19,13 @@ impl Arrays {
     ghost use Rattle.tiff_dir.specs.Described.{grid_of};
     ghost use Rattle.tiff_dir.specs.Level.{tile_total};
     ghost use Rattle.tile_plan.specs.Plan.{IsRangeOf};
-    ghost use Rattle.cog_reader.specs.Mosaic.{range_of, AreArraysOf};
+    ghost use Rattle.cog_reader.specs.Mosaic.{tile_extent, AreArraysOf};
 
     /// How many bytes a tile has.
     pub fn len_of(&self, tile: u32) -> usize
         requires { tile < tile_total (grid_of self.now.level) }
-        ensures len { result ≡ (range_of self.now tile).len }
-        ensures values { (f : List ℕ) (n : ℕ) → AreArraysOf f n self.now → IsRangeOf f n tile (range_of self.now tile) }
+        ensures len { result ≡ (tile_extent self.now tile).len }
+        ensures values { (f : List ℕ) (n : ℕ) → AreArraysOf f n self.now → IsRangeOf f n tile (tile_extent self.now tile) }
     {
         let (_, len) = tile_of(self.order, &self.level, tile, &self.offsets, &self.counts);
         len as usize

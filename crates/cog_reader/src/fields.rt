@@ -2,7 +2,7 @@
 ghost use Rattle.std.specs.Prelude.{◌≡◌, ◌+◌, ◌++◌, ◌≤◌, ℕ, List, [], drop, IfOk, IsSomeAnd, None, OnErr, OnOk, length, slice_get, take};
 ghost use Rattle.std.specs.Option.{option_to_list};
 ghost use Rattle.tiff_dir.specs.Walk.{AreTyped, IsArrayOf};
-ghost use Rattle.cog_reader.specs.Fields.{len_of, present_in, AreParts, IsReadOf};
+ghost use Rattle.cog_reader.specs.Fields.{len_of_field, present_in, AreFieldParts, IsReadOf};
 
 use std::alloc::Global;
 use std::marker::Model;
@@ -14,18 +14,18 @@ pub struct Fields {
     places: GeoPlaces,
     /// The places of those that are there, in the order in which they are read.
     present: Vec<Place>,
-    taken: usize,
+    given: usize,
     bytes: Vec<u8>,
 }
 
 impl Model for Fields {
-    ghost use Rattle.cog_reader.specs.Fields.{Reading, IsReading};
+    ghost use Rattle.cog_reader.specs.Fields.{FieldsState, AreFields};
 
-    ghost Value = { Reading };
+    ghost Value = { FieldsState };
 
-    ghost view = { λ x. record { places = x.places; taken = x.taken; bytes = x.bytes.items } };
+    ghost view = { λ x. record { places = x.places; given = x.given; bytes = x.bytes.items } };
 
-    ghost invariant = { λ x. IsReading x.places x.present.items x.taken x.bytes.items };
+    ghost invariant = { λ x. AreFields x.places x.present.items x.given x.bytes.items };
 }
 
 /// The bytes of the six fields; those of an absent one are none.
@@ -51,9 +51,9 @@ fn add(present: &mut Vec<Place>, place: Option<Place>) -> Result<(), Memory>
 
 /// Cuts a field's bytes off the front.
 fn cut(place: Option<Place>, bytes: &[u8]) -> (&[u8], &[u8])
-    requires { len_of place ≤ length bytes.now }
-    ensures front { result.0.now ≡ take (len_of place) bytes.now }
-    ensures rest { result.1.now ≡ drop (len_of place) bytes.now }
+    requires { len_of_field place ≤ length bytes.now }
+    ensures front { result.0.now ≡ take (len_of_field place) bytes.now }
+    ensures rest { result.1.now ≡ drop (len_of_field place) bytes.now }
 {
     match place {
         Some(place) => bytes.split_at(place.len as usize),
@@ -65,7 +65,7 @@ impl Fields {
     /// None of them was read.
     pub fn new(alloc: Global, places: GeoPlaces) -> Result<Fields, Memory>
         requires { AreTyped places }
-        ensures { IfOk result (λ x. x ≡ record { places = places; taken = 0; bytes = [] }) }
+        ensures { IfOk result (λ x. x ≡ record { places = places; given = 0; bytes = [] }) }
     {
         let mut present = Vec::new(alloc);
         add(&mut present, places.directory)?;
@@ -77,7 +77,7 @@ impl Fields {
         Ok(Fields {
             places,
             present,
-            taken: 0,
+            given: 0,
             bytes: Vec::new(alloc),
         })
     }
@@ -92,32 +92,32 @@ impl Fields {
 
     /// Where the next field stands that is to be read.
     pub fn next(&self) -> Option<Place>
-        ensures next { result ≡ slice_get (present_in self.now.places) self.now.taken }
+        ensures next { result ≡ slice_get (present_in self.now.places) self.now.given }
         ensures typed { AreTyped self.now.places }
         // There is none exactly where all were read.
-        ensures end { result ≡ None → self.now.taken ≡ length (present_in self.now.places) }
+        ensures end { result ≡ None → self.now.given ≡ length (present_in self.now.places) }
     {
-        self.present.get(self.taken).copied()
+        self.present.get(self.given).copied()
     }
 
     /// Takes the bytes of the next field.
     pub fn give(&mut self, bytes: &[u8]) -> Result<(), Memory>
-        requires { IsSomeAnd (slice_get (present_in self.old.places) self.old.taken) (λ p. length bytes.now ≡ p.len) }
-        ensures given { OnOk result (self.new ≡ record self.old { taken = self.old.taken + 1; bytes = self.old.bytes ++ bytes.now }) }
+        requires { IsSomeAnd (slice_get (present_in self.old.places) self.old.given) (λ p. length bytes.now ≡ p.len) }
+        ensures given { OnOk result (self.new ≡ record self.old { given = self.old.given + 1; bytes = self.old.bytes ++ bytes.now }) }
         ensures fields { OnOk result ((f : List ℕ) → IsReadOf f self.old
-            → IsSomeAnd (slice_get (present_in self.old.places) self.old.taken) (λ p. IsArrayOf f p bytes.now) → IsReadOf f self.new) }
+            → IsSomeAnd (slice_get (present_in self.old.places) self.old.given) (λ p. IsArrayOf f p bytes.now) → IsReadOf f self.new) }
         ensures err { OnErr result (self.new ≡ self.old) }
     {
         self.bytes.extend_from_slice(bytes)?;
-        self.taken += 1;
+        self.given += 1;
         Ok(())
     }
 
     /// The bytes of each field. All were read.
     pub fn parts(&self) -> Parts<'_>
-        requires { self.now.taken ≡ length (present_in self.now.places) }
+        requires { self.now.given ≡ length (present_in self.now.places) }
         ensures typed { AreTyped self.now.places }
-        ensures parts { AreParts self.now.places self.now.bytes result.directory.now result.doubles.now result.ascii.now
+        ensures parts { AreFieldParts self.now.places self.now.bytes result.directory.now result.doubles.now result.ascii.now
             result.scale.now result.tiepoints.now result.transformation.now }
     {
         let (directory, rest) = cut(self.places.directory, &self.bytes);

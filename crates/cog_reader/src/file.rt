@@ -6,7 +6,14 @@ use crate::{Outcome, Reader};
 use std::alloc::Global;
 use tiff_dir::{Memory, Query};
 
-/// The answer to a query of a file in memory.
+/// The answer to a query of a TIFF file in memory, a fault of the file included. `Memory` is the only error.
+///
+/// ```
+/// let query = Query::Window { x: 0, y: 0, w: 16, h: 16, pick: Pick::Level(0) };
+/// if let Outcome::Window(window) = read_file(rt.alloc(), &file, query)? {
+///     println!(rt; "{} by {} pixels", window.w, window.h)?;
+/// }
+/// ```
 pub fn read_file(alloc: Global, file: &[u8], query: Query) -> Result<Outcome, Memory>
     ensures { IfOk result (IsTrueOf file.now query) }
 {

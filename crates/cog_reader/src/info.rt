@@ -1,11 +1,11 @@
 //! What georeferences an image, by the bytes of its geo fields.
 ghost use Rattle.std.specs.Prelude.{◌≡◌, ◌%◌, ℕ, List, Some, IfErr, IfOk, length, map};
 ghost use Rattle.std.specs.Option.{option_map};
-ghost use Rattle.tiff_dir.specs.Walk.{Agrees, HasEnded};
+ghost use Rattle.tiff_dir.specs.Walk.{WalkAgrees, HasEnded};
 ghost use Rattle.geokeys.specs.Doubles.{doubles_in};
 ghost use Rattle.cog_reader.specs.Fields.{present_in, IsReadOf};
-ghost use Rattle.cog_reader.specs.Outcome.{sides_of, IsInfoOf};
-ghost use Rattle.cog_reader.specs.Turn.{IsInfoError};
+ghost use Rattle.cog_reader.specs.Outcome.{level_sides, IsInfoOf};
+ghost use Rattle.cog_reader.specs.Step.{IsInfoError};
 
 use crate::Info;
 use crate::fields::Fields;
@@ -15,7 +15,7 @@ use tiff_dir::{Level, Memory, Order, Place, Walk};
 
 /// The sides of the levels.
 fn sides(alloc: Global, levels: &[Level]) -> Result<Vec<(u32, u32)>, Memory>
-    ensures { IfOk result (λ v. v.items ≡ map sides_of levels.now) }
+    ensures { IfOk result (λ v. v.items ≡ map level_sides levels.now) }
 {
     Ok(
         levels
@@ -44,9 +44,9 @@ fn items(
 /// What the file says, whose geo fields were all read, or what is wrong with its keys.
 pub fn info(alloc: Global, walk: &Walk, fields: &Fields) -> Result<Info, GeoError>
     requires ended { HasEnded walk.now }
-    requires read { fields.now.taken ≡ length (present_in fields.now.places) }
-    ensures info { IfOk result (λ i. (f : List ℕ) → Agrees walk.now f → IsReadOf f fields.now → IsInfoOf f i) }
-    ensures refused { IfErr result (λ e. (f : List ℕ) → Agrees walk.now f → IsReadOf f fields.now → IsInfoError f e) }
+    requires read { fields.now.given ≡ length (present_in fields.now.places) }
+    ensures info { IfOk result (λ i. (f : List ℕ) → WalkAgrees walk.now f → IsReadOf f fields.now → IsInfoOf f i) }
+    ensures refused { IfErr result (λ e. (f : List ℕ) → WalkAgrees walk.now f → IsReadOf f fields.now → IsInfoError f e) }
 {
     let order = walk.order();
     let parts = fields.parts();

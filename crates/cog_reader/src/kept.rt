@@ -1,11 +1,12 @@
 //! The tile arrays of the level last read.
-ghost use Rattle.std.specs.Prelude.{◌≡◌, ◌+◌, ℕ, List, Some, IsSomeAnd, OnErr, OnOk, length, slice_get};
+ghost use Rattle.std.specs.Prelude.{◌≡◌, ◌+◌, ℕ, ⊤, List, Some, IsSomeAnd, OnErr, OnOk, length, slice_get};
 ghost use Rattle.tiff_dir.specs.Described.{layout_of};
 ghost use Rattle.tiff_dir.specs.File.{order_of};
-ghost use Rattle.tiff_dir.specs.Known.{Known};
+ghost use Rattle.tiff_dir.specs.WalkState.{WalkState};
 ghost use Rattle.tiff_dir.specs.Level.{level_layout};
 ghost use Rattle.tiff_dir.specs.Walk.{levels_of, HasEnded, IsArrayOf};
-ghost use Rattle.cog_reader.specs.Kept.{held, next_array, AreKept, HoldsOffsets, IsKeptOf};
+ghost use Rattle.cog_reader.specs.Kept.{arrays_held, next_array, HasBoth, HoldsOffsets, IsKeptOf, KeptAgrees};
+ghost use Rattle.cog_reader.specs.declared.kept.Kept.TheVariants as kept;
 
 use crate::arrays::Arrays;
 use std::alloc::Global;
@@ -21,25 +22,36 @@ pub enum Kept {
     Both(usize, Arrays),
 }
 
-/// What is to be done for the arrays of a level.
-pub enum Next<'a> {
-    /// The array at this place is to be read.
+/// The array of a level that is read next.
+pub enum NextArray<'a> {
+    /// It stands at this place.
     Read(Place),
-    /// Both are kept.
+    /// There is none: both are kept.
     Both(&'a Arrays),
 }
 
 impl Kept {
-    ghost use Rattle.cog_reader.specs.Next.{IsNextOf};
+    ghost use Rattle.cog_reader.specs.NextArray.{IsNextArray};
 
-    /// What is to be done next for the arrays of a level.
-    pub fn next(&self, number: usize, level: &Level) -> Next<'_>
-        ensures { IsNextOf self.now number level.now result }
+    /// The array of a level that is read next.
+    pub fn next(&self, number: usize, level: &Level) -> NextArray<'_>
+        ensures { IsNextArray self.now number level.now result }
     {
         match self {
-            Kept::Both(kept, arrays) if *kept == number => Next::Both(arrays),
-            Kept::Offsets(kept, _) if *kept == number => Next::Read(level.counts),
-            _ => Next::Read(level.offsets),
+            Kept::Both(kept, arrays) if *kept == number => NextArray::Both(arrays),
+            Kept::Offsets(kept, _) if *kept == number => NextArray::Read(level.counts),
+            _ => NextArray::Read(level.offsets),
+        }
+    }
+
+    /// The arrays of a level, both of which are kept.
+    pub fn both(&self) -> &Arrays
+        requires { HasBoth self.now (λ _. ⊤) }
+        ensures { (n : ℕ) × (self.now ≡ kept.Both n result.now) }
+    {
+        match self {
+            Kept::Both(_, arrays) => arrays,
+            Kept::Nothing | Kept::Offsets(..) => unreachable!(),
         }
     }
 
@@ -47,10 +59,10 @@ impl Kept {
     fn with(self, number: usize, order: Order, level: &Level, array: Vec<u8>) -> Kept
         requires wanted { IsSomeAnd (next_array self number level.now) (λ p. length array.items ≡ p.len) }
         requires offsets { HoldsOffsets self number level.now }
-        ensures more { held result number ≡ held self number + 1 }
-        ensures sound { (w : Known) → HasEnded w → slice_get (levels_of w) number ≡ Some level.now → IsKeptOf w result }
-        ensures same { (f : List ℕ) → order_of f ≡ Some order → level_layout f number ≡ Some (layout_of level.now) → AreKept f self
-            → IsSomeAnd (next_array self number level.now) (λ p. IsArrayOf f p array.items) → AreKept f result }
+        ensures more { arrays_held result number ≡ arrays_held self number + 1 }
+        ensures sound { (w : WalkState) → HasEnded w → slice_get (levels_of w) number ≡ Some level.now → IsKeptOf w result }
+        ensures same { (f : List ℕ) → order_of f ≡ Some order → level_layout f number ≡ Some (layout_of level.now) → KeptAgrees f self
+            → IsSomeAnd (next_array self number level.now) (λ p. IsArrayOf f p array.items) → KeptAgrees f result }
     {
         match self {
             Kept::Offsets(kept, offsets) => {
@@ -69,7 +81,7 @@ impl Kept {
         }
     }
 
-    /// Takes the bytes of the next array of a level.
+    /// Adds the bytes of the next array of a level.
     pub fn add(
         &mut self,
         alloc: Global,
@@ -80,10 +92,10 @@ impl Kept {
     ) -> Result<(), Memory>
         requires wanted { IsSomeAnd (next_array self.old number level.now) (λ p. length bytes.now ≡ p.len) }
         requires offsets { HoldsOffsets self.old number level.now }
-        ensures more { OnOk result (held self.new number ≡ held self.old number + 1) }
-        ensures sound { OnOk result ((w : Known) → HasEnded w → slice_get (levels_of w) number ≡ Some level.now → IsKeptOf w self.new) }
+        ensures more { OnOk result (arrays_held self.new number ≡ arrays_held self.old number + 1) }
+        ensures sound { OnOk result ((w : WalkState) → HasEnded w → slice_get (levels_of w) number ≡ Some level.now → IsKeptOf w self.new) }
         ensures same { OnOk result ((f : List ℕ) → order_of f ≡ Some order → level_layout f number ≡ Some (layout_of level.now)
-            → AreKept f self.old → IsSomeAnd (next_array self.old number level.now) (λ p. IsArrayOf f p bytes.now) → AreKept f self.new) }
+            → KeptAgrees f self.old → IsSomeAnd (next_array self.old number level.now) (λ p. IsArrayOf f p bytes.now) → KeptAgrees f self.new) }
         ensures err { OnErr result (self.new ≡ self.old) }
     {
         let array = Vec::from_slice(alloc, bytes)?;

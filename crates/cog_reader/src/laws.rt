@@ -2,24 +2,24 @@
 ghost use Rattle.std.specs.Prelude.{◌≡◌, ℕ, List, [], None, IfSome, IsSome, length};
 ghost use Rattle.tiff_dir.specs.Needs.{IsEndOf};
 ghost use Rattle.tiff_dir.specs.Query.{needs};
-ghost use Rattle.cog_reader.specs.Reader.{complete_of, outcome_of, query_of, to_come, Agrees, Held};
+ghost use Rattle.cog_reader.specs.Reader.{complete_of, outcome_of, query_of, to_come, ReaderAgrees, ReaderState};
 
 use tiff_dir::what_comes;
 
 /// What a reader still wants for its query is the end of what the query needs of the file.
 pub fn end_is_wanted()
-    ensures { (r : Held) (f : List ℕ) → Agrees r f → IfSome (query_of r) (λ q. IsEndOf (to_come r f) (needs f q)) }
+    ensures { (r : ReaderState) (f : List ℕ) → ReaderAgrees r f → IfSome (query_of r) (λ q. IsEndOf (to_come r f) (needs f q)) }
 {
     what_comes();
 }
 
 /// A reader that is asked nothing, or has answered its query, wants nothing of the file.
 pub fn nothing_comes()
-    ensures unasked { (r : Held) (f : List ℕ) → query_of r ≡ None → to_come r f ≡ [] }
-    ensures answered { (r : Held) (f : List ℕ) → IsSome (outcome_of r) → to_come r f ≡ [] }
+    ensures unasked { (r : ReaderState) (f : List ℕ) → query_of r ≡ None → to_come r f ≡ [] }
+    ensures answered { (r : ReaderState) (f : List ℕ) → IsSome (outcome_of r) → to_come r f ≡ [] }
 {}
 
 /// What a reader agrees with has the length that it was made with.
 pub fn lengths_are_known()
-    ensures { (r : Held) (f : List ℕ) → Agrees r f → length f ≡ complete_of r }
+    ensures { (r : ReaderState) (f : List ℕ) → ReaderAgrees r f → length f ≡ complete_of r }
 {}

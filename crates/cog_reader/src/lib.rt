@@ -12,9 +12,7 @@ mod outcome;
 mod paint;
 mod reader;
 mod samples;
-mod take;
-mod task;
-mod turn;
+mod state;
 
 pub use file::read_file;
 pub use laws::{end_is_wanted, lengths_are_known, nothing_comes};

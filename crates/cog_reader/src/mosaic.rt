@@ -4,7 +4,7 @@ ghost use Rattle.std.specs.List.{All};
 ghost use Rattle.tiff_dir.specs.Described.{layout_of};
 ghost use Rattle.tiff_dir.specs.Level.{plain_size};
 ghost use Rattle.tile_plan.specs.Plan.{Adjoin};
-ghost use Rattle.cog_reader.specs.Mosaic.{range_of, IsPainted, AreArraysOf, IsWhole, AreBytesOf, HasDamage};
+ghost use Rattle.cog_reader.specs.Mosaic.{tile_extent, IsPainted, AreArraysOf, IsWhole, AreBytesOf, HasDamage};
 
 use crate::Window;
 use crate::arrays::Arrays;
@@ -30,10 +30,10 @@ fn paint_tiles(
     ensures rectangle { canvas.new.rectangle ≡ canvas.old.rectangle }
     ensures size { length canvas.new.bytes ≡ length canvas.old.bytes }
     ensures painted { (f : List ℕ) (n first : ℕ) (done : List ℕ) → AreArraysOf f n arrays.now → AreBytesOf f first bytes.now
-        → Adjoin (range_of arrays.now) first tiles.now (first + length bytes.now) → All (IsPainted f n canvas.old) done
+        → Adjoin (tile_extent arrays.now) first tiles.now (first + length bytes.now) → All (IsPainted f n canvas.old) done
         → OnOk result (All (IsPainted f n canvas.new) (done ++ tiles.now)) }
     ensures damaged { (f : List ℕ) (n first : ℕ) → AreArraysOf f n arrays.now → AreBytesOf f first bytes.now
-        → Adjoin (range_of arrays.now) first tiles.now (first + length bytes.now)
+        → Adjoin (tile_extent arrays.now) first tiles.now (first + length bytes.now)
         → IfErr result (HasDamage f n arrays.now.level tiles.now) }
 {
     let mut at = 0;
@@ -50,7 +50,7 @@ fn paint_tiles(
 pub struct Mosaic {
     rect: Rectangle,
     groups: Vec<Group>,
-    taken: usize,
+    given: usize,
     canvas: Canvas,
     plain: Vec<u8>,
 }
@@ -59,13 +59,13 @@ impl Model for Mosaic {
     ghost use Rattle.std.specs.Prelude.{◌≡◌, ◌≤◌, length};
     ghost use Rattle.tiff_dir.specs.Described.{layout_of};
     ghost use Rattle.tiff_dir.specs.Level.{plain_size};
-    ghost use Rattle.cog_reader.specs.Mosaic.{Work};
+    ghost use Rattle.cog_reader.specs.Mosaic.{MosaicState};
 
-    ghost Value = { Work };
+    ghost Value = { MosaicState };
 
-    ghost view = { λ m. record { groups = m.groups.items; taken = m.taken; picture = m.canvas } };
+    ghost view = { λ m. record { groups = m.groups.items; given = m.given; picture = m.canvas } };
 
-    ghost invariant = { λ m. (m.rect ≡ m.canvas.rectangle) × (m.taken ≤ length m.groups.items) × (length m.plain.items ≡ plain_size (layout_of m.canvas.level)) };
+    ghost invariant = { λ m. (m.rect ≡ m.canvas.rectangle) × (m.given ≤ length m.groups.items) × (length m.plain.items ≡ plain_size (layout_of m.canvas.level)) };
 }
 
 impl Mosaic {
@@ -78,7 +78,7 @@ impl Mosaic {
     ghost use Rattle.tile_plan.specs.Levels.{IsSmall, rectangle_of};
     ghost use Rattle.cog_reader.specs.Samples.{samples_in};
     ghost use Rattle.tile_plan.specs.Plan.{IsPlanned, IsErrorOf};
-    ghost use Rattle.cog_reader.specs.Mosaic.{HasPlan, IsPlan, IsUnderway, IsNext, IsNextOf};
+    ghost use Rattle.cog_reader.specs.Mosaic.{HasPlan, IsPlan, IsUnderway, IsGroupLen, IsWantedGroup};
     ghost use Rattle.cog_reader.specs.Outcome.{IsWindowOf};
 
     /// The window of a rectangle, in a file of `complete` bytes: nothing of it is there yet. The rectangle lies in the arrays'
@@ -91,7 +91,7 @@ impl Mosaic {
     ) -> Result<Mosaic, PlanError>
         requires { IsSmall arrays.now.level rect }
         ensures plan { IfOk result (IsPlan complete arrays.now) }
-        ensures none { IfOk result (λ w. (w.taken ≡ 0) × (w.picture.rectangle ≡ rect)) }
+        ensures none { IfOk result (λ w. (w.given ≡ 0) × (w.picture.rectangle ≡ rect)) }
         ensures underway { (f : List ℕ) (q : Query) → length f ≡ complete
             → IsPlanned f q arrays.now.order arrays.now.level rect complete arrays.now.offsets.items arrays.now.counts.items
             → IfOk result (IsUnderway f q arrays.now) }
@@ -114,7 +114,7 @@ impl Mosaic {
         Ok(Mosaic {
             rect,
             groups,
-            taken: 0,
+            given: 0,
             canvas,
             plain,
         })
@@ -122,26 +122,26 @@ impl Mosaic {
 
     /// The bytes of the next group, None where all were given.
     pub fn need(&self) -> Option<Span>
-        ensures { MatchOption result (self.now.taken ≡ length self.now.groups)
-            (λ span. IsSomeAnd (slice_get self.now.groups self.now.taken) (λ g. g.span ≡ span)) }
+        ensures { MatchOption result (self.now.given ≡ length self.now.groups)
+            (λ span. IsSomeAnd (slice_get self.now.groups self.now.given) (λ g. g.span ≡ span)) }
     {
-        let group = self.groups.get(self.taken)?;
+        let group = self.groups.get(self.given)?;
         Some(group.span)
     }
 
     /// Takes the bytes of the next group. After a fault the work is of no use.
     pub fn give(&mut self, arrays: &Arrays, bytes: &[u8]) -> Result<(), FileFault>
         requires plan { HasPlan arrays.now self.old }
-        requires wanted { IsNext self.old (length bytes.now) }
+        requires wanted { IsGroupLen self.old (length bytes.now) }
         ensures plan { (complete : ℕ) → IsPlan complete arrays.now self.old → IsPlan complete arrays.now self.new }
-        ensures taken { OnOk result ((self.new.groups ≡ self.old.groups) × (self.new.taken ≡ self.old.taken + 1)) }
-        ensures underway { (f : List ℕ) (q : Query) → IsUnderway f q arrays.now self.old → IsNextOf f self.old bytes.now
+        ensures given { OnOk result ((self.new.groups ≡ self.old.groups) × (self.new.given ≡ self.old.given + 1)) }
+        ensures underway { (f : List ℕ) (q : Query) → IsUnderway f q arrays.now self.old → IsWantedGroup f self.old bytes.now
             → OnOk result (IsUnderway f q arrays.now self.new) }
-        ensures damaged { (f : List ℕ) (q : Query) → IsUnderway f q arrays.now self.old → IsNextOf f self.old bytes.now
+        ensures damaged { (f : List ℕ) (q : Query) → IsUnderway f q arrays.now self.old → IsWantedGroup f self.old bytes.now
             → IfErr result (IsFaultOfWindow f q) }
     {
-        let Some(group) = self.groups.get(self.taken) else {
-            return Ok(());
+        let Some(group) = self.groups.get(self.given) else {
+            unreachable!()
         };
         paint_tiles(
             &mut self.canvas,
@@ -150,17 +150,17 @@ impl Mosaic {
             bytes,
             &mut self.plain,
         )?;
-        self.taken += 1;
+        self.given += 1;
         Ok(())
     }
 
     /// The bytes of the window's samples, row by row, each sample with its most significant byte first.
     fn into_pixels(self, arrays: &Arrays) -> Vec<u8>
         ensures size { (f : List ℕ) (q : Query) → IsUnderway f q arrays.now self → length result.items ≡ length self.picture.bytes }
-        ensures samples { (f : List ℕ) (q : Query) → IsUnderway f q arrays.now self → self.taken ≡ length self.groups
+        ensures samples { (f : List ℕ) (q : Query) → IsUnderway f q arrays.now self → self.given ≡ length self.groups
             → HasSamples f (rectangle_of self.picture.rectangle) (samples_in arrays.now.level.bits result.items) }
         // Of a file whose directories are without fault they are the query's window: no other fault stands.
-        ensures window { (f : List ℕ) (q : Query) → IsUnderway f q arrays.now self → self.taken ≡ length self.groups
+        ensures window { (f : List ℕ) (q : Query) → IsUnderway f q arrays.now self → self.given ≡ length self.groups
             → ((fault : Fault) → IsFaultOfDirectories f fault → ⊥) → IsWindow f q (samples_in arrays.now.level.bits result.items) }
     {
         tiles_cover();
@@ -171,7 +171,7 @@ impl Mosaic {
 
     /// The window, when all groups were given.
     pub fn into_window(self, arrays: &Arrays) -> Window
-        ensures { (f : List ℕ) (q : Query) → IsUnderway f q arrays.now self → self.taken ≡ length self.groups
+        ensures { (f : List ℕ) (q : Query) → IsUnderway f q arrays.now self → self.given ≡ length self.groups
             → ((fault : Fault) → IsFaultOfDirectories f fault → ⊥) → IsWindowOf f q result }
     {
         let Rectangle { w, h, .. } = self.rect;

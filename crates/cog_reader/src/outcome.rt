@@ -6,26 +6,30 @@ use tiff_dir::FileFault;
 /// significant one first.
 #[derive(Debug, Drop, PartialEq, Eq)]
 pub struct Window {
+    /// Columns.
     pub w: u32,
+    /// Rows.
     pub h: u32,
-    /// How many samples a pixel has, 1 or 3.
+    /// SamplesPerPixel (277), 1 or 3.
     pub samples: u16,
-    /// How many bits a sample has, 8 or 16.
+    /// BitsPerSample (258), 8 or 16.
     pub bits: u16,
+    /// `w * h * samples` samples of one or two bytes.
     pub pixels: Vec<u8>,
 }
 
 /// What georeferences an image (OGC 19-008). Numbers of eight bytes have their most significant byte first.
 #[derive(Debug, Drop, PartialEq, Eq)]
 pub struct Info {
-    /// The width and the length of each level.
+    /// ImageWidth and ImageLength of each level, in pixels.
     pub sides: Vec<(u32, u32)>,
+    /// The keys of the key directory (34735).
     pub geo: Geo,
-    /// ModelPixelScale (33550).
+    /// The numbers of ModelPixelScale (33550), where it is there.
     pub scale: Option<Vec<[u8; 8]>>,
-    /// ModelTiepoint (33922).
+    /// Those of ModelTiepoint (33922).
     pub tiepoints: Option<Vec<[u8; 8]>>,
-    /// ModelTransformation (34264).
+    /// Those of ModelTransformation (34264).
     pub transformation: Option<Vec<[u8; 8]>>,
 }
 

@@ -5,7 +5,7 @@ use Rattle.std.specs.Io.KnownBytes.{append_known}
 use Rattle.std.proofs.lemmas.Bool.Decides.{nat_tests}
 use Rattle.std.proofs.lemmas.List.{drop-take, drop-drop, take_at}
 use Rattle.http_range.specs.Laws.{MessagesStay}
-use Rattle.http_range.specs.Stream.{is_message, HasNoMessage, IsUnfinished}
+use Rattle.http_range.specs.Stream.{HasNoMessage, IsMessage, IsUnfinished}
 
 take_none : (n : ℕ) (none : List ℕ) → none ≡ [] → take n none ≡ []
 take_none zero none e = refl
@@ -55,8 +55,8 @@ kept_full buffer rest len full is all = ap length (take_at buffer rest len is) �
 -- no message ends in the bytes that were held before more came
 pub none_later : (law : MessagesStay) (old new more : List ℕ) (n : ℕ) → new ≡ old ++ more → IsUnfinished old → n ≤ length old
     → HasNoMessage new n
-none_later law old new more n is none within k le =
-    ap (λ (xs : List ℕ). is_message (take k xs)) is ∙ (law.unfinished old more none).1 k (omega arith)
+none_later law old new more n is none within k le found =
+    (law.unfinished old more none).1 k (omega arith) (subst (λ (xs : List ℕ). IsMessage (take k xs)) is found)
 
 -- ---- what is moved
 -- in two steps

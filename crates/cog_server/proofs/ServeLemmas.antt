@@ -1,5 +1,5 @@
 -- Serving a stream, message by message.
-use Rattle.std.proofs.Common.{◌≡◌, ℕ, suc, ◌+◌, ◌-◌, ◌<◌, ◌≤◌, Bool, true, false, List, [], ◌∷◌, ◌++◌, length, take, drop, Option, Some, None, Result, Ok, Err, refl, sym, ap, ◌∙◌, subst, arith, append_assoc, length-append, length-take, inl, inr, ◌==◌}
+use Rattle.std.proofs.Common.{◌≡◌, ℕ, zero, suc, ◌+◌, ◌-◌, ◌<◌, ◌≤◌, Bool, true, false, List, [], ◌∷◌, ◌++◌, length, take, drop, Option, Some, None, Result, Ok, Err, refl, sym, ap, ◌∙◌, subst, arith, append_assoc, length-append, length-take, inl, inr, ◌==◌}
 use Rattle.std.specs.Prelude.{IsErrAnd}
 use Rattle.std.specs.List.{list_any}
 use Rattle.std.specs.Io.KnownBytes.{append_known}
@@ -21,7 +21,8 @@ use Rattle.cog_server.specs.declared.served.ServeError.{ServeError}
 use Rattle.cog_server.specs.declared.served.ServeError.TheVariants.{Read, Write, Memory}
 use Rattle.cog_server.specs.Pending.{ReadsOn}
 use Rattle.cog_server.specs.Sent.{IsBroken, Writes}
-use Rattle.cog_server.specs.Serve.{Serves, ending_told, read_failed, write_failed}
+use Rattle.http_parts.specs.declared.limits.TheConstants.{MESSAGE_LIMIT}
+use Rattle.cog_server.specs.Serve.{IsBehind, IsLittleAhead, Serves, ending_told, read_failed, write_failed}
 
 -- ---- lists
 
@@ -91,6 +92,48 @@ goes_answers catalogue stream (r ∷ rs) rest n m last h count later =
     subst (λ (k : ℕ). AreAnswers catalogue k stream (r ∷ (rs ++ last))) is
     (more (length rs + n) stream h.0 r (rs ++ last) h.1 h.2 h.3
     (goes_answers catalogue (drop (length h.0) stream) rs rest n (length rs + n) last h.4 refl later))
+
+behind : (catalogue : Catalogue) (stream : List ℕ) (rs : List Response) (rest : List ℕ) → Goes catalogue stream rs rest
+    → IsBehind (length rs) stream rest
+behind catalogue stream [] rest same = same
+behind catalogue stream (r ∷ rs) rest h = (h.0, h.1, behind catalogue (drop (length h.0) stream) rs rest h.4)
+
+-- one message more
+behind_one : (n : ℕ) (stream rest message : List ℕ) → IsBehind n stream rest → IsFirstMessage rest message
+    → IsBehind (suc n) stream (drop (length message) rest)
+behind_one zero stream rest message same first = (
+  message,
+  subst (λ (s : List ℕ). IsFirstMessage s message) (sym same) first,
+  ap (λ (s : List ℕ). drop (length message) s) same,
+)
+behind_one (suc n) stream rest message h first =
+    (h.0, h.1, behind_one n (drop (length h.0) stream) rest message h.2 first)
+
+-- what is left of a full buffer behind a message
+pub fewer : (law : MessagesStay) (rest message : List ℕ) → IsFirstMessage rest message → length rest ≤ MESSAGE_LIMIT
+    → length (drop (length message) rest) < MESSAGE_LIMIT
+fewer law rest message first all =
+    let short = law.short rest message first in
+    omega (arith, short.0, ap length short.2, length-append message (drop (length message) rest))
+
+little_ahead : (catalogue : Catalogue) (stream : List ℕ) (rs : List Response) (rest : List ℕ) → Goes catalogue stream rs rest
+    → length rest < MESSAGE_LIMIT → IsLittleAhead (length rs) stream
+little_ahead catalogue stream rs rest goes little =
+    record { rest = rest; behind = behind catalogue stream rs rest goes; little = little }
+
+-- the same with one answer more
+little_ahead_one : (law : MessagesStay) (catalogue : Catalogue) (stream : List ℕ) (rs : List Response) (rest message : List ℕ) (r : Response)
+    → Goes catalogue stream rs rest → IsFirstMessage rest message → length rest ≤ MESSAGE_LIMIT
+    → IsLittleAhead (length (rs ++ r ∷ [])) stream
+little_ahead_one law catalogue stream rs rest message r goes first all =
+    let is : suc (length rs) ≡ length (rs ++ r ∷ []) = omega (arith, length-append rs (r ∷ [])) in
+    let last = drop (length message) rest in
+    record {
+      rest = last;
+      behind = subst (λ (k : ℕ). IsBehind k stream last) is
+          (behind_one (length rs) stream rest message (behind catalogue stream rs rest goes) first);
+      little = fewer law rest message first all;
+    }
 
 none_closes : (catalogue : Catalogue) (stream : List ℕ) (rs : List Response) (rest : List ℕ) → Goes catalogue stream rs rest
     → list_any (λ r. r.close) rs ≡ false
@@ -175,8 +218,9 @@ Outcome catalogue given given' taken taken' is_over result =
 served : {catalogue : Catalogue} {given given' taken taken' : Option (List ℕ)} {rest : List ℕ} {count : ℕ} (is_over : Type 0)
     (going : Going catalogue given given' taken taken' rest count) (left : ℕ) → count + left ≡ 100 → AreAnswers catalogue left rest []
     → (ended : Ended) → ending_told ended ≡ ending_of going.rs → (ending_of going.rs ≡ EndOfInput → is_over)
+    → length rest < MESSAGE_LIMIT
     → Outcome catalogue given given' taken taken' is_over (Ok (record { answers = count; ended = ended }))
-served {catalogue} {rest} is_over going left all last ended is over = (
+served {catalogue} {rest} is_over going left all last ended is over little = (
   going.stream,
   answers_text going.rs,
   going.gave,
@@ -190,6 +234,7 @@ served {catalogue} {rest} is_over going left all last ended is over = (
     counted = sym going.counted;
     ending = is;
     over = over;
+    ahead = little_ahead catalogue going.stream going.rs rest going.goes little;
   },
 )
 
@@ -210,29 +255,30 @@ at_close catalogue stream rs rest r goes closes =
 
 -- nothing more comes, and no whole message is left
 pub ends_over : {catalogue : Catalogue} {given given' taken taken' : Option (List ℕ)} {rest : List ℕ} {count : ℕ} (is_over : Type 0)
-    → Going catalogue given given' taken taken' rest count → count < 100 → IsUnfinished rest → is_over
+    → MessagesStay → Going catalogue given given' taken taken' rest count → count < 100 → IsUnfinished rest → is_over
     → Outcome catalogue given given' taken taken' is_over (Ok (record { answers = count; ended = told_end }))
-ends_over {catalogue} {rest} {count} is_over going few none over =
+ends_over {catalogue} {rest} {count} is_over law going few none over =
     let n = going.counted in
     let is = still_open catalogue going.stream going.rs rest going.goes (omega arith) in
-    served is_over going (suc (99 - count)) (omega arith) (unfinished (99 - count) rest none) told_end (sym is) (λ _. over)
+    served is_over going (suc (99 - count)) (omega arith) (unfinished (99 - count) rest none) told_end (sym is) (λ _. over) (law.unfinished rest [] none).0
 
 -- a hundred answers, none of which closes
 pub ends_limit : {catalogue : Catalogue} {given given' taken taken' : Option (List ℕ)} {rest : List ℕ} {count : ℕ} (is_over : Type 0)
     → Going catalogue given given' taken taken' rest count → count ≡ 100
+    → length rest < MESSAGE_LIMIT
     → Outcome catalogue given given' taken taken' is_over (Ok (record { answers = 100; ended = told_limit }))
-ends_limit {catalogue} {given} {given'} {taken} {taken'} {rest} is_over so_far hundred =
+ends_limit {catalogue} {given} {given'} {taken} {taken'} {rest} is_over so_far hundred little =
     let going : Going catalogue given given' taken taken' rest 100 =
     subst (λ (k : ℕ). Going catalogue given given' taken taken' rest k) hundred so_far in
     let is = at_limit catalogue going.stream going.rs rest going.goes going.counted in
-    served is_over going 0 refl (full rest) told_limit (sym is) (λ e. absurd (let no : Limit ≡ EndOfInput = sym is ∙ e in cc))
+    served is_over going 0 refl (full rest) told_limit (sym is) (λ e. absurd (let no : Limit ≡ EndOfInput = sym is ∙ e in cc)) little
 
 -- the last answer closes
 pub ends_closed : {catalogue : Catalogue} {given given' taken taken' taken'' : Option (List ℕ)} {rest : List ℕ} {count : ℕ}
-    (message : List ℕ) (r : Response) (is_over : Type 0) → Going catalogue given given' taken taken' rest count → count < 100
-    → IsFirstMessage rest message → IsAnswer catalogue message r → r.close ≡ true → taken'' ≡ append_known taken' (text_of r)
+    (message : List ℕ) (r : Response) (is_over : Type 0) → MessagesStay → Going catalogue given given' taken taken' rest count → count < 100
+    → length rest ≤ MESSAGE_LIMIT → IsFirstMessage rest message → IsAnswer catalogue message r → r.close ≡ true → taken'' ≡ append_known taken' (text_of r)
     → Outcome catalogue given given' taken taken'' is_over (Ok (record { answers = count + 1; ended = told_closed }))
-ends_closed {catalogue} {taken} {taken'} {taken''} {rest} {count} message r is_over going few first answers closes took =
+ends_closed {catalogue} {taken} {taken'} {taken''} {rest} {count} message r is_over law going few all first answers closes took =
     let is = at_close catalogue going.stream going.rs rest r going.goes closes in
     let n = going.counted in (
       going.stream,
@@ -247,14 +293,15 @@ ends_closed {catalogue} {taken} {taken'} {taken''} {rest} {count} message r is_o
         counted = omega (arith, length-append going.rs (r ∷ []));
         ending = sym is;
         over = λ e. absurd (let no : Closed ≡ EndOfInput = sym is ∙ e in cc);
+        ahead = little_ahead_one law catalogue going.stream going.rs rest message r going.goes first all;
       },
     )
 
 -- a read failed, and no whole message is left
 pub ends_read : {catalogue : Catalogue} {given given' taken taken' : Option (List ℕ)} {rest : List ℕ} {count : ℕ} (is_over : Type 0)
-    → Going catalogue given given' taken taken' rest count → count < 100 → IsUnfinished rest
+    → MessagesStay → Going catalogue given given' taken taken' rest count → count < 100 → IsUnfinished rest
     → Outcome catalogue given given' taken taken' is_over (Err Read)
-ends_read {catalogue} {rest} {count} is_over going few none =
+ends_read {catalogue} {rest} {count} is_over law going few none =
     let n = going.counted in (
       going.stream,
       answers_text going.rs,
@@ -267,6 +314,7 @@ ends_read {catalogue} {rest} {count} is_over going few none =
             (unfinished (99 - count) rest none));
         written = refl;
         ending = still_open catalogue going.stream going.rs rest going.goes (omega arith);
+        ahead = little_ahead catalogue going.stream going.rs rest going.goes (law.unfinished rest [] none).0;
       },
     )
 
@@ -300,10 +348,10 @@ one_answer catalogue rest message r first answers = elim (cases_Bool r.close) [
 
 -- the next answer was begun, and then writing failed
 ends_write : {catalogue : Catalogue} {given given' taken taken' taken'' : Option (List ℕ)} {rest : List ℕ} {count : ℕ}
-    (message : List ℕ) (r : Response) (is_over : Type 0) {has_failed : Bool} → Going catalogue given given' taken taken' rest count → count < 100
-    → IsFirstMessage rest message → IsAnswer catalogue message r → IsBroken taken' taken'' has_failed (text_of r)
+    (message : List ℕ) (r : Response) (is_over : Type 0) {has_failed : Bool} → MessagesStay → Going catalogue given given' taken taken' rest count
+    → count < 100 → length rest ≤ MESSAGE_LIMIT → IsFirstMessage rest message → IsAnswer catalogue message r → IsBroken taken' taken'' has_failed (text_of r)
     → Outcome catalogue given given' taken taken'' is_over (Err Write)
-ends_write {catalogue} {taken} {rest} message r is_over going few first answers broken =
+ends_write {catalogue} {taken} {rest} message r is_over law going few all first answers broken =
     let n = going.counted in
     let rs = going.rs ++ r ∷ [] in
     let some : length rs ≡ length going.rs + 1 = omega (arith, length-append going.rs (r ∷ [])) in (
@@ -324,18 +372,19 @@ ends_write {catalogue} {taken} {rest} message r is_over going few first answers 
           append_assoc (answers_text going.rs) broken.written broken.front.0
               ∙ ap (λ (t : List ℕ). answers_text going.rs ++ t) broken.front.1 ∙ sym (texts going.rs r),
         );
+        ahead = little_ahead_one law catalogue going.stream going.rs rest message r going.goes first all;
       },
     )
 
 -- the next answer wasn't sent whole
 pub ends_unsent : {catalogue : Catalogue} {given given' taken taken' taken'' : Option (List ℕ)} {rest : List ℕ} {count : ℕ}
-    (message : List ℕ) (r : Response) (is_over : Type 0) (has_failed : Bool) (e : ServeError) → Going catalogue given given' taken taken' rest count
-    → count < 100 → IsFirstMessage rest message → IsAnswer catalogue message r
+    (message : List ℕ) (r : Response) (is_over : Type 0) (has_failed : Bool) (e : ServeError) → MessagesStay → Going catalogue given given' taken taken' rest count
+    → count < 100 → length rest ≤ MESSAGE_LIMIT → IsFirstMessage rest message → IsAnswer catalogue message r
     → Writes {A = Bool} taken' taken'' has_failed (text_of r) (Err e)
     → Outcome catalogue given given' taken taken'' is_over (Err e)
-ends_unsent message r is_over has_failed Read going few first answers sent = absurd sent
-ends_unsent message r is_over has_failed Write going few first answers sent = ends_write message r is_over going few first answers sent
-ends_unsent {catalogue} {given} {given'} {taken} message r is_over has_failed Memory going few first answers sent =
+ends_unsent message r is_over has_failed Read law going few all first answers sent = absurd sent
+ends_unsent message r is_over has_failed Write law going few all first answers sent = ends_write message r is_over law going few all first answers sent
+ends_unsent {catalogue} {given} {given'} {taken} message r is_over has_failed Memory law going few all first answers sent =
     subst (λ (t : Option (List ℕ)). Outcome catalogue given given' taken t is_over (Err Memory)) (sym sent.same)
     (ends_memory is_over going (omega arith))
 

@@ -1,10 +1,10 @@
 -- What a server answers on a stream (RFC 9112, sections 9.3 and 9.6).
-use Rattle.std.specs.Prelude.{◌≡◌, ◌≤◌, ℕ, Bool, true, false, List, ◌++◌, length, Result, Ok, Err}
-use Rattle.http_parts.specs.declared.limits.TheConstants.{ANSWERS_LIMIT}
+use Rattle.std.specs.Prelude.{◌≡◌, ◌<◌, ◌≤◌, ℕ, zero, suc, Bool, true, false, List, ◌++◌, drop, length, Result, Ok, Err}
+use Rattle.http_parts.specs.declared.limits.TheConstants.{ANSWERS_LIMIT, MESSAGE_LIMIT}
 use Rattle.http_range.specs.Book.{Catalogue}
 use Rattle.http_range.specs.Honest.{IsFront}
 use Rattle.http_range.specs.Response.{Response}
-use Rattle.http_range.specs.Stream.{AreAnswers, IsAnswered, answers_text, Ending, ending_of}
+use Rattle.http_range.specs.Stream.{AreAnswers, IsAnswered, IsFirstMessage, answers_text, Ending, ending_of}
 use Rattle.http_range.specs.Stream.Ending.{Closed, Limit, EndOfInput}
 use Rattle.cog_server.specs.declared.served.Ended.{Ended}
 use Rattle.cog_server.specs.declared.served.Ended.TheVariants.{Closed as told_closed, Limit as told_limit, EndOfInput as told_end}
@@ -25,12 +25,24 @@ FirstAnswersBegin =
     (catalogue : Catalogue) (stream : List ℕ) (rs all : List Response) → AreFirstAnswers catalogue stream rs
     → IsAnswered catalogue stream all → (rest : List Response) × (rs ++ rest ≡ all)
 
+-- rest stands behind the first n messages of the stream
+abbrev pub IsBehind : ℕ → List ℕ → List ℕ → Type 0
+IsBehind zero stream rest = stream ≡ rest
+IsBehind (suc n) stream rest =
+    (message : List ℕ) × IsFirstMessage stream message × IsBehind n (drop (length message) stream) rest
+
+-- at most 8,191 bytes were read behind the first n messages
+pub record IsLittleAhead (n : ℕ) (stream : List ℕ) : Type 0 where
+  pub rest : List ℕ
+  pub behind : IsBehind n stream rest
+  pub little : length rest < MESSAGE_LIMIT
+
 abbrev pub ending_told : Ended → Ending
 ending_told told_closed = Closed
 ending_told told_limit = Limit
 ending_told told_end = EndOfInput
 
--- all answers to the stream are written; at its end, the input is over
+-- all answers to the stream are written, and little was read behind their messages; at its end, the input is over
 pub record IsServed (catalogue : Catalogue) (stream text : List ℕ) (is_over : Type 0) (served : Served) : Type 0 where
   pub rs : List Response
   pub answers : IsAnswered catalogue stream rs
@@ -38,6 +50,7 @@ pub record IsServed (catalogue : Catalogue) (stream text : List ℕ) (is_over : 
   pub counted : served.answers ≡ length rs
   pub ending : ending_told served.ended ≡ ending_of rs
   pub over : ending_of rs ≡ EndOfInput → is_over
+  pub ahead : IsLittleAhead (length rs) stream
 
 -- all answers to the stream are written, and there may be more to come
 pub record IsReadSoFar (catalogue : Catalogue) (stream text : List ℕ) : Type 0 where
@@ -45,12 +58,14 @@ pub record IsReadSoFar (catalogue : Catalogue) (stream text : List ℕ) : Type 0
   pub answers : IsAnswered catalogue stream rs
   pub written : text ≡ answers_text rs
   pub ending : ending_of rs ≡ EndOfInput
+  pub ahead : IsLittleAhead (length rs) stream
 
--- a beginning of the first answers is written
+-- a beginning of the first answers is written, each of which was begun, and little was read behind their messages
 pub record IsWrittenSoFar (catalogue : Catalogue) (stream text : List ℕ) : Type 0 where
   pub rs : List Response
   pub answers : AreFirstAnswers catalogue stream rs
   pub written : IsFront text (answers_text rs)
+  pub ahead : IsLittleAhead (length rs) stream
 
 -- the first answers are written whole
 pub record AreWritten (catalogue : Catalogue) (stream text : List ℕ) : Type 0 where

@@ -1,5 +1,6 @@
 -- The server of one epoch.
 use Rattle.std.specs.Prelude.{◌≡◌, ◌≢◌, ◌⊎◌, ℕ, not, ◌&&◌, ◌==◌, nat_lt, nat_le, if◌then◌else◌, List, length, option_map, Option, Some, None, is_none}
+use Rattle.http_range.specs.declared.publication.TheConstants.{FILE_LIMIT, NAMES_LIMIT}
 use Rattle.http_range.specs.Names.{is_name}
 use Rattle.http_range.specs.Reply.{status_of}
 use Rattle.http_range.specs.Seen.{SeenRequest}
@@ -22,8 +23,8 @@ abbrev pub refusal_of : ServerState → List ℕ → List ℕ → Option Publish
 refusal_of s name file =
     if not (is_name name) then Some Name
     else if length file == 0 then Some Empty
-    else if nat_lt 67108864 (length file) then Some TooLarge
-    else if is_none (published name s.catalogue) && nat_le 64 (length s.catalogue) then Some TooManyNames
+    else if nat_lt FILE_LIMIT (length file) then Some TooLarge
+    else if is_none (published name s.catalogue) && nat_le NAMES_LIMIT (length s.catalogue) then Some TooManyNames
     else if s.count == 4294967295 then Some Exhausted
     else None
 

@@ -1,4 +1,4 @@
-//! What a request says, as the server's cases ask for it.
+//! What a request says, case by case of how the server answers (RFC 9110, with its section at each).
 ghost use Rattle.std.specs.Prelude.{◌≡◌, ◌≤◌, codes, option_copied};
 ghost use Rattle.http_range.specs.Response.{asks_close, has_other_version, lacks_host, announces_body, has_other_method, lacks_origin_form, is_method, fails_precondition, is_unmodified, lets_range, range_to_serve, part_to_serve};
 ghost use Rattle.http_parts.specs.Fields.{values_of};
@@ -6,62 +6,71 @@ ghost use Rattle.cog_server.specs.Place.{IsInside};
 
 use http_range::{Request, Resolved, Tag, read_range, resolve};
 
-/// Whether the connection ends with the answer because the request asks so.
+/// Whether the connection ends with the answer because the request asks so: a Connection field has `close` among its members
+/// (section 7.6.1; RFC 9112, section 9.6).
 pub fn asks_close(request: &Request<'_>) -> bool
     ensures { result ≡ asks_close request.now }
 {
     request.has_member(b"Connection", b"close")
 }
 
+/// Whether the version is another one than HTTP/1.1, which is answered by 400 (section 2.5).
 pub fn has_other_version(request: &Request<'_>) -> bool
     ensures { result ≡ has_other_version request.now }
 {
     request.minor() != 1
 }
 
+/// Whether there isn't exactly one Host field, which is answered by 400 (section 7.2; RFC 9112, section 3.2).
 pub fn lacks_host(request: &Request<'_>) -> bool
     ensures { result ≡ lacks_host request.now }
 {
     request.only(b"Host").is_none()
 }
 
+/// Whether a body is announced by Content-Length or Transfer-Encoding, which is answered by 400 (section 8.6; RFC 9112, section 6).
 pub fn announces_body(request: &Request<'_>) -> bool
     ensures { result ≡ announces_body request.now }
 {
     request.has(b"Content-Length") || request.has(b"Transfer-Encoding")
 }
 
+/// Whether the method is HEAD, whose answer has no body (section 9.3.2).
 pub fn is_head(request: &Request<'_>) -> bool
     ensures { result ≡ is_method (codes "HEAD") request.now }
 {
     request.method() == b"HEAD".as_slice()
 }
 
+/// Whether the method is neither GET nor HEAD, which is answered by 405 (sections 9.1 and 15.5.6).
 pub fn has_other_method(request: &Request<'_>) -> bool
     ensures { result ≡ has_other_method request.now }
 {
     request.method() != b"GET".as_slice() && !is_head(request)
 }
 
+/// Whether the target isn't in origin form, a path behind `/`, which is answered by 400 (section 7.1; RFC 9112, section 3.2.1).
 pub fn lacks_origin_form(request: &Request<'_>) -> bool
     ensures { result ≡ lacks_origin_form request.now }
 {
     !request.target().starts_with(b"/")
 }
 
+/// Whether an If-Match field is there and none matches the tag strongly, which is answered by 412 (section 13.1.1).
 pub fn fails_precondition(request: &Request<'_>, tag: &Tag) -> bool
     ensures { result ≡ fails_precondition request.now tag.now }
 {
     request.has(b"If-Match") && !request.one_matches(b"If-Match", tag, true)
 }
 
+/// Whether an If-None-Match field is there and one matches the tag weakly, which is answered by 304 (section 13.1.2).
 pub fn is_unmodified(request: &Request<'_>, tag: &Tag) -> bool
     ensures { result ≡ is_unmodified request.now tag.now }
 {
     request.one_matches(b"If-None-Match", tag, false)
 }
 
-/// Whether If-Range lets a range be served: there is none, or one that is the tag.
+/// Whether If-Range lets a range be served: there is none, or one that is the tag byte for byte (section 13.1.5).
 fn lets_range(request: &Request<'_>, tag: &Tag) -> bool
     ensures { result ≡ lets_range (values_of (codes "If-Range") request.now.fields) tag.now }
 {
@@ -71,6 +80,7 @@ fn lets_range(request: &Request<'_>, tag: &Tag) -> bool
     }
 }
 
+/// The value of the only Range field, where If-Range lets it be served (section 14.2).
 fn range_to_serve<'b>(request: &Request<'b>, tag: &Tag) -> Option<&'b [u8]>
     ensures { option_copied result ≡ range_to_serve request.now tag.now }
 {
@@ -81,7 +91,7 @@ fn range_to_serve<'b>(request: &Request<'b>, tag: &Tag) -> Option<&'b [u8]>
     }
 }
 
-/// The part that the request names of a file with this tag and length, or the whole.
+/// The part that the request names of a file with this tag and `length` bytes, or the whole (sections 14.1.2 and 14.2).
 pub fn part_to_serve(request: &Request<'_>, tag: &Tag, length: u64) -> Resolved
     requires { 1 ≤ length }
     ensures part { result ≡ part_to_serve request.now tag.now length }

@@ -7,6 +7,7 @@ ghost use Rattle.cog_server.specs.Catalogue.{publication, put_at};
 
 use crate::error::PublishError;
 use crate::published::Published;
+use http_range::NAMES_LIMIT;
 
 /// Where the file of this name stands.
 pub fn place_of(files: &[Published], name: &[u8]) -> Option<usize>
@@ -55,7 +56,7 @@ pub fn put(
 /// Whether there are 64 other names.
 pub fn is_crowded(files: &[Published], name: &[u8]) -> bool
     ensures { result
-        ≡ (is_none (published name.now (map publication files.now)) && nat_le 64 (length (map publication files.now))) }
+        ≡ (is_none (published name.now (map publication files.now)) && nat_le NAMES_LIMIT (length (map publication files.now))) }
 {
-    place_of(files, name).is_none() && files.len() >= 64
+    place_of(files, name).is_none() && files.len() >= NAMES_LIMIT
 }

@@ -107,6 +107,7 @@ impl Pending {
         ensures bytes { ReadsOn (R.given r.old) (R.given r.new) (held self.old) (held self.new) }
         ensures ok { IfOk result (λ o. MatchOption o (IsUnfinished (held self.new) × R.is_over r.new)
             (λ n. (n ≤ length (held self.new)) × IsFirstMessage (held self.new) (take n (held self.new)))) }
+        ensures few { IfOk result (λ _. length (held self.new) ≤ MESSAGE_LIMIT) }
         ensures searched { IfOk result (λ o. IfNone o (self.new.scanned ≡ self.new.end - self.new.start)) }
         ensures unfailed { OnOk result (R.has_failed r.new ≡ false) }
         ensures err { IfErr result (λ e. (e ≡ ServeError.Read) × (R.has_failed r.new ≡ true) × IsUnfinished (held self.new)) }

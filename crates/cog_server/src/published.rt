@@ -1,5 +1,6 @@
 //! A file that the server has.
 ghost use Rattle.std.specs.Prelude.{◌≤◌, IsTrue, length};
+ghost use Rattle.http_range.specs.declared.publication.TheConstants.{FILE_LIMIT};
 ghost use Rattle.http_range.specs.Names.{is_name};
 
 use http_range::Tag;
@@ -12,5 +13,5 @@ pub struct Published {
     pub file: Vec<u8>,
     ghost named: { IsTrue (is_name name.items) },
     ghost some: { 1 ≤ length file.items },
-    ghost small: { length file.items ≤ 67108864 },
+    ghost small: { length file.items ≤ FILE_LIMIT },
 }

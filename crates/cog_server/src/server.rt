@@ -12,7 +12,9 @@ use crate::prepared::{prepare, status};
 use crate::published::Published;
 use crate::serve::serve_files;
 use crate::served::{ServeError, Served};
-use http_range::{Memory, Tag, is_name, publication_tag, publications_replace, write_head};
+use http_range::{
+    FILE_LIMIT, Memory, Tag, is_name, publication_tag, publications_replace, write_head,
+};
 use std::alloc::Global;
 use std::marker::Model;
 
@@ -46,7 +48,13 @@ impl Model for Server {
 }
 
 impl Server {
-    /// A server without files.
+    /// A server without files. Each start of a server wants a greater epoch, so that no tag is given twice.
+    ///
+    /// ```
+    /// let mut server = Server::new(rt.alloc(), 1);
+    /// let tag = server.publish(b"a.tif", file)?;
+    /// let answer = server.answer(b"GET /a.tif HTTP/1.1\r\nHost: localhost\r\nRange: bytes=0-99\r\n\r\n")?;
+    /// ```
     pub fn new(alloc: Global, epoch: u32) -> Self
         ensures { result ≡ record { epoch = epoch; count = 0; catalogue = [] } }
     {
@@ -58,6 +66,7 @@ impl Server {
         }
     }
 
+    /// The epoch that it was made with.
     pub fn epoch(&self) -> u32
         ensures { result ≡ self.now.epoch }
     {
@@ -74,7 +83,9 @@ impl Server {
         }
     }
 
-    /// Publishes a file under a name, and gives the tag under which it is served. A refusal changes nothing.
+    /// Publishes a file under a name, and gives the tag under which it is served. A refusal changes nothing: Name where it is no
+    /// name of 1 to 200 letters, digits and `._-/`, Empty and TooLarge by the file's length, TooManyNames past 64, Exhausted after
+    /// 4,294,967,295 publications of the epoch.
     pub fn publish(&mut self, name: &[u8], file: Vec<u8>) -> Result<Tag, PublishError>
         // It is refused by the first rule that holds, and by want of memory only where none does.
         ensures accepted { OnOk result (refusal_of self.old name.now file.items ≡ None) }
@@ -118,7 +129,7 @@ impl Server {
         if file.is_empty() {
             return Some(PublishError::Empty);
         }
-        if file.len() > 67108864 {
+        if file.len() > FILE_LIMIT {
             return Some(PublishError::TooLarge);
         }
         if is_crowded(&self.files, name) {
@@ -130,7 +141,8 @@ impl Server {
         None
     }
 
-    /// The answer to the head at the front of a message.
+    /// The answer to the head at the front of a message, whatever its bytes are (RFC 9110, section 15; `docs/PROFILE.md` has the
+    /// cases).
     pub fn answer(&self, message: &[u8]) -> Result<Answer, Memory>
         ensures { IfOk result (IsAnswered self.now.catalogue message.now) }
     {

@@ -38,8 +38,19 @@ impl Geo {
     ghost use Rattle.tiff_dir.specs.declared.fault.FileFault.{FileFault as Fault};
     ghost use Rattle.geokeys.specs.Keys.{key_source, AreKeys, IsKeyError};
 
-    /// The keys in the bytes of the key directory (34735) and of the two fields that it points into (34736 and 34737).
-    /// A field that a file hasn't is empty, and without a directory there are no keys.
+    /// The keys in the bytes of the key directory (GeoKeyDirectory) and of the two fields that it points into (GeoDoubleParams and
+    /// GeoAsciiParams): shorts, items of eight bytes, and bytes, in the file's order (OGC 19-008, section 7.1.1). A field that a
+    /// file hasn't is empty, and without a directory there are no keys.
+    ///
+    /// The fault is KeyHead where the version or the revision isn't 1 or the directory hasn't four numbers and four for each key;
+    /// then, key by key, KeyOrder where a key isn't greater than the one before, and KeyPlace where its value is at another
+    /// location, or past the end of its field, or no single value at location 0. Memory comes where none was left.
+    ///
+    /// ```
+    /// let directory = [1, 0, 1, 0, 0, 0, 1, 0, 0x00, 0x04, 0, 0, 1, 0, 2, 0];
+    /// let geo = Geo::read(alloc, Order::Little, &directory, &[], &[])?;
+    /// assert_eq!(geo.keys[0].value, KeyValue::Short(2));
+    /// ```
     pub fn read(
         alloc: Global,
         order: Order,

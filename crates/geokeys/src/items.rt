@@ -8,16 +8,11 @@ ghost use Rattle.geokeys.specs.Entry.{IsPlaced, IsRefusal};
 use crate::entry::Entry;
 use crate::{GeoError, KeyValue};
 use std::alloc::Global;
+use tiff_dir::tags::{GEO_ASCII_PARAMS, GEO_DOUBLE_PARAMS};
 use tiff_dir::{FileFault, Memory, Order};
 
 /// The location of a value that stands in the directory itself.
 const DIRECTORY: u16 = 0;
-
-/// GeoDoubleParams.
-const DOUBLES: u16 = 34736;
-
-/// GeoAsciiParams.
-const ASCII: u16 = 34737;
 
 /// An item of eight bytes, its most significant byte first.
 fn big_first(order: Order, bytes: &[u8]) -> [u8; 8]
@@ -33,7 +28,8 @@ fn big_first(order: Order, bytes: &[u8]) -> [u8; 8]
     item
 }
 
-/// The items of eight bytes, each with its most significant byte first.
+/// The items of eight bytes (DOUBLE), which are in the file's order, each with its most significant byte first. An `Err` comes
+/// where no memory was left.
 pub fn doubles(alloc: Global, order: Order, bytes: &[u8]) -> Result<Vec<[u8; 8]>, Memory>
     requires { length bytes.now % 8 ≡ 0 }
     ensures { IfOk result (λ items. items.items ≡ doubles_in order bytes.now) }
@@ -81,11 +77,11 @@ pub fn value_of(
             }
             Ok(KeyValue::Short(entry.first))
         }
-        DOUBLES => {
+        GEO_DOUBLE_PARAMS => {
             let bytes = part(doubles, 8 * first, 8 * end).ok_or(FileFault::KeyPlace)?;
             Ok(KeyValue::Doubles(crate::doubles(alloc, order, bytes)?))
         }
-        ASCII => {
+        GEO_ASCII_PARAMS => {
             let bytes = part(ascii, first, end).ok_or(FileFault::KeyPlace)?;
             Ok(KeyValue::Ascii(Vec::from_slice(alloc, bytes)?))
         }

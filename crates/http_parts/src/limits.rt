@@ -1,4 +1,10 @@
-//! The limits of heads, tags and connections.
+//! The limits of names, tags, heads and connections. They are this project's own: RFC 9110 and RFC 9112 leave them open.
+
+/// The most bytes of a file's name.
+pub const NAME_LIMIT: usize = 200;
+
+/// The most bytes of a host's name.
+pub const HOST_LIMIT: usize = 64;
 
 /// The most field lines of a head.
 pub const FIELD_LIMIT: usize = 32;

@@ -6,7 +6,7 @@ ghost use Rattle.http_parts.specs.Text.{line, closing};
 use itoa::Buffer;
 use std::alloc::AllocError;
 
-/// Adds the line of a field.
+/// Adds the line of a field: its name, a colon, a space, its value, CR and LF.
 #[tactic(auto, unfolding(crate::specs::Text::line))]
 pub fn push_line(out: &mut Vec<u8>, name: &[u8], value: &[u8]) -> Result<(), AllocError>
     ensures { OnOk result (out.new.items ≡ out.old.items ++ line (name.now, value.now)) }

@@ -82,7 +82,11 @@ impl Eq for Tag {
 }
 
 impl Tag {
-    /// The tag with this text: None where it is weak, no entity tag, or longer than 64 bytes.
+    /// The tag with this text: None where it is weak, no entity tag, or longer than 64 bytes (RFC 9110, section 8.8.3).
+    ///
+    /// ```
+    /// let tag = Tag::new(b"\"1-1\"");
+    /// ```
     pub fn new(text: &[u8]) -> Option<Tag>
         ensures some { IfSome result (λ t. (t ≡ text.now) × IsTrue (is_kept_tag text.now)) }
         ensures none { IfNone result (is_kept_tag text.now ≡ false) }

@@ -9,7 +9,7 @@ use Rattle.httparse.specs.Spans.{header_bytes, name_and_value, span_bytes, IsRes
 use Rattle.http_parts.specs.Text.{FieldLine}
 use Rattle.http_parts.specs.Fields.{fields_at}
 use Rattle.http_range.specs.Seen.{SeenRequest, IsRequestFront, seen_request}
-use Rattle.http_range.specs.Head.{SeenHead, front_of, IsHeadOf, seen_head, IsCut}
+use Rattle.http_range.specs.Head.{SeenHead, head_front, IsHeadOf, seen_head, IsCut}
 
 room_of : (front : List ℕ) (spans : List HeaderSpan) (n : ℕ) (fields : List Field) → length spans ≡ 32
     → AreFieldsAt front spans n fields → length fields ≤ 32
@@ -17,7 +17,7 @@ room_of front spans n fields long same =
     omega (arith, ap length same, length-map (take n spans) (header_bytes front), length-map fields name_and_value, length-take n spans)
 
 pub head_found : (bytes front rest : List ℕ) (spans : List HeaderSpan) (r : ResponseSpans) (fields : List FieldLine)
-    → fields ≡ fields_at front (take r.headers spans) → front ≡ front_of bytes
+    → fields ≡ fields_at front (take r.headers spans) → front ≡ head_front bytes
     → rest ≡ drop r.len bytes → length spans ≡ 32 → IsResponseOf front spans r
     → (h : ResponseHead) × IsHeadOf bytes h
     × (◌≡◌ {A = SeenHead} (record { status = r.code; fields = fields; rest = rest }) (seen_head bytes h))
@@ -28,7 +28,7 @@ head_found bytes front rest spans r fields same is after long of =
       λ i. record { status = at.code i; fields = (same ∙ at.fields) i; rest = (after ∙ ap (λ (n : ℕ). drop n bytes) at.len) i },
     )
 
-pub head_cut : (bytes front : List ℕ) → front ≡ front_of bytes → front_of bytes ≡ bytes → length bytes < 4096
+pub head_cut : (bytes front : List ℕ) → front ≡ head_front bytes → head_front bytes ≡ bytes → length bytes < 4096
     → HasNoResponse front → MayBecomeResponse front → IsCut bytes
 head_cut bytes front is all short none open_head =
     let same : front ≡ bytes = is ∙ all in

@@ -12,5 +12,7 @@ pub mod ResponseLemmas
 pub mod HonestLemmas
 pub mod AskedLemmas
 pub mod FormLemmas
+pub mod ScanLemmas
 pub mod MessageLemmas
+pub mod FirstHead
 pub mod StreamLemmas

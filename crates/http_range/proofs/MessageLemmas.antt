@@ -5,8 +5,10 @@ use Rattle.std.proofs.lemmas.List.{take-append-le}
 use Rattle.httparse.proofs.GrammarLemmas.{ReadsRequest-append}
 use Rattle.httparse.specs.Grammar.{ReadsRequest}
 use Rattle.http_parts.specs.declared.limits.TheConstants.{MESSAGE_LIMIT}
-use Rattle.http_range.specs.Stream.{is_message, HasNoMessage, IsFirstMessage, IsUnfinished}
+use Rattle.http_range.specs.Scan.{is_message}
+use Rattle.http_range.specs.Stream.{HasNoMessage, IsFirstMessage, IsMessage, IsUnfinished}
 use Rattle.http_range.specs.Laws.{MessagesStay, HeadsStay}
+use Rattle.http_range.proofs.ScanLemmas.{message_of, no_message_of}
 
 -- ---- fronts of a stream
 
@@ -16,22 +18,18 @@ length_in stream message is = omega (arith, ap length is.front, length-take (len
 take_same : (k : ℕ) (stream more : List ℕ) → k ≤ length stream → take k (stream ++ more) ≡ take k stream
 take_same k stream more le = take-append-le k stream more le
 
-limit_is : (front : List ℕ) → length front ≡ MESSAGE_LIMIT → is_message front ≡ true
+empty_none : ¬ (IsMessage [])
 unfolding is_message
-limit_is front full = rw (eq-eqb (length front) MESSAGE_LIMIT full)
-
-empty_none : is_message [] ≡ false
-unfolding is_message
-empty_none = refl
+empty_none = no_message_of [] refl
 
 found_stays : (stream message more : List ℕ) → IsFirstMessage stream message → IsFirstMessage (stream ++ more) message
 found_stays stream message more is =
     let within = length_in stream message is in record {
       front = take_same (length message) stream more within ∙ is.front;
       is_one = is.is_one;
-      shortest = λ k below.
+      shortest = λ k below found.
           let le : k ≤ length stream = omega arith in
-          ap is_message (take_same k stream more le) ∙ is.shortest k below;
+          is.shortest k below (subst IsMessage (take_same k stream more le) found);
     }
 
 -- a message isn't longer than the limit
@@ -40,19 +38,19 @@ not_longer stream message is = elim (cases_lt MESSAGE_LIMIT (length message)) [
   | inl over ↦
       let within = length_in stream message is in
       let full : length (take MESSAGE_LIMIT stream) ≡ MESSAGE_LIMIT = omega (arith, length-take MESSAGE_LIMIT stream) in
-      absurd (let e : true ≡ false = sym (limit_is (take MESSAGE_LIMIT stream) full) ∙ is.shortest MESSAGE_LIMIT over in cc)
+      absurd (is.shortest MESSAGE_LIMIT over (inl full))
   | inr below ↦ below
 ]
 
-not_empty : (message : List ℕ) → is_message message ≡ true → 1 ≤ length message
-not_empty [] is = absurd (let e : true ≡ false = sym is ∙ empty_none in cc)
+not_empty : (message : List ℕ) → IsMessage message → 1 ≤ length message
+not_empty [] is = absurd (empty_none is)
 not_empty (b ∷ bytes) is = omega arith
 
 pub one_message : (stream message other : List ℕ) → IsFirstMessage stream message → IsFirstMessage stream other → message ≡ other
 one_message stream message other a b = elim (cases_lt (length message) (length other)) [
-  | inl below ↦ absurd (let e : true ≡ false = sym (ap is_message a.front ∙ a.is_one) ∙ b.shortest (length message) below in cc)
+  | inl below ↦ absurd (b.shortest (length message) below (subst IsMessage (sym a.front) a.is_one))
   | inr above ↦ elim (cases_lt (length other) (length message)) [
-    | inl below ↦ absurd (let e : true ≡ false = sym (ap is_message b.front ∙ b.is_one) ∙ a.shortest (length other) below in cc)
+    | inl below ↦ absurd (a.shortest (length other) below (subst IsMessage (sym b.front) b.is_one))
     | inr below ↦
         let same : length message ≡ length other = omega arith in
         sym a.front ∙ ap (λ (k : ℕ). take k stream) same ∙ b.front
@@ -64,12 +62,12 @@ unfinished_short stream none = elim (cases_lt (length stream) MESSAGE_LIMIT) [
   | inl below ↦ below
   | inr above ↦
       let full : length (take MESSAGE_LIMIT stream) ≡ MESSAGE_LIMIT = omega (arith, length-take MESSAGE_LIMIT stream) in
-      absurd (let e : true ≡ false = sym (limit_is (take MESSAGE_LIMIT stream) full) ∙ none MESSAGE_LIMIT above in cc)
+      absurd (none MESSAGE_LIMIT above (inl full))
 ]
 
 pub no_message : (stream message : List ℕ) → IsUnfinished stream → IsFirstMessage stream message → ⊥
 no_message stream message none is =
-    let e : true ≡ false = sym (ap is_message is.front ∙ is.is_one) ∙ none (length message) (length_in stream message is) in cc
+    none (length message) (length_in stream message is) (subst IsMessage (sym is.front) is.is_one)
 
 pub messages_stay : MessagesStay
 messages_stay = record {
@@ -82,9 +80,10 @@ messages_stay = record {
   one = one_message;
   unfinished = λ stream more none. (
     unfinished_short stream none,
-    λ k le. ap is_message (take_same k stream more le) ∙ none k le,
+    λ k le found. none k le (subst IsMessage (take_same k stream more le) found),
   );
-  none = λ stream k le. let e : k ≡ 0 = omega arith in ap (λ (n : ℕ). is_message (take n stream)) e ∙ empty_none;
+  none = λ stream k le found.
+      let e : k ≡ 0 = omega arith in empty_none (subst (λ (n : ℕ). IsMessage (take n stream)) e found);
   apart = no_message;
 }
 
@@ -93,10 +92,22 @@ messages_stay = record {
 -- the front of k + 1 bytes is none either
 pub none_more : (stream : List ℕ) (k : ℕ) → HasNoMessage stream k → is_message (take (k + 1) stream) ≡ false
     → HasNoMessage stream (k + 1)
-none_more stream k none here n le = elim (cases_lt n (k + 1)) [
-  | inl below ↦ none n (omega arith)
-  | inr above ↦ let same : n ≡ k + 1 = omega arith in ap (λ (m : ℕ). is_message (take m stream)) same ∙ here
+none_more stream k none here n le found = elim (cases_lt n (k + 1)) [
+  | inl below ↦ none n (omega arith) found
+  | inr above ↦
+      let same : n ≡ k + 1 = omega arith in
+      no_message_of (take (k + 1) stream) here (subst (λ (m : ℕ). IsMessage (take m stream)) same found)
 ]
+
+-- the front of k + 1 bytes is the first message
+pub first_message : (stream : List ℕ) (k : ℕ) → k + 1 ≤ length stream → HasNoMessage stream k
+    → is_message (take (k + 1) stream) ≡ true → IsFirstMessage stream (take (k + 1) stream)
+first_message stream k within none here =
+    let is : length (take (k + 1) stream) ≡ k + 1 = omega (arith, length-take (k + 1) stream) in record {
+      front = ap (λ (n : ℕ). take n stream) is;
+      is_one = message_of (take (k + 1) stream) here;
+      shortest = λ n below. none n (omega arith);
+    }
 
 -- ---- heads
 

@@ -1,5 +1,5 @@
 -- A client's request is a head of the grammar, and is read as what was asked.
-use Rattle.std.proofs.Common.{◌≡◌, ℕ, ◌+◌, ◌-◌, ◌^◌, ◌<◌, ◌≤◌, Bool, true, List, [], ◌∷◌, ◌++◌, length, map, take, refl, sym, ap, ◌∙◌, arith, append_assoc, append-nil, length-append, codes, Option, Some, None, flat_map}
+use Rattle.std.proofs.Common.{◌≡◌, ℕ, ◌+◌, ◌-◌, ◌^◌, ◌<◌, ◌≤◌, Bool, true, List, [], ◌∷◌, ◌++◌, length, map, take, refl, sym, ap, ◌∙◌, arith, append_assoc, append-nil, length-append, codes, subst, Option, Some, None, flat_map}
 use Rattle.std.specs.Prelude.{decimal, IfSome}
 use Rattle.std.specs.List.{list_all}
 use Rattle.std.proofs.Math.Seq.{take-append-add}
@@ -17,9 +17,11 @@ use Rattle.http_parts.specs.Text.{FieldLine, line, head_with, closing}
 use Rattle.http_parts.specs.Names.{is_name, is_name_byte, is_host, is_host_byte}
 use Rattle.http_range.specs.Ask.{CanAsk, request_line, range_value, if_range, request_fields, request_text, asked_request, CanCheck, check_fields, check_text, checked_request}
 use Rattle.http_range.specs.Seen.{SeenRequest, IsRequestFront, seen_request, HasRequest}
+use Rattle.http_range.specs.Stream.{IsFirstMessage}
 use Rattle.http_parts.specs.Plain.{field_of}
 use Rattle.http_parts.specs.Laws.{PartsAreRead}
 use Rattle.http_range.proofs.TextLemmas.{IsShort, ArePlain, lines-are, fields-are, seen-are, length-fields, length-head_with}
+use Rattle.http_range.proofs.FirstHead.{heads_are_messages}
 use Rattle.http_range.proofs.ReplyLemmas.{token_of, plain_visible, closing_plain, plain-append, value_literal, length_20, tag_plain}
 
 abbrev head_by : List ℕ → List ℕ → List FieldLine → RequestHead
@@ -169,6 +171,13 @@ module _ (laws : PartsAreRead) where
           room = omega (arith, length-fields ls);
         }
 
+    plain_first : (more : List ℕ) → IsFirstMessage (text ++ more) text
+    plain_first more =
+        let small = length-head_with laws (request_line method name) ls is.plain line_short is.few in
+        let same = request-is method name ls in
+        subst (λ (t : List ℕ). IsFirstMessage (t ++ more) t) (sym same)
+        (heads_are_messages head more valid (omega (arith, small, ap length same)))
+
     seen_is : seen_request head ≡ seen
     seen_is = λ i. record { method = method; target = 47 ∷ name; minor = 1; fields = seen-are laws ls is.plain i }
 
@@ -209,6 +218,11 @@ module _ (laws : PartsAreRead) where
   asked_has host name first last tag more can bytes is =
       plain_has (codes "GET") name (request_fields host first last tag) (asked_plain host name first last tag can) bytes more is
 
+  pub asked_first : (host name : List ℕ) (first last : ℕ) (tag : Option (List ℕ)) (more : List ℕ) → CanAsk host name first last tag
+      → IsFirstMessage (request_text host name first last tag ++ more) (request_text host name first last tag)
+  asked_first host name first last tag more can =
+      plain_first (codes "GET") name (request_fields host first last tag) (asked_plain host name first last tag can) more
+
   checked_plain : (host name tag : List ℕ) → CanCheck host name tag → IsPlainRequest (codes "HEAD") name (check_fields host tag)
   unfolding is_token_byte
   checked_plain host name tag can = record {
@@ -229,3 +243,8 @@ module _ (laws : PartsAreRead) where
       → bytes ≡ check_text host name tag ++ more → HasRequest bytes (Some (checked_request host name tag))
   checked_has host name tag more can bytes is =
       plain_has (codes "HEAD") name (check_fields host tag) (checked_plain host name tag can) bytes more is
+
+  pub checked_first : (host name tag more : List ℕ) → CanCheck host name tag
+      → IsFirstMessage (check_text host name tag ++ more) (check_text host name tag)
+  checked_first host name tag more can =
+      plain_first (codes "HEAD") name (check_fields host tag) (checked_plain host name tag can) more

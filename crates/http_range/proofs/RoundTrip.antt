@@ -17,7 +17,7 @@ use Rattle.http_parts.specs.Text.{FieldLine, head_with, closing}
 use Rattle.http_range.specs.Reply.{IsSent, status_of, status_line, fields_of, head_text}
 use Rattle.http_range.specs.Head.{SeenHead, seen_head, FindsHead}
 use Rattle.http_range.specs.Piece.{SeenPiece, ◌>>=◌}
-use Rattle.http_range.specs.Reading.{reading_of, reply_seen, front_seen, tag_of, tag_seen, front_tag, ReadsAnswer, ReadsCheck}
+use Rattle.http_range.specs.Reading.{reading_of, reply_seen, front_seen, check_tag, tag_seen, front_tag, ReadsAnswer, ReadsCheck}
 use Rattle.http_range.proofs.TextLemmas.{ArePlain, head_by, status_by, head_with-is, head_is, length-fields, length-head_with, seen-are}
 use Rattle.http_parts.specs.Laws.{PartsAreRead}
 use Rattle.http_range.proofs.FrontLemmas.{found_whole, found_cut, whole_head, seen_whole}
@@ -143,7 +143,7 @@ module _ (laws : PartsAreRead) where
 
   -- what a check reads of them
   reads_tag : (reply : Reply) (close : Bool) (rest : List ℕ) → IsSent reply
-      → tag_of (record { status = status_of reply; fields = fields_of reply ++ closing close; rest = rest }) ≡ tag_seen reply
+      → check_tag (record { status = status_of reply; fields = fields_of reply ++ closing close; rest = rest }) ≡ tag_seen reply
   reads_tag (R200 tag l) true rest sent = kept_read laws tag sent.0
   reads_tag (R200 tag l) false rest sent = kept_read laws tag sent.0
   reads_tag (R206 tag a b l) true rest sent = kept_read laws tag sent.0
@@ -202,4 +202,4 @@ module _ (laws : PartsAreRead) where
       → bytes ≡ take k (head_text reply close ++ body) → (r : Result (List ℕ) Why) → ReadsCheck bytes r
       → r ≡ front_tag reply close k
   front_checked reply close body k sent bytes is r reads =
-      reads.2 ∙ front_by tag_of (λ rest. tag_seen reply) reply close body k sent (λ rest. reads_tag reply close rest sent) bytes is reads.0 reads.1
+      reads.2 ∙ front_by check_tag (λ rest. tag_seen reply) reply close body k sent (λ rest. reads_tag reply close rest sent) bytes is reads.0 reads.1

@@ -3,6 +3,7 @@ use Rattle.std.specs.Prelude.{◌≡◌, ◌≤◌, ◌⊎◌, ℕ, IsTrue, if�
 use Rattle.std.specs.Str.{bytes_eq}
 use Rattle.http_parts.specs.Names.{is_name}
 use Rattle.http_parts.specs.Tag.{is_kept_tag}
+use Rattle.http_range.specs.declared.publication.TheConstants.{FILE_LIMIT}
 
 -- one revision of a file: the name and the tag under which it was published, and its bytes
 pub record Publication : Type 0 where
@@ -15,7 +16,7 @@ pub record IsPublication (p : Publication) : Type 0 where
   pub named : IsTrue (is_name p.name)
   pub tagged : IsTrue (is_kept_tag p.tag)
   pub some : 1 ≤ length p.file
-  pub small : length p.file ≤ 67108864
+  pub small : length p.file ≤ FILE_LIMIT
 
 -- ---- books: all that was ever published, the newest first
 

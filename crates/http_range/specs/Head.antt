@@ -14,13 +14,13 @@ pub record SeenHead : Type 0 where
   pub rest : List ℕ
 
 -- the bytes where a head is looked for
-abbrev pub front_of : List ℕ → List ℕ
-front_of bytes = take HEAD_LIMIT bytes
+abbrev pub head_front : List ℕ → List ℕ
+head_front bytes = take HEAD_LIMIT bytes
 
 -- h stands at the front of bytes, whole in the first 4,096, with at most 32 fields
 pub record IsHeadOf (bytes : List ℕ) (h : ResponseHead) : Type 0 where
   pub rest : List ℕ
-  pub reads : ReadsResponse (front_of bytes) h rest
+  pub reads : ReadsResponse (head_front bytes) h rest
   pub room : length h.fields ≤ FIELD_LIMIT
 
 abbrev pub seen_head : List ℕ → ResponseHead → SeenHead
@@ -39,7 +39,7 @@ pub record IsCut (bytes : List ℕ) : Type 0 where
 -- no head ends in the first 4,096 bytes, or none of at most 32 fields begins there, whatever follows
 abbrev pub IsRefused : List ℕ → Type 0
 IsRefused bytes =
-    ((HEAD_LIMIT ≤ length bytes) × HasNoResponse (front_of bytes)) ⊎ ResponseOverflows FIELD_LIMIT (front_of bytes)
+    ((HEAD_LIMIT ≤ length bytes) × HasNoResponse (head_front bytes)) ⊎ ResponseOverflows FIELD_LIMIT (head_front bytes)
 
 -- what is answered of the head of bytes: its parts, or one of the cases *cut* and *refused head*
 abbrev pub FindsHead : List ℕ → Result SeenHead Why → Type 0

@@ -1,11 +1,13 @@
 -- Laws of the definitions, each the contract of a function of `laws`.
-use Rattle.std.specs.Prelude.{◌≡◌, ◌≢◌, ◌<◌, ◌≤◌, ◌^◌, ◌↔◌, ◌⊎◌, ℕ, Bool, IsTrue, IsErr, IfOk, List, ◌++◌, length, take, drop, Option, Some, None, Result}
+use Rattle.std.specs.Prelude.{◌≡◌, ◌≢◌, ◌<◌, ◌≤◌, ◌^◌, ◌↔◌, ◌⊎◌, ℕ, Bool, true, IsTrue, IsErr, IfOk, List, [], ◌∷◌, ◌++◌, length, take, drop, Option, Some, None, Result}
+use Rattle.httparse.specs.Grammar.{RequestHead, IsRequestHead, print_request}
 use Rattle.http_range.specs.Ask.{CanAsk, request_text, CanCheck, check_text}
 use Rattle.http_range.specs.Book.{Publication, IsPublication, Book, Includes, Covers, Catalogue, IsCatalogue, published, publish, publication_tag}
 use Rattle.http_range.specs.Response.{Response, text_of, IsAnswer, response_to_client, response_to_check}
 use Rattle.http_parts.specs.declared.limits.TheConstants.{MESSAGE_LIMIT}
 use Rattle.http_range.specs.Seen.{SeenRequest, HasRequest}
-use Rattle.http_range.specs.Stream.{AreAnswers, HasNoMessage, IsFirstMessage, IsUnfinished}
+use Rattle.http_range.specs.Scan.{is_message}
+use Rattle.http_range.specs.Stream.{AreAnswers, HasNoMessage, IsAnswered, IsFirstMessage, IsMessage, IsUnfinished}
 use Rattle.http_range.specs.Honest.{IsFront, IsHonestFor, IsNamelessFront, IsHonest, IsPieceOf, IsPieceOfBook}
 use Rattle.http_range.specs.declared.reading.Why.{Why}
 use Rattle.http_range.specs.declared.reply.Reply.{Reply}
@@ -56,6 +58,16 @@ pub record MessagesStay : Type 0 where
   -- an unfinished stream has no message
   pub apart : (stream message : List ℕ) → IsUnfinished stream → ¬ (IsFirstMessage stream message)
 
+-- a message is found by reading backwards from its end
+abbrev pub MessagesAreTested : Type 0
+MessagesAreTested = (front : List ℕ) → (is_message front ≡ true) ↔ IsMessage front
+
+-- what prints as a request's head of at most 8,192 bytes is the first message of each stream that begins with it
+abbrev pub HeadsAreMessages : Type 0
+HeadsAreMessages =
+    (h : RequestHead) (more : List ℕ) → IsRequestHead h → length (print_request h) ≤ MESSAGE_LIMIT
+    → IsFirstMessage (print_request h ++ more) (print_request h)
+
 -- a head that was found in a message is the same when bytes follow
 abbrev pub HeadsStay : Type 0
 HeadsStay =
@@ -75,6 +87,21 @@ ChecksAreAnswered =
     (catalogue : Catalogue) (host name tag more : List ℕ) (response : Response) → CanCheck host name tag
     → IsAnswer catalogue (check_text host name tag ++ more) response
     ↔ (response ≡ response_to_check (published name catalogue) tag)
+
+-- a client's request at the front of a stream has exactly its one answer, whatever follows
+abbrev pub ClientsAreServed : Type 0
+ClientsAreServed =
+    (catalogue : Catalogue) (host name more : List ℕ) (first last : ℕ) (tag : Option (List ℕ)) (rs : List Response)
+    → CanAsk host name first last tag → first ≤ last
+    → IsAnswered catalogue (request_text host name first last tag ++ more) rs
+    ↔ (rs ≡ response_to_client (published name catalogue) first last tag ∷ [])
+
+-- so has its check
+abbrev pub ChecksAreServed : Type 0
+ChecksAreServed =
+    (catalogue : Catalogue) (host name tag more : List ℕ) (rs : List Response) → CanCheck host name tag
+    → IsAnswered catalogue (check_text host name tag ++ more) rs
+    ↔ (rs ≡ response_to_check (published name catalogue) tag ∷ [])
 
 -- a publication stands under its name, and changes no other name
 pub record PublishReplaces : Type 0 where

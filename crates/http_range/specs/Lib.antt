@@ -18,5 +18,6 @@ pub mod Reading
 pub mod Book
 pub mod Response
 pub mod Stream
+pub mod Scan
 pub mod Honest
 pub mod Laws

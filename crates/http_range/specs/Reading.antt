@@ -113,12 +113,12 @@ abbrev pub is_no_check : SeenHead → Bool
 is_no_check head = has_other_status head && not (head.status == 304)
 
 -- the tag of the first row that applies to a whole head
-abbrev pub tag_of : SeenHead → Result (List ℕ) Why
-tag_of head = if is_no_check head then Err (Status head.status) else tag_in head
+abbrev pub check_tag : SeenHead → Result (List ℕ) Why
+check_tag head = if is_no_check head then Err (Status head.status) else tag_in head
 
 -- how the answer to a check is read
 abbrev pub ReadsCheck : List ℕ → Result (List ℕ) Why → Type 0
-ReadsCheck bytes r = (found : Result SeenHead Why) × FindsHead bytes found × (r ≡ (found >>= tag_of))
+ReadsCheck bytes r = (found : Result SeenHead Why) × FindsHead bytes found × (r ≡ (found >>= check_tag))
 
 -- ---- what a client reads of a reply
 

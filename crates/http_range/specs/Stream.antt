@@ -1,51 +1,57 @@
--- The messages of a stream, and a server's answers to them (RFC 9112, sections 2.2, 9.3 and 9.6).
-use Rattle.std.specs.Prelude.{◌≡◌, ℕ, suc, ◌<◌, ◌≤◌, Bool, true, false, ◌&&◌, ◌||◌, ◌==◌, not, if◌then◌else◌, List, [], ◌∷◌, length, reverse, take, drop}
+-- The messages of a stream, and a server's answers to them (RFC 9112, sections 2.1, 2.2, 9.3 and 9.6).
+use Rattle.std.specs.Prelude.{◌≡◌, ◌≢◌, ◌⊎◌, ℕ, suc, ◌<◌, ◌≤◌, Bool, true, false, ◌==◌, not, if◌then◌else◌, List, [], ◌∷◌, ◌++◌, codes, length, take, drop}
 use Rattle.std.specs.List.{list_any, flat_map}
+use Rattle.httparse.specs.Grammar.{AllPass}
 use Rattle.http_parts.specs.declared.limits.TheConstants.{MESSAGE_LIMIT, ANSWERS_LIMIT}
 use Rattle.http_range.specs.Book.{Catalogue}
 use Rattle.http_range.specs.Response.{Response, text_of, IsAnswer}
 
--- ---- lines, read backwards: the last byte of the text comes first
+-- ---- lines (section 2.2): LF ends a line, and CR before it belongs to the end
 
--- the text ends where a line begins
-abbrev pub begins_line : List ℕ → Bool
-begins_line [] = true
-begins_line (b ∷ before) = b == 10
+-- any byte of a line but its end
+abbrev pub is_line_byte : ℕ → Bool
+is_line_byte b = not (b == 10)
 
--- its last line has nothing so far, or CR alone
-abbrev pub has_empty_line : List ℕ → Bool
-has_empty_line [] = true
-has_empty_line (b ∷ before) = b == 10 || (b == 13 && begins_line before)
+abbrev pub IsEmptyLine : List ℕ → Type 0
+IsEmptyLine line = (line ≡ codes "\n") ⊎ (line ≡ codes "\r\n")
 
--- it ends with LF, and the line before that isn't empty
-abbrev pub ends_line : List ℕ → Bool
-ends_line [] = false
-ends_line (b ∷ before) = b == 10 && not (has_empty_line before)
+-- a line that isn't empty: something stands before LF, and it isn't CR alone
+pub record IsFilledLine (line : List ℕ) : Type 0 where
+  pub content : List ℕ
+  pub one : AllPass is_line_byte content
+  pub some : content ≢ []
+  pub more : content ≢ codes "\r"
+  pub ended : line ≡ content ++ codes "\n"
 
-abbrev pub without_return : List ℕ → List ℕ
-without_return [] = []
-without_return (b ∷ before) = if b == 13 then before else b ∷ before
+-- whole lines, or nothing
+abbrev pub AreLines : List ℕ → Type 0
+AreLines text = (text ≡ []) ⊎ ((front : List ℕ) × (text ≡ front ++ codes "\n"))
 
--- it ends with a line that isn't empty, and then an empty one
-abbrev pub ends_head : List ℕ → Bool
-ends_head [] = false
-ends_head (b ∷ before) = b == 10 && ends_line (without_return before)
+-- the text ends with an empty line behind one that isn't empty, as a head does (section 2.1)
+pub record EndsHead (text : List ℕ) : Type 0 where
+  pub before : List ℕ
+  pub line : List ℕ
+  pub empty : List ℕ
+  pub lines : AreLines before
+  pub filled : IsFilledLine line
+  pub ends : IsEmptyLine empty
+  pub joined : text ≡ before ++ (line ++ empty)
 
 -- ---- messages
 
--- front ends with an empty line after a line that isn't empty, or has 8,192 bytes
-unfoldable pub is_message : List ℕ → Bool
-is_message front = length front == MESSAGE_LIMIT || ends_head (reverse front)
+-- a message ends where its head does, or has 8,192 bytes
+abbrev pub IsMessage : List ℕ → Type 0
+IsMessage front = (length front ≡ MESSAGE_LIMIT) ⊎ EndsHead front
 
 -- no front of at most n bytes is a message
 abbrev pub HasNoMessage : List ℕ → ℕ → Type 0
-HasNoMessage stream n = (k : ℕ) → k ≤ n → is_message (take k stream) ≡ false
+HasNoMessage stream n = (k : ℕ) → k ≤ n → ¬ (IsMessage (take k stream))
 
 -- the first message of a stream is its shortest front that is one
 pub record IsFirstMessage (stream message : List ℕ) : Type 0 where
   pub front : take (length message) stream ≡ message
-  pub is_one : is_message message ≡ true
-  pub shortest : (k : ℕ) → k < length message → is_message (take k stream) ≡ false
+  pub is_one : IsMessage message
+  pub shortest : (k : ℕ) → k < length message → ¬ (IsMessage (take k stream))
 
 -- a stream without one is unfinished
 abbrev pub IsUnfinished : List ℕ → Type 0

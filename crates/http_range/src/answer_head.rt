@@ -1,6 +1,6 @@
 //! The head of an answer (RFC 9112, section 4).
 ghost use Rattle.std.specs.Prelude.{◌≡◌, ◌≤◌, Some, length, option_copied};
-ghost use Rattle.http_range.specs.Head.{front_of, FindsHead};
+ghost use Rattle.http_range.specs.Head.{head_front, FindsHead};
 ghost use Rattle.http_range.specs.AnswerHead.{head_seen, found_seen};
 ghost use Rattle.http_range.specs.Reading.{is_coded, tag_by_rows, tag_in};
 
@@ -21,8 +21,8 @@ pub(crate) struct AnswerHead<'b> {
 }
 
 /// The bytes where a head is looked for.
-fn front_of(bytes: &[u8]) -> &[u8]
-    ensures front { result.now ≡ front_of bytes.now }
+fn head_front(bytes: &[u8]) -> &[u8]
+    ensures front { result.now ≡ head_front bytes.now }
     ensures short { length result.now ≤ HEAD_LIMIT }
     ensures within { length result.now ≤ length bytes.now }
 {
@@ -37,7 +37,7 @@ fn front_of(bytes: &[u8]) -> &[u8]
 pub(crate) fn head_of(bytes: &[u8]) -> Result<AnswerHead<'_>, Why>
     ensures { FindsHead bytes.now (found_seen result) }
 {
-    let front = front_of(bytes);
+    let front = head_front(bytes);
     let mut spans = [EMPTY_HEADER_SPAN; FIELD_LIMIT];
     match parse_response(front, &mut spans) {
         Ok(Status::Complete(head)) => Ok(AnswerHead {

@@ -2,7 +2,7 @@
 ghost use Rattle.std.specs.Prelude.{◌≡◌};
 ghost use Rattle.http_range.specs.AnswerHead.{head_seen};
 ghost use Rattle.http_range.specs.Piece.{check_seen};
-ghost use Rattle.http_range.specs.Reading.{tag_of, ReadsCheck};
+ghost use Rattle.http_range.specs.Reading.{check_tag, ReadsCheck};
 
 use crate::answer_head::{AnswerHead, head_of};
 use crate::reading::{Why, has_other_status};
@@ -15,8 +15,8 @@ pub enum CheckReading {
     NotUsed(Why),
 }
 
-fn tag_of(head: &AnswerHead) -> Result<Tag, Why>
-    ensures { result ≡ tag_of (head_seen head.now) }
+fn check_tag(head: &AnswerHead) -> Result<Tag, Why>
+    ensures { result ≡ check_tag (head_seen head.now) }
 {
     if has_other_status(head) && head.status != 304 {
         return Err(Why::Status(head.status));
@@ -28,7 +28,7 @@ fn read(bytes: &[u8]) -> Result<Tag, Why>
     ensures { ReadsCheck bytes.now result }
 {
     let head = head_of(bytes)?;
-    tag_of(&head)
+    check_tag(&head)
 }
 
 /// What the answer to a check, or a front of it, says.

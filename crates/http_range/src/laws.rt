@@ -1,6 +1,6 @@
 //! Laws of the definitions, for the crates above. Each function does nothing but name the laws
 //! that it rests on: its contract is the law.
-ghost use Rattle.http_range.specs.Laws.{FrontsAreRead, ChecksAreRead, HonestyIsKept, ContentRangesAreForms, TagsTellPublications, PublicationTagsAreKept, AnswersAreUnique, StreamsAreAnsweredOnce, MessagesStay, HeadsStay, ClientsAreAnswered, ChecksAreAnswered, PublishReplaces, PublishedIsNamed};
+ghost use Rattle.http_range.specs.Laws.{FrontsAreRead, ChecksAreRead, HonestyIsKept, ContentRangesAreForms, TagsTellPublications, PublicationTagsAreKept, AnswersAreUnique, StreamsAreAnsweredOnce, MessagesStay, MessagesAreTested, HeadsAreMessages, HeadsStay, ClientsAreAnswered, ChecksAreAnswered, ClientsAreServed, ChecksAreServed, PublishReplaces, PublishedIsNamed};
 ghost use Rattle.http_parts.specs.Laws.{TagsAreQuoted};
 
 use http_parts::laws::parts_are_read;
@@ -13,10 +13,13 @@ pub fn tags_tell_publications()
     parts_are_read();
 }
 
-/// What was found of a message or of its head stays so when bytes follow.
+/// What was found of a message or of its head stays so when bytes follow, and a head that was printed is found. Reading backwards
+/// finds the end of a message.
 pub fn messages_stay()
     ensures messages { MessagesStay }
     ensures heads { HeadsStay }
+    ensures printed { HeadsAreMessages }
+    ensures tested { MessagesAreTested }
 {}
 
 /// A message has one answer of a catalogue, and a stream one list of answers.
@@ -25,10 +28,12 @@ pub fn answers_are_unique()
     ensures stream { StreamsAreAnsweredOnce }
 {}
 
-/// What a server answers to the text of a client's request, and of its check.
+/// What a server answers to the text of a client's request, and of its check: as a message, and at the front of a stream.
 pub fn clients_are_answered()
     ensures followed { ClientsAreAnswered }
     ensures checks { ChecksAreAnswered }
+    ensures served { ClientsAreServed }
+    ensures checks_served { ChecksAreServed }
 {
     parts_are_read();
 }

@@ -26,7 +26,7 @@ pub use laws::{
     answers_are_unique, clients_are_answered, fronts_are_read, honesty_is_kept, messages_stay,
     publications_replace, tags_tell_publications, values_have_forms,
 };
-pub use publication::publication_tag;
+pub use publication::{FILE_LIMIT, NAMES_LIMIT, publication_tag};
 pub use range::{RangeSpec, Resolved, read_range, resolve};
 pub use reading::{Piece, Reading, Why, read_answer};
 pub use reply::{Reply, write_head};

@@ -1,4 +1,4 @@
-//! The tags of publications.
+//! Publications: their limits and their tags.
 ghost use Rattle.std.specs.Prelude.{◌≡◌, ◌≤◌, ◌+◌, ◌++◌, length};
 ghost use Rattle.arrayvec.specs.ArrayVec.{array_vec_len};
 ghost use Rattle.http_range.specs.Book.{publication_tag};
@@ -8,6 +8,12 @@ use http_parts::laws::parts_are_read;
 use http_parts::limits::TAG_LIMIT;
 use http_parts::tag::Tag;
 use itoa::Buffer;
+
+/// The most bytes of a published file: 64 MiB.
+pub const FILE_LIMIT: usize = 67_108_864;
+
+/// The most names that a server has files under.
+pub const NAMES_LIMIT: usize = 64;
 
 /// The tag `"E-N"` of publication `number` of an epoch. It takes no memory.
 pub fn publication_tag(epoch: u32, number: u32) -> Tag

@@ -97,7 +97,14 @@ fn read(value: &[u8]) -> Option<RangeSpec>
 }
 
 /// The range that the value of a Range field names, with numbers past 64 bits lowered to the greatest. None where it is
-/// no range: another unit, a space inside, several ranges, or a last position below the first.
+/// no range: another unit, a space inside, several ranges, or a last position below the first (RFC 9110, section 14.1.1).
+///
+/// ```
+/// let range = read_range(b"bytes=0-99");
+/// if let Resolved::Part(first, last) = resolve(range, 378) {
+///     println!(rt; "bytes {first}-{last}/378")?;
+/// }
+/// ```
 pub fn read_range(value: &[u8]) -> Option<RangeSpec>
     ensures value { result ≡ option_map capped_spec (range_spec value.now) }
 
@@ -112,7 +119,8 @@ pub fn read_range(value: &[u8]) -> Option<RangeSpec>
     read(value)
 }
 
-/// What the range names in a content of `len` bytes.
+/// What the range names in a content of `len` bytes: all of it where there is none, a part that ends in it, or nothing, which is
+/// answered by 416 (RFC 9110, section 14.1.2).
 pub fn resolve(spec: Option<RangeSpec>, len: u64) -> Resolved
     requires { 1 ≤ len }
     ensures value { result ≡ resolved_or spec len }

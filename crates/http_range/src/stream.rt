@@ -1,6 +1,7 @@
 //! The messages of a stream (RFC 9112, section 2.2).
 ghost use Rattle.std.specs.Prelude.{◌≡◌, ◌≤◌, IfSome, IfNone, length, reverse, take};
-ghost use Rattle.http_range.specs.Stream.{begins_line, has_empty_line, ends_line, without_return, ends_head, is_message, HasNoMessage, IsFirstMessage, IsUnfinished};
+ghost use Rattle.http_range.specs.Scan.{begins_line, has_empty_line, ends_line, without_return, ends_head, is_message};
+ghost use Rattle.http_range.specs.Stream.{HasNoMessage, IsFirstMessage, IsUnfinished};
 
 use http_parts::limits::MESSAGE_LIMIT;
 
@@ -53,7 +54,7 @@ fn ends_head(text: &[u8]) -> bool
     }
 }
 
-#[tactic(auto, unfolding(crate::specs::Stream::is_message))]
+#[tactic(auto, unfolding(crate::specs::Scan::is_message))]
 fn is_message(front: &[u8]) -> bool
     ensures { result ≡ is_message front.now }
 {

@@ -1,24 +1,24 @@
 //! Packets of a row.
 ghost use Rattle.std.specs.Prelude.{◌≡◌, ◌<◌, ◌≤◌, IfOk, length, take, replicate, slice_index};
-ghost use Rattle.tiff_dir.specs.Packets.{Packs};
+ghost use Rattle.tiff_dir.specs.Packets.{max_packet_bytes, Packs};
 ghost use Rattle.packbits.specs.Adding.{Adds};
 
 use std::alloc::Global;
 use tiff_dir::Memory;
 
 /// The most bytes that a packet stands for.
-const MOST: usize = 128;
+const MAX_PACKET_BYTES: usize = 128;
 
 /// How many equal bytes the row begins with, up to 128.
 fn run_len(bytes: &[u8]) -> usize
     requires { 0 < length bytes.now }
     ensures some { 1 ≤ result }
-    ensures few { result ≤ 128 }
+    ensures few { result ≤ max_packet_bytes }
     ensures within { result ≤ length bytes.now }
     ensures equal { take result bytes.now ≡ replicate result (slice_index bytes.now 0) }
 {
     let first = bytes[0];
-    let most = bytes.len().min(MOST);
+    let most = bytes.len().min(MAX_PACKET_BYTES);
     for i in 1..most {
         if bytes[i] != first {
             return i;
@@ -31,10 +31,10 @@ fn run_len(bytes: &[u8]) -> usize
 fn copy_len(bytes: &[u8]) -> usize
     requires { 0 < length bytes.now }
     ensures some { 1 ≤ result }
-    ensures few { result ≤ 128 }
+    ensures few { result ≤ max_packet_bytes }
     ensures within { result ≤ length bytes.now }
 {
-    let most = bytes.len().min(MOST);
+    let most = bytes.len().min(MAX_PACKET_BYTES);
     for i in 1..most {
         if i + 1 < bytes.len() && bytes[i] == bytes[i + 1] {
             return i;
@@ -60,7 +60,12 @@ fn push_packet(packed: &mut Vec<u8>, bytes: &[u8]) -> Result<usize, Memory>
     Ok(len)
 }
 
-/// Packets that stand for a row, which isn't empty: equal bytes as runs, others as they are.
+/// Packets that stand for a row, which isn't empty: equal bytes as runs, others as they are. An `Err` comes where no memory was
+/// left.
+///
+/// ```
+/// assert_eq!(pack_row(alloc, &[7, 7, 7, 1, 2])?.as_slice(), [0xfe, 7, 0x01, 1, 2]);
+/// ```
 pub fn pack_row(alloc: Global, row: &[u8]) -> Result<Vec<u8>, Memory>
     requires { 0 < length row.now }
     ensures { IfOk result (λ packed. Packs (length row.now) packed.items row.now) }

@@ -5,6 +5,9 @@ ghost use Rattle.packbits.specs.Unpacking.{IsFirst, HasNoFirst, IsNotPacked};
 
 use tiff_dir::{FileFault, one_text};
 
+/// The head of a packet that stands for nothing; below it a packet copies, above it one repeats.
+const NO_OP: usize = 128;
+
 /// How many bytes are written at once where there is room: a short run costs no call.
 const AT_ONCE: usize = 16;
 
@@ -32,14 +35,14 @@ fn unpack_first(bytes: &[u8], room: usize, out: &mut [u8]) -> Option<(usize, usi
 {
     let head = usize::from(bytes[0]);
     let room = room.min(out.len());
-    if head < 128 {
+    if head < NO_OP {
         let len = head + 1;
         if len > room || len >= bytes.len() {
             return None;
         }
         out[..len].copy_from_slice(&bytes[1..len + 1]);
         Some((len + 1, len))
-    } else if head > 128 {
+    } else if head > NO_OP {
         let times = 257 - head;
         if times > room || bytes.len() < 2 {
             return None;
@@ -51,8 +54,15 @@ fn unpack_first(bytes: &[u8], room: usize, out: &mut [u8]) -> Option<(usize, usi
     }
 }
 
-/// Unpacks the packed bytes of whole rows of `row` bytes each into `out`, packet by packet. A packet that crosses the
-/// end of its row is refused, and so are bytes that fill less or more than `out`. After a refusal `out` may hold anything.
+/// Unpacks the packed bytes of whole rows of `row` bytes each into `out`, packet by packet (TIFF 6.0, section 9). A packet that
+/// crosses the end of its row is refused by Packet, and so are bytes that fill less or more than `out`, or that end within a
+/// packet. After a refusal `out` may hold anything.
+///
+/// ```
+/// let mut out = [0; 5];
+/// unpack(&[0xfe, 7, 0x01, 1, 2], 5, &mut out)?;
+/// assert_eq!(out, [7, 7, 7, 1, 2]);
+/// ```
 pub fn unpack(seg: &[u8], row: usize, out: &mut [u8]) -> Result<(), FileFault>
     requires { 0 < row }
     ensures ok { OnOk result (Packs row seg.now out.new) }

@@ -1,2 +1,5 @@
+pub mod Number
+pub mod ServeLine
 pub mod Settled
+pub mod Sockets
 pub mod Status

@@ -1,11 +1,11 @@
 //! `cogserve`: publishes files of the disk and serves them, one connection after another.
 ghost use Rattle.std.specs.Prelude.{◌<◌, length};
 
+use crate::command_lines::serve_line;
 use crate::fault::Fault;
 use crate::number::number;
 use crate::watched::Watched;
 use cog_server::{ServeError, Served, Server, Stream};
-use command_lines::serve_line;
 use http_range::Tag;
 use std::alloc::AllocError;
 use std::net::{Net, OpenListener, TcpListener, TcpStream};

@@ -1,21 +1,13 @@
 //! `cogworld SCRIPT`: runs a script and prints its log.
+use crate::disk::Disk;
 use crate::fault::Fault;
+use crate::stored;
 use clap::{Arg, Command};
-use fixtures::f1;
-use scripts::{Disk, Loaded, Source, log_text, script};
+use scripts::{Loaded, Source, log_text, script};
 use std::io::Write;
 use std::rt::Files;
 use std::{fs, io};
 use world::{Log, run};
-
-/// A file of 378 bytes is published, one client reads one window of it by one exchange.
-const ONE_WINDOW: &[u8] = b"\
-epoch 1
-publish a f1.tif
-client a 66
-open 0 level 0 2 1 3 2
-exchange 0
-";
 
 const EXAMPLE: &str = "\
 Example:
@@ -38,8 +30,8 @@ fn run_script<R: Print + AllocGlobal, S: Source>(
 /// Runs the stored script.
 pub fn run_stored<R: Print + AllocGlobal>(rt: &R) -> Result<(), Fault> {
     let mut files = Loaded::new(rt.alloc());
-    files.add(b"f1.tif", f1(rt.alloc())?)?;
-    run_script(rt, ONE_WINDOW, &mut files)
+    files.add(b"f1.tif", Vec::from_slice(rt.alloc(), &stored::FILE)?)?;
+    run_script(rt, stored::SCRIPT, &mut files)
 }
 
 /// Runs the script that the program's words name, of which the first is its own name.

@@ -3,10 +3,11 @@ ghost use Rattle.std.specs.Prelude.{◌≡◌, ◌↔◌, IfOk, IsTrue, None, On
 ghost use Rattle.std.specs.Duration.{as_nanos};
 ghost use Rattle.programs.specs.Settled.{IsSettled};
 
+use crate::disk::Disk;
 use crate::fault::Fault;
 use cog_server::{PublishError, Server};
 use http_range::Tag;
-use scripts::{Disk, LoadError, Source};
+use scripts::{LoadError, Source};
 use std::fs;
 use std::fs::Metadata;
 use std::os::unix::fs::MetadataExt;

@@ -10,7 +10,7 @@ use Rattle.std.proofs.lemmas.List.Elements.{All-head, All-tail}
 use Rattle.std.specs.Global.{Vec}
 use Rattle.std.specs.List.{All, slice_range}
 use Rattle.std.specs.Map.{lookup}
-use Rattle.range_cache.specs.Block.{block_size, block_of, blocks}
+use Rattle.tiff_dir.specs.Block.{block_size, block_of, blocks}
 use Rattle.range_cache.specs.Numbers.{has}
 use Rattle.range_cache.specs.Cache.{Block, blocks_in, numbers}
 use Rattle.range_cache.proofs.Entries.{is_some-lookup, block}

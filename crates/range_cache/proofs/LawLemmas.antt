@@ -7,7 +7,7 @@ use Rattle.std.proofs.lemmas.List.{length-map}
 use Rattle.std.proofs.lemmas.List.Elements.{All-take}
 use Rattle.std.specs.List.{filter, range_with_len}
 use Rattle.tiff_dir.specs.declared.span.Span.{Span}
-use Rattle.range_cache.specs.Block.{block_count}
+use Rattle.tiff_dir.specs.Block.{block_count}
 use Rattle.range_cache.specs.Numbers.{has, missing, IsGap, IsLed, Stays}
 use Rattle.range_cache.specs.Cache.{Block, Blocks, block_at, numbers, put_one, stored, stores, Holds}
 use Rattle.range_cache.specs.Piece.{block_in, is_brought, whole_blocks, IsPieceOf}

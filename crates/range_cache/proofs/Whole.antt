@@ -7,7 +7,7 @@ use Rattle.std.proofs.lemmas.Bool.Decides.{eqb_tells}
 use Rattle.std.specs.Int.{div_ceil}
 use Rattle.std.specs.List.{All, filter, range_with_len, slice_range}
 use Rattle.tiff_dir.specs.declared.span.Span.{Span}
-use Rattle.range_cache.specs.Block.{block_count, end_of, is_whole}
+use Rattle.tiff_dir.specs.Block.{block_count, end_of, is_whole}
 use Rattle.range_cache.specs.Cache.{Block}
 use Rattle.range_cache.specs.Piece.{block_in, is_brought, whole_blocks, IsPieceOf}
 use Rattle.range_cache.proofs.Bytes.{slice_of_slice, IsOf}

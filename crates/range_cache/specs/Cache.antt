@@ -4,7 +4,7 @@ use Rattle.std.specs.List.{All, filter, filter_map, fold, IsDistinct}
 use Rattle.std.specs.Map.{lookup_entry}
 use Rattle.std.specs.Global.{Vec}
 use Rattle.lru.specs.LruCache.{LruCache}
-use Rattle.range_cache.specs.Block.{block_of}
+use Rattle.tiff_dir.specs.Block.{block_of}
 use Rattle.range_cache.specs.Numbers.{has}
 
 -- a block's number and its bytes
@@ -25,12 +25,19 @@ kept_blocks c = record { entries = blocks_in c.entries; capacity = c.cap }
 abbrev pub numbers : List Block → List ℕ
 numbers bs = map (λ b. b.0) bs
 
+-- how few and how many blocks a cache may have
+abbrev pub min_capacity : ℕ
+min_capacity = 66
+
+abbrev pub max_capacity : ℕ
+max_capacity = 4096
+
 -- no block twice, no more than there may be, and 66 to 4,096 may be there
 pub record IsSound (c : Blocks) : Type 0 where
   pub distinct : IsDistinct ◌==◌ (numbers c.entries)
   pub room : length c.entries ≤ c.capacity
-  pub least : 66 ≤ c.capacity
-  pub most : c.capacity ≤ 4096
+  pub least : min_capacity ≤ c.capacity
+  pub most : c.capacity ≤ max_capacity
 
 -- each block is f's at its place
 unfoldable pub Holds : List ℕ → Blocks → Type 0

@@ -1,7 +1,7 @@
 -- Laws of these definitions, for the crates above.
 use Rattle.std.specs.Prelude.{◌≡◌, ℕ, ◌+◌, ◌*◌, ◌<◌, ◌≤◌, true, false, List, length, take, is_some}
 use Rattle.tiff_dir.specs.declared.span.Span.{Span}
-use Rattle.range_cache.specs.Block.{block_size}
+use Rattle.tiff_dir.specs.Block.{block_size}
 use Rattle.range_cache.specs.Numbers.{has, missing, IsGap, IsLed, Stays}
 use Rattle.range_cache.specs.Cache.{Block, Blocks, block_at, numbers, stored, stores, Holds}
 use Rattle.range_cache.specs.Piece.{is_brought, whole_blocks, IsPieceOf}

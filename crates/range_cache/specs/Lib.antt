@@ -1,4 +1,3 @@
-pub mod Block
 pub mod Numbers
 pub mod Cache
 pub mod Piece

@@ -1,13 +1,13 @@
 -- The bytes that a cache lacks.
 use Rattle.std.specs.Prelude.{◌≡◌, ℕ, ◌+◌, ◌-◌, ◌*◌}
 use Rattle.range_cache.specs.declared.missing.Missing.{Missing}
-use Rattle.range_cache.specs.Block.{block_size, first_block, blocks, end_of}
+use Rattle.tiff_dir.specs.Block.{block_size, first_block, blocks, end_of}
 use Rattle.range_cache.specs.Numbers.{IsGap}
 use Rattle.range_cache.specs.Cache.{Blocks, numbers}
 
 -- Of the blocks that len bytes from first touch, these are the bytes of the first missing one up to the end of the run
 -- of missing ones, and no further than the file goes.
-pub record Lacks (c : Blocks) (complete first len : ℕ) (m : Missing) : Type 0 where
+pub record IsFirstGap (c : Blocks) (complete first len : ℕ) (m : Missing) : Type 0 where
   pub from : ℕ
   pub to : ℕ
   pub gap : IsGap (numbers c.entries) (first_block first) (blocks first len) from to

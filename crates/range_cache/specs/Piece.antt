@@ -2,7 +2,7 @@
 use Rattle.std.specs.Prelude.{◌≡◌, ℕ, ◌+◌, ◌-◌, ◌*◌, Bool, not, ◌&&◌, List, length, map, slice_range}
 use Rattle.std.specs.List.{filter, range_with_len}
 use Rattle.tiff_dir.specs.declared.span.Span.{Span}
-use Rattle.range_cache.specs.Block.{block_size, end_of, block_count, is_whole}
+use Rattle.tiff_dir.specs.Block.{block_size, end_of, block_count, is_whole}
 use Rattle.range_cache.specs.Numbers.{has}
 use Rattle.range_cache.specs.Cache.{Block, Blocks, numbers}
 

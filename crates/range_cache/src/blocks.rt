@@ -1,13 +1,13 @@
 //! Work on the blocks of a cache, by their numbers.
 ghost use Rattle.std.specs.Prelude.{◌≡◌, true, false, ℕ, List, ◌+◌, ◌-◌, ◌*◌, ◌<◌, ◌≤◌, ◌^◌, ◌==◌, IfOk, OnErr, MatchOption, length, take, map, if◌then◌else◌};
 ghost use Rattle.std.specs.List.{All, IsDistinct, filter, range_with_len, slice_range};
-ghost use Rattle.range_cache.specs.Block.{block_size, block_of, first_block, blocks as touched, block_count, end_of};
+ghost use Rattle.tiff_dir.specs.Block.{block_size, block_of, first_block, blocks as touched, block_count, end_of};
 ghost use Rattle.range_cache.specs.Numbers.{has, AreThere, IsGap};
 ghost use Rattle.range_cache.specs.Cache.{blocks_in, numbers, brought, put_one, stored, stores};
 ghost use Rattle.range_cache.specs.Piece.{block_in, is_brought};
 
-use crate::cache::BLOCK;
 use lru::LruCache;
+use tiff_dir::limits::BLOCK_SIZE;
 use tiff_dir::{Memory, Span};
 
 /// The last place of a block of a file of this length.
@@ -15,7 +15,7 @@ pub fn last_of(number: u64, complete: u64) -> u64
     requires { number * block_size < complete }
     ensures { result + 1 ≡ end_of complete number }
 {
-    (number * BLOCK + (BLOCK - 1)).min(complete - 1)
+    (number * BLOCK_SIZE + (BLOCK_SIZE - 1)).min(complete - 1)
 }
 
 /// Brings the blocks from one number up to another that are there to the front, in ascending order.
@@ -88,13 +88,13 @@ pub fn copy(blocks: &LruCache<u64, Vec<u8>>, first: u64, out: &mut [u8])
         out.new ≡ slice_range f first (first + length out.old) }
 {
     let end = first + out.len() as u64;
-    for number in first / BLOCK..(end - 1) / BLOCK + 1 {
-        let start = first.max(number * BLOCK);
+    for number in first / BLOCK_SIZE..(end - 1) / BLOCK_SIZE + 1 {
+        let start = first.max(number * BLOCK_SIZE);
         let stop = last_of(number, end) + 1;
         copy_part(
             blocks,
             number,
-            (start - number * BLOCK) as usize,
+            (start - number * BLOCK_SIZE) as usize,
             &mut out[(start - first) as usize..(stop - first) as usize],
         );
     }
@@ -126,11 +126,11 @@ pub fn whole_run(complete: u64, first: u64, len: u64, wanted: Span) -> (u64, u64
     ensures ends { result.0 < result.1 → end_of complete (result.1 - 1) ≤ first + len }
 {
     let end = (first + len).min(wanted.last.saturating_add(1));
-    let from = first.max(wanted.first).div_ceil(BLOCK);
+    let from = first.max(wanted.first).div_ceil(BLOCK_SIZE);
     let to = if end < complete {
-        end / BLOCK
+        end / BLOCK_SIZE
     } else {
-        complete.div_ceil(BLOCK)
+        complete.div_ceil(BLOCK_SIZE)
     };
     (from, to)
 }
@@ -159,7 +159,7 @@ pub fn store(
 {
     let mut count = 0;
     for number in from..to {
-        let start = number * BLOCK - first;
+        let start = number * BLOCK_SIZE - first;
         let end = last_of(number, complete) + 1 - first;
         count += store_one(blocks, number, &bytes[start as usize..end as usize])?;
     }

@@ -1,11 +1,11 @@
 //! The cache and its calls.
 ghost use Rattle.std.specs.Prelude.{◌≡◌, ◌+◌, ◌-◌, ◌*◌, ◌<◌, ◌≤◌, ◌^◌, ℕ, List, [], IfOk, OnOk, OnErr, IsErrOf, MatchResult, length, take};
 ghost use Rattle.std.specs.List.{range_with_len, slice_range};
-ghost use Rattle.range_cache.specs.Block.{block_size, first_block, blocks};
+ghost use Rattle.tiff_dir.specs.Block.{block_size, first_block, blocks};
 ghost use Rattle.range_cache.specs.Numbers.{has, AreThere, IsLed, Stays};
-ghost use Rattle.range_cache.specs.Cache.{Blocks, block_at, numbers, Holds, IsSound, brought, stored, stores};
+ghost use Rattle.range_cache.specs.Cache.{Blocks, block_at, max_capacity, min_capacity, numbers, Holds, IsSound, brought, stored, stores};
 ghost use Rattle.range_cache.specs.Piece.{whole_blocks, IsPieceOf, is_wanted};
-ghost use Rattle.range_cache.specs.Missing.{Lacks};
+ghost use Rattle.range_cache.specs.Missing.{IsFirstGap};
 
 use crate::blocks::{bring, copy, first_gap, last_of, store, whole_run};
 use crate::missing::Missing;
@@ -13,15 +13,14 @@ use lru::LruCache;
 use std::alloc::Global;
 use std::marker::Model;
 use std::num::NonZeroUsize;
+use tiff_dir::limits::BLOCK_SIZE;
 use tiff_dir::{Memory, Span};
 
-/// The bytes of a block.
-pub const BLOCK: u64 = 16384;
+/// The fewest blocks of a cache: those of a range of 1,048,576 bytes, wherever it begins, and one more.
+pub const MIN_CAPACITY: u32 = 66;
 
-/// The least and the most blocks of a cache.
-const LEAST: u32 = 66;
-
-const MOST: u32 = 4096;
+/// The most blocks of a cache.
+pub const MAX_CAPACITY: u32 = 4096;
 
 /// Why there is no cache.
 #[derive(Clone, Copy, Debug, PartialEq, Eq)]
@@ -40,24 +39,33 @@ pub struct Cache {
 
 impl Model for Cache {
     ghost use Rattle.std.specs.Prelude.{◌≤◌};
-    ghost use Rattle.range_cache.specs.Cache.{Blocks, kept_blocks};
+    ghost use Rattle.range_cache.specs.Cache.{Blocks, kept_blocks, max_capacity, min_capacity};
 
     ghost Value = { Blocks };
 
     ghost view = { λ c. kept_blocks c.blocks };
 
-    ghost invariant = { λ c. (66 ≤ c.blocks.cap) × (c.blocks.cap ≤ 4096) };
+    ghost invariant = { λ c. (min_capacity ≤ c.blocks.cap) × (c.blocks.cap ≤ max_capacity) };
 }
 
 impl Cache {
-    /// An empty cache of at most so many blocks, 66 to 4,096.
+    /// An empty cache of at most so many blocks of 16,384 bytes, 66 to 4,096. The error is Blocks for another number, and Memory
+    /// where none was left for the table.
+    ///
+    /// ```
+    /// let mut cache = Cache::new(alloc, 66)?;
+    /// let mut out = [0; 10];
+    /// assert_eq!(cache.read_into(378, 0, &mut out), Err(Missing { first: 0, last: 377 }));
+    /// cache.put(378, 0, &file, Span { first: 0, last: 377 })?;
+    /// assert_eq!(cache.read_into(378, 0, &mut out), Ok(()));
+    /// ```
     pub fn new(alloc: Global, blocks: u32) -> Result<Cache, CacheError>
         ensures made { IfOk result (λ c. c ≡ record { entries = []; capacity = blocks }) }
-        ensures fits { OnOk result ((66 ≤ blocks) × (blocks ≤ 4096)) }
-        ensures refused { IsErrOf result CacheError.Blocks → 66 ≤ blocks → 4096 < blocks }
-        ensures memory { IsErrOf result CacheError.Memory → (66 ≤ blocks) × (blocks ≤ 4096) }
+        ensures fits { OnOk result ((min_capacity ≤ blocks) × (blocks ≤ max_capacity)) }
+        ensures refused { IsErrOf result CacheError.Blocks → min_capacity ≤ blocks → max_capacity < blocks }
+        ensures memory { IsErrOf result CacheError.Memory → (min_capacity ≤ blocks) × (blocks ≤ max_capacity) }
     {
-        if !(LEAST..=MOST).contains(&blocks) {
+        if !(MIN_CAPACITY..=MAX_CAPACITY).contains(&blocks) {
             return Err(CacheError::Blocks);
         }
         let Some(capacity) = NonZeroUsize::new(blocks as usize) else {
@@ -82,7 +90,7 @@ impl Cache {
         } }
         ensures exact { MatchResult result
             (λ _. AreThere (numbers self.old.entries) (first_block first) (blocks first (length out.old)))
-            (λ m. Lacks self.old complete first (length out.old) m) }
+            (λ m. IsFirstGap self.old complete first (length out.old) m) }
         ensures slice { OnOk result ((f : List ℕ) → first + length out.old ≤ length f → Holds f self.old →
             out.new ≡ slice_range f first (first + length out.old)) }
 
@@ -94,8 +102,8 @@ impl Cache {
         ensures led { IsLed (numbers self.new.entries) (first_block first) (blocks first (length out.old)) }
     {
         self.law();
-        let from = first / BLOCK;
-        let to = (first + out.len() as u64 - 1) / BLOCK + 1;
+        let from = first / BLOCK_SIZE;
+        let to = (first + out.len() as u64 - 1) / BLOCK_SIZE + 1;
         match first_gap(&self.blocks, from, to) {
             None => {
                 copy(&self.blocks, first, out);
@@ -105,7 +113,7 @@ impl Cache {
             Some((start, end)) => {
                 bring(&mut self.blocks, from, to);
                 Err(Missing {
-                    first: start * BLOCK,
+                    first: start * BLOCK_SIZE,
                     last: last_of(end - 1, complete),
                 })
             }
@@ -113,7 +121,8 @@ impl Cache {
     }
 
     /// Stores the blocks that lie wholly in a piece of the file and wholly in what is wanted and that aren't there, in
-    /// ascending order, and says how many. After a refusal a beginning of them is stored.
+    /// ascending order, and says how many; where the cache is full the least recently used one leaves for each. After a refusal
+    /// (Memory) a beginning of them is stored.
     ///
     /// `complete` is the length of the file, and the piece, which begins at `first`, lies in it and may be empty.
     pub fn put(
@@ -170,7 +179,7 @@ impl Cache {
     pub fn wants(&self, complete: u64, wanted: Span, block: u64) -> bool
         ensures { result ≡ is_wanted self.now complete wanted block }
     {
-        if block >= complete.div_ceil(BLOCK) || block * BLOCK < wanted.first {
+        if block >= complete.div_ceil(BLOCK_SIZE) || block * BLOCK_SIZE < wanted.first {
             return false;
         }
         last_of(block, complete) <= wanted.last && !self.blocks.contains(&block)

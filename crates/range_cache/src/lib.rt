@@ -6,7 +6,7 @@ mod cache;
 mod laws;
 mod missing;
 
-pub use cache::{BLOCK, Cache, CacheError};
+pub use cache::{Cache, CacheError, MAX_CAPACITY, MIN_CAPACITY};
 pub use laws::{
     missing_is_exact, pieces_bring_blocks, stored_are_held, stored_stay, stores_are_counted,
 };

@@ -1,3 +1,4 @@
+//! What a cache lacks of a range.
 ghost use Rattle.std.specs.Prelude.{◌≤◌};
 
 /// Bytes of a file that a cache lacks: whole blocks, the last one up to the end of the file. Both ends belong to it.

@@ -11,4 +11,4 @@ mod text;
 
 pub use line::{ScriptError, script};
 pub use log::log_text;
-pub use source::{Disk, LoadError, Loaded, Source};
+pub use source::{LoadError, Loaded, Source};

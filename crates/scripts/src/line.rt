@@ -150,7 +150,15 @@ fn read_line<S: Source>(alloc: Global, line: &[u8], source: &mut S) -> Result<Ev
     event_of(alloc, &words, source)
 }
 
-/// The events of a script, whose files come from `source`. Of the lines that aren't read the first is told.
+/// The events of a script, whose files come from `source`. Of the lines that aren't read the first is told: NotAnEvent where it
+/// has no form of `docs/SCRIPTS.md`, CantRead where its file can't be loaded.
+///
+/// ```
+/// let events = script(rt.alloc(), b"epoch 1\nclient a 66\n", &mut Loaded::new(rt.alloc()))?;
+/// let mut log = Log::new(rt.alloc());
+/// run(rt.alloc(), &events, &mut log)?;
+/// let text = log_text(rt.alloc(), &log)?;
+/// ```
 pub fn script<S: Source>(
     alloc: Global,
     text: &[u8],

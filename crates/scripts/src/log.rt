@@ -5,11 +5,11 @@ use itoa::{Buffer, Integer};
 use std::alloc::{AllocError, Global};
 use tiff_dir::FileFault;
 use world::{
-    Answer, Asked, Checked, Current, Delivered, Effect, Entry, Ignored, Info, Log, Outcome, Report,
-    Unknown, Window,
+    Answer, AnsweredCheck, AnsweredRequest, Current, Delivered, Effect, Entry, Ignored, Info, Log,
+    Outcome, Report, Unknown, Window,
 };
 
-/// The text of a log: a line for each entry, and one more for its report.
+/// The text of a log: a line for each entry, and one more for its report (`docs/SCRIPTS.md`).
 pub fn log_text(alloc: Global, log: &Log) -> Result<Vec<u8>, Memory> {
     let mut text = Text::new(alloc);
     for entry in &log.entries {
@@ -85,7 +85,7 @@ fn push_answer(text: &mut Text, number: usize, answer: &Answer) -> Result<(), Al
 }
 
 /// The span that a client asked for, the tag of its condition, and the answer.
-fn push_asked(text: &mut Text, asked: &Asked) -> Result<(), AllocError> {
+fn push_asked(text: &mut Text, asked: &AnsweredRequest) -> Result<(), AllocError> {
     push_counted(text, b"asked", asked.client)?;
     push_span(text, asked.span)?;
     match &asked.tag {
@@ -96,7 +96,7 @@ fn push_asked(text: &mut Text, asked: &Asked) -> Result<(), AllocError> {
 }
 
 /// The tag that a client checked, the answer, and what it says.
-fn push_checked(text: &mut Text, check: &Checked) -> Result<(), AllocError> {
+fn push_checked(text: &mut Text, check: &AnsweredCheck) -> Result<(), AllocError> {
     push_counted(text, b"checked", check.client)?;
     text.word(check.tag.as_bytes())?;
     push_answer(text, check.number, &check.answer)?;

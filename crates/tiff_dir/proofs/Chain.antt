@@ -7,7 +7,7 @@ use Rattle.tiff_dir.specs.declared.fault.FileFault.{FileFault}
 use Rattle.tiff_dir.specs.declared.fault.FileFault.TheVariants.{Header, DirPlace, DirCount, TooManyDirs}
 use Rattle.tiff_dir.specs.Number.{number_in}
 use Rattle.tiff_dir.specs.File.{order_of, number, directory, has_directory, is_above_zero, entry_count, field_at, fields_from, fields, has_all_tags}
-use Rattle.tiff_dir.specs.Needs.{Range, bytes_in, is_entry_count, count_range, table_range, ranges_of_directory, outside_ranges}
+use Rattle.tiff_dir.specs.Needs.{Extent, bytes_in, is_entry_count, count_range, table_range, ranges_of_directory, outside_ranges}
 use Rattle.tiff_dir.specs.Fault.{is_directory_place, IsFaultAt, IsFaultOfDirectories}
 use Rattle.tiff_dir.specs.Table.{entry_at, entries_from, field_of}
 use Rattle.tiff_dir.specs.Stage.{ranges_from, IsWalked, Follows, Reaches, Counts, IsOver}
@@ -198,10 +198,10 @@ pub ranges_counted : (f : List ℕ) (o : Order) (k at n : ℕ) → Counts f o k 
 unfolding ranges_of_directory count_range table_range entry_count outside_ranges
 ranges_counted f o k at n counts = rw (counts.reaches.place, counts.count, counts.good) refl
 
-pub count_wanted : (f : List ℕ) (o : Order) (k at : ℕ) → Reaches f o k at → (rest : List Range) × (ranges_from f k ≡ record { first = at; len = 2 } ∷ rest)
+pub count_wanted : (f : List ℕ) (o : Order) (k at : ℕ) → Reaches f o k at → (rest : List Extent) × (ranges_from f k ≡ record { first = at; len = 2 } ∷ rest)
 unfolding ranges_of_directory count_range outside_ranges
 count_wanted f o k at reaches =
-    let rest : List Range = option_to_list (table_range f k) ++ outside_ranges f k ++ ranges_from f (suc k) in
+    let rest : List Extent = option_to_list (table_range f k) ++ outside_ranges f k ++ ranges_from f (suc k) in
     let here : ranges_of_directory f k ++ ranges_from f (suc k) ≡ record { first = at; len = 2 } ∷ rest = rw reaches.place refl in
     (rest, ranges_here f k reaches.few reaches.there ∙ here)
 

@@ -1,4 +1,5 @@
 -- What a file without fault in its directories has: each table, and each level's layout.
+use Rattle.tiff_dir.specs.declared.tags.TheConstants.{BITS_PER_SAMPLE, COMPRESSION, PHOTOMETRIC_INTERPRETATION, PLANAR_CONFIGURATION, SAMPLES_PER_PIXEL, SAMPLE_FORMAT}
 use Rattle.std.proofs.Common.{◌-◌, ◌≡◌, ◌≢◌, ℕ, zero, suc, ◌+◌, ◌*◌, ◌<◌, ◌≤◌, ◌⊎◌, inl, inr, Bool, true, false, if◌then◌else◌, List, [], ◌∷◌, ◌++◌, length, get_or, drop, Option, Some, None, refl, sym, subst, ap, ◌∙◌, arith}
 use Rattle.std.specs.Option.{option_to_list}
 use Rattle.std.specs.List.{filter, flat_map, list_any, range_with_len, AllPass}
@@ -15,7 +16,7 @@ use Rattle.tiff_dir.specs.Number.{number_in}
 use Rattle.tiff_dir.specs.File.{order_of, number, directory, has_directory, is_above_zero, directories, entry_count, value}
 use Rattle.tiff_dir.specs.Profile.{profile, accepts, samples_fit, is_depth, is_sample_count}
 use Rattle.tiff_dir.specs.Level.{is_level, layout_at}
-use Rattle.tiff_dir.specs.Needs.{Range, bytes_in, ends_past, is_entry_count, header_range, count_range, table_range, outside_range, ranges_of_directory, needs_of_directories, outside_ranges}
+use Rattle.tiff_dir.specs.Needs.{Extent, bytes_in, ends_past, is_entry_count, header_range, count_range, table_range, outside_range, ranges_of_directory, needs_of_directories, outside_ranges}
 use Rattle.tiff_dir.specs.Fault.{is_directory_place, IsFaultOfLevel, IsFaultOfDirectories}
 use Rattle.tiff_dir.specs.Table.{entries_from, entry_with_tag, allows, keeps, short_or, draft_in, long_in, IsEntryFault, HasValues, HasCounts}
 use Rattle.tiff_dir.specs.Shape.{has_sides, has_tiles, has_arrays, layout_from}
@@ -79,10 +80,10 @@ not_false false h = absurd (h refl)
 
 -- ---- ranges
 
-pub ends_inside : (f : List ℕ) (r : Range) → ends_past f r ≡ false → r.first + r.len ≤ length f
+pub ends_inside : (f : List ℕ) (r : Extent) → ends_past f r ≡ false → r.first + r.len ≤ length f
 ends_inside f r h = ltb-false (length f) (r.first + r.len) h
 
-pub inside : (f : List ℕ) (r : Range) → IsClean f → In r (needs_of_directories f) → r.first + r.len ≤ length f
+pub inside : (f : List ℕ) (r : Extent) → IsClean f → In r (needs_of_directories f) → r.first + r.len ≤ length f
 unfolding IsFaultOfDirectories
 inside f r clean there = ends_inside f r (none_of_any (ends_past f) (needs_of_directories f) r (λ past. clean PastEnd (inl past)) there)
 
@@ -126,18 +127,18 @@ among_directories : (f : List ℕ) (k : ℕ) → k < 16 → has_directory f k �
 unfolding directories
 among_directories f k few there = in_filter (has_directory f) 0 16 k (omega arith) (omega arith) there
 
-needed : (f : List ℕ) (k : ℕ) (r : Range) → k < 16 → has_directory f k ≡ true → In r (ranges_of_directory f k) → In r (needs_of_directories f)
+needed : (f : List ℕ) (k : ℕ) (r : Extent) → k < 16 → has_directory f k ≡ true → In r (ranges_of_directory f k) → In r (needs_of_directories f)
 unfolding needs_of_directories
 needed f k r few there h = inr (in_flat (ranges_of_directory f) r k (directories f) (among_directories f k few there) h)
 
-abbrev two_bytes : ℕ → Range
+abbrev two_bytes : ℕ → Extent
 two_bytes at = record { first = at; len = 2 }
 
-abbrev rows_from : ℕ → ℕ → Range
+abbrev rows_from : ℕ → ℕ → Extent
 rows_from at n = record { first = at + 2; len = 12 * n + 4 }
 
-abbrev of_level : List ℕ → ℕ → List Range
-of_level f k = if is_level f k then option_to_list (outside_range f k 258) ++ option_to_list (outside_range f k 339) else []
+abbrev of_level : List ℕ → ℕ → List Extent
+of_level f k = if is_level f k then option_to_list (outside_range f k BITS_PER_SAMPLE) ++ option_to_list (outside_range f k SAMPLE_FORMAT) else []
 
 count_needed : (f : List ℕ) (k at : ℕ) → directory f k ≡ Some at → In (two_bytes at) (ranges_of_directory f k)
 unfolding ranges_of_directory outside_ranges count_range
@@ -155,13 +156,13 @@ table_needed f k at n place count few =
     in_left r (option_to_list (count_range f k) ++ option_to_list (table_range f k)) (of_level f k)
     (in_right r (option_to_list (count_range f k)) (option_to_list (table_range f k)) (in_option (table_range f k) r is))
 
-bits_needed : (f : List ℕ) (k : ℕ) (r : Range) → is_level f k ≡ true → outside_range f k 258 ≡ Some r → In r (ranges_of_directory f k)
+bits_needed : (f : List ℕ) (k : ℕ) (r : Extent) → is_level f k ≡ true → outside_range f k BITS_PER_SAMPLE ≡ Some r → In r (ranges_of_directory f k)
 unfolding ranges_of_directory outside_ranges outside_range is_level
 bits_needed f k r level is =
-    let both = option_to_list (outside_range f k 258) ++ option_to_list (outside_range f k 339) in
+    let both = option_to_list (outside_range f k BITS_PER_SAMPLE) ++ option_to_list (outside_range f k SAMPLE_FORMAT) in
     let here : of_level f k ≡ both = rw level refl in
     in_right r (option_to_list (count_range f k) ++ option_to_list (table_range f k)) (of_level f k)
-    (let P : _ → Type 0 = In r in subst P (sym here) (in_left r (option_to_list (outside_range f k 258)) (option_to_list (outside_range f k 339)) (in_option (outside_range f k 258) r is)))
+    (let P : _ → Type 0 = In r in subst P (sym here) (in_left r (option_to_list (outside_range f k BITS_PER_SAMPLE)) (option_to_list (outside_range f k SAMPLE_FORMAT)) (in_option (outside_range f k BITS_PER_SAMPLE) r is)))
 
 pub counted : (f : List ℕ) (o : Order) (k : ℕ) → IsClean f → order_of f ≡ Some o → k < 16 → has_directory f k ≡ true → (at n : ℕ) × Counts f o k at n
 unfolding IsFaultOfDirectories entry_count
@@ -214,30 +215,30 @@ all_met f k es has sound = λ j d within. not_false (keeps es (get_or profile j 
 
 has_values : (f : List ℕ) (k : ℕ) (es : List Entry) → HasTable f k es → IsSound f k → AllPass (keeps es) profile → HasValues es
 has_values f k es has sound met = record {
-  photometric = not_false _ (λ bad. sound (Unsupported 262) (value_fault f k es (Unsupported 262) has met (inl (refl, bad))));
-  samples = not_false _ (λ bad. sound (Unsupported 277) (value_fault f k es (Unsupported 277) has met (inr (inl (refl, bad)))));
-  planar = not_false _ (λ bad. sound (Unsupported 284) (value_fault f k es (Unsupported 284) has met (inr (inr (inl (refl, bad))))));
-  compression = not_false _ (λ bad. sound (Unsupported 259) (value_fault f k es (Unsupported 259) has met (inr (inr (inr (refl, bad))))));
+  photometric = not_false _ (λ bad. sound (Unsupported PHOTOMETRIC_INTERPRETATION) (value_fault f k es (Unsupported PHOTOMETRIC_INTERPRETATION) has met (inl (refl, bad))));
+  samples = not_false _ (λ bad. sound (Unsupported SAMPLES_PER_PIXEL) (value_fault f k es (Unsupported SAMPLES_PER_PIXEL) has met (inr (inl (refl, bad)))));
+  planar = not_false _ (λ bad. sound (Unsupported PLANAR_CONFIGURATION) (value_fault f k es (Unsupported PLANAR_CONFIGURATION) has met (inr (inr (inl (refl, bad))))));
+  compression = not_false _ (λ bad. sound (Unsupported COMPRESSION) (value_fault f k es (Unsupported COMPRESSION) has met (inr (inr (inr (refl, bad))))));
 }
 
 has_counts : (f : List ℕ) (k : ℕ) (es : List Entry) → HasTable f k es → IsSound f k → AllPass (keeps es) profile → HasCounts es
 has_counts f k es has sound met = (
-  not_false _ (λ bad. sound (FieldType 258) (count_fault f k es (FieldType 258) has met (inl (refl, bad)))),
-  not_false _ (λ bad. sound (FieldType 339) (count_fault f k es (FieldType 339) has met (inr (refl, bad)))),
+  not_false _ (λ bad. sound (FieldType BITS_PER_SAMPLE) (count_fault f k es (FieldType BITS_PER_SAMPLE) has met (inl (refl, bad)))),
+  not_false _ (λ bad. sound (FieldType SAMPLE_FORMAT) (count_fault f k es (FieldType SAMPLE_FORMAT) has met (inr (refl, bad)))),
 )
 
 -- the values of BitsPerSample are there
 some_bits : (f : List ℕ) (o : Order) (k : ℕ) (es : List Entry) → IsClean f → order_of f ≡ Some o → k < 16 → has_directory f k ≡ true → is_level f k ≡ true → HasTable f k es → AllPass (keeps es) profile → HasValues es → HasCounts es
-    → (bits : ℕ) × (value f k 258 0 ≡ Some bits)
-some_bits f o k es clean order few there level has met right counts = elim (fits_cases (short_or es 277 1) (short_or es 262 0) right.samples) [
-  | inl one ↦ (short_or es 258 0, bits_value f k es has met counts one)
-  | inr three ↦ at (long_in es 258) refl three
+    → (bits : ℕ) × (value f k BITS_PER_SAMPLE 0 ≡ Some bits)
+some_bits f o k es clean order few there level has met right counts = elim (fits_cases (short_or es SAMPLES_PER_PIXEL 1) (short_or es PHOTOMETRIC_INTERPRETATION 0) right.samples) [
+  | inl one ↦ (short_or es BITS_PER_SAMPLE 0, bits_value f k es has met counts one)
+  | inr three ↦ at (long_in es BITS_PER_SAMPLE) refl three
 ] where
-  at : (first : Option ℕ) → long_in es 258 ≡ first → short_or es 277 1 ≡ 3 → (bits : ℕ) × (value f k 258 0 ≡ Some bits)
+  at : (first : Option ℕ) → long_in es BITS_PER_SAMPLE ≡ first → short_or es SAMPLES_PER_PIXEL 1 ≡ 3 → (bits : ℕ) × (value f k BITS_PER_SAMPLE 0 ≡ Some bits)
   at None is three = absurd (bits_there es met is)
   at (Some first) is three =
       let outside = bits_outside f k es first has met counts three is in
-      let range : Range = three_shorts first in
+      let range : Extent = three_shorts first in
       let last = inside f range clean (needed f k range few there (bits_needed f k range level outside.1)) in
       let place : first + 0 * 2 ≡ first = omega arith in
       (number_in o first 2 f, outside.0 0 ∙ ap (λ n. number f n 2) place ∙ number_inside f o first 2 order (omega arith))
@@ -248,7 +249,7 @@ pub record IsLaid (f : List ℕ) (k : ℕ) : Type 0 where
   pub bits : ℕ
   pub layout : layout_at f k ≡ Some (layout_from draft bits)
   pub drafted : IsDrafted f k draft
-  pub told : value f k 258 0 ≡ Some bits
+  pub told : value f k BITS_PER_SAMPLE 0 ≡ Some bits
   pub depth : is_depth bits ≡ true
   pub samples : is_sample_count draft.samples ≡ true
   pub sides : has_sides draft ≡ true
@@ -275,8 +276,8 @@ laid f o k clean order few there level =
       layout = layout_told f k d bits is told;
       drafted = is;
       told = told;
-      depth = not_false (is_depth bits) (λ bad. sound (Unsupported 258) (inl (0, some_and_from (value f k 258 0) (λ v. accepts 258 v ≡ false) bits told bad)));
-      samples = count_fits (short_or es 277 1) (short_or es 262 0) right.samples;
+      depth = not_false (is_depth bits) (λ bad. sound (Unsupported BITS_PER_SAMPLE) (inl (0, some_and_from (value f k BITS_PER_SAMPLE 0) (λ v. accepts BITS_PER_SAMPLE v ≡ false) bits told bad)));
+      samples = count_fits (short_or es SAMPLES_PER_PIXEL 1) (short_or es PHOTOMETRIC_INTERPRETATION 0) right.samples;
       sides = not_false (has_sides d) (λ bad. sound LevelShape (no_width f k d is bad));
       tiles = tiles;
       arrays = not_false (has_arrays d) (λ bad. sound TileArray (arrays_fault f k d bits is tiles bad));

@@ -1,4 +1,5 @@
 -- Where no fault stands for a window: its rectangle, its level, and the bytes of each of its tiles.
+use Rattle.tiff_dir.specs.declared.tags.TheConstants.{IMAGE_LENGTH, IMAGE_WIDTH, TILE_BYTE_COUNTS, TILE_OFFSETS}
 use Rattle.std.proofs.Common.{◌≡◌, ℕ, zero, suc, ◌+◌, ◌-◌, ◌*◌, ◌/◌, ◌<◌, ◌≤◌, ◌⊎◌, inl, inr, Bool, true, false, List, [], ◌∷◌, ◌++◌, length, get_or, Option, Some, None, refl, sym, subst, ap, ◌∙◌, arith}
 use Rattle.std.specs.Prelude.{◌==◌, map, is_none, unwrap_or, slice_get}
 use Rattle.std.specs.Option.{option_to_list}
@@ -15,7 +16,7 @@ use Rattle.tiff_dir.specs.declared.fault.FileFault.{FileFault}
 use Rattle.tiff_dir.specs.declared.fault.FileFault.TheVariants.{PastEnd, Outside, TooLarge}
 use Rattle.tiff_dir.specs.File.{has_directory, directories}
 use Rattle.tiff_dir.specs.Level.{Layout, is_level, level_directories, level_directory, level_grid, level_layout, level_value}
-use Rattle.tiff_dir.specs.Needs.{Range, ends_past}
+use Rattle.tiff_dir.specs.Needs.{Extent, ends_past}
 use Rattle.tiff_dir.specs.Query.{Rectangle, Group, has_columns, smallest_level, scaled_down, scaled_up, scaled, rectangle, passes, is_outside_level, is_outside, is_too_large, is_refused, tiles_in, window_tiles, array_range, tile_range, grouped, groups, array_ranges, needs_of_query}
 use Rattle.tiff_dir.specs.Faulty.{IsFaultOfWindow, IsFaulty}
 use Rattle.tiff_dir.specs.Shape.{layout_from}
@@ -113,8 +114,8 @@ pub record IsPlaced (f : List ℕ) (r : Rectangle) : Type 0 where
 -- a window given in a level's own samples
 record IsInLevel (f : List ℕ) (n x y w h : ℕ) : Type 0 where
   level : IsLaidLevel f n
-  width : level_value f n 256 0 ≡ Some level.laid.draft.width
-  length : level_value f n 257 0 ≡ Some level.laid.draft.length
+  width : level_value f n IMAGE_WIDTH 0 ≡ Some level.laid.draft.width
+  length : level_value f n IMAGE_LENGTH 0 ≡ Some level.laid.draft.length
   right : x + w ≤ level.laid.draft.width
   bottom : y + h ≤ level.laid.draft.length
 
@@ -134,8 +135,8 @@ in_level f n x y w h clean inside =
     let more = or_parts _ _ most.0 in
     let (k, there) = some_directory f n (or_parts _ _ more.0).1 in
     let l = laid_level f n k clean there in
-    let width = level_value_at f n l.directory 256 0 l.laid.draft.width l.there l.laid.drafted.width in
-    let long = level_value_at f n l.directory 257 0 l.laid.draft.length l.there l.laid.drafted.length in
+    let width = level_value_at f n l.directory IMAGE_WIDTH 0 l.laid.draft.width l.there l.laid.drafted.width in
+    let long = level_value_at f n l.directory IMAGE_LENGTH 0 l.laid.draft.length l.there l.laid.drafted.length in
     record { level = l; width = width; length = long; right = not_passed (x + w) l.laid.draft.width _ width more.1; bottom = not_passed (y + h) l.laid.draft.length _ long most.1 }
 
 up_to : (side first end : ℕ) → 0 < first → end ≤ first → scaled_up side first end ≤ side
@@ -169,7 +170,7 @@ outwards n first_width first_length width length x y w h = record {
   height = scaled_up length first_length (y + h) - scaled_down length first_length y;
 }
 
-scaled_is : (f : List ℕ) (n first_width first_length width length x y w h : ℕ) → level_value f 0 256 0 ≡ Some first_width → level_value f 0 257 0 ≡ Some first_length → level_value f n 256 0 ≡ Some width → level_value f n 257 0 ≡ Some length
+scaled_is : (f : List ℕ) (n first_width first_length width length x y w h : ℕ) → level_value f 0 IMAGE_WIDTH 0 ≡ Some first_width → level_value f 0 IMAGE_LENGTH 0 ≡ Some first_length → level_value f n IMAGE_WIDTH 0 ≡ Some width → level_value f n IMAGE_LENGTH 0 ≡ Some length
     → scaled f n x y w h ≡ Some (outwards n first_width first_length width length x y w h)
 unfolding scaled
 scaled_is f n first_width first_length width length x y w h a b c d = rw (a, b, c, d) refl
@@ -183,8 +184,8 @@ asked_by_columns f x y w h columns clean inside =
     let (k, there) = directory_of_level f n (smallest_there f columns w (level_there f 0 at.level.directory at.level.there)) in
     let l = laid_level f n k clean there in
     let here = l.laid.draft in
-    let width = level_value_at f n l.directory 256 0 here.width l.there l.laid.drafted.width in
-    let long = level_value_at f n l.directory 257 0 here.length l.there l.laid.drafted.length in
+    let width = level_value_at f n l.directory IMAGE_WIDTH 0 here.width l.there l.laid.drafted.width in
+    let long = level_value_at f n l.directory IMAGE_LENGTH 0 here.length l.there l.laid.drafted.length in
     let sides = and_parts _ _ at.level.laid.sides in
     let right = up_to here.width first.width (x + w) (ltb-true 0 first.width sides.0) at.right in
     let bottom = up_to here.length first.length (y + h) (ltb-true 0 first.length sides.1) at.bottom in
@@ -223,7 +224,7 @@ not_refused f q c =
     let large : is_too_large f q ≡ false = not_true (is_too_large f q) (c.own TooLarge) in
     rw (outside, large) refl
 
-needed_inside : (f : List ℕ) (q : Query) (r : Range) → IsClear f q → In r (needs_of_query f q) → r.first + r.len ≤ length f
+needed_inside : (f : List ℕ) (q : Query) (r : Extent) → IsClear f q → In r (needs_of_query f q) → r.first + r.len ≤ length f
 needed_inside f q r c there = ends_inside f r (none_of_any (ends_past f) (needs_of_query f q) r (c.own PastEnd) there)
 
 pub tiles_are : (f : List ℕ) (q : Query) (c : IsClear f q) (a : IsAsked f q) → window_tiles f q ≡ tiles_in (layout_of_level f a.asked.level a.placed.level).grid a.asked
@@ -234,7 +235,7 @@ pub groups_are : (f : List ℕ) (q : Query) (a : IsAsked f q) → groups f q ≡
 unfolding groups
 groups_are f q a = rw a.asked_is refl
 
-arrays_are : (f : List ℕ) (q : Query) (c : IsClear f q) (a : IsAsked f q) → array_ranges f q ≡ option_to_list (array_range f a.asked.level 324) ++ option_to_list (array_range f a.asked.level 325)
+arrays_are : (f : List ℕ) (q : Query) (c : IsClear f q) (a : IsAsked f q) → array_ranges f q ≡ option_to_list (array_range f a.asked.level TILE_OFFSETS) ++ option_to_list (array_range f a.asked.level TILE_BYTE_COUNTS)
 unfolding array_ranges
 arrays_are f q c a = rw (not_refused f q c, a.asked_is) refl
 
@@ -243,11 +244,11 @@ in_ranges g [] there = absurd there
 in_ranges g (h ∷ gs) (inl is) = inl (ap (λ (g : Group). g.range) is)
 in_ranges g (h ∷ gs) (inr there) = inr (in_ranges g gs there)
 
-pub arrays_inside : (f : List ℕ) (q : Query) (r : Range) (c : IsClear f q) (a : IsAsked f q) → In r (option_to_list (array_range f a.asked.level 324) ++ option_to_list (array_range f a.asked.level 325)) → r.first + r.len ≤ length f
+pub arrays_inside : (f : List ℕ) (q : Query) (r : Extent) (c : IsClear f q) (a : IsAsked f q) → In r (option_to_list (array_range f a.asked.level TILE_OFFSETS) ++ option_to_list (array_range f a.asked.level TILE_BYTE_COUNTS)) → r.first + r.len ≤ length f
 arrays_inside f q r c a there =
-    let here : In r (array_ranges f q) = subst (λ (rs : List Range). In r rs) (sym (arrays_are f q c a)) there in
-    needed_inside f q r c (subst (λ (rs : List Range). In r rs) (sym c.needs) (in_left r (array_ranges f q) (map (λ (g : Group). g.range) (groups f q)) here))
+    let here : In r (array_ranges f q) = subst (λ (rs : List Extent). In r rs) (sym (arrays_are f q c a)) there in
+    needed_inside f q r c (subst (λ (rs : List Extent). In r rs) (sym c.needs) (in_left r (array_ranges f q) (map (λ (g : Group). g.range) (groups f q)) here))
 
 pub group_inside : (f : List ℕ) (q : Query) (g : Group) (c : IsClear f q) → In g (groups f q) → g.range.first + g.range.len ≤ length f
 group_inside f q g c there =
-    needed_inside f q g.range c (subst (λ (rs : List Range). In g.range rs) (sym c.needs) (in_right g.range (array_ranges f q) (map (λ (g : Group). g.range) (groups f q)) (in_ranges g (groups f q) there)))
+    needed_inside f q g.range c (subst (λ (rs : List Extent). In g.range rs) (sym c.needs) (in_right g.range (array_ranges f q) (map (λ (g : Group). g.range) (groups f q)) (in_ranges g (groups f q) there)))

@@ -1,4 +1,5 @@
 -- The faults of small files with one value wrong, by computation, and none of them in the file without.
+use Rattle.tiff_dir.specs.declared.tags.TheConstants.{BITS_PER_SAMPLE, COMPRESSION, TILE_BYTE_COUNTS, TILE_LENGTH, TILE_WIDTH}
 use Rattle.std.proofs.Common.{◌≡◌, ℕ, zero, suc, ◌+◌, ◌==◌, ◌⊎◌, true, false, List, [], ◌∷◌, ◌++◌, take, drop, Some, None, ◌∙◌, refl, sym, ap, subst, Option, arith, inl, inr}
 use Rattle.std.specs.List.{list_any, range_with_len, IsAmong}
 use Rattle.std.specs.Prelude.{nat_lt, nat_le, IsSomeAnd}
@@ -34,7 +35,7 @@ back-to-first : IsFaulty (with_byte 118 8) first_sample TooManyDirs
 unfolding IsFaulty IsFaultOfDirectories number_in order_of number directory has_directory directories entry_count field_at fields_from fields has_all_tags field values_at field_value value is_level level_directories place_of grid_at layout_at level_directory level_grid level_value count_range table_range field_range outside_range ranges_of_directory outside_ranges needs_of_directories rectangle is_outside is_too_large tiles_in window_tiles array_range tile_range grouped_after grouped groups array_ranges needs_of_query
 back-to-first = inl (inl refl)
 
-compression-five : IsFaulty (with_byte 54 5) first_sample (Unsupported 259)
+compression-five : IsFaulty (with_byte 54 5) first_sample (Unsupported COMPRESSION)
 unfolding IsFaulty IsFaultOfDirectories number_in order_of number directory has_directory directories entry_count field_at fields_from fields has_all_tags field values_at field_value value is_level level_directories place_of grid_at layout_at level_directory level_grid level_value count_range table_range field_range outside_range ranges_of_directory outside_ranges needs_of_directories rectangle is_outside is_too_large tiles_in window_tiles array_range tile_range grouped_after grouped groups array_ranges needs_of_query
 compression-five = inl (inr (0, (omega arith, refl), inr (refl, inl (0, refl))))
 
@@ -65,7 +66,7 @@ no-bytes = inr (record {
 })
 
 -- 12 bits a sample
-odd-depth : IsFaulty (header Little ++ one_directory Little 12 1 512 ++ range_with_len 0 256) first_sample (Unsupported 258)
+odd-depth : IsFaulty (header Little ++ one_directory Little 12 1 512 ++ range_with_len 0 256) first_sample (Unsupported BITS_PER_SAMPLE)
 unfolding IsFaulty IsFaultOfDirectories number_in order_of number directory has_directory directories entry_count field_at fields_from fields has_all_tags field values_at field_value value is_level level_directories place_of grid_at layout_at level_directory level_grid level_value count_range table_range field_range outside_range ranges_of_directory outside_ranges needs_of_directories rectangle is_outside is_too_large tiles_in window_tiles array_range tile_range grouped_after grouped groups array_ranges needs_of_query
 odd-depth = inl (inr (0, (omega arith, refl), inr (refl, inl (0, refl))))
 
@@ -108,38 +109,38 @@ none-past (inr past) = let inside = query-inside in cc
 out_of_one : (i : ℕ) → nat_lt (suc i) 1 ≡ false
 out_of_one i = grind (arith, nat_tests)
 
-compression-beyond : (i : ℕ) → value good 0 259 (suc i) ≡ None
+compression-beyond : (i : ℕ) → value good 0 COMPRESSION (suc i) ≡ None
 unfolding number_in order_of number directory has_directory directories entry_count field_at fields_from fields has_all_tags field values_at field_value value is_level level_directories place_of grid_at layout_at level_directory level_grid level_value count_range table_range field_range outside_range ranges_of_directory outside_ranges needs_of_directories rectangle is_outside is_too_large tiles_in window_tiles array_range tile_range grouped_after grouped groups array_ranges needs_of_query
 compression-beyond i = rw (out_of_one i) refl
 
-compression-is : (i : ℕ) (v : ℕ) → value good 0 259 i ≡ Some v → accepts 259 v ≡ true
+compression-is : (i : ℕ) (v : ℕ) → value good 0 COMPRESSION i ≡ Some v → accepts COMPRESSION v ≡ true
 unfolding number_in order_of number directory has_directory directories entry_count field_at fields_from fields has_all_tags field values_at field_value value is_level level_directories place_of grid_at layout_at level_directory level_grid level_value count_range table_range field_range outside_range ranges_of_directory outside_ranges needs_of_directories rectangle is_outside is_too_large tiles_in window_tiles array_range tile_range grouped_after grouped groups array_ranges needs_of_query
-compression-is zero v e = let same : 1 ≡ v = same_Some _ _ e in ap (accepts 259) (sym same)
+compression-is zero v e = let same : 1 ≡ v = same_Some _ _ e in ap (accepts COMPRESSION) (sym same)
 compression-is (suc i) v e = absurd (none-some v (sym (compression-beyond i) ∙ e))
 
-none-wrong : (i : ℕ) (o : Option ℕ) → value good 0 259 i ≡ o → IsSomeAnd o (λ v. accepts 259 v ≡ false) → ⊥
+none-wrong : (i : ℕ) (o : Option ℕ) → value good 0 COMPRESSION i ≡ o → IsSomeAnd o (λ v. accepts COMPRESSION v ≡ false) → ⊥
 none-wrong i None is wrong = absurd wrong
 none-wrong i (Some v) is wrong = let right = compression-is i v is in cc
 
-supported-first : IsUnsupported good 0 259 → ⊥
-supported-first (inl (i, wrong)) = none-wrong i (value good 0 259 i) refl wrong
+supported-first : IsUnsupported good 0 COMPRESSION → ⊥
+supported-first (inl (i, wrong)) = none-wrong i (value good 0 COMPRESSION i) refl wrong
 supported-first (inr (inl (other, misfit))) = absurd (omega (arith, other))
 supported-first (inr (inr (inl (other, misfit)))) = absurd (omega (arith, other))
 supported-first (inr (inr (inr (other, mixture)))) = absurd (omega (arith, other))
 
 -- a compression of another kind
-supported : IsFaulty good first_sample (Unsupported 259) → ⊥
+supported : IsFaulty good first_sample (Unsupported COMPRESSION) → ⊥
 unfolding IsFaulty IsFaultOfDirectories
 supported (inl (inl other)) = absurd other
 supported (inl (inr (k, there, inl other))) = absurd other
-supported (inl (inr (k, there, inr (is, bad)))) = supported-first (subst (λ m. IsUnsupported good m 259) (only-first k there.1) bad)
+supported (inl (inr (k, there, inr (is, bad)))) = supported-first (subst (λ m. IsUnsupported good m COMPRESSION) (only-first k there.1) bad)
 supported (inr other) = absurd other
 
-tile-width : value good 0 322 0 ≡ Some 16
+tile-width : value good 0 TILE_WIDTH 0 ≡ Some 16
 unfolding number_in order_of number directory has_directory directories entry_count field_at fields_from fields has_all_tags field values_at field_value value is_level level_directories place_of grid_at layout_at level_directory level_grid level_value count_range table_range field_range outside_range ranges_of_directory outside_ranges needs_of_directories rectangle is_outside is_too_large tiles_in window_tiles array_range tile_range grouped_after grouped groups array_ranges needs_of_query
 tile-width = refl
 
-tile-length : value good 0 323 0 ≡ Some 16
+tile-length : value good 0 TILE_LENGTH 0 ≡ Some 16
 unfolding number_in order_of number directory has_directory directories entry_count field_at fields_from fields has_all_tags field values_at field_value value is_level level_directories place_of grid_at layout_at level_directory level_grid level_value count_range table_range field_range outside_range ranges_of_directory outside_ranges needs_of_directories rectangle is_outside is_too_large tiles_in window_tiles array_range tile_range grouped_after grouped groups array_ranges needs_of_query
 tile-length = refl
 
@@ -160,7 +161,7 @@ size-is : level_plain_size good 0 ≡ Some 256
 unfolding level_plain_size plain_bytes number_in order_of number directory has_directory directories entry_count field_at fields_from fields has_all_tags field values_at field_value value is_level level_directories place_of grid_at layout_at level_directory level_grid level_value count_range table_range field_range outside_range ranges_of_directory outside_ranges needs_of_directories rectangle is_outside is_too_large tiles_in window_tiles array_range tile_range grouped_after grouped groups array_ranges needs_of_query
 size-is = refl
 
-count-is : level_value good 0 325 0 ≡ Some 256
+count-is : level_value good 0 TILE_BYTE_COUNTS 0 ≡ Some 256
 unfolding number_in order_of number directory has_directory directories entry_count field_at fields_from fields has_all_tags field values_at field_value value is_level level_directories place_of grid_at layout_at level_directory level_grid level_value count_range table_range field_range outside_range ranges_of_directory outside_ranges needs_of_directories rectangle is_outside is_too_large tiles_in window_tiles array_range tile_range grouped_after grouped groups array_ranges needs_of_query
 count-is = refl
 
@@ -176,7 +177,7 @@ good-tile bad =
     let asked = same_Some _ _ w.asked_is in
     let level : 0 ≡ bad.level = ap (λ (r : Rectangle). r.level) asked ∙ w.level_is in
     let tile : bad.tile ≡ 0 = first-of bad.tile (subst (λ ts. IsAmong ts bad.tile) only-tile w.among) in
-    let count : level_value good bad.level 325 bad.tile ≡ Some 256 = ap (λ m. level_value good m 325 bad.tile) (sym level) ∙ ap (level_value good 0 325) tile ∙ count-is in
+    let count : level_value good bad.level TILE_BYTE_COUNTS bad.tile ≡ Some 256 = ap (λ m. level_value good m TILE_BYTE_COUNTS bad.tile) (sym level) ∙ ap (level_value good 0 TILE_BYTE_COUNTS) tile ∙ count-is in
     let size : level_plain_size good bad.level ≡ Some 256 = ap (level_plain_size good) (sym level) ∙ size-is in
     elim (subst (λ o. IsSomeAnd o (λ n. (is_byte_count n ≡ false) ⊎ IsNotPlainSize good bad.level n)) count bad.wrong) [
       | inl wrong ↦ (let right : is_byte_count 256 ≡ true = refl in cc)

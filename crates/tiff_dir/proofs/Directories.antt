@@ -1,4 +1,5 @@
 -- The faults of every directory, and whether it is a level.
+use Rattle.tiff_dir.specs.declared.tags.TheConstants.{NEW_SUBFILE_TYPE}
 use Rattle.std.proofs.Common.{◌≡◌, ℕ, suc, ◌+◌, ◌*◌, ◌%◌, inl, inr, true, false, ◌&&◌, ◌||◌, ◌==◌, List, [], ◌∷◌, map, length, Some, None, refl, sym, ap, ◌∙◌, add-one}
 use Rattle.std.proofs.lemmas.Bool.{and_parts, and_from, eqb-true, eq-eqb, false≢true}
 use Rattle.tiff_dir.specs.declared.order.Order.{Order}
@@ -20,10 +21,10 @@ use Rattle.tiff_dir.proofs.GoingOn.{ends_on, levels_passed}
 use Rattle.tiff_dir.proofs.Chain.{some_and_at, some_and_from, goes_on, next_is}
 use Rattle.tiff_dir.proofs.Fields.{single_told, no_rule_fault, rule_fault}
 
-subfile_told : (f : List ℕ) (k : ℕ) (es : List Entry) → HasTable f k es → keeps es subfile_rule ≡ true → value f k 254 0 ≡ Some (single_or es 254 0)
+subfile_told : (f : List ℕ) (k : ℕ) (es : List Entry) → HasTable f k es → keeps es subfile_rule ≡ true → value f k NEW_SUBFILE_TYPE 0 ≡ Some (single_or es NEW_SUBFILE_TYPE 0)
 subfile_told f k es has met = single_told f k es subfile_rule 0 has met tt refl (inl refl)
 
-pub is_level_told : (f : List ℕ) (k : ℕ) (es : List Entry) → HasTable f k es → keeps es subfile_rule ≡ true → is_level f k ≡ ((k == 0) || (single_or es 254 0 == 1))
+pub is_level_told : (f : List ℕ) (k : ℕ) (es : List Entry) → HasTable f k es → keeps es subfile_rule ≡ true → is_level f k ≡ ((k == 0) || (single_or es NEW_SUBFILE_TYPE 0 == 1))
 unfolding is_level
 is_level_told f k es has met = rw (subfile_told f k es has met) refl
 
@@ -35,16 +36,16 @@ subfile_fault f k es (FieldType tag) has bad = rule_fault f k es subfile_rule (F
 subfile_fault f k es (Missing tag) has bad = false≢true bad.1
 subfile_fault f k es _ has bad = absurd bad
 
-pub shape_fault : (f : List ℕ) (k : ℕ) (es : List Entry) → HasTable f k es → keeps es subfile_rule ≡ true → ((k == 0) && (single_or es 254 0 % 2 == 1)) ≡ true → IsFaultOfDirectory f k LevelShape
+pub shape_fault : (f : List ℕ) (k : ℕ) (es : List Entry) → HasTable f k es → keeps es subfile_rule ≡ true → ((k == 0) && (single_or es NEW_SUBFILE_TYPE 0 % 2 == 1)) ≡ true → IsFaultOfDirectory f k LevelShape
 shape_fault f k es has met bad =
-    let parts = and_parts (k == 0) (single_or es 254 0 % 2 == 1) bad in
+    let parts = and_parts (k == 0) (single_or es NEW_SUBFILE_TYPE 0 % 2 == 1) bad in
     let first : k ≡ 0 = eqb-true k 0 parts.0 in
-    let told : value f 0 254 0 ≡ Some (single_or es 254 0) = ap (λ (x : ℕ). value f x 254 0) (sym first) ∙ subfile_told f k es has met in
-    (first, some_and_from (value f 0 254 0) (λ v. v % 2 ≡ 1) (single_or es 254 0) told (eqb-true (single_or es 254 0 % 2) 1 parts.1))
+    let told : value f 0 NEW_SUBFILE_TYPE 0 ≡ Some (single_or es NEW_SUBFILE_TYPE 0) = ap (λ (x : ℕ). value f x NEW_SUBFILE_TYPE 0) (sym first) ∙ subfile_told f k es has met in
+    (first, some_and_from (value f 0 NEW_SUBFILE_TYPE 0) (λ v. v % 2 ≡ 1) (single_or es NEW_SUBFILE_TYPE 0) told (eqb-true (single_or es NEW_SUBFILE_TYPE 0 % 2) 1 parts.1))
 
 -- nothing is wrong with the directory
 pub directory_clean : (f : List ℕ) (o : Order) (k at n : ℕ) (es : List Entry) → Counts f o k at n → HasTable f k es → ascends (map field_of es) ≡ true → keeps es subfile_rule ≡ true
-    → ((k == 0) && (single_or es 254 0 % 2 == 1)) ≡ false → (fault : FileFault) → IsFaultOfDirectory f k fault → ⊥
+    → ((k == 0) && (single_or es NEW_SUBFILE_TYPE 0 % 2 == 1)) ≡ false → (fault : FileFault) → IsFaultOfDirectory f k fault → ⊥
 unfolding entry_count
 directory_clean f o k at n es counts has tags met shape DirPlace bad =
     let h : is_directory_place at ≡ false = some_and_at (directory f k) (λ x. is_directory_place x ≡ false) at counts.reaches.place bad in cc (h, counts.reaches.good)
@@ -55,9 +56,9 @@ directory_clean f o k at n es counts has tags met shape TagOrder bad =
 directory_clean f o k at n es counts has tags met shape (FieldType tag) bad =
     no_rule_fault f k es subfile_rule has met (λ e. absurd (cc)) (FieldType tag) bad
 directory_clean f o k at n es counts has tags met shape LevelShape bad =
-    let told : value f 0 254 0 ≡ Some (single_or es 254 0) = ap (λ (x : ℕ). value f x 254 0) (sym bad.0) ∙ subfile_told f k es has met in
-    let odd : single_or es 254 0 % 2 ≡ 1 = some_and_at (value f 0 254 0) (λ v. v % 2 ≡ 1) (single_or es 254 0) told bad.1 in
-    false≢true (sym shape ∙ and_from (k == 0) (single_or es 254 0 % 2 == 1) (eq-eqb k 0 bad.0) (eq-eqb (single_or es 254 0 % 2) 1 odd))
+    let told : value f 0 NEW_SUBFILE_TYPE 0 ≡ Some (single_or es NEW_SUBFILE_TYPE 0) = ap (λ (x : ℕ). value f x NEW_SUBFILE_TYPE 0) (sym bad.0) ∙ subfile_told f k es has met in
+    let odd : single_or es NEW_SUBFILE_TYPE 0 % 2 ≡ 1 = some_and_at (value f 0 NEW_SUBFILE_TYPE 0) (λ v. v % 2 ≡ 1) (single_or es NEW_SUBFILE_TYPE 0) told bad.1 in
+    false≢true (sym shape ∙ and_from (k == 0) (single_or es NEW_SUBFILE_TYPE 0 % 2 == 1) (eq-eqb k 0 bad.0) (eq-eqb (single_or es NEW_SUBFILE_TYPE 0 % 2) 1 odd))
 directory_clean f o k at n es counts has tags met shape _ bad = bad
 
 -- A directory that is no level

@@ -1,4 +1,5 @@
 -- The end of a level: its shape, and the level itself.
+use Rattle.tiff_dir.specs.declared.tags.TheConstants.{BITS_PER_SAMPLE, COMPRESSION, IMAGE_LENGTH, IMAGE_WIDTH, PHOTOMETRIC_INTERPRETATION, SAMPLES_PER_PIXEL, SAMPLE_FORMAT, TILE_BYTE_COUNTS, TILE_LENGTH, TILE_OFFSETS, TILE_WIDTH}
 use Rattle.std.proofs.Common.{◌≡◌, ℕ, ◌+◌, ◌*◌, ◌%◌, ◌≤◌, inl, inr, true, false, ◌&&◌, ◌==◌, nat_lt, nat_le, List, get_or, Option, Some, None, IsSomeAnd, refl, sym, subst, ap, ◌∙◌, arith, lit<, add-one}
 use Rattle.std.proofs.lemmas.Option.{same_Some, none-some}
 use Rattle.std.proofs.lemmas.Bool.{and_parts, and_cases, eqb-true, ltb-true, ltb-false, cases_eq, false≢true}
@@ -59,21 +60,21 @@ parts (Some g) (Some s) (Some t) (Some u) (Some v) (Some w) l e =
 
 -- what a grid and a layout that are there tell of the file's values
 pub grid_told : (f : List ℕ) (k : ℕ) (g : Grid) → grid_at f k ≡ Some g
-    → (value f k 256 0 ≡ Some g.width) × (value f k 257 0 ≡ Some g.length) × (value f k 322 0 ≡ Some g.tile_width) × (value f k 323 0 ≡ Some g.tile_length)
+    → (value f k IMAGE_WIDTH 0 ≡ Some g.width) × (value f k IMAGE_LENGTH 0 ≡ Some g.length) × (value f k TILE_WIDTH 0 ≡ Some g.tile_width) × (value f k TILE_LENGTH 0 ≡ Some g.tile_length)
 unfolding grid_at
-grid_told f k g told = grid_parts (value f k 256 0) (value f k 257 0) (value f k 322 0) (value f k 323 0) g told
+grid_told f k g told = grid_parts (value f k IMAGE_WIDTH 0) (value f k IMAGE_LENGTH 0) (value f k TILE_WIDTH 0) (value f k TILE_LENGTH 0) g told
 
 pub layout_parts : (f : List ℕ) (k : ℕ) (l : Layout) → layout_at f k ≡ Some l
-    → (grid_at f k ≡ Some l.grid) × (value f k 277 0 ≡ Some l.samples) × (value f k 258 0 ≡ Some l.bits)
-    × ((value f k 259 0 >>= compression_of) ≡ Some l.compression) × ((field f k 324 >>= place_of f) ≡ Some l.offsets) × ((field f k 325 >>= place_of f) ≡ Some l.counts)
+    → (grid_at f k ≡ Some l.grid) × (value f k SAMPLES_PER_PIXEL 0 ≡ Some l.samples) × (value f k BITS_PER_SAMPLE 0 ≡ Some l.bits)
+    × ((value f k COMPRESSION 0 >>= compression_of) ≡ Some l.compression) × ((field f k TILE_OFFSETS >>= place_of f) ≡ Some l.offsets) × ((field f k TILE_BYTE_COUNTS >>= place_of f) ≡ Some l.counts)
 unfolding layout_at
-layout_parts f k l told = parts (grid_at f k) (value f k 277 0) (value f k 258 0) (value f k 259 0 >>= compression_of) (field f k 324 >>= place_of f) (field f k 325 >>= place_of f) l told
+layout_parts f k l told = parts (grid_at f k) (value f k SAMPLES_PER_PIXEL 0) (value f k BITS_PER_SAMPLE 0) (value f k COMPRESSION 0 >>= compression_of) (field f k TILE_OFFSETS >>= place_of f) (field f k TILE_BYTE_COUNTS >>= place_of f) l told
 
 grid_drafted : (f : List ℕ) (k : ℕ) (d : Draft) → IsDrafted f k d → grid_at f k ≡ Some (record { width = d.width; length = d.length; tile_width = d.tile_width; tile_length = d.tile_length })
 unfolding grid_at
 grid_drafted f k d is = rw (is.width, is.length, is.tile_width, is.tile_length) refl
 
-pub layout_told : (f : List ℕ) (k : ℕ) (d : Draft) (bits : ℕ) → IsDrafted f k d → value f k 258 0 ≡ Some bits → layout_at f k ≡ Some (layout_from d bits)
+pub layout_told : (f : List ℕ) (k : ℕ) (d : Draft) (bits : ℕ) → IsDrafted f k d → value f k BITS_PER_SAMPLE 0 ≡ Some bits → layout_at f k ≡ Some (layout_from d bits)
 unfolding layout_at
 layout_told f k d bits is told = rw (grid_drafted f k d is, is.samples, told, is.compression, is.offsets, is.counts) refl
 
@@ -97,8 +98,8 @@ before_none f (Some b) e = absurd (none-some _ (sym e))
 
 pub no_width : (f : List ℕ) (k : ℕ) (d : Draft) → IsDrafted f k d → has_sides d ≡ false → IsFaultOfLevel f k LevelShape
 no_width f k d is bad = elim (and_cases (nat_lt 0 d.width) (nat_lt 0 d.length) bad) [
-  | inl h ↦ (let none : d.width ≡ 0 = omega (arith, ltb-false 0 d.width h) in inl (some_and_from (value f k 256 0) (λ s. s ≡ 0) d.width is.width none))
-  | inr h ↦ (let none : d.length ≡ 0 = omega (arith, ltb-false 0 d.length h) in inr (inl (some_and_from (value f k 257 0) (λ s. s ≡ 0) d.length is.length none)))
+  | inl h ↦ (let none : d.width ≡ 0 = omega (arith, ltb-false 0 d.width h) in inl (some_and_from (value f k IMAGE_WIDTH 0) (λ s. s ≡ 0) d.width is.width none))
+  | inr h ↦ (let none : d.length ≡ 0 = omega (arith, ltb-false 0 d.length h) in inr (inl (some_and_from (value f k IMAGE_LENGTH 0) (λ s. s ≡ 0) d.length is.length none)))
 ]
 
 sides_fault : (f : List ℕ) (k : ℕ) (d : Draft) (previous : Option Level) → IsDrafted f k d → IsBefore f k previous → fits_under previous d ≡ false → IsFaultOfLevel f k LevelShape
@@ -127,16 +128,16 @@ not_smaller f k d (Some l) is before good bad =
 
 no_sides_fault : (f : List ℕ) (k : ℕ) (d : Draft) (previous : Option Level) → IsDrafted f k d → IsBefore f k previous → fits_under previous d ≡ true → IsFaultOfLevel f k LevelShape → ⊥
 no_sides_fault f k d previous is before good (inl bad) =
-    let none = some_and_at (value f k 256 0) (λ s. s ≡ 0) d.width is.width bad in
+    let none = some_and_at (value f k IMAGE_WIDTH 0) (λ s. s ≡ 0) d.width is.width bad in
     let some = ltb-true 0 d.width (and_parts (nat_lt 0 d.width) (nat_lt 0 d.length) (fits_sides previous d good)).0 in omega arith
 no_sides_fault f k d previous is before good (inr (inl bad)) =
-    let none = some_and_at (value f k 257 0) (λ s. s ≡ 0) d.length is.length bad in
+    let none = some_and_at (value f k IMAGE_LENGTH 0) (λ s. s ≡ 0) d.length is.length bad in
     let some = ltb-true 0 d.length (and_parts (nat_lt 0 d.width) (nat_lt 0 d.length) (fits_sides previous d good)).1 in omega arith
 no_sides_fault f k d previous is before good (inr (inr bad)) = not_smaller f k d previous is before good bad
 
 -- The tiles
 
-plain_drafted : (f : List ℕ) (k : ℕ) (d : Draft) (bits : ℕ) → IsDrafted f k d → value f k 258 0 ≡ Some bits → plain_bytes f k ≡ Some (tile_bytes d.tile_width d.tile_length d.samples bits)
+plain_drafted : (f : List ℕ) (k : ℕ) (d : Draft) (bits : ℕ) → IsDrafted f k d → value f k BITS_PER_SAMPLE 0 ≡ Some bits → plain_bytes f k ≡ Some (tile_bytes d.tile_width d.tile_length d.samples bits)
 unfolding plain_bytes
 plain_drafted f k d bits is told = rw (is.tile_width, is.tile_length, is.samples, told) refl
 
@@ -146,18 +147,18 @@ tiles_parts d bits good =
     let two = and_parts (is_tile_side d.tile_length) (nat_le (tile_bytes d.tile_width d.tile_length d.samples bits) max_tile_bytes) one.1 in
     (one.0, two.0, two.1)
 
-pub tiles_fault : (f : List ℕ) (k : ℕ) (d : Draft) (bits : ℕ) → IsDrafted f k d → value f k 258 0 ≡ Some bits → has_tiles d bits ≡ false → IsFaultOfLevel f k TileSize
+pub tiles_fault : (f : List ℕ) (k : ℕ) (d : Draft) (bits : ℕ) → IsDrafted f k d → value f k BITS_PER_SAMPLE 0 ≡ Some bits → has_tiles d bits ≡ false → IsFaultOfLevel f k TileSize
 tiles_fault f k d bits is told bad = elim (and_cases (is_tile_side d.tile_width) (is_tile_side d.tile_length && nat_le (tile_bytes d.tile_width d.tile_length d.samples bits) max_tile_bytes) bad) [
-  | inl h ↦ inl (some_and_from (value f k 322 0) (λ s. is_tile_side s ≡ false) d.tile_width is.tile_width h)
+  | inl h ↦ inl (some_and_from (value f k TILE_WIDTH 0) (λ s. is_tile_side s ≡ false) d.tile_width is.tile_width h)
   | inr h ↦ elim (and_cases (is_tile_side d.tile_length) (nat_le (tile_bytes d.tile_width d.tile_length d.samples bits) max_tile_bytes) h) [
-    | inl g ↦ inr (inl (some_and_from (value f k 323 0) (λ s. is_tile_side s ≡ false) d.tile_length is.tile_length g))
+    | inl g ↦ inr (inl (some_and_from (value f k TILE_LENGTH 0) (λ s. is_tile_side s ≡ false) d.tile_length is.tile_length g))
     | inr g ↦ inr (inr (some_and_from (plain_bytes f k) (λ n. nat_le n max_tile_bytes ≡ false) _ (plain_drafted f k d bits is told) g))
   ]
 ]
 
-no_tiles_fault : (f : List ℕ) (k : ℕ) (d : Draft) (bits : ℕ) → IsDrafted f k d → value f k 258 0 ≡ Some bits → has_tiles d bits ≡ true → IsFaultOfLevel f k TileSize → ⊥
-no_tiles_fault f k d bits is told good (inl bad) = false≢true (sym (some_and_at (value f k 322 0) (λ s. is_tile_side s ≡ false) d.tile_width is.tile_width bad) ∙ (tiles_parts d bits good).0)
-no_tiles_fault f k d bits is told good (inr (inl bad)) = false≢true (sym (some_and_at (value f k 323 0) (λ s. is_tile_side s ≡ false) d.tile_length is.tile_length bad) ∙ (tiles_parts d bits good).1)
+no_tiles_fault : (f : List ℕ) (k : ℕ) (d : Draft) (bits : ℕ) → IsDrafted f k d → value f k BITS_PER_SAMPLE 0 ≡ Some bits → has_tiles d bits ≡ true → IsFaultOfLevel f k TileSize → ⊥
+no_tiles_fault f k d bits is told good (inl bad) = false≢true (sym (some_and_at (value f k TILE_WIDTH 0) (λ s. is_tile_side s ≡ false) d.tile_width is.tile_width bad) ∙ (tiles_parts d bits good).0)
+no_tiles_fault f k d bits is told good (inr (inl bad)) = false≢true (sym (some_and_at (value f k TILE_LENGTH 0) (λ s. is_tile_side s ≡ false) d.tile_length is.tile_length bad) ∙ (tiles_parts d bits good).1)
 no_tiles_fault f k d bits is told good (inr (inr bad)) = false≢true (sym (some_and_at (plain_bytes f k) (λ n. nat_le n max_tile_bytes ≡ false) _ (plain_drafted f k d bits is told) bad) ∙ (tiles_parts d bits good).2)
 
 side_some : (side : ℕ) → is_tile_side side ≡ true → nat_lt 0 side ≡ true
@@ -206,28 +207,28 @@ pub arrays_fault : (f : List ℕ) (k : ℕ) (d : Draft) (bits : ℕ) → IsDraft
 arrays_fault f k d bits is tiles bad = elim (and_cases (nat_le (draft_tiles d) max_tiles) ((draft_tiles d == d.offsets.count) && (draft_tiles d == d.counts.count)) bad) [
   | inl h ↦ inl (some_and_from (directory_tiles f k) (λ n. nat_le n max_tiles ≡ false) _ (count_drafted f k d bits is tiles) h)
   | inr h ↦ elim (and_cases (draft_tiles d == d.offsets.count) (draft_tiles d == d.counts.count) h) [
-    | inl g ↦ inr (inl (array_fault f k 324 d bits d.offsets is tiles is.offsets g))
-    | inr g ↦ inr (inr (array_fault f k 325 d bits d.counts is tiles is.counts g))
+    | inl g ↦ inr (inl (array_fault f k TILE_OFFSETS d bits d.offsets is tiles is.offsets g))
+    | inr g ↦ inr (inr (array_fault f k TILE_BYTE_COUNTS d bits d.counts is tiles is.counts g))
   ]
 ]
 
 no_arrays_fault : (f : List ℕ) (k : ℕ) (d : Draft) (bits : ℕ) → IsDrafted f k d → has_tiles d bits ≡ true → has_arrays d ≡ true → IsFaultOfLevel f k TileArray → ⊥
 no_arrays_fault f k d bits is tiles good (inl bad) = false≢true (sym (some_and_at (directory_tiles f k) (λ n. nat_le n max_tiles ≡ false) _ (count_drafted f k d bits is tiles) bad) ∙ (arrays_parts d good).0)
-no_arrays_fault f k d bits is tiles good (inr (inl bad)) = no_array_fault f k 324 d bits d.offsets is tiles is.offsets (arrays_parts d good).1 bad
-no_arrays_fault f k d bits is tiles good (inr (inr bad)) = no_array_fault f k 325 d bits d.counts is tiles is.counts (arrays_parts d good).2 bad
+no_arrays_fault f k d bits is tiles good (inr (inl bad)) = no_array_fault f k TILE_OFFSETS d bits d.offsets is tiles is.offsets (arrays_parts d good).1 bad
+no_arrays_fault f k d bits is tiles good (inr (inr bad)) = no_array_fault f k TILE_BYTE_COUNTS d bits d.counts is tiles is.counts (arrays_parts d good).2 bad
 
 -- The level as a whole
 
-pub shape_fault : (f : List ℕ) (k : ℕ) (d : Draft) (bits : ℕ) (previous : Option Level) (fault : FileFault) → IsDrafted f k d → value f k 258 0 ≡ Some bits → IsBefore f k previous → IsShapeFault previous d bits fault → IsFaultOfLevel f k fault
+pub shape_fault : (f : List ℕ) (k : ℕ) (d : Draft) (bits : ℕ) (previous : Option Level) (fault : FileFault) → IsDrafted f k d → value f k BITS_PER_SAMPLE 0 ≡ Some bits → IsBefore f k previous → IsShapeFault previous d bits fault → IsFaultOfLevel f k fault
 shape_fault f k d bits previous LevelShape is told before bad = sides_fault f k d previous is before bad
 shape_fault f k d bits previous TileSize is told before bad = tiles_fault f k d bits is told bad
 shape_fault f k d bits previous TileArray is told before bad = arrays_fault f k d bits is bad.0 bad.1
 shape_fault f k d bits previous _ is told before bad = absurd bad
 
-unsupported_clean : (f : List ℕ) (p : Pending) (tag : ℕ) → IsPending f p → IsSupported f p.index 258 → IsSupported f p.index 339 → IsUnsupported f p.index tag → ⊥
-unsupported_clean f p tag is bits formats bad = elim (cases_eq tag 258) [
+unsupported_clean : (f : List ℕ) (p : Pending) (tag : ℕ) → IsPending f p → IsSupported f p.index BITS_PER_SAMPLE → IsSupported f p.index SAMPLE_FORMAT → IsUnsupported f p.index tag → ⊥
+unsupported_clean f p tag is bits formats bad = elim (cases_eq tag BITS_PER_SAMPLE) [
   | inl e ↦ bits (let P : ℕ → Type 0 = λ x. IsUnsupported f p.index x in subst P e bad)
-  | inr n1 ↦ elim (cases_eq tag 339) [
+  | inr n1 ↦ elim (cases_eq tag SAMPLE_FORMAT) [
     | inl e ↦ formats (let P : ℕ → Type 0 = λ x. IsUnsupported f p.index x in subst P e bad)
     | inr n2 ↦ is.supported tag n1 n2 bad
   ]
@@ -236,9 +237,9 @@ unsupported_clean f p tag is bits formats bad = elim (cases_eq tag 258) [
 -- a level whose values are all read
 pub record IsRead (f : List ℕ) (p : Pending) (bits : ℕ) (previous : Option Level) : Type 0 where
   pub pending : IsPending f p
-  pub told : value f p.index 258 0 ≡ Some bits
-  pub depths : IsSupported f p.index 258
-  pub formats : IsSupported f p.index 339
+  pub told : value f p.index BITS_PER_SAMPLE 0 ≡ Some bits
+  pub depths : IsSupported f p.index BITS_PER_SAMPLE
+  pub formats : IsSupported f p.index SAMPLE_FORMAT
   pub before : IsBefore f p.index previous
   pub shaped : IsShaped previous p.draft bits
 
@@ -257,7 +258,7 @@ level_follows f p bits previous is =
     let clean : (fault : FileFault) → IsFaultAt f p.index fault → ⊥ = λ fault bad. elim bad [ inl h ↦ w.sound fault h | inr h ↦ level_clean f p bits previous is fault h.1 ] in
     goes_on f p.order p.index p.next w.walked w.few w.there w.next clean
 
-pub level_ends : (f : List ℕ) (p : Pending) (bits : ℕ) (stage : Stage) (l : Level) → IsPending f p → value f p.index 258 0 ≡ Some bits → layout_of l ≡ layout_from p.draft bits → index_of stage ≡ p.index + 1 → IsAt f (p.index + 1) stage
+pub level_ends : (f : List ℕ) (p : Pending) (bits : ℕ) (stage : Stage) (l : Level) → IsPending f p → value f p.index BITS_PER_SAMPLE 0 ≡ Some bits → layout_of l ≡ layout_from p.draft bits → index_of stage ≡ p.index + 1 → IsAt f (p.index + 1) stage
     → EndsDirectory f p.index (record { stage = stage; level = Some l })
 level_ends f p bits stage l is told same index at = record {
   here = at.0;
@@ -275,7 +276,7 @@ is_multiple side good =
     let whole : side % 16 ≡ 0 = eqb-true (side % 16) 0 p.1 in
     (omega arith, whole)
 
-long_place : (es : List Entry) → AllPass (keeps es) profile → is_long (place_or es 324).kind ≡ true
+long_place : (es : List Entry) → AllPass (keeps es) profile → is_long (place_or es TILE_OFFSETS).kind ≡ true
 unfolding profile
 long_place es met =
     let r : Rule = get_or profile 10 subfile_rule in
@@ -284,7 +285,7 @@ long_place es met =
     let four : e.kind ≡ 4 = kind_long r.typing e.kind refl (typed r e (met_entry es r e ok there)) in
     rw there (rw four refl)
 
-whole_place : (es : List Entry) → AllPass (keeps es) profile → is_short_or_long (place_or es 325).kind ≡ true
+whole_place : (es : List Entry) → AllPass (keeps es) profile → is_short_or_long (place_or es TILE_BYTE_COUNTS).kind ≡ true
 unfolding profile
 whole_place es met =
     let r : Rule = get_or profile 11 subfile_rule in
@@ -296,7 +297,7 @@ pub draft_bounds : (es : List Entry) (d : Draft) → AllPass (keeps es) profile 
 unfolding draft_in
 draft_bounds es d met right is bounded = record {
   bounded = bounded;
-  samples = (let P : Draft → Type 0 = λ x. is_sample_count x.samples ≡ true in subst P (sym is) (count_fits (short_or es 277 1) (short_or es 262 0) right.samples));
+  samples = (let P : Draft → Type 0 = λ x. is_sample_count x.samples ≡ true in subst P (sym is) (count_fits (short_or es SAMPLES_PER_PIXEL 1) (short_or es PHOTOMETRIC_INTERPRETATION 0) right.samples));
   long = ap (λ (x : Draft). is_long x.offsets.kind) is ∙ long_place es met;
   whole = ap (λ (x : Draft). is_short_or_long x.counts.kind) is ∙ whole_place es met;
 } where

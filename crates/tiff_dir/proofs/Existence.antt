@@ -1,4 +1,5 @@
 -- Where no fault stands for a window, the file has one.
+use Rattle.tiff_dir.specs.declared.tags.TheConstants.{TILE_BYTE_COUNTS, TILE_OFFSETS}
 use Rattle.std.proofs.Common.{◌≡◌, ℕ, zero, suc, ◌+◌, ◌-◌, ◌*◌, ◌/◌, ◌%◌, ◌<◌, ◌≤◌, ◌⊎◌, inr, true, false, List, [], ◌∷◌, length, drop, Option, Some, None, refl, sym, subst, ap, ◌∙◌, arith}
 use Rattle.std.specs.Prelude.{◌==◌, ◌&&◌, nat_le, slice_range, slice_index}
 use Rattle.std.specs.Option.{option_to_list}
@@ -21,7 +22,7 @@ use Rattle.tiff_dir.specs.Number.{number_in}
 use Rattle.tiff_dir.specs.File.{◌>>=◌, Field, kind_of, size_of, values_at, field, value}
 use Rattle.tiff_dir.specs.Profile.{sample_bytes, is_sample_count, max_tiles}
 use Rattle.tiff_dir.specs.Level.{Layout, place_of, level_value, segment, plain_size, plain_row, tile_total}
-use Rattle.tiff_dir.specs.Needs.{Range, range_of_place}
+use Rattle.tiff_dir.specs.Needs.{Extent, extent_of_place}
 use Rattle.tiff_dir.specs.Walk.{bytes_in}
 use Rattle.tiff_dir.specs.Query.{Rectangle, Group, groups, tile_range, array_range, window_tiles}
 use Rattle.tiff_dir.specs.Window.{IsUnpackedBy, IsUnpacked, tile_at, place_in_tile, sample_in, IsSample}
@@ -58,15 +59,15 @@ array_len f k tag p told = at (field f k tag) told where
   at None told = absurd (none-some p told)
   at (Some e) told = place_len f e p told
 
-part_len : (f : List ℕ) (r : Range) → r.first + r.len ≤ length f → length (bytes_in f r) ≡ r.len
+part_len : (f : List ℕ) (r : Extent) → r.first + r.len ≤ length f → length (bytes_in f r) ≡ r.len
 part_len f r inside = omega (arith, length-take (r.first + r.len - r.first) (drop r.first f), length-drop r.first f)
 
 -- a tile's bytes: where they are, and that they are in the file
 pub record HasBytes (f : List ℕ) (n t : ℕ) : Type 0 where
   pub first : ℕ
   pub count : ℕ
-  pub first_is : level_value f n 324 t ≡ Some first
-  pub count_is : level_value f n 325 t ≡ Some count
+  pub first_is : level_value f n TILE_OFFSETS t ≡ Some first
+  pub count_is : level_value f n TILE_BYTE_COUNTS t ≡ Some count
   pub inside : first + count ≤ length f
 
 as_many : (d : Draft) → has_arrays d ≡ true → (draft_tiles d ≡ d.offsets.count) × (draft_tiles d ≡ d.counts.count)
@@ -76,7 +77,7 @@ as_many d good =
     (eqb-true (draft_tiles d) d.offsets.count offsets, eqb-true (draft_tiles d) d.counts.count counts)
 
 values_there : (f : List ℕ) (q : Query) (t : ℕ) (c : IsClear f q) (a : IsAsked f q) → t < tile_total (layout_of_level f a.asked.level a.placed.level).grid
-    → (first count : ℕ) × (level_value f a.asked.level 324 t ≡ Some first) × (level_value f a.asked.level 325 t ≡ Some count)
+    → (first count : ℕ) × (level_value f a.asked.level TILE_OFFSETS t ≡ Some first) × (level_value f a.asked.level TILE_BYTE_COUNTS t ≡ Some count)
 values_there f q t c a less =
     let n = a.asked.level in
     let l = layout_of_level f n a.placed.level in
@@ -84,17 +85,17 @@ values_there f q t c a less =
     let laid = a.placed.level.laid in
     let (o, order) = named f c.directories in
     let counts = as_many laid.draft laid.arrays in
-    let offsets = range_of_place l.offsets in
-    let sizes = range_of_place l.counts in
-    let offsets_inside = arrays_inside f q offsets c a (in_left offsets (option_to_list (array_range f n 324)) (option_to_list (array_range f n 325)) (in_option (array_range f n 324) offsets (offsets_at f n l is))) in
-    let sizes_inside = arrays_inside f q sizes c a (in_right sizes (option_to_list (array_range f n 324)) (option_to_list (array_range f n 325)) (in_option (array_range f n 325) sizes (counts_at f n l is))) in
+    let offsets = extent_of_place l.offsets in
+    let sizes = extent_of_place l.counts in
+    let offsets_inside = arrays_inside f q offsets c a (in_left offsets (option_to_list (array_range f n TILE_OFFSETS)) (option_to_list (array_range f n TILE_BYTE_COUNTS)) (in_option (array_range f n TILE_OFFSETS) offsets (offsets_at f n l is))) in
+    let sizes_inside = arrays_inside f q sizes c a (in_right sizes (option_to_list (array_range f n TILE_OFFSETS)) (option_to_list (array_range f n TILE_BYTE_COUNTS)) (in_option (array_range f n TILE_BYTE_COUNTS) sizes (counts_at f n l is))) in
     let few : t < l.offsets.count = omega (arith, less, counts.0) in
     let fewer : t < l.counts.count = omega (arith, less, counts.1) in
-    let first = offset_told f (bytes_in f offsets) o n t l order is (array_len f a.placed.level.directory 324 l.offsets laid.drafted.offsets) few (part_len f offsets offsets_inside) refl in
-    let count = count_told f (bytes_in f sizes) o n t l order is (array_len f a.placed.level.directory 325 l.counts laid.drafted.counts) fewer (part_len f sizes sizes_inside) refl in
+    let first = offset_told f (bytes_in f offsets) o n t l order is (array_len f a.placed.level.directory TILE_OFFSETS l.offsets laid.drafted.offsets) few (part_len f offsets offsets_inside) refl in
+    let count = count_told f (bytes_in f sizes) o n t l order is (array_len f a.placed.level.directory TILE_BYTE_COUNTS l.counts laid.drafted.counts) fewer (part_len f sizes sizes_inside) refl in
     (number_in o (t * size_of l.offsets.kind) (size_of l.offsets.kind) (bytes_in f offsets), number_in o (t * size_of l.counts.kind) (size_of l.counts.kind) (bytes_in f sizes), first, count)
 
-range_there : (f : List ℕ) (n t first count : ℕ) → level_value f n 324 t ≡ Some first → level_value f n 325 t ≡ Some count → tile_range f n t ≡ Some (record { first = first; len = count })
+range_there : (f : List ℕ) (n t first count : ℕ) → level_value f n TILE_OFFSETS t ≡ Some first → level_value f n TILE_BYTE_COUNTS t ≡ Some count → tile_range f n t ≡ Some (record { first = first; len = count })
 unfolding tile_range
 range_there f n t first count a b = rw (a, b) refl
 
@@ -102,7 +103,7 @@ tile_there : (f : List ℕ) (q : Query) (t : ℕ) (c : IsClear f q) (a : IsAsked
 tile_there f q t c a less there =
     let n = a.asked.level in
     let (first, count, first_is, count_is) = values_there f q t c a less in
-    let r : Range = record { first = first; len = count } in
+    let r : Extent = record { first = first; len = count } in
     let cover = covered (tile_range f n) t (window_tiles f q) r there (range_there f n t first count first_is count_is) in
     let among : In cover.group (groups f q) = subst (λ (gs : List Group). In cover.group gs) (sym (groups_are f q a)) cover.there in
     let end = group_inside f q cover.group c among in
@@ -144,7 +145,7 @@ plain_count f q t c a b there plain =
       level = n;
       tile = t;
       of_window = tile_of_window f q t a there;
-      wrong = some_and_from (level_value f n 325 t) (λ count. (is_byte_count count ≡ false) ⊎ IsNotPlainSize f n count) b.count b.count_is (inr wrong);
+      wrong = some_and_from (level_value f n TILE_BYTE_COUNTS t) (λ count. (is_byte_count count ≡ false) ⊎ IsNotPlainSize f n count) b.count b.count_is (inr wrong);
     })))
 
 -- a tile unpacked

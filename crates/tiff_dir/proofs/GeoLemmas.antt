@@ -25,7 +25,7 @@ use Rattle.tiff_dir.specs.Level.{place_of}
 use Rattle.tiff_dir.specs.Geo.{field_len, geo_place, IsLargeField, IsGeoFault}
 use Rattle.tiff_dir.specs.Fault.{IsRuleFault}
 use Rattle.tiff_dir.specs.GeoEntries.{geo_in, place_by, ArePlacesBy, IsFaultBy}
-use Rattle.tiff_dir.specs.Known.{HasGeo}
+use Rattle.tiff_dir.specs.WalkState.{HasGeo}
 use Rattle.tiff_dir.specs.Needs.{bytes_in}
 use Rattle.tiff_dir.specs.Stage.{range_of, AgreesAt, HasTable}
 use Rattle.tiff_dir.specs.Table.{allows, counts_one, entries_from, field_of, entry_with_tag, kind_in, len_of, keeps, place_in}

@@ -8,23 +8,23 @@ use Rattle.tiff_dir.specs.declared.order.Order.{Order}
 use Rattle.tiff_dir.specs.declared.stage.Stage.{Stage}
 use Rattle.tiff_dir.specs.declared.stage.Stage.TheVariants as stages
 use Rattle.tiff_dir.specs.declared.stage.Step.{Step}
-use Rattle.tiff_dir.specs.Needs.{Range, header_range, outside_ranges}
+use Rattle.tiff_dir.specs.Needs.{Extent, header_range, outside_ranges}
 use Rattle.tiff_dir.specs.Level.{Layout, is_level, layout_at}
 use Rattle.tiff_dir.specs.Stage.{range_of, index_of, still, ranges_from, layouts_below, AgreesAt, Counts, IsAt, StepsOn, EndsDirectory}
 use Rattle.tiff_dir.proofs.Chain.{ranges_here, ranges_counted}
 use Rattle.tiff_dir.proofs.Ranges.{range_more}
 
 -- a step that ends no level, to the same directory
-pub steps_same : (f : List ℕ) (stage next : Stage) (r : Range) → AgreesAt f next → index_of next ≡ index_of stage → range_of stage ≡ Some r → still f stage ≡ r ∷ still f next → StepsOn f stage (record { stage = next; level = None })
+pub steps_same : (f : List ℕ) (stage next : Stage) (r : Extent) → AgreesAt f next → index_of next ≡ index_of stage → range_of stage ≡ Some r → still f stage ≡ r ∷ still f next → StepsOn f stage (record { stage = next; level = None })
 steps_same f stage next r here same wanted come = record {
   here = here;
   levels = rw same (sym (append-nil _));
-  come = λ x is. (let e : r ≡ x = same_Some _ _ (sym wanted ∙ is) in let P : Range → Type 0 = λ y. still f stage ≡ y ∷ still f next in subst P e come);
+  come = λ x is. (let e : r ≡ x = same_Some _ _ (sym wanted ∙ is) in let P : Extent → Type 0 = λ y. still f stage ≡ y ∷ still f next in subst P e come);
 }
 
 pub header_on : (f : List ℕ) (next : Stage) → index_of next ≡ 0 → IsAt f 0 next → StepsOn f stages.Header (record { stage = next; level = None })
 header_on f next index at =
-    let come : still f stages.Header ≡ header_range ∷ still f next = ap (λ (rs : List Range). header_range ∷ rs) (sym at.1) in
+    let come : still f stages.Header ≡ header_range ∷ still f next = ap (λ (rs : List Extent). header_range ∷ rs) (sym at.1) in
     steps_same f stages.Header next header_range at.0 index refl come
 
 pub counts_on : (f : List ℕ) (o : Order) (k at n : ℕ) → Counts f o k at n → StepsOn f (stages.Count o k at) (record { stage = stages.Table o k at n; level = None })
@@ -48,9 +48,9 @@ pub levels_taken : (f : List ℕ) (k : ℕ) (l : Layout) → is_level f k ≡ tr
 levels_taken f k l level told = levels_more f k ∙ rw (level, told) refl
 
 -- a directory that ends with the range of this stage
-pub ends_on : (f : List ℕ) (stage : Stage) (k : ℕ) (r : Range) (step : Step) → index_of stage ≡ k → range_of stage ≡ Some r → still f stage ≡ r ∷ ranges_from f (suc k) → EndsDirectory f k step → StepsOn f stage step
+pub ends_on : (f : List ℕ) (stage : Stage) (k : ℕ) (r : Extent) (step : Step) → index_of stage ≡ k → range_of stage ≡ Some r → still f stage ≡ r ∷ ranges_from f (suc k) → EndsDirectory f k step → StepsOn f stage step
 ends_on f stage k r step index wanted come ends = record {
   here = ends.here;
   levels = rw (ends.index, index) ends.levels;
-  come = λ x is. (let e : r ≡ x = same_Some _ _ (sym wanted ∙ is) in let P : Range → Type 0 = λ y. still f stage ≡ y ∷ still f step.stage in subst P e (rw ends.come come));
+  come = λ x is. (let e : r ≡ x = same_Some _ _ (sym wanted ∙ is) in let P : Extent → Type 0 = λ y. still f stage ≡ y ∷ still f step.stage in subst P e (rw ends.come come));
 }

@@ -1,4 +1,5 @@
 -- What the entries of a level tell of it.
+use Rattle.tiff_dir.specs.declared.tags.TheConstants.{BITS_PER_SAMPLE, COMPRESSION, PHOTOMETRIC_INTERPRETATION, PLANAR_CONFIGURATION, SAMPLES_PER_PIXEL, SAMPLE_FORMAT}
 use Rattle.std.proofs.Common.{◌≡◌, ◌≢◌, ℕ, zero, suc, ◌+◌, ◌*◌, ◌<◌, ◌⊎◌, inl, inr, true, false, ◌&&◌, ◌==◌, nat_le, if◌then◌else◌, List, length, get_or, Option, Some, None, IsSomeAnd, refl, sym, subst, ◌∙◌, arith, lit<}
 use Rattle.std.proofs.lemmas.List.{get_or_default}
 use Rattle.std.proofs.lemmas.Bool.{and_parts, or_cases, eq-eqb, eqb-true, ne_eqb, cases_Bool, cases_eq, false≢true}
@@ -37,22 +38,22 @@ some_and_cases (Some x) P p = (x, refl, p)
 
 -- The values in the entries
 
-photometric_told : (f : List ℕ) (k : ℕ) (es : List Entry) → HasTable f k es → AllPass (keeps es) profile → value f k 262 0 ≡ Some (short_or es 262 0)
+photometric_told : (f : List ℕ) (k : ℕ) (es : List Entry) → HasTable f k es → AllPass (keeps es) profile → value f k PHOTOMETRIC_INTERPRETATION 0 ≡ Some (short_or es PHOTOMETRIC_INTERPRETATION 0)
 unfolding profile
 photometric_told f k es has met =
     let r : Rule = get_or profile 5 subfile_rule in let ok = met 5 subfile_rule (lit< tt) in short_told f k es r 0 has ok refl (one_counted es r ok refl) (inr refl)
 
-pub samples_told : (f : List ℕ) (k : ℕ) (es : List Entry) → HasTable f k es → AllPass (keeps es) profile → value f k 277 0 ≡ Some (short_or es 277 1)
+pub samples_told : (f : List ℕ) (k : ℕ) (es : List Entry) → HasTable f k es → AllPass (keeps es) profile → value f k SAMPLES_PER_PIXEL 0 ≡ Some (short_or es SAMPLES_PER_PIXEL 1)
 unfolding profile
 samples_told f k es has met =
     let r : Rule = get_or profile 6 subfile_rule in let ok = met 6 subfile_rule (lit< tt) in short_told f k es r 1 has ok refl (one_counted es r ok refl) (inl refl)
 
-planar_told : (f : List ℕ) (k : ℕ) (es : List Entry) → HasTable f k es → AllPass (keeps es) profile → value f k 284 0 ≡ Some (short_or es 284 1)
+planar_told : (f : List ℕ) (k : ℕ) (es : List Entry) → HasTable f k es → AllPass (keeps es) profile → value f k PLANAR_CONFIGURATION 0 ≡ Some (short_or es PLANAR_CONFIGURATION 1)
 unfolding profile
 planar_told f k es has met =
     let r : Rule = get_or profile 7 subfile_rule in let ok = met 7 subfile_rule (lit< tt) in short_told f k es r 1 has ok refl (one_counted es r ok refl) (inl refl)
 
-compression_told : (f : List ℕ) (k : ℕ) (es : List Entry) → HasTable f k es → AllPass (keeps es) profile → value f k 259 0 ≡ Some (short_or es 259 0)
+compression_told : (f : List ℕ) (k : ℕ) (es : List Entry) → HasTable f k es → AllPass (keeps es) profile → value f k COMPRESSION 0 ≡ Some (short_or es COMPRESSION 0)
 unfolding profile
 compression_told f k es has met =
     let r : Rule = get_or profile 4 subfile_rule in let ok = met 4 subfile_rule (lit< tt) in short_told f k es r 0 has ok refl (one_counted es r ok refl) (inr refl)
@@ -66,40 +67,40 @@ profile_fault f k es _ has (j, d, inside, bad) = absurd bad
 
 pub value_fault : (f : List ℕ) (k : ℕ) (es : List Entry) (fault : FileFault) → HasTable f k es → AllPass (keeps es) profile → IsValueFault es fault → IsFaultOfLevel f k fault
 value_fault f k es fault has met (inl (is, bad)) =
-    let here : IsFaultOfLevel f k (Unsupported 262) = inl (0, some_and_from (value f k 262 0) (λ v. accepts 262 v ≡ false) _ (photometric_told f k es has met) bad) in
+    let here : IsFaultOfLevel f k (Unsupported PHOTOMETRIC_INTERPRETATION) = inl (0, some_and_from (value f k PHOTOMETRIC_INTERPRETATION 0) (λ v. accepts PHOTOMETRIC_INTERPRETATION v ≡ false) _ (photometric_told f k es has met) bad) in
     subst (IsFaultOfLevel f k) (sym is) here
 value_fault f k es fault has met (inr (inl (is, bad))) =
-    let misfit : IsMisfit samples_fit (value f k 277 0) (value f k 262 0) =
-    some_and_from (value f k 277 0) (λ x. IsSomeAnd (value f k 262 0) (λ y. samples_fit x y ≡ false)) _ (samples_told f k es has met)
-    (some_and_from (value f k 262 0) (λ y. samples_fit (short_or es 277 1) y ≡ false) _ (photometric_told f k es has met) bad) in
-    let here : IsFaultOfLevel f k (Unsupported 277) = inr (inl (refl, misfit)) in
+    let misfit : IsMisfit samples_fit (value f k SAMPLES_PER_PIXEL 0) (value f k PHOTOMETRIC_INTERPRETATION 0) =
+    some_and_from (value f k SAMPLES_PER_PIXEL 0) (λ x. IsSomeAnd (value f k PHOTOMETRIC_INTERPRETATION 0) (λ y. samples_fit x y ≡ false)) _ (samples_told f k es has met)
+    (some_and_from (value f k PHOTOMETRIC_INTERPRETATION 0) (λ y. samples_fit (short_or es SAMPLES_PER_PIXEL 1) y ≡ false) _ (photometric_told f k es has met) bad) in
+    let here : IsFaultOfLevel f k (Unsupported SAMPLES_PER_PIXEL) = inr (inl (refl, misfit)) in
     subst (IsFaultOfLevel f k) (sym is) here
 value_fault f k es fault has met (inr (inr (inl (is, bad)))) =
-    let misfit : IsMisfit planes_fit (value f k 284 0) (value f k 277 0) =
-    some_and_from (value f k 284 0) (λ x. IsSomeAnd (value f k 277 0) (λ y. planes_fit x y ≡ false)) _ (planar_told f k es has met)
-    (some_and_from (value f k 277 0) (λ y. planes_fit (short_or es 284 1) y ≡ false) _ (samples_told f k es has met) bad) in
-    let here : IsFaultOfLevel f k (Unsupported 284) = inr (inr (inl (refl, misfit))) in
+    let misfit : IsMisfit planes_fit (value f k PLANAR_CONFIGURATION 0) (value f k SAMPLES_PER_PIXEL 0) =
+    some_and_from (value f k PLANAR_CONFIGURATION 0) (λ x. IsSomeAnd (value f k SAMPLES_PER_PIXEL 0) (λ y. planes_fit x y ≡ false)) _ (planar_told f k es has met)
+    (some_and_from (value f k SAMPLES_PER_PIXEL 0) (λ y. planes_fit (short_or es PLANAR_CONFIGURATION 1) y ≡ false) _ (samples_told f k es has met) bad) in
+    let here : IsFaultOfLevel f k (Unsupported PLANAR_CONFIGURATION) = inr (inr (inl (refl, misfit))) in
     subst (IsFaultOfLevel f k) (sym is) here
 value_fault f k es fault has met (inr (inr (inr (is, bad)))) =
-    let here : IsFaultOfLevel f k (Unsupported 259) = inl (0, some_and_from (value f k 259 0) (λ v. accepts 259 v ≡ false) _ (compression_told f k es has met) bad) in
+    let here : IsFaultOfLevel f k (Unsupported COMPRESSION) = inl (0, some_and_from (value f k COMPRESSION 0) (λ v. accepts COMPRESSION v ≡ false) _ (compression_told f k es has met) bad) in
     subst (IsFaultOfLevel f k) (sym is) here
 
 -- a field that has another number of values than a pixel has samples
 miscounted : (f : List ℕ) (k : ℕ) (es : List Entry) (r : Rule) → HasTable f k es → AllPass (keeps es) profile → r.count ≡ Samples → counts_samples es r.tag ≡ false → IsRuleFault f k r (FieldType r.tag)
 miscounted f k es r has met counts bad = (refl, at (entry_with_tag r.tag es) refl bad) where
-  at : (o : Option Entry) → entry_with_tag r.tag es ≡ o → option_map_or (λ e. e.count == short_or es 277 1) o true ≡ false → IsSomeAnd (field f k r.tag) (λ e. IsMistyped r.typing e ⊎ IsMiscounted f k r.count e)
+  at : (o : Option Entry) → entry_with_tag r.tag es ≡ o → option_map_or (λ e. e.count == short_or es SAMPLES_PER_PIXEL 1) o true ≡ false → IsSomeAnd (field f k r.tag) (λ e. IsMistyped r.typing e ⊎ IsMiscounted f k r.count e)
   at None is bad = absurd (false≢true (sym bad))
   at (Some e) is bad =
-      let wrong : IsMiscounted f k Samples (field_of e) = some_and_from (value f k 277 0) (λ s. (e.count == s) ≡ false) _ (samples_told f k es has met) bad in
+      let wrong : IsMiscounted f k Samples (field_of e) = some_and_from (value f k SAMPLES_PER_PIXEL 0) (λ s. (e.count == s) ≡ false) _ (samples_told f k es has met) bad in
       some_and_from (field f k r.tag) (λ x. IsMistyped r.typing x ⊎ IsMiscounted f k r.count x) (field_of e) (field_told f k es r.tag has ∙ rw is refl) (inr (rw counts wrong))
 
 pub count_fault : (f : List ℕ) (k : ℕ) (es : List Entry) (fault : FileFault) → HasTable f k es → AllPass (keeps es) profile → IsCountFault es fault → IsFaultOfLevel f k fault
 unfolding profile
 count_fault f k es fault has met (inl (is, bad)) =
-    let here : IsFaultOfLevel f k (FieldType 258) = (3, get_or profile 3 subfile_rule, lit< tt, refl, miscounted f k es (get_or profile 3 subfile_rule) has met refl bad) in
+    let here : IsFaultOfLevel f k (FieldType BITS_PER_SAMPLE) = (3, get_or profile 3 subfile_rule, lit< tt, refl, miscounted f k es (get_or profile 3 subfile_rule) has met refl bad) in
     subst (IsFaultOfLevel f k) (sym is) here
 count_fault f k es fault has met (inr (is, bad)) =
-    let here : IsFaultOfLevel f k (FieldType 339) = (12, get_or profile 12 subfile_rule, lit< tt, refl, miscounted f k es (get_or profile 12 subfile_rule) has met refl bad) in
+    let here : IsFaultOfLevel f k (FieldType SAMPLE_FORMAT) = (12, get_or profile 12 subfile_rule, lit< tt, refl, miscounted f k es (get_or profile 12 subfile_rule) has met refl bad) in
     subst (IsFaultOfLevel f k) (sym is) here
 
 pub read_fault : (f : List ℕ) (k : ℕ) (es : List Entry) (fault : FileFault) → HasTable f k es → IsReadFault es fault → IsFaultOfLevel f k fault
@@ -125,14 +126,14 @@ profile_counts es right (suc (suc (suc (suc (suc (suc (suc (suc (suc (suc (suc z
 profile_counts es right (suc (suc (suc (suc (suc (suc (suc (suc (suc (suc (suc (suc zero)))))))))))) d inside is = right.1
 profile_counts es right (suc (suc (suc (suc (suc (suc (suc (suc (suc (suc (suc (suc (suc j))))))))))))) d inside is = absurd (omega arith)
 
-pub count_is : (es : List Entry) (tag : ℕ) (e : Entry) → counts_samples es tag ≡ true → entry_with_tag tag es ≡ Some e → (e.count == short_or es 277 1) ≡ true
+pub count_is : (es : List Entry) (tag : ℕ) (e : Entry) → counts_samples es tag ≡ true → entry_with_tag tag es ≡ Some e → (e.count == short_or es SAMPLES_PER_PIXEL 1) ≡ true
 count_is es tag e right is = rw is at right
 
 -- no field is missing or has another type or count
 pub no_field_fault : (f : List ℕ) (k : ℕ) (es : List Entry) → HasTable f k es → AllPass (keeps es) profile → HasCounts es → (fault : FileFault) → Any (λ r. IsRuleFault f k r fault) profile → ⊥
 no_field_fault f k es has met right fault (j, r, inside, is, bad) =
     no_rule_fault f k es (get_or profile j r) has (met j r inside)
-    (λ counts e there. (short_or es 277 1, samples_told f k es has met, count_is es (get_or profile j r).tag e (profile_counts es right j r inside counts) there))
+    (λ counts e there. (short_or es SAMPLES_PER_PIXEL 1, samples_told f k es has met, count_is es (get_or profile j r).tag e (profile_counts es right j r inside counts) there))
     fault (let P : Rule → Type 0 = λ x. IsRuleFault f k x fault in subst P (sym is) bad)
 
 -- The values of a level whose fields are right
@@ -149,16 +150,16 @@ planes_cases v s ok = elim (or_cases (v == 1) (v == 2 && s == 1) ok) [
   | inr two ↦ inr (eqb-true v 2 (and_parts (v == 2) (s == 1) two).0)
 ]
 
-accepts-samples : (s p : ℕ) → samples_fit s p ≡ true → accepts 277 s ≡ true
+accepts-samples : (s p : ℕ) → samples_fit s p ≡ true → accepts SAMPLES_PER_PIXEL s ≡ true
 accepts-samples s p ok = elim (fits_cases s p ok) [ inl e ↦ rw e refl | inr e ↦ rw e refl ]
 
-accepts-planar : (v s : ℕ) → planes_fit v s ≡ true → accepts 284 v ≡ true
+accepts-planar : (v s : ℕ) → planes_fit v s ≡ true → accepts PLANAR_CONFIGURATION v ≡ true
 accepts-planar v s ok = elim (planes_cases v s ok) [ inl e ↦ rw e refl | inr e ↦ rw e refl ]
 
 -- a tag that the profile doesn't restrict
-accepts-other : (tag v : ℕ) → tag ≢ 258 → tag ≢ 259 → tag ≢ 262 → tag ≢ 277 → tag ≢ 284 → tag ≢ 339 → accepts tag v ≡ true
+accepts-other : (tag v : ℕ) → tag ≢ BITS_PER_SAMPLE → tag ≢ COMPRESSION → tag ≢ PHOTOMETRIC_INTERPRETATION → tag ≢ SAMPLES_PER_PIXEL → tag ≢ PLANAR_CONFIGURATION → tag ≢ SAMPLE_FORMAT → accepts tag v ≡ true
 accepts-other tag v n1 n2 n3 n4 n5 n6 =
-    rw (ne_eqb tag 258 n1, ne_eqb tag 259 n2, ne_eqb tag 262 n3, ne_eqb tag 277 n4, ne_eqb tag 284 n5, ne_eqb tag 339 n6) refl
+    rw (ne_eqb tag BITS_PER_SAMPLE n1, ne_eqb tag COMPRESSION n2, ne_eqb tag PHOTOMETRIC_INTERPRETATION n3, ne_eqb tag SAMPLES_PER_PIXEL n4, ne_eqb tag PLANAR_CONFIGURATION n5, ne_eqb tag SAMPLE_FORMAT n6) refl
 
 -- no value of the field is outside the profile
 AllAccepted : List ℕ → ℕ → ℕ → Type 0
@@ -172,37 +173,37 @@ accepted_here : (f : List ℕ) (k tag : ℕ) → AllAccepted f k tag → ((i : �
 unfolding AllAccepted
 accepted_here f k tag all (i, bad) = let (v, told, wrong) = some_and_cases _ _ bad in false≢true (sym wrong ∙ all i v told)
 
-compression_accepted : (f : List ℕ) (k : ℕ) (es : List Entry) → HasTable f k es → AllPass (keeps es) profile → HasValues es → AllAccepted f k 259
+compression_accepted : (f : List ℕ) (k : ℕ) (es : List Entry) → HasTable f k es → AllPass (keeps es) profile → HasValues es → AllAccepted f k COMPRESSION
 unfolding profile
 compression_accepted f k es has met right = let r : Rule = get_or profile 4 subfile_rule in let ok = met 4 subfile_rule (lit< tt) in
-    all_accepted f k 259 (short_or es 259 0) right.compression (short_only f k es r 0 has ok refl (one_counted es r ok refl) (inr refl))
+    all_accepted f k COMPRESSION (short_or es COMPRESSION 0) right.compression (short_only f k es r 0 has ok refl (one_counted es r ok refl) (inr refl))
 
-photometric_accepted : (f : List ℕ) (k : ℕ) (es : List Entry) → HasTable f k es → AllPass (keeps es) profile → HasValues es → AllAccepted f k 262
+photometric_accepted : (f : List ℕ) (k : ℕ) (es : List Entry) → HasTable f k es → AllPass (keeps es) profile → HasValues es → AllAccepted f k PHOTOMETRIC_INTERPRETATION
 unfolding profile
 photometric_accepted f k es has met right = let r : Rule = get_or profile 5 subfile_rule in let ok = met 5 subfile_rule (lit< tt) in
-    all_accepted f k 262 (short_or es 262 0) right.photometric (short_only f k es r 0 has ok refl (one_counted es r ok refl) (inr refl))
+    all_accepted f k PHOTOMETRIC_INTERPRETATION (short_or es PHOTOMETRIC_INTERPRETATION 0) right.photometric (short_only f k es r 0 has ok refl (one_counted es r ok refl) (inr refl))
 
-samples_accepted : (f : List ℕ) (k : ℕ) (es : List Entry) → HasTable f k es → AllPass (keeps es) profile → HasValues es → AllAccepted f k 277
+samples_accepted : (f : List ℕ) (k : ℕ) (es : List Entry) → HasTable f k es → AllPass (keeps es) profile → HasValues es → AllAccepted f k SAMPLES_PER_PIXEL
 unfolding profile
 samples_accepted f k es has met right = let r : Rule = get_or profile 6 subfile_rule in let ok = met 6 subfile_rule (lit< tt) in
-    all_accepted f k 277 (short_or es 277 1) (accepts-samples (short_or es 277 1) (short_or es 262 0) right.samples) (short_only f k es r 1 has ok refl (one_counted es r ok refl) (inl refl))
+    all_accepted f k SAMPLES_PER_PIXEL (short_or es SAMPLES_PER_PIXEL 1) (accepts-samples (short_or es SAMPLES_PER_PIXEL 1) (short_or es PHOTOMETRIC_INTERPRETATION 0) right.samples) (short_only f k es r 1 has ok refl (one_counted es r ok refl) (inl refl))
 
-planar_accepted : (f : List ℕ) (k : ℕ) (es : List Entry) → HasTable f k es → AllPass (keeps es) profile → HasValues es → AllAccepted f k 284
+planar_accepted : (f : List ℕ) (k : ℕ) (es : List Entry) → HasTable f k es → AllPass (keeps es) profile → HasValues es → AllAccepted f k PLANAR_CONFIGURATION
 unfolding profile
 planar_accepted f k es has met right = let r : Rule = get_or profile 7 subfile_rule in let ok = met 7 subfile_rule (lit< tt) in
-    all_accepted f k 284 (short_or es 284 1) (accepts-planar (short_or es 284 1) (short_or es 277 1) right.planar) (short_only f k es r 1 has ok refl (one_counted es r ok refl) (inl refl))
+    all_accepted f k PLANAR_CONFIGURATION (short_or es PLANAR_CONFIGURATION 1) (accepts-planar (short_or es PLANAR_CONFIGURATION 1) (short_or es SAMPLES_PER_PIXEL 1) right.planar) (short_only f k es r 1 has ok refl (one_counted es r ok refl) (inl refl))
 
 -- but for 258 and 339 each value is one that the profile accepts
-tag_accepted : (f : List ℕ) (k : ℕ) (es : List Entry) → HasTable f k es → AllPass (keeps es) profile → HasValues es → (tag : ℕ) → tag ≢ 258 → tag ≢ 339 → AllAccepted f k tag
+tag_accepted : (f : List ℕ) (k : ℕ) (es : List Entry) → HasTable f k es → AllPass (keeps es) profile → HasValues es → (tag : ℕ) → tag ≢ BITS_PER_SAMPLE → tag ≢ SAMPLE_FORMAT → AllAccepted f k tag
 unfolding AllAccepted
-tag_accepted f k es has met right tag n1 n6 = λ i v told. elim (cases_eq tag 259) [
-  | inl e ↦ at 259 e (compression_accepted f k es has met right) i v told
-  | inr n2 ↦ elim (cases_eq tag 262) [
-    | inl e ↦ at 262 e (photometric_accepted f k es has met right) i v told
-    | inr n3 ↦ elim (cases_eq tag 277) [
-      | inl e ↦ at 277 e (samples_accepted f k es has met right) i v told
-      | inr n4 ↦ elim (cases_eq tag 284) [
-        | inl e ↦ at 284 e (planar_accepted f k es has met right) i v told
+tag_accepted f k es has met right tag n1 n6 = λ i v told. elim (cases_eq tag COMPRESSION) [
+  | inl e ↦ at COMPRESSION e (compression_accepted f k es has met right) i v told
+  | inr n2 ↦ elim (cases_eq tag PHOTOMETRIC_INTERPRETATION) [
+    | inl e ↦ at PHOTOMETRIC_INTERPRETATION e (photometric_accepted f k es has met right) i v told
+    | inr n3 ↦ elim (cases_eq tag SAMPLES_PER_PIXEL) [
+      | inl e ↦ at SAMPLES_PER_PIXEL e (samples_accepted f k es has met right) i v told
+      | inr n4 ↦ elim (cases_eq tag PLANAR_CONFIGURATION) [
+        | inl e ↦ at PLANAR_CONFIGURATION e (planar_accepted f k es has met right) i v told
         | inr n5 ↦ accepts-other tag v n1 n2 n3 n4 n5 n6
       ]
     ]
@@ -211,20 +212,20 @@ tag_accepted f k es has met right tag n1 n6 = λ i v told. elim (cases_eq tag 25
   at : (t : ℕ) → tag ≡ t → AllAccepted f k t → AllAccepted f k tag
   at t e all = let P : ℕ → Type 0 = λ x. AllAccepted f k x in subst P (sym e) all
 
-pub supported : (f : List ℕ) (k : ℕ) (es : List Entry) → HasTable f k es → AllPass (keeps es) profile → HasValues es → (tag : ℕ) → tag ≢ 258 → tag ≢ 339 → IsUnsupported f k tag → ⊥
+pub supported : (f : List ℕ) (k : ℕ) (es : List Entry) → HasTable f k es → AllPass (keeps es) profile → HasValues es → (tag : ℕ) → tag ≢ BITS_PER_SAMPLE → tag ≢ SAMPLE_FORMAT → IsUnsupported f k tag → ⊥
 supported f k es has met right tag n1 n6 (inl bad) = accepted_here f k tag (tag_accepted f k es has met right tag n1 n6) bad
 supported f k es has met right tag n1 n6 (inr (inl bad)) =
-    let one = some_and_at (value f k 277 0) (λ x. IsSomeAnd (value f k 262 0) (λ y. samples_fit x y ≡ false)) _ (samples_told f k es has met) bad.1 in
-    let two = some_and_at (value f k 262 0) (λ y. samples_fit (short_or es 277 1) y ≡ false) _ (photometric_told f k es has met) one in
+    let one = some_and_at (value f k SAMPLES_PER_PIXEL 0) (λ x. IsSomeAnd (value f k PHOTOMETRIC_INTERPRETATION 0) (λ y. samples_fit x y ≡ false)) _ (samples_told f k es has met) bad.1 in
+    let two = some_and_at (value f k PHOTOMETRIC_INTERPRETATION 0) (λ y. samples_fit (short_or es SAMPLES_PER_PIXEL 1) y ≡ false) _ (photometric_told f k es has met) one in
     false≢true (sym two ∙ right.samples)
 supported f k es has met right tag n1 n6 (inr (inr (inr bad))) = n1 bad.0
 supported f k es has met right tag n1 n6 (inr (inr (inl bad))) =
-    let one = some_and_at (value f k 284 0) (λ x. IsSomeAnd (value f k 277 0) (λ y. planes_fit x y ≡ false)) _ (planar_told f k es has met) bad.1 in
-    let two = some_and_at (value f k 277 0) (λ y. planes_fit (short_or es 284 1) y ≡ false) _ (samples_told f k es has met) one in
+    let one = some_and_at (value f k PLANAR_CONFIGURATION 0) (λ x. IsSomeAnd (value f k SAMPLES_PER_PIXEL 0) (λ y. planes_fit x y ≡ false)) _ (planar_told f k es has met) bad.1 in
+    let two = some_and_at (value f k SAMPLES_PER_PIXEL 0) (λ y. planes_fit (short_or es PLANAR_CONFIGURATION 1) y ≡ false) _ (samples_told f k es has met) one in
     false≢true (sym two ∙ right.planar)
 
 -- 339 has no conditions besides
-pub supported_by : (f : List ℕ) (k tag : ℕ) → tag ≢ 258 → tag ≢ 277 → tag ≢ 284 → ((i v : ℕ) → value f k tag i ≡ Some v → accepts tag v ≡ true) → IsUnsupported f k tag → ⊥
+pub supported_by : (f : List ℕ) (k tag : ℕ) → tag ≢ BITS_PER_SAMPLE → tag ≢ SAMPLES_PER_PIXEL → tag ≢ PLANAR_CONFIGURATION → ((i v : ℕ) → value f k tag i ≡ Some v → accepts tag v ≡ true) → IsUnsupported f k tag → ⊥
 unfolding AllAccepted
 supported_by f k tag n1 n4 n5 all (inl bad) = accepted_here f k tag all bad
 supported_by f k tag n1 n4 n5 all (inr (inl bad)) = n4 bad.0
@@ -232,19 +233,19 @@ supported_by f k tag n1 n4 n5 all (inr (inr (inl bad))) = n5 bad.0
 supported_by f k tag n1 n4 n5 all (inr (inr (inr bad))) = n1 bad.0
 
 -- BitsPerSample is one depth
-pub depth_supported : (f : List ℕ) (k bits : ℕ) → is_depth bits ≡ true → ((i v : ℕ) → value f k 258 i ≡ Some v → v ≡ bits) → IsUnsupported f k 258 → ⊥
+pub depth_supported : (f : List ℕ) (k bits : ℕ) → is_depth bits ≡ true → ((i v : ℕ) → value f k BITS_PER_SAMPLE i ≡ Some v → v ≡ bits) → IsUnsupported f k BITS_PER_SAMPLE → ⊥
 unfolding AllAccepted
-depth_supported f k bits good only (inl bad) = accepted_here f k 258 (λ i v told. rw (only i v told) good) bad
+depth_supported f k bits good only (inl bad) = accepted_here f k BITS_PER_SAMPLE (λ i v told. rw (only i v told) good) bad
 depth_supported f k bits good only (inr (inl bad)) = absurd (omega (arith, bad.0))
 depth_supported f k bits good only (inr (inr (inl bad))) = absurd (omega (arith, bad.0))
 depth_supported f k bits good only (inr (inr (inr (other, (i, j, bad))))) =
-    let (a, a_told, more) = some_and_cases (value f k 258 i) _ bad in
-    let (b, b_told, differ) = some_and_cases (value f k 258 j) _ more in
+    let (a, a_told, more) = some_and_cases (value f k BITS_PER_SAMPLE i) _ bad in
+    let (b, b_told, differ) = some_and_cases (value f k BITS_PER_SAMPLE j) _ more in
     false≢true (sym differ ∙ eq-eqb a b (only i a a_told ∙ sym (only j b b_told)))
 
 -- The draft
 
-compression_is : (c : ℕ) → accepts 259 c ≡ true → compression_of c ≡ Some (if c == 1 then Plain else PackBits)
+compression_is : (c : ℕ) → accepts COMPRESSION c ≡ true → compression_of c ≡ Some (if c == 1 then Plain else PackBits)
 compression_is c ok = elim (or_cases (c == 1) (c == 32773) ok) [
   | inl one ↦ rw (eqb-true c 1 one) refl
   | inr packed ↦ rw (eqb-true c 32773 packed) refl
@@ -280,7 +281,7 @@ drafted f k es has met right =
       tile_width = single_told f k es (rule 8) 0 has (met 8 d (lit< tt)) tt refl (inr refl);
       tile_length = single_told f k es (rule 9) 0 has (met 9 d (lit< tt)) tt refl (inr refl);
       samples = samples_told f k es has met;
-      compression = rw (compression_told f k es has met) (compression_is (short_or es 259 0) right.compression);
+      compression = rw (compression_told f k es has met) (compression_is (short_or es COMPRESSION 0) right.compression);
       offsets = place_told f k es (rule 10) has (met 10 d (lit< tt)) refl;
       counts = place_told f k es (rule 11) has (met 11 d (lit< tt)) refl;
     }

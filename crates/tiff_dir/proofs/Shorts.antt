@@ -1,4 +1,5 @@
 -- Three values of two bytes that stand outside their entry.
+use Rattle.tiff_dir.specs.declared.tags.TheConstants.{BITS_PER_SAMPLE, SAMPLE_FORMAT}
 use Rattle.std.proofs.Common.{◌≡◌, ℕ, zero, suc, ◌*◌, ◌<◌, ◌≤◌, inl, inr, Bool, true, false, ◌&&◌, ◌==◌, if◌then◌else◌, List, length, Option, Some, None, IsSomeAnd, refl, sym, subst, ap, ◌∙◌, arith}
 use Rattle.std.proofs.lemmas.Option.{same_Some, none-some}
 use Rattle.std.proofs.lemmas.Bool.{and_parts, and_cases, eqb-true, lt-ltb, le-ltb}
@@ -52,29 +53,29 @@ one_other f bytes o k tag first w named shorts part len bad =
 
 -- BitsPerSample
 
-bits_right : (f bytes : List ℕ) (o : Order) (k first bits : ℕ) → order_of f ≡ Some o → HasShorts f k 258 first → bytes ≡ bytes_in f (three_shorts first) → length bytes ≡ 6 → is_depth bits ≡ true → all_are o bytes bits ≡ true → HasBits f k (Some bits)
+bits_right : (f bytes : List ℕ) (o : Order) (k first bits : ℕ) → order_of f ≡ Some o → HasShorts f k BITS_PER_SAMPLE first → bytes ≡ bytes_in f (three_shorts first) → length bytes ≡ 6 → is_depth bits ≡ true → all_are o bytes bits ≡ true → HasBits f k (Some bits)
 bits_right f bytes o k first bits named shorts part len good all = (
-  short_is f bytes o k 258 first 0 named shorts part len (omega arith) ∙ ap Some (eqb-true _ bits (and_parts (number_in o 0 2 bytes == bits) _ all).0),
+  short_is f bytes o k BITS_PER_SAMPLE first 0 named shorts part len (omega arith) ∙ ap Some (eqb-true _ bits (and_parts (number_in o 0 2 bytes == bits) _ all).0),
   good,
-  depth_supported f k bits good (all_same f bytes o k 258 first bits named shorts part len all),
+  depth_supported f k bits good (all_same f bytes o k BITS_PER_SAMPLE first bits named shorts part len all),
 )
 
-bits_wrong : (f bytes : List ℕ) (o : Order) (k first : ℕ) → order_of f ≡ Some o → HasShorts f k 258 first → bytes ≡ bytes_in f (three_shorts first) → length bytes ≡ 6
+bits_wrong : (f bytes : List ℕ) (o : Order) (k first : ℕ) → order_of f ≡ Some o → HasShorts f k BITS_PER_SAMPLE first → bytes ≡ bytes_in f (three_shorts first) → length bytes ≡ 6
     → (is_depth (number_in o 0 2 bytes) && all_are o bytes (number_in o 0 2 bytes)) ≡ false → HasBits f k None
 bits_wrong f bytes o k first named shorts part len bad =
     let bits = number_in o 0 2 bytes in
-    let told = short_is f bytes o k 258 first 0 named shorts part len (omega arith) in
+    let told = short_is f bytes o k BITS_PER_SAMPLE first 0 named shorts part len (omega arith) in
     elim (and_cases (is_depth bits) (all_are o bytes bits) bad) [
-      | inl h ↦ inl (0, some_and_from (value f k 258 0) (λ v. accepts 258 v ≡ false) bits told h)
+      | inl h ↦ inl (0, some_and_from (value f k BITS_PER_SAMPLE 0) (λ v. accepts BITS_PER_SAMPLE v ≡ false) bits told h)
       | inr h ↦
-          (let (i, other) = one_other f bytes o k 258 first bits named shorts part len h in
-          let (v, there, differ) = some_and_cases (value f k 258 i) (λ v. (v == bits) ≡ false) other in
-          let misfit = some_and_from (value f k 258 i) (λ x. IsSomeAnd (value f k 258 0) (λ y. (x == y) ≡ false)) v there
-          (some_and_from (value f k 258 0) (λ y. (v == y) ≡ false) bits told differ) in
+          (let (i, other) = one_other f bytes o k BITS_PER_SAMPLE first bits named shorts part len h in
+          let (v, there, differ) = some_and_cases (value f k BITS_PER_SAMPLE i) (λ v. (v == bits) ≡ false) other in
+          let misfit = some_and_from (value f k BITS_PER_SAMPLE i) (λ x. IsSomeAnd (value f k BITS_PER_SAMPLE 0) (λ y. (x == y) ≡ false)) v there
+          (some_and_from (value f k BITS_PER_SAMPLE 0) (λ y. (v == y) ≡ false) bits told differ) in
           inr (inr (inr (refl, (i, 0, misfit)))))
     ]
 
-pub has_bits : (f bytes : List ℕ) (o : Order) (k first : ℕ) → order_of f ≡ Some o → HasShorts f k 258 first → bytes ≡ bytes_in f (three_shorts first) → length bytes ≡ 6 → HasBits f k (depth_in o bytes)
+pub has_bits : (f bytes : List ℕ) (o : Order) (k first : ℕ) → order_of f ≡ Some o → HasShorts f k BITS_PER_SAMPLE first → bytes ≡ bytes_in f (three_shorts first) → length bytes ≡ 6 → HasBits f k (depth_in o bytes)
 has_bits f bytes o k first named shorts part len = at (is_depth (number_in o 0 2 bytes) && all_are o bytes (number_in o 0 2 bytes)) refl where
   at : (b : Bool) → (is_depth (number_in o 0 2 bytes) && all_are o bytes (number_in o 0 2 bytes)) ≡ b → HasBits f k (if b then Some (number_in o 0 2 bytes) else None)
   at true good =
@@ -85,21 +86,21 @@ has_bits f bytes o k first named shorts part len = at (is_depth (number_in o 0 2
 pub bits_at : (f : List ℕ) (k : ℕ) (o : Option ℕ) (bits : ℕ) → o ≡ Some bits → HasBits f k o → HasBits f k (Some bits)
 bits_at f k o bits is has = let P : Option ℕ → Type 0 = λ x. HasBits f k x in subst P is has
 
-pub bits_none : (f : List ℕ) (k : ℕ) (o : Option ℕ) → o ≡ None → HasBits f k o → IsUnsupported f k 258
+pub bits_none : (f : List ℕ) (k : ℕ) (o : Option ℕ) → o ≡ None → HasBits f k o → IsUnsupported f k BITS_PER_SAMPLE
 bits_none f k o is has = let P : Option ℕ → Type 0 = λ x. HasBits f k x in subst P is has
 
 -- SampleFormat
 
-pub formats_wrong : (f bytes : List ℕ) (o : Order) (k first : ℕ) → order_of f ≡ Some o → HasShorts f k 339 first → bytes ≡ bytes_in f (three_shorts first) → length bytes ≡ 6 → all_are o bytes 1 ≡ false → IsUnsupported f k 339
-formats_wrong f bytes o k first named shorts part len bad = inl (one_other f bytes o k 339 first 1 named shorts part len bad)
+pub formats_wrong : (f bytes : List ℕ) (o : Order) (k first : ℕ) → order_of f ≡ Some o → HasShorts f k SAMPLE_FORMAT first → bytes ≡ bytes_in f (three_shorts first) → length bytes ≡ 6 → all_are o bytes 1 ≡ false → IsUnsupported f k SAMPLE_FORMAT
+formats_wrong f bytes o k first named shorts part len bad = inl (one_other f bytes o k SAMPLE_FORMAT first 1 named shorts part len bad)
 
-pub formats_right : (f bytes : List ℕ) (o : Order) (k first : ℕ) → order_of f ≡ Some o → HasShorts f k 339 first → bytes ≡ bytes_in f (three_shorts first) → length bytes ≡ 6 → all_are o bytes 1 ≡ true → IsSupported f k 339
+pub formats_right : (f bytes : List ℕ) (o : Order) (k first : ℕ) → order_of f ≡ Some o → HasShorts f k SAMPLE_FORMAT first → bytes ≡ bytes_in f (three_shorts first) → length bytes ≡ 6 → all_are o bytes 1 ≡ true → IsSupported f k SAMPLE_FORMAT
 formats_right f bytes o k first named shorts part len all =
-    supported_by f k 339 (λ e. absurd (omega arith)) (λ e. absurd (omega arith)) (λ e. absurd (omega arith)) (λ i v told. rw (all_same f bytes o k 339 first 1 named shorts part len all i v told) refl)
+    supported_by f k SAMPLE_FORMAT (λ e. absurd (omega arith)) (λ e. absurd (omega arith)) (λ e. absurd (omega arith)) (λ i v told. rw (all_same f bytes o k SAMPLE_FORMAT first 1 named shorts part len all i v told) refl)
 
 -- Going on
 
-pub bits_to_formats : (f : List ℕ) (p : Pending) (first next : ℕ) (b : Option ℕ) → IsPending f p → HasShorts f p.index 339 next → HasBits f p.index b
+pub bits_to_formats : (f : List ℕ) (p : Pending) (first next : ℕ) (b : Option ℕ) → IsPending f p → HasShorts f p.index SAMPLE_FORMAT next → HasBits f p.index b
     → StepsOn f (stages.Bits p first (Some next)) (record { stage = stages.Formats p next b; level = None })
 bits_to_formats f p first next b pending shorts bits =
     steps_same f (stages.Bits p first (Some next)) (stages.Formats p next b) (three_shorts first) (pending, shorts, bits) refl refl refl

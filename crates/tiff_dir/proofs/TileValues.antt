@@ -1,4 +1,5 @@
 -- The values of a level's arrays, by their bytes.
+use Rattle.tiff_dir.specs.declared.tags.TheConstants.{BITS_PER_SAMPLE, COMPRESSION, IMAGE_LENGTH, IMAGE_WIDTH, SAMPLES_PER_PIXEL, TILE_BYTE_COUNTS, TILE_LENGTH, TILE_OFFSETS, TILE_WIDTH}
 use Rattle.std.proofs.Common.{◌≡◌, ℕ, ◌+◌, ◌*◌, ◌<◌, ◌≤◌, List, length, Option, Some, None, refl, subst, ◌∙◌, arith}
 use Rattle.std.proofs.Math.Nat.{mul-le-mul_right}
 use Rattle.std.proofs.lemmas.Option.{same_Some, none-some}
@@ -92,16 +93,16 @@ unfolding level_value
 level_value_at f n k tag t v there told = rw there told
 
 pub offset_told : (f bytes : List ℕ) (o : Order) (n t : ℕ) (l : Layout) → order_of f ≡ Some o → level_layout f n ≡ Some l → l.offsets.len ≡ l.offsets.count * size_of l.offsets.kind → t < l.offsets.count → length bytes ≡ l.offsets.len
-    → IsArrayOf f l.offsets bytes → level_value f n 324 t ≡ Some (number_in o (t * size_of l.offsets.kind) (size_of l.offsets.kind) bytes)
+    → IsArrayOf f l.offsets bytes → level_value f n TILE_OFFSETS t ≡ Some (number_in o (t * size_of l.offsets.kind) (size_of l.offsets.kind) bytes)
 offset_told f bytes o n t l named level len less whole part =
     let (k, there, told) = layout_found f n l level in
-    level_value_at f n k 324 t _ there (array_value f bytes o k 324 t l.offsets named (layout_parts f k l told).4 len less part whole)
+    level_value_at f n k TILE_OFFSETS t _ there (array_value f bytes o k TILE_OFFSETS t l.offsets named (layout_parts f k l told).4 len less part whole)
 
 pub count_told : (f bytes : List ℕ) (o : Order) (n t : ℕ) (l : Layout) → order_of f ≡ Some o → level_layout f n ≡ Some l → l.counts.len ≡ l.counts.count * size_of l.counts.kind → t < l.counts.count → length bytes ≡ l.counts.len
-    → IsArrayOf f l.counts bytes → level_value f n 325 t ≡ Some (number_in o (t * size_of l.counts.kind) (size_of l.counts.kind) bytes)
+    → IsArrayOf f l.counts bytes → level_value f n TILE_BYTE_COUNTS t ≡ Some (number_in o (t * size_of l.counts.kind) (size_of l.counts.kind) bytes)
 count_told f bytes o n t l named level len less whole part =
     let (k, there, told) = layout_found f n l level in
-    level_value_at f n k 325 t _ there (array_value f bytes o k 325 t l.counts named (layout_parts f k l told).5 len less part whole)
+    level_value_at f n k TILE_BYTE_COUNTS t _ there (array_value f bytes o k TILE_BYTE_COUNTS t l.counts named (layout_parts f k l told).5 len less part whole)
 
 -- The values of a level
 
@@ -109,16 +110,16 @@ grid_of_level : (f : List ℕ) (n k : ℕ) (l : Level) → level_directory f n �
 unfolding level_grid
 grid_of_level f n k l there told = rw there told
 
-compression_of_level : (f : List ℕ) (n k : ℕ) (l : Level) → level_directory f n ≡ Some k → (value f k 259 0 >>= compression_of) ≡ Some l.compression → level_compression f n ≡ Some l.compression
+compression_of_level : (f : List ℕ) (n k : ℕ) (l : Level) → level_directory f n ≡ Some k → (value f k COMPRESSION 0 >>= compression_of) ≡ Some l.compression → level_compression f n ≡ Some l.compression
 unfolding level_value
 compression_of_level f n k l there told = rw there told
 
-size_of_level : (f : List ℕ) (n k : ℕ) (l : Level) → level_directory f n ≡ Some k → value f k 322 0 ≡ Some l.tile_width → value f k 323 0 ≡ Some l.tile_length → value f k 277 0 ≡ Some l.samples → value f k 258 0 ≡ Some l.bits
+size_of_level : (f : List ℕ) (n k : ℕ) (l : Level) → level_directory f n ≡ Some k → value f k TILE_WIDTH 0 ≡ Some l.tile_width → value f k TILE_LENGTH 0 ≡ Some l.tile_length → value f k SAMPLES_PER_PIXEL 0 ≡ Some l.samples → value f k BITS_PER_SAMPLE 0 ≡ Some l.bits
     → level_plain_size f n ≡ Some (plain_size (layout_of l))
 unfolding level_plain_size plain_bytes
 size_of_level f n k l there width length samples bits = rw there (rw (width, length, samples, bits) refl)
 
-row_of_level : (f : List ℕ) (n : ℕ) (l : Level) → level_value f n 322 0 ≡ Some l.tile_width → level_value f n 277 0 ≡ Some l.samples → level_value f n 258 0 ≡ Some l.bits → level_plain_row f n ≡ Some (plain_row (layout_of l))
+row_of_level : (f : List ℕ) (n : ℕ) (l : Level) → level_value f n TILE_WIDTH 0 ≡ Some l.tile_width → level_value f n SAMPLES_PER_PIXEL 0 ≡ Some l.samples → level_value f n BITS_PER_SAMPLE 0 ≡ Some l.bits → level_plain_row f n ≡ Some (plain_row (layout_of l))
 unfolding level_plain_row
 row_of_level f n l width samples bits = rw (width, samples, bits) refl
 
@@ -128,14 +129,14 @@ described_by f n l level =
     let is = layout_parts f k (layout_of l) told in
     let grid = grid_told f k (layout_of l).grid is.0 in
     record {
-      width = level_value_at f n k 256 0 l.width there grid.0;
-      length = level_value_at f n k 257 0 l.length there grid.1;
-      tile_width = level_value_at f n k 322 0 l.tile_width there grid.2;
-      tile_length = level_value_at f n k 323 0 l.tile_length there grid.3;
-      samples = level_value_at f n k 277 0 l.samples there is.1;
-      bits = level_value_at f n k 258 0 l.bits there is.2;
+      width = level_value_at f n k IMAGE_WIDTH 0 l.width there grid.0;
+      length = level_value_at f n k IMAGE_LENGTH 0 l.length there grid.1;
+      tile_width = level_value_at f n k TILE_WIDTH 0 l.tile_width there grid.2;
+      tile_length = level_value_at f n k TILE_LENGTH 0 l.tile_length there grid.3;
+      samples = level_value_at f n k SAMPLES_PER_PIXEL 0 l.samples there is.1;
+      bits = level_value_at f n k BITS_PER_SAMPLE 0 l.bits there is.2;
       grid = grid_of_level f n k l there is.0;
       compression = compression_of_level f n k l there is.3;
       plain_size = size_of_level f n k l there grid.2 grid.3 is.1 is.2;
-      plain_row = row_of_level f n l (level_value_at f n k 322 0 l.tile_width there grid.2) (level_value_at f n k 277 0 l.samples there is.1) (level_value_at f n k 258 0 l.bits there is.2);
+      plain_row = row_of_level f n l (level_value_at f n k TILE_WIDTH 0 l.tile_width there grid.2) (level_value_at f n k SAMPLES_PER_PIXEL 0 l.samples there is.1) (level_value_at f n k BITS_PER_SAMPLE 0 l.bits there is.2);
     }

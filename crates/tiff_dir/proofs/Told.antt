@@ -1,4 +1,5 @@
 -- What a walk knows of a file from one range to the next.
+use Rattle.tiff_dir.specs.declared.tags.TheConstants.{TILE_BYTE_COUNTS, TILE_OFFSETS}
 use Rattle.std.proofs.Common.{◌≡◌, ◌≢◌, ℕ, zero, suc, ◌+◌, ◌-◌, ◌<◌, ◌≤◌, ◌⊎◌, inl, inr, true, false, List, [], ◌∷◌, ◌++◌, map, length, drop, Option, Some, None, IsSomeAnd, IfSome, Result, Ok, Err, refl, sym, subst, ap, ◌∙◌, arith, take}
 use Rattle.std.specs.Prelude.{slice_get, IsErrAnd, IsSome}
 use Rattle.tiff_dir.specs.declared.fault.WalkError.{WalkError}
@@ -23,48 +24,48 @@ use Rattle.tiff_dir.proofs.Ends.{layout_parts}
 use Rattle.tiff_dir.specs.File.{◌>>=◌, Field, field, order_of, number, has_directory, directories}
 use Rattle.tiff_dir.specs.Described.{described, layout_of, AreLevels}
 use Rattle.tiff_dir.specs.Level.{Layout, is_level, place_of, level_directories, previous_level, layout_at, layouts, level_layout, level_directory}
-use Rattle.tiff_dir.specs.Needs.{IsEndOf, Range, ends_past, range_of_place, field_range, needs_of_directories, outside_ranges}
+use Rattle.tiff_dir.specs.Needs.{IsEndOf, Extent, ends_past, extent_of_place, field_range, needs_of_directories, outside_ranges}
 use Rattle.tiff_dir.specs.Fault.{IsFaultOfDirectories}
 use Rattle.tiff_dir.specs.Stage.{range_of, index_of, still, three_shorts, ranges_from, is_past_first, is_first_table, layouts_below, AgreesAt, IsBefore, IsOver, StepsOn}
 use Rattle.tiff_dir.specs.declared.geo.GeoEntries.{GeoEntries}
 use Rattle.tiff_dir.specs.GeoEntries.{AreNear}
 use Rattle.std.proofs.lemmas.List.{take-append-drop}
-use Rattle.tiff_dir.specs.Known.{Known, HasGeo}
-use Rattle.tiff_dir.specs.Walk.{IsWanted, Agrees, given_of, wanted, to_come, bytes_in, IsWantedOf, HasEnded, IfFile}
+use Rattle.tiff_dir.specs.WalkState.{WalkState, HasGeo}
+use Rattle.tiff_dir.specs.Walk.{IsWanted, WalkAgrees, given_of, wanted, to_come, bytes_in, IsWantedOf, HasEnded, IfFile}
 use Rattle.tiff_dir.proofs.Chain.{some_and_at, count_wanted, none_after}
 use Rattle.tiff_dir.proofs.Parts.{part_inside}
 use Rattle.tiff_dir.proofs.Ranges.{drop_next, filter_none, filter_all, range_split, last_or-map}
 
-pub told_new : (f : List ℕ) (ls : List Level) (geo : GeoEntries) → ls ≡ [] → Agrees (record { stage = stages.Header; levels = ls; geo = geo; given = 0 }) f
-unfolding Agrees layouts_below needs_of_directories directories ranges_from
+pub told_new : (f : List ℕ) (ls : List Level) (geo : GeoEntries) → ls ≡ [] → WalkAgrees (record { stage = stages.Header; levels = ls; geo = geo; given = 0 }) f
+unfolding WalkAgrees layouts_below needs_of_directories directories ranges_from
 told_new f ls geo none = record { here = tt; levels = rw none refl; geo = λ past. absurd (false≢true past); come = refl; inside = refl }
 
-pub come_new : (f : List ℕ) (w : Known) → w.given ≡ 0 → to_come w f ≡ needs_of_directories f
+pub come_new : (f : List ℕ) (w : WalkState) → w.given ≡ 0 → to_come w f ≡ needs_of_directories f
 unfolding to_come
 come_new f w none = rw none refl
 
 -- the range that is wanted is the first that is still needed
-first_still : (f : List ℕ) (stage : Stage) (r : Range) → AgreesAt f stage → range_of stage ≡ Some r → (rest : List Range) × (still f stage ≡ r ∷ rest)
-first_still f stages.Header r here e = (ranges_from f 0, ap (λ (x : Range). x ∷ ranges_from f 0) (same_Some _ _ e))
-first_still f (stages.Count o k at) r here e = let (rest, is) = count_wanted f o k at here in (rest, is ∙ ap (λ (x : Range). x ∷ rest) (same_Some _ _ e))
+first_still : (f : List ℕ) (stage : Stage) (r : Extent) → AgreesAt f stage → range_of stage ≡ Some r → (rest : List Extent) × (still f stage ≡ r ∷ rest)
+first_still f stages.Header r here e = (ranges_from f 0, ap (λ (x : Extent). x ∷ ranges_from f 0) (same_Some _ _ e))
+first_still f (stages.Count o k at) r here e = let (rest, is) = count_wanted f o k at here in (rest, is ∙ ap (λ (x : Extent). x ∷ rest) (same_Some _ _ e))
 first_still f (stages.Table o k at n) r here e =
-    let rest : List Range = outside_ranges f k ++ ranges_from f (suc k) in (rest, ap (λ (x : Range). x ∷ rest) (same_Some _ _ e))
+    let rest : List Extent = outside_ranges f k ++ ranges_from f (suc k) in (rest, ap (λ (x : Extent). x ∷ rest) (same_Some _ _ e))
 first_still f (stages.Bits p first formats) r here e =
-    let rest : List Range = option_to_list (option_map three_shorts formats) ++ ranges_from f (suc p.index) in (rest, ap (λ (x : Range). x ∷ rest) (same_Some _ _ e))
+    let rest : List Extent = option_to_list (option_map three_shorts formats) ++ ranges_from f (suc p.index) in (rest, ap (λ (x : Extent). x ∷ rest) (same_Some _ _ e))
 first_still f (stages.Formats p first bits) r here e =
-    let rest : List Range = ranges_from f (suc p.index) in (rest, ap (λ (x : Range). x ∷ rest) (same_Some _ _ e))
+    let rest : List Extent = ranges_from f (suc p.index) in (rest, ap (λ (x : Extent). x ∷ rest) (same_Some _ _ e))
 first_still f (stages.Ended o k) r here e = absurd (none-some r e)
 
-pub past_end : (w : Known) (f : List ℕ) (r : Range) → Agrees w f → wanted w ≡ Some r → length f < r.first + r.len → IsFaultOfDirectories f PastEnd
-unfolding Agrees wanted IsFaultOfDirectories
+pub past_end : (w : WalkState) (f : List ℕ) (r : Extent) → WalkAgrees w f → wanted w ≡ Some r → length f < r.first + r.len → IsFaultOfDirectories f PastEnd
+unfolding WalkAgrees wanted IsFaultOfDirectories
 past_end w f r told is past =
     let (rest, first) = first_still f w.stage r told.here is in
     inl (told.inside ∙ ap (list_any (ends_past f)) first ∙ or_left (ends_past f r) (list_any (ends_past f) rest) (lt-ltb (length f) (r.first + r.len) past))
 
-pub first_come : (w : Known) (f : List ℕ) → Agrees w f → slice_get (to_come w f) 0 ≡ wanted w
-unfolding Agrees wanted to_come
+pub first_come : (w : WalkState) (f : List ℕ) → WalkAgrees w f → slice_get (to_come w f) 0 ≡ wanted w
+unfolding WalkAgrees wanted to_come
 first_come w f told = rw told.come (at w.stage told.here (range_of w.stage) refl) where
-  at : (stage : Stage) → AgreesAt f stage → (o : Option Range) → range_of stage ≡ o → slice_get (still f stage) 0 ≡ range_of stage
+  at : (stage : Stage) → AgreesAt f stage → (o : Option Extent) → range_of stage ≡ o → slice_get (still f stage) 0 ≡ range_of stage
   at stage here None is = ended stage is where
     ended : (stage : Stage) → range_of stage ≡ None → slice_get (still f stage) 0 ≡ range_of stage
     ended stages.Header is = absurd (none-some _ (sym is))
@@ -75,17 +76,17 @@ first_come w f told = rw told.come (at w.stage told.here (range_of w.stage) refl
     ended (stages.Ended o k) is = refl
   at stage here (Some r) is =
       let (rest, first) = first_still f stage r here is in
-      ap (λ (xs : List Range). slice_get xs 0) first ∙ sym is
+      ap (λ (xs : List Extent). slice_get xs 0) first ∙ sym is
 
 -- how long the wanted range is
-pub wanted_len : (w : Known) (n : ℕ) → IsWanted w n → IsSomeAnd (range_of w.stage) (λ r. n ≡ r.len)
+pub wanted_len : (w : WalkState) (n : ℕ) → IsWanted w n → IsSomeAnd (range_of w.stage) (λ r. n ≡ r.len)
 unfolding wanted
 wanted_len w n is = is
 
-pub wanted_is : (w : Known) (n : ℕ) → IsWanted w n → (r : Range) × (wanted w ≡ Some r) × (n ≡ r.len) × (0 < n)
+pub wanted_is : (w : WalkState) (n : ℕ) → IsWanted w n → (r : Extent) × (wanted w ≡ Some r) × (n ≡ r.len) × (0 < n)
 unfolding wanted
 wanted_is w n is = at w.stage is where
-  at : (stage : Stage) → IsSomeAnd (range_of stage) (λ r. n ≡ r.len) → (r : Range) × (range_of stage ≡ Some r) × (n ≡ r.len) × (0 < n)
+  at : (stage : Stage) → IsSomeAnd (range_of stage) (λ r. n ≡ r.len) → (r : Extent) × (range_of stage ≡ Some r) × (n ≡ r.len) × (0 < n)
   at stages.Header is = (_, refl, is, omega arith)
   at (stages.Count o k a) is = (_, refl, is, omega arith)
   at (stages.Table o k a e) is = (_, refl, is, omega arith)
@@ -93,23 +94,23 @@ wanted_is w n is = at w.stage is where
   at (stages.Formats p first bits) is = (_, refl, is, omega arith)
   at (stages.Ended o k) is = absurd is
 
-pub wanted_parts : (f bytes : List ℕ) (w : Known) → IsWantedOf f w bytes → IfSome (range_of w.stage) (λ r. bytes ≡ bytes_in f r)
+pub wanted_parts : (f bytes : List ℕ) (w : WalkState) → IsWantedOf f w bytes → IfSome (range_of w.stage) (λ r. bytes ≡ bytes_in f r)
 unfolding wanted
 wanted_parts f bytes w given = at (range_of w.stage) given where
-  at : (o : Option Range) → IsSomeAnd o (λ r. bytes ≡ bytes_in f r) → IfSome o (λ r. bytes ≡ bytes_in f r)
+  at : (o : Option Extent) → IsSomeAnd o (λ r. bytes ≡ bytes_in f r) → IfSome o (λ r. bytes ≡ bytes_in f r)
   at None given = absurd given
   at (Some r) given = given
 
 -- the bytes of the file as a part of it
-pub wanted_part : (f bytes : List ℕ) (w : Known) (r : Range) → wanted w ≡ Some r → IsWantedOf f w bytes → bytes ≡ bytes_in f r
+pub wanted_part : (f bytes : List ℕ) (w : WalkState) (r : Extent) → wanted w ≡ Some r → IsWantedOf f w bytes → bytes ≡ bytes_in f r
 wanted_part f bytes w r is given = some_and_at (wanted w) (λ x. bytes ≡ bytes_in f x) r is given
 
 -- The next range
 
 -- the geo fields of the file, once the table that has them is passed
-pub geo_next : (f : List ℕ) (w : Known) (stage : Stage) (geo : GeoEntries) → Agrees w f → (is_past_first stage ≡ true → (is_past_first w.stage ≡ true) ⊎ (is_first_table w.stage ≡ true))
+pub geo_next : (f : List ℕ) (w : WalkState) (stage : Stage) (geo : GeoEntries) → WalkAgrees w f → (is_past_first stage ≡ true → (is_past_first w.stage ≡ true) ⊎ (is_first_table w.stage ≡ true))
     → (is_first_table w.stage ≡ true → HasGeo f geo) → (is_first_table w.stage ≡ false → geo ≡ w.geo) → is_past_first stage ≡ true → HasGeo f geo
-unfolding Agrees
+unfolding WalkAgrees
 geo_next f w stage geo told first taken same past = elim (cases_Bool (is_first_table w.stage)) [
   | inl here ↦ taken here
   | inr other ↦ elim (first past) [
@@ -118,9 +119,9 @@ geo_next f w stage geo told first taken same past = elim (cases_Bool (is_first_t
   ]
 ]
 
-pub told_next : (f bytes : List ℕ) (w : Known) (step : Step) (r : Range) (ls : List Level) (geo : GeoEntries) → Agrees w f → wanted w ≡ Some r → bytes ≡ bytes_in f r → length bytes ≡ r.len → 0 < r.len → StepsOn f w.stage step
-    → ls ≡ w.levels ++ option_to_list step.level → (is_past_first step.stage ≡ true → HasGeo f geo) → Agrees (record { stage = step.stage; levels = ls; geo = geo; given = w.given + 1 }) f
-unfolding Agrees wanted
+pub told_next : (f bytes : List ℕ) (w : WalkState) (step : Step) (r : Extent) (ls : List Level) (geo : GeoEntries) → WalkAgrees w f → wanted w ≡ Some r → bytes ≡ bytes_in f r → length bytes ≡ r.len → 0 < r.len → StepsOn f w.stage step
+    → ls ≡ w.levels ++ option_to_list step.level → (is_past_first step.stage ≡ true → HasGeo f geo) → WalkAgrees (record { stage = step.stage; levels = ls; geo = geo; given = w.given + 1 }) f
+unfolding WalkAgrees wanted
 told_next f bytes w step r ls geo told is part len some on same has =
     let come : still f w.stage ≡ r ∷ still f step.stage = on.come r is in
     let ends : ends_past f r ≡ false = le-ltb (length f) (r.first + r.len) (part_inside f bytes r.first r.len part len some) in
@@ -132,24 +133,24 @@ told_next f bytes w step r ls geo told is part len some on same has =
       inside = told.inside ∙ ap (list_any (ends_past f)) come ∙ rw ends refl;
     }
 
-pub come_next : (f : List ℕ) (w : Known) (r : Range) (next : Known) → Agrees w f → wanted w ≡ Some r → next.given ≡ w.given + 1 → to_come w f ≡ r ∷ to_come next f
-unfolding Agrees wanted to_come
+pub come_next : (f : List ℕ) (w : WalkState) (r : Extent) (next : WalkState) → WalkAgrees w f → wanted w ≡ Some r → next.given ≡ w.given + 1 → to_come w f ≡ r ∷ to_come next f
+unfolding WalkAgrees wanted to_come
 come_next f w r next told is given =
     let (rest, first) = first_still f w.stage r told.here is in
     let here : drop w.given (needs_of_directories f) ≡ r ∷ rest = told.come ∙ first in
     let after : drop (w.given + 1) (needs_of_directories f) ≡ rest = drop_next w.given (needs_of_directories f) r rest here in
-    rw given (here ∙ ap (λ (xs : List Range). r ∷ xs) (sym after))
+    rw given (here ∙ ap (λ (xs : List Extent). r ∷ xs) (sym after))
 
 -- the level before the next directory
-pub is_before : (f : List ℕ) (w : Known) → Agrees w f → IsBefore f (index_of w.stage) (last_or None w.levels)
-unfolding Agrees layouts_below previous_level
+pub is_before : (f : List ℕ) (w : WalkState) → WalkAgrees w f → IsBefore f (index_of w.stage) (last_or None w.levels)
+unfolding WalkAgrees layouts_below previous_level
 is_before f w told =
     sym (last_or-map (layout_at f) None (filter (is_level f) (range_with_len 0 (index_of w.stage))))
     ∙ ap (last_or None) (sym told.levels)
     ∙ last_or-map described None w.levels
 
-pub here_is : (f : List ℕ) (w : Known) → Agrees w f → AgreesAt f w.stage
-unfolding Agrees
+pub here_is : (f : List ℕ) (w : WalkState) → WalkAgrees w f → AgreesAt f w.stage
+unfolding WalkAgrees
 here_is f w told = told.here
 
 -- The end
@@ -176,18 +177,18 @@ over_clean f o (suc k) over inside PastEnd (inl past) = false≢true (sym inside
 over_clean f o (suc k) over inside TooManyDirs (inl there) = none_after f k 16 over.follows.place (omega (arith, over.follows.few)) there
 over_clean f o (suc k) over inside _ (inl bad) = bad
 
-pub ended_clean : (w : Known) (f : List ℕ) → HasEnded w → Agrees w f → (fault : FileFault) → IsFaultOfDirectories f fault → ⊥
-unfolding Agrees wanted
+pub ended_clean : (w : WalkState) (f : List ℕ) → HasEnded w → WalkAgrees w f → (fault : FileFault) → IsFaultOfDirectories f fault → ⊥
+unfolding WalkAgrees wanted
 ended_clean w f ended told =
     let (o, k, over, index, none) = ended_over f w.stage told.here ended in
     over_clean f o k over (told.inside ∙ ap (list_any (ends_past f)) none)
 
 -- nothing is to come when the walk has ended, and what is to come is an end of what the directories need
-pub ended_come : (w : Known) (f : List ℕ) → Agrees w f → HasEnded w → to_come w f ≡ []
-unfolding Agrees wanted to_come
+pub ended_come : (w : WalkState) (f : List ℕ) → WalkAgrees w f → HasEnded w → to_come w f ≡ []
+unfolding WalkAgrees wanted to_come
 ended_come w f told ended = (let (o, k, over, index, none) = ended_over f w.stage told.here ended in told.come ∙ none)
 
-pub come_end : (w : Known) (f : List ℕ) → IsEndOf (to_come w f) (needs_of_directories f)
+pub come_end : (w : WalkState) (f : List ℕ) → IsEndOf (to_come w f) (needs_of_directories f)
 unfolding to_come
 come_end w f = record { front = take w.given (needs_of_directories f); joined = sym (take-append-drop w.given (needs_of_directories f)) }
 
@@ -214,8 +215,8 @@ over_directories f o (suc k) over =
     ∙ filter-append (has_directory f) (range_with_len 0 (suc k)) (range_with_len (0 + suc k) (15 - k))
     ∙ (rw (first, rest) (append-nil (range_with_len 0 (suc k))))
 
-pub ended_levels : (w : Known) (f : List ℕ) → HasEnded w → Agrees w f → AreLevels f w.levels
-unfolding Agrees wanted layouts level_directories layouts_below
+pub ended_levels : (w : WalkState) (f : List ℕ) → HasEnded w → WalkAgrees w f → AreLevels f w.levels
+unfolding WalkAgrees wanted layouts level_directories layouts_below
 ended_levels w f ended told =
     let (o, k, over, index, none) = ended_over f w.stage told.here ended in
     told.levels ∙ ap (λ (n : ℕ). map (layout_at f) (filter (is_level f) (range_with_len 0 n))) index
@@ -248,8 +249,8 @@ so_far stage levels ls before geo given step is next same near = record {
 
 -- What the end tells
 
-pub ended_order : (w : Known) (f : List ℕ) (o : Order) (k : ℕ) → w.stage ≡ stages.Ended o k → Agrees w f → order_of f ≡ Some o
-unfolding Agrees
+pub ended_order : (w : WalkState) (f : List ℕ) (o : Order) (k : ℕ) → w.stage ≡ stages.Ended o k → WalkAgrees w f → order_of f ≡ Some o
+unfolding WalkAgrees
 ended_order w f o k is told = let P : Stage → Type 0 = λ x. AgreesAt f x in
     let over : IsOver f o k = subst P is told.here in over.follows.walked.named
 
@@ -275,24 +276,24 @@ layout_found f n l told = at (level_directory f n) told where
   at (Some k) e = (k, refl, e)
 
 -- where its arrays stand
-array_at : (f : List ℕ) (n k tag : ℕ) (p : Place) → level_directory f n ≡ Some k → (field f k tag >>= place_of f) ≡ Some p → array_range f n tag ≡ Some (range_of_place p)
+array_at : (f : List ℕ) (n k tag : ℕ) (p : Place) → level_directory f n ≡ Some k → (field f k tag >>= place_of f) ≡ Some p → array_range f n tag ≡ Some (extent_of_place p)
 unfolding array_range field_range
 array_at f n k tag p there told = rw there (at (field f k tag) told) where
-  at : (o : Option Field) → (o >>= place_of f) ≡ Some p → (o >>= place_of f >>= λ q. Some (range_of_place q)) ≡ Some (range_of_place p)
+  at : (o : Option Field) → (o >>= place_of f) ≡ Some p → (o >>= place_of f >>= λ q. Some (extent_of_place q)) ≡ Some (extent_of_place p)
   at None e = absurd (none-some p e)
   at (Some x) e = rw e refl
 
-pub offsets_at : (f : List ℕ) (n : ℕ) (l : Layout) → level_layout f n ≡ Some l → array_range f n 324 ≡ Some (range_of_place l.offsets)
-offsets_at f n l told = let (k, there, here) = layout_found f n l told in array_at f n k 324 l.offsets there (layout_parts f k l here).4
+pub offsets_at : (f : List ℕ) (n : ℕ) (l : Layout) → level_layout f n ≡ Some l → array_range f n TILE_OFFSETS ≡ Some (extent_of_place l.offsets)
+offsets_at f n l told = let (k, there, here) = layout_found f n l told in array_at f n k TILE_OFFSETS l.offsets there (layout_parts f k l here).4
 
-pub counts_at : (f : List ℕ) (n : ℕ) (l : Layout) → level_layout f n ≡ Some l → array_range f n 325 ≡ Some (range_of_place l.counts)
-counts_at f n l told = let (k, there, here) = layout_found f n l told in array_at f n k 325 l.counts there (layout_parts f k l here).5
+pub counts_at : (f : List ℕ) (n : ℕ) (l : Layout) → level_layout f n ≡ Some l → array_range f n TILE_BYTE_COUNTS ≡ Some (extent_of_place l.counts)
+counts_at f n l told = let (k, there, here) = layout_found f n l told in array_at f n k TILE_BYTE_COUNTS l.counts there (layout_parts f k l here).5
 
-pub given_as : (w : Known) → given_of w ≡ w.given
+pub given_as : (w : WalkState) → given_of w ≡ w.given
 unfolding given_of
 given_as w = refl
 
-pub wanted_as : (w : Known) → wanted w ≡ range_of w.stage
+pub wanted_as : (w : WalkState) → wanted w ≡ range_of w.stage
 unfolding wanted
 wanted_as w = refl
 
@@ -304,8 +305,8 @@ ended_stage (stages.Bits p first formats) is = absurd (none-some _ (sym is))
 ended_stage (stages.Formats p first bits) is = absurd (none-some _ (sym is))
 ended_stage (stages.Ended o k) is = (o, k, refl)
 
-pub ended_geo : (w : Known) (f : List ℕ) → HasEnded w → Agrees w f → HasGeo f w.geo
-unfolding Agrees wanted
+pub ended_geo : (w : WalkState) (f : List ℕ) → HasEnded w → WalkAgrees w f → HasGeo f w.geo
+unfolding WalkAgrees wanted
 ended_geo w f ended told =
     let (o, k, is) = ended_stage w.stage ended in
     told.geo (ap is_past_first is)

@@ -1,5 +1,6 @@
 -- What is wrong with a file's directories: the faults that stand for every query. A condition on a value
 -- that isn't there doesn't hold.
+use Rattle.tiff_dir.specs.declared.tags.TheConstants.{BITS_PER_SAMPLE, IMAGE_LENGTH, IMAGE_WIDTH, NEW_SUBFILE_TYPE, PHOTOMETRIC_INTERPRETATION, PLANAR_CONFIGURATION, SAMPLES_PER_PIXEL, TILE_BYTE_COUNTS, TILE_LENGTH, TILE_OFFSETS, TILE_WIDTH}
 use Rattle.std.specs.Prelude.{◌≡◌, ◌≢◌, ℕ, ◌%◌, ◌<◌, ◌≤◌, ◌⊎◌, Bool, true, false, ◌&&◌, ◌||◌, nat_lt, nat_le, ◌==◌, if◌then◌else◌, List, [], ◌∷◌, length, Option, Some, None, IsSomeAnd}
 use Rattle.std.specs.List.{Any, list_any}
 use Rattle.tiff_dir.specs.declared.rule.Rule.{Rule}
@@ -37,7 +38,7 @@ IsMistyped typing e = IsSomeAnd e.kind (λ kind. has_typing typing kind ≡ fals
 
 abbrev pub IsMiscounted : List ℕ → ℕ → Count → Field → Type 0
 IsMiscounted f k One e = IsSomeAnd e.count (λ count. (count == 1) ≡ false)
-IsMiscounted f k Samples e = IsMisfit (λ count samples. count == samples) e.count (value f k 277 0)
+IsMiscounted f k Samples e = IsMisfit (λ count samples. count == samples) e.count (value f k SAMPLES_PER_PIXEL 0)
 IsMiscounted f k Tiles e = ⊥
 IsMiscounted f k (Exactly n) e = IsSomeAnd e.count (λ count. (count == n) ≡ false)
 IsMiscounted f k (Multiple n) e = IsSomeAnd e.count (λ count. is_multiple n count ≡ false)
@@ -52,16 +53,16 @@ IsRuleFault f k rule _ = ⊥
 
 -- BitsPerSample has two values that differ
 abbrev pub IsMixture : List ℕ → ℕ → Type 0
-IsMixture f k = (i j : ℕ) × IsMisfit (λ a b. a == b) (value f k 258 i) (value f k 258 j)
+IsMixture f k = (i j : ℕ) × IsMisfit (λ a b. a == b) (value f k BITS_PER_SAMPLE i) (value f k BITS_PER_SAMPLE j)
 
 -- A value is none that the profile accepts. Of SamplesPerPixel and PlanarConfiguration the accepted values depend on
 -- another field; the values of BitsPerSample are one and the same.
 abbrev pub IsUnsupported : List ℕ → ℕ → ℕ → Type 0
 IsUnsupported f k tag =
     ((i : ℕ) × IsSomeAnd (value f k tag i) (λ v. accepts tag v ≡ false))
-    ⊎ (((tag ≡ 277) × IsMisfit samples_fit (value f k 277 0) (value f k 262 0))
-    ⊎ (((tag ≡ 284) × IsMisfit planes_fit (value f k 284 0) (value f k 277 0))
-    ⊎ ((tag ≡ 258) × IsMixture f k)))
+    ⊎ (((tag ≡ SAMPLES_PER_PIXEL) × IsMisfit samples_fit (value f k SAMPLES_PER_PIXEL 0) (value f k PHOTOMETRIC_INTERPRETATION 0))
+    ⊎ (((tag ≡ PLANAR_CONFIGURATION) × IsMisfit planes_fit (value f k PLANAR_CONFIGURATION 0) (value f k SAMPLES_PER_PIXEL 0))
+    ⊎ ((tag ≡ BITS_PER_SAMPLE) × IsMixture f k)))
 
 -- a side of 0
 abbrev pub HasNoSide : List ℕ → ℕ → ℕ → Type 0
@@ -69,8 +70,8 @@ HasNoSide f k tag = IsSomeAnd (value f k tag 0) (λ side. side ≡ 0)
 
 unfoldable pub sides : List ℕ → ℕ → Option (ℕ × ℕ)
 sides f k = do
-  width ← value f k 256 0
-  length ← value f k 257 0
+  width ← value f k IMAGE_WIDTH 0
+  length ← value f k IMAGE_LENGTH 0
   Some (width, length)
 
 -- in neither side greater, and smaller in one
@@ -86,10 +87,10 @@ IsNotSmaller f k =
 -- how many bytes a tile of the directory has when it is unpacked
 unfoldable pub plain_bytes : List ℕ → ℕ → Option ℕ
 plain_bytes f k = do
-  tile_width ← value f k 322 0
-  tile_length ← value f k 323 0
-  samples ← value f k 277 0
-  bits ← value f k 258 0
+  tile_width ← value f k TILE_WIDTH 0
+  tile_length ← value f k TILE_LENGTH 0
+  samples ← value f k SAMPLES_PER_PIXEL 0
+  bits ← value f k BITS_PER_SAMPLE 0
   Some (tile_bytes tile_width tile_length samples bits)
 
 -- how many tiles a directory has, by its grid
@@ -112,7 +113,7 @@ IsFaultOfDirectory f k DirCount = IsSomeAnd (entry_count f k) (λ n. is_entry_co
 IsFaultOfDirectory f k TagOrder = ascends (fields f k) ≡ false
 IsFaultOfDirectory f k (FieldType tag) = IsRuleFault f k subfile_rule (FieldType tag)
 -- the first directory is no reduced-resolution image
-IsFaultOfDirectory f k LevelShape = (k ≡ 0) × IsSomeAnd (value f 0 254 0) (λ v. v % 2 ≡ 1)
+IsFaultOfDirectory f k LevelShape = (k ≡ 0) × IsSomeAnd (value f 0 NEW_SUBFILE_TYPE 0) (λ v. v % 2 ≡ 1)
 IsFaultOfDirectory f k _ = ⊥
 
 -- A fault of directory k, which is a level.
@@ -120,11 +121,11 @@ abbrev pub IsFaultOfLevel : List ℕ → ℕ → FileFault → Type 0
 IsFaultOfLevel f k (Missing tag) = Any (λ rule. IsRuleFault f k rule (Missing tag)) profile
 IsFaultOfLevel f k (FieldType tag) = Any (λ rule. IsRuleFault f k rule (FieldType tag)) profile
 IsFaultOfLevel f k (Unsupported tag) = IsUnsupported f k tag
-IsFaultOfLevel f k LevelShape = HasNoSide f k 256 ⊎ (HasNoSide f k 257 ⊎ IsNotSmaller f k)
+IsFaultOfLevel f k LevelShape = HasNoSide f k IMAGE_WIDTH ⊎ (HasNoSide f k IMAGE_LENGTH ⊎ IsNotSmaller f k)
 IsFaultOfLevel f k TileSize =
-    IsNoTileSide f k 322 ⊎ (IsNoTileSide f k 323 ⊎ IsSomeAnd (plain_bytes f k) (λ n. nat_le n max_tile_bytes ≡ false))
+    IsNoTileSide f k TILE_WIDTH ⊎ (IsNoTileSide f k TILE_LENGTH ⊎ IsSomeAnd (plain_bytes f k) (λ n. nat_le n max_tile_bytes ≡ false))
 IsFaultOfLevel f k TileArray =
-    IsSomeAnd (directory_tiles f k) (λ n. nat_le n max_tiles ≡ false) ⊎ (IsNoTileArray f k 324 ⊎ IsNoTileArray f k 325)
+    IsSomeAnd (directory_tiles f k) (λ n. nat_le n max_tiles ≡ false) ⊎ (IsNoTileArray f k TILE_OFFSETS ⊎ IsNoTileArray f k TILE_BYTE_COUNTS)
 IsFaultOfLevel f k _ = ⊥
 
 -- A fault of the file that is none of one directory alone.

@@ -1,4 +1,5 @@
 -- What is wrong with a file for a query, and what its window is.
+use Rattle.tiff_dir.specs.declared.tags.TheConstants.{BITS_PER_SAMPLE, COMPRESSION, SAMPLES_PER_PIXEL, TILE_BYTE_COUNTS, TILE_WIDTH}
 use Rattle.std.specs.Prelude.{◌≡◌, ℕ, ◌⊎◌, Bool, true, false, ◌&&◌, nat_lt, nat_le, ◌*◌, ◌==◌, List, length, Option, Some, IsSomeAnd}
 use Rattle.std.specs.List.{list_any, IsAmong}
 use Rattle.tiff_dir.specs.declared.level.Compression.{Compression}
@@ -26,7 +27,7 @@ pub record IsTileOfWindow (f : List ℕ) (q : Query) (n t : ℕ) : Type 0 where
 
 -- how the tiles of level n are packed, and how many bytes one has when it is unpacked
 abbrev pub level_compression : List ℕ → ℕ → Option Compression
-level_compression f n = level_value f n 259 0 >>= compression_of
+level_compression f n = level_value f n COMPRESSION 0 >>= compression_of
 
 unfoldable pub level_plain_size : List ℕ → ℕ → Option ℕ
 level_plain_size f n = level_directory f n >>= plain_bytes f
@@ -34,9 +35,9 @@ level_plain_size f n = level_directory f n >>= plain_bytes f
 -- how many bytes a row of a tile has, when it is unpacked
 unfoldable pub level_plain_row : List ℕ → ℕ → Option ℕ
 level_plain_row f n = do
-  tile_width ← level_value f n 322 0
-  samples ← level_value f n 277 0
-  bits ← level_value f n 258 0
+  tile_width ← level_value f n TILE_WIDTH 0
+  samples ← level_value f n SAMPLES_PER_PIXEL 0
+  bits ← level_value f n BITS_PER_SAMPLE 0
   Some (tile_width * samples * sample_bytes bits)
 
 -- a tile may have so many bytes
@@ -53,7 +54,7 @@ pub record HasBadTile (f : List ℕ) (q : Query) : Type 0 where
   pub level : ℕ
   pub tile : ℕ
   pub of_window : IsTileOfWindow f q level tile
-  pub wrong : IsSomeAnd (level_value f level 325 tile) (λ count. (is_byte_count count ≡ false) ⊎ IsNotPlainSize f level count)
+  pub wrong : IsSomeAnd (level_value f level TILE_BYTE_COUNTS tile) (λ count. (is_byte_count count ≡ false) ⊎ IsNotPlainSize f level count)
 
 -- the bytes of a packed tile of the window are no packets that fill it
 pub record HasBadPackets (f : List ℕ) (q : Query) : Type 0 where

@@ -1,4 +1,5 @@
 -- What a file's bytes say: its numbers, directories, fields and values (TIFF 6.0, section 2).
+use Rattle.tiff_dir.specs.declared.tags.TheConstants.{NEW_SUBFILE_TYPE, PLANAR_CONFIGURATION, SAMPLES_PER_PIXEL, SAMPLE_FORMAT}
 use Rattle.std.specs.Prelude.{ℕ, zero, suc, ◌+◌, ◌*◌, Bool, true, false, ◌&&◌, nat_eq, nat_lt, nat_le, ◌==◌, if◌then◌else◌, List, [], ◌∷◌, length, codes, slice_get, Option, Some, None, unwrap_or}
 use Rattle.std.specs.Option.{option_map_or}
 use Rattle.std.specs.List.{cons_option, filter, find, range_with_len, starts_with}
@@ -130,10 +131,10 @@ field_value f e i = do
 -- what each value of an absent field stands for
 abbrev pub default_of : ℕ → Option ℕ
 default_of tag =
-    if tag == 254 then Some 0
-    else if tag == 277 then Some 1
-    else if tag == 284 then Some 1
-    else if tag == 339 then Some 1
+    if tag == NEW_SUBFILE_TYPE then Some 0
+    else if tag == SAMPLES_PER_PIXEL then Some 1
+    else if tag == PLANAR_CONFIGURATION then Some 1
+    else if tag == SAMPLE_FORMAT then Some 1
     else None
 
 -- a field is absent where all tags of its directory are in the file, and none is its own

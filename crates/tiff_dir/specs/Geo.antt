@@ -1,5 +1,6 @@
 -- The fields that georeference an image: where they stand, and what is wrong with them (OGC 19-008, sections 7 and 8).
 -- They are looked at in the first directory, for the query Info alone.
+use Rattle.tiff_dir.specs.declared.tags.TheConstants.{GEO_KEY_DIRECTORY}
 use Rattle.std.specs.Prelude.{◌≡◌, ℕ, ◌*◌, false, nat_le, if◌then◌else◌, List, Option, Some, None, IsSomeAnd}
 use Rattle.std.specs.Option.{option_map_or}
 use Rattle.std.specs.List.{Any, filter_map}
@@ -10,7 +11,7 @@ use Rattle.tiff_dir.specs.declared.fault.FileFault.TheVariants.{FieldType, TooLa
 use Rattle.tiff_dir.specs.File.{◌>>=◌, Field, kind_of, size_of, has_all_tags, field, value}
 use Rattle.tiff_dir.specs.Profile.{geo_profile, max_geo_bytes}
 use Rattle.tiff_dir.specs.Level.{place_of}
-use Rattle.tiff_dir.specs.Needs.{Range, field_range}
+use Rattle.tiff_dir.specs.Needs.{Extent, field_range}
 use Rattle.tiff_dir.specs.Fault.{IsRuleFault}
 use Rattle.tiff_dir.specs.Keys.{KeySource, is_key_field, IsFaultOfKeys}
 
@@ -19,7 +20,7 @@ unfoldable pub geo_place : List ℕ → ℕ → Option Place
 geo_place f tag = field f 0 tag >>= place_of f
 
 -- the values of the geo fields that are there
-unfoldable pub geo_ranges : List ℕ → List Range
+unfoldable pub geo_ranges : List ℕ → List Extent
 geo_ranges f = filter_map (λ (rule : Rule). field_range f 0 rule.tag) geo_profile
 
 -- how many bytes the values of a field have
@@ -48,8 +49,8 @@ item_count f tag = option_map_or (λ (e : Field). e.count) (field f 0 tag) (if h
 -- what the file says of its keys
 abbrev pub key_source : List ℕ → KeySource
 key_source f = record {
-  value = value f 0 34735;
-  count = field f 0 34735 >>= λ e. e.count;
+  value = value f 0 GEO_KEY_DIRECTORY;
+  count = field f 0 GEO_KEY_DIRECTORY >>= λ e. e.count;
   items = λ tag. if is_key_field tag then item_count f tag else None;
 }
 

@@ -1,4 +1,5 @@
 -- The entries of the geo fields in a table, and what they say by the rules for them.
+use Rattle.tiff_dir.specs.declared.tags.TheConstants.{GEO_ASCII_PARAMS, GEO_DOUBLE_PARAMS, GEO_KEY_DIRECTORY, MODEL_PIXEL_SCALE, MODEL_TIEPOINT, MODEL_TRANSFORMATION}
 use Rattle.std.specs.Prelude.{◌≡◌, ◌+◌, ◌<◌, ◌^◌, ◌⊎◌, ⊤, not, nat_lt, if◌then◌else◌, List, Option, Some, None, Result, Ok, Err}
 use Rattle.tiff_dir.specs.declared.table.Entry.{Entry}
 use Rattle.tiff_dir.specs.declared.geo.GeoEntries.{GeoEntries}
@@ -13,12 +14,12 @@ use Rattle.tiff_dir.specs.Table.{allows, entry_with_tag, len_of, place_in}
 -- those among the entries of a table
 abbrev pub geo_in : List Entry → GeoEntries
 geo_in es = record {
-  directory = entry_with_tag 34735 es;
-  doubles = entry_with_tag 34736 es;
-  ascii = entry_with_tag 34737 es;
-  scale = entry_with_tag 33550 es;
-  tiepoints = entry_with_tag 33922 es;
-  transformation = entry_with_tag 34264 es;
+  directory = entry_with_tag GEO_KEY_DIRECTORY es;
+  doubles = entry_with_tag GEO_DOUBLE_PARAMS es;
+  ascii = entry_with_tag GEO_ASCII_PARAMS es;
+  scale = entry_with_tag MODEL_PIXEL_SCALE es;
+  tiepoints = entry_with_tag MODEL_TIEPOINT es;
+  transformation = entry_with_tag MODEL_TRANSFORMATION es;
 }
 
 -- where the values stand of a rule's entry

@@ -1,4 +1,5 @@
 -- The key directory (OGC 19-008, section 7.1.1): four numbers, then four for each key.
+use Rattle.tiff_dir.specs.declared.tags.TheConstants.{GEO_ASCII_PARAMS, GEO_DOUBLE_PARAMS}
 use Rattle.std.specs.Prelude.{◌≡◌, ◌≢◌, ℕ, ◌+◌, ◌*◌, ◌<◌, ◌⊎◌, Bool, ◌||◌, nat_lt, ◌==◌, if◌then◌else◌, Option, Some, None, IsSomeAnd}
 use Rattle.tiff_dir.specs.declared.fault.FileFault.{FileFault}
 use Rattle.tiff_dir.specs.declared.fault.FileFault.TheVariants.{KeyHead, KeyOrder, KeyPlace}
@@ -7,7 +8,7 @@ use Rattle.tiff_dir.specs.Fault.{IsMisfit}
 
 -- a field that a key may point into: GeoDoubleParams or GeoAsciiParams
 abbrev pub is_key_field : ℕ → Bool
-is_key_field tag = tag == 34736 || tag == 34737
+is_key_field tag = tag == GEO_DOUBLE_PARAMS || tag == GEO_ASCII_PARAMS
 
 -- What keys are read from: the numbers of the directory (GeoKeyDirectory), how many there are, and how many items the fields
 -- 34736 (GeoDoubleParams) and 34737 (GeoAsciiParams) have. What can't be told of a file is None.
@@ -46,8 +47,8 @@ HasNoItems s location count first = (0 < count) × IsSomeAnd (s.items location) 
 abbrev pub IsMisplaced : KeySource → ℕ → ℕ → ℕ → Type 0
 IsMisplaced s location count first =
     ((location ≡ 0) × (count ≢ 1))
-    ⊎ ((((location ≡ 34736) ⊎ (location ≡ 34737)) × HasNoItems s location count first)
-    ⊎ ((location ≢ 0) × (location ≢ 34736) × (location ≢ 34737)))
+    ⊎ ((((location ≡ GEO_DOUBLE_PARAMS) ⊎ (location ≡ GEO_ASCII_PARAMS)) × HasNoItems s location count first)
+    ⊎ ((location ≢ 0) × (location ≢ GEO_DOUBLE_PARAMS) × (location ≢ GEO_ASCII_PARAMS)))
 
 -- a key's value is in no field, or past its end
 abbrev pub IsKeyMisplaced : KeySource → Type 0

@@ -1,4 +1,5 @@
 -- The levels of a file: its image and the reduced-resolution images of it (TIFF 6.0, sections 8 and 15; OGC 21-026).
+use Rattle.tiff_dir.specs.declared.tags.TheConstants.{BITS_PER_SAMPLE, COMPRESSION, IMAGE_LENGTH, IMAGE_WIDTH, NEW_SUBFILE_TYPE, SAMPLES_PER_PIXEL, TILE_BYTE_COUNTS, TILE_LENGTH, TILE_OFFSETS, TILE_WIDTH}
 use Rattle.std.specs.Prelude.{ℕ, ◌+◌, ◌*◌, Bool, false, ◌||◌, ◌==◌, nat_le, if◌then◌else◌, List, map, length, slice_get, slice_range, Option, Some, None}
 use Rattle.std.specs.Option.{option_map_or}
 use Rattle.std.specs.List.{filter, last_or, range_with_len}
@@ -10,7 +11,7 @@ use Rattle.tiff_dir.specs.Profile.{sample_bytes, tile_bytes, tile_count, tiles_a
 
 -- directory 0, and each later one whose NewSubfileType is 1
 unfoldable pub is_level : List ℕ → ℕ → Bool
-is_level f k = k == 0 || option_map_or (λ v. v == 1) (value f k 254 0) false
+is_level f k = k == 0 || option_map_or (λ v. v == 1) (value f k NEW_SUBFILE_TYPE 0) false
 
 -- the directories that are levels, in order
 unfoldable pub level_directories : List ℕ → List ℕ
@@ -50,21 +51,21 @@ pub record Layout : Type 0 where
 -- the grid of directory k, where its four values are in the file
 unfoldable pub grid_at : List ℕ → ℕ → Option Grid
 grid_at f k = do
-  width ← value f k 256 0
-  length ← value f k 257 0
-  tile_width ← value f k 322 0
-  tile_length ← value f k 323 0
+  width ← value f k IMAGE_WIDTH 0
+  length ← value f k IMAGE_LENGTH 0
+  tile_width ← value f k TILE_WIDTH 0
+  tile_length ← value f k TILE_LENGTH 0
   Some (record { width = width; length = length; tile_width = tile_width; tile_length = tile_length })
 
 -- the layout that directory k describes, where all that it says is in the file
 unfoldable pub layout_at : List ℕ → ℕ → Option Layout
 layout_at f k = do
   grid ← grid_at f k
-  samples ← value f k 277 0
-  bits ← value f k 258 0
-  compression ← value f k 259 0 >>= compression_of
-  offsets ← field f k 324 >>= place_of f
-  counts ← field f k 325 >>= place_of f
+  samples ← value f k SAMPLES_PER_PIXEL 0
+  bits ← value f k BITS_PER_SAMPLE 0
+  compression ← value f k COMPRESSION 0 >>= compression_of
+  offsets ← field f k TILE_OFFSETS >>= place_of f
+  counts ← field f k TILE_BYTE_COUNTS >>= place_of f
   Some (record { grid = grid; samples = samples; bits = bits; compression = compression; offsets = offsets; counts = counts })
 
 -- the layouts of the levels in order, each where it is described
@@ -88,8 +89,8 @@ level_value f n tag i = level_directory f n >>= λ k. value f k tag i
 -- The bytes of tile t of level n, where they are in the file.
 unfoldable pub segment : List ℕ → ℕ → ℕ → Option (List ℕ)
 segment f n t = do
-  first ← level_value f n 324 t
-  count ← level_value f n 325 t
+  first ← level_value f n TILE_OFFSETS t
+  count ← level_value f n TILE_BYTE_COUNTS t
   if nat_le (first + count) (length f) then Some (slice_range f first (first + count)) else None
 
 -- how many tiles stand side by side, and how many there are

@@ -8,6 +8,7 @@ pub mod Keys
 pub mod Geo
 pub mod FaultNumber
 pub mod Packets
+pub mod Block
 pub mod Query
 pub mod Window
 pub mod Faulty
@@ -15,6 +16,6 @@ pub mod Described
 pub mod Table
 pub mod GeoEntries
 pub mod Stage
-pub mod Known
+pub mod WalkState
 pub mod Shape
 pub mod Walk

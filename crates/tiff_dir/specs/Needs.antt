@@ -1,4 +1,5 @@
 -- The bytes of a file that its reader needs: those of its directories, which every query needs.
+use Rattle.tiff_dir.specs.declared.tags.TheConstants.{BITS_PER_SAMPLE, SAMPLE_FORMAT}
 use Rattle.std.specs.Prelude.{◌≡◌, ℕ, ◌+◌, ◌*◌, Bool, ◌&&◌, nat_lt, nat_le, if◌then◌else◌, List, [], ◌∷◌, ◌++◌, length, slice_range, Option, Some, None}
 use Rattle.std.specs.List.{flat_map}
 use Rattle.std.specs.Option.{option_to_list}
@@ -7,19 +8,19 @@ use Rattle.tiff_dir.specs.File.{◌>>=◌, directory, directories, entry_count, 
 use Rattle.tiff_dir.specs.Level.{is_level, place_of}
 
 -- len bytes from first
-pub record Range : Type 0 where
+pub record Extent : Type 0 where
   pub first : ℕ
   pub len : ℕ
 
 -- the bytes of the file in a range
-abbrev pub bytes_in : List ℕ → Range → List ℕ
+abbrev pub bytes_in : List ℕ → Extent → List ℕ
 bytes_in f r = slice_range f r.first (r.first + r.len)
 
 -- the greatest number of bytes of a range that is asked for
 abbrev pub max_range_bytes : ℕ
 max_range_bytes = 1048576
 
-abbrev pub ends_past : List ℕ → Range → Bool
+abbrev pub ends_past : List ℕ → Extent → Bool
 ends_past f r = nat_lt (length f) (r.first + r.len)
 
 abbrev pub max_entries : ℕ
@@ -29,51 +30,51 @@ max_entries = 256
 abbrev pub is_entry_count : ℕ → Bool
 is_entry_count n = nat_lt 0 n && nat_le n max_entries
 
-abbrev pub header_range : Range
+abbrev pub header_range : Extent
 header_range = record { first = 0; len = 8 }
 
 -- the count of directory k
-unfoldable pub count_range : List ℕ → ℕ → Option Range
+unfoldable pub count_range : List ℕ → ℕ → Option Extent
 count_range f k = directory f k >>= λ at. Some (record { first = at; len = 2 })
 
 -- its table of 1 to 256 entries, with the offset of the next directory
-unfoldable pub table_range : List ℕ → ℕ → Option Range
+unfoldable pub table_range : List ℕ → ℕ → Option Extent
 table_range f k = do
   at ← directory f k
   n ← entry_count f k
   if is_entry_count n then Some (record { first = at + 2; len = 12 * n + 4 }) else None
 
 -- the bytes of a field's values
-abbrev pub range_of_place : Place → Range
-range_of_place p = record { first = p.first; len = p.len }
+abbrev pub extent_of_place : Place → Extent
+extent_of_place p = record { first = p.first; len = p.len }
 
 -- the values of the field with this tag in directory k, in its entry or outside
-unfoldable pub field_range : List ℕ → ℕ → ℕ → Option Range
-field_range f k tag = field f k tag >>= place_of f >>= λ p. Some (range_of_place p)
+unfoldable pub field_range : List ℕ → ℕ → ℕ → Option Extent
+field_range f k tag = field f k tag >>= place_of f >>= λ p. Some (extent_of_place p)
 
 -- those that stand outside the entry
-abbrev pub outside_entry : Place → Option Range
-outside_entry p = if nat_lt 4 p.len then Some (range_of_place p) else None
+abbrev pub outside_entry : Place → Option Extent
+outside_entry p = if nat_lt 4 p.len then Some (extent_of_place p) else None
 
-unfoldable pub outside_range : List ℕ → ℕ → ℕ → Option Range
+unfoldable pub outside_range : List ℕ → ℕ → ℕ → Option Extent
 outside_range f k tag = field f k tag >>= place_of f >>= outside_entry
 
 -- the values of BitsPerSample and SampleFormat that stand outside the entries of a level
-unfoldable pub outside_ranges : List ℕ → ℕ → List Range
+unfoldable pub outside_ranges : List ℕ → ℕ → List Extent
 outside_ranges f k =
-    if is_level f k then option_to_list (outside_range f k 258) ++ option_to_list (outside_range f k 339) else []
+    if is_level f k then option_to_list (outside_range f k BITS_PER_SAMPLE) ++ option_to_list (outside_range f k SAMPLE_FORMAT) else []
 
 -- what is read of directory k
-unfoldable pub ranges_of_directory : List ℕ → ℕ → List Range
+unfoldable pub ranges_of_directory : List ℕ → ℕ → List Extent
 ranges_of_directory f k =
     option_to_list (count_range f k) ++ option_to_list (table_range f k) ++ outside_ranges f k
 
 -- The ranges that every query needs, in the order in which they are read. A range is among them where each
 -- value that gives its place is in the file.
-unfoldable pub needs_of_directories : List ℕ → List Range
+unfoldable pub needs_of_directories : List ℕ → List Extent
 needs_of_directories f = header_range ∷ flat_map (ranges_of_directory f) (directories f)
 
 -- the ranges are the last ones of others
-pub record IsEndOf (few many : List Range) : Type 0 where
-  pub front : List Range
+pub record IsEndOf (few many : List Extent) : Type 0 where
+  pub front : List Extent
   pub joined : many ≡ front ++ few

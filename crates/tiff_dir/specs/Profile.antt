@@ -1,4 +1,5 @@
 -- The fields of a level in this project's profile of tiled TIFF (TIFF 6.0, sections 8 and 15).
+use Rattle.tiff_dir.specs.declared.tags.TheConstants.{BITS_PER_SAMPLE, COMPRESSION, GEO_ASCII_PARAMS, GEO_DOUBLE_PARAMS, GEO_KEY_DIRECTORY, IMAGE_LENGTH, IMAGE_WIDTH, MODEL_PIXEL_SCALE, MODEL_TIEPOINT, MODEL_TRANSFORMATION, NEW_SUBFILE_TYPE, PHOTOMETRIC_INTERPRETATION, PLANAR_CONFIGURATION, SAMPLES_PER_PIXEL, SAMPLE_FORMAT, TILE_BYTE_COUNTS, TILE_LENGTH, TILE_OFFSETS, TILE_WIDTH}
 use Rattle.std.specs.Prelude.{ℕ, ◌+◌, ◌-◌, ◌*◌, ◌/◌, ◌%◌, Bool, true, false, ◌&&◌, ◌||◌, ◌==◌, nat_lt, if◌then◌else◌, List, [], ◌∷◌, get_or}
 use Rattle.tiff_dir.specs.declared.level.Kind.{Kind}
 use Rattle.tiff_dir.specs.declared.level.Kind.TheVariants as kind
@@ -9,24 +10,24 @@ use Rattle.tiff_dir.specs.declared.rule.Rule.{Rule}
 
 -- NewSubfileType, which is looked at in every directory
 abbrev pub subfile_rule : Rule
-subfile_rule = record { tag = 254; typing = typing.Long; count = One; required = false }
+subfile_rule = record { tag = NEW_SUBFILE_TYPE; typing = typing.Long; count = One; required = false }
 
 -- the fields that are read of a level, in the order of their tags
 unfoldable pub profile : List Rule
 profile =
     subfile_rule
-    ∷ record { tag = 256; typing = typing.ShortOrLong; count = One; required = true }  -- ImageWidth
-    ∷ record { tag = 257; typing = typing.ShortOrLong; count = One; required = true }  -- ImageLength
-    ∷ record { tag = 258; typing = typing.Short; count = Samples; required = true }  -- BitsPerSample
-    ∷ record { tag = 259; typing = typing.Short; count = One; required = true }  -- Compression
-    ∷ record { tag = 262; typing = typing.Short; count = One; required = true }  -- PhotometricInterpretation
-    ∷ record { tag = 277; typing = typing.Short; count = One; required = false }  -- SamplesPerPixel
-    ∷ record { tag = 284; typing = typing.Short; count = One; required = false }  -- PlanarConfiguration
-    ∷ record { tag = 322; typing = typing.ShortOrLong; count = One; required = true }  -- TileWidth
-    ∷ record { tag = 323; typing = typing.ShortOrLong; count = One; required = true }  -- TileLength
-    ∷ record { tag = 324; typing = typing.Long; count = Tiles; required = true }  -- TileOffsets
-    ∷ record { tag = 325; typing = typing.ShortOrLong; count = Tiles; required = true }  -- TileByteCounts
-    ∷ record { tag = 339; typing = typing.Short; count = Samples; required = false }  -- SampleFormat
+    ∷ record { tag = IMAGE_WIDTH; typing = typing.ShortOrLong; count = One; required = true }
+    ∷ record { tag = IMAGE_LENGTH; typing = typing.ShortOrLong; count = One; required = true }
+    ∷ record { tag = BITS_PER_SAMPLE; typing = typing.Short; count = Samples; required = true }
+    ∷ record { tag = COMPRESSION; typing = typing.Short; count = One; required = true }
+    ∷ record { tag = PHOTOMETRIC_INTERPRETATION; typing = typing.Short; count = One; required = true }
+    ∷ record { tag = SAMPLES_PER_PIXEL; typing = typing.Short; count = One; required = false }
+    ∷ record { tag = PLANAR_CONFIGURATION; typing = typing.Short; count = One; required = false }
+    ∷ record { tag = TILE_WIDTH; typing = typing.ShortOrLong; count = One; required = true }
+    ∷ record { tag = TILE_LENGTH; typing = typing.ShortOrLong; count = One; required = true }
+    ∷ record { tag = TILE_OFFSETS; typing = typing.Long; count = Tiles; required = true }
+    ∷ record { tag = TILE_BYTE_COUNTS; typing = typing.ShortOrLong; count = Tiles; required = true }
+    ∷ record { tag = SAMPLE_FORMAT; typing = typing.Short; count = Samples; required = false }
     ∷ []
 
 -- 2 is ASCII, 3 SHORT, 4 LONG and 12 DOUBLE
@@ -44,12 +45,12 @@ is_multiple n count = nat_lt 0 n && (nat_lt 0 count && (count % n == 0))
 -- the fields that georeference an image (OGC 19-008, sections 7.1 and 8), in the order in which they are looked at
 abbrev pub geo_profile : List Rule
 geo_profile =
-    record { tag = 34735; typing = typing.Short; count = Multiple 1; required = false }  -- GeoKeyDirectory
-    ∷ record { tag = 34736; typing = typing.Double; count = Multiple 1; required = false }  -- GeoDoubleParams
-    ∷ record { tag = 34737; typing = typing.Ascii; count = Multiple 1; required = false }  -- GeoAsciiParams
-    ∷ record { tag = 33550; typing = typing.Double; count = Exactly 3; required = false }  -- ModelPixelScale
-    ∷ record { tag = 33922; typing = typing.Double; count = Multiple 6; required = false }  -- ModelTiepoint
-    ∷ record { tag = 34264; typing = typing.Double; count = Exactly 16; required = false }  -- ModelTransformation
+    record { tag = GEO_KEY_DIRECTORY; typing = typing.Short; count = Multiple 1; required = false }
+    ∷ record { tag = GEO_DOUBLE_PARAMS; typing = typing.Double; count = Multiple 1; required = false }
+    ∷ record { tag = GEO_ASCII_PARAMS; typing = typing.Ascii; count = Multiple 1; required = false }
+    ∷ record { tag = MODEL_PIXEL_SCALE; typing = typing.Double; count = Exactly 3; required = false }
+    ∷ record { tag = MODEL_TIEPOINT; typing = typing.Double; count = Multiple 6; required = false }
+    ∷ record { tag = MODEL_TRANSFORMATION; typing = typing.Double; count = Exactly 16; required = false }
     ∷ []
 
 abbrev pub geo_rule : ℕ → Rule
@@ -66,12 +67,12 @@ is_depth bits = bits == 8 || bits == 16
 -- the values that the profile accepts of a field
 abbrev pub accepts : ℕ → ℕ → Bool
 accepts tag v =
-    if tag == 258 then is_depth v
-    else if tag == 259 then v == 1 || v == 32773
-    else if tag == 262 then v == 1 || v == 2
-    else if tag == 277 then v == 1 || v == 3
-    else if tag == 284 then v == 1 || v == 2
-    else if tag == 339 then v == 1
+    if tag == BITS_PER_SAMPLE then is_depth v
+    else if tag == COMPRESSION then v == 1 || v == 32773
+    else if tag == PHOTOMETRIC_INTERPRETATION then v == 1 || v == 2
+    else if tag == SAMPLES_PER_PIXEL then v == 1 || v == 3
+    else if tag == PLANAR_CONFIGURATION then v == 1 || v == 2
+    else if tag == SAMPLE_FORMAT then v == 1
     else true
 
 -- one sample with BlackIsZero, three with RGB

@@ -1,13 +1,15 @@
 -- What a query asks for, and which bytes of the file it needs.
+use Rattle.tiff_dir.specs.declared.tags.TheConstants.{IMAGE_LENGTH, IMAGE_WIDTH, SAMPLES_PER_PIXEL, TILE_BYTE_COUNTS, TILE_OFFSETS}
 use Rattle.std.specs.Prelude.{ℕ, ◌+◌, ◌-◌, ◌*◌, ◌/◌, ◌%◌, Bool, false, not, ◌&&◌, ◌||◌, nat_lt, nat_le, ◌==◌, if◌then◌else◌, List, [], ◌∷◌, ◌++◌, length, map, Option, Some, None, is_none, unwrap_or}
 use Rattle.std.specs.List.{filter, last_or, range_with_len, sum_by}
 use Rattle.std.specs.Option.{option_map_or, option_to_list}
 use Rattle.tiff_dir.specs.declared.query.Query.{Query}
 use Rattle.tiff_dir.specs.declared.query.Query.TheVariants.{Window, Info}
 use Rattle.tiff_dir.specs.declared.query.Pick.TheVariants as pick
+use Rattle.tiff_dir.specs.Block.{blocks}
 use Rattle.tiff_dir.specs.File.{◌>>=◌}
 use Rattle.tiff_dir.specs.Level.{Grid, level_directories, level_directory, level_grid, level_value, across, tile_total}
-use Rattle.tiff_dir.specs.Needs.{Range, ends_past, field_range, needs_of_directories, max_range_bytes}
+use Rattle.tiff_dir.specs.Needs.{Extent, ends_past, field_range, needs_of_directories, max_range_bytes}
 use Rattle.tiff_dir.specs.Geo.{geo_ranges}
 
 -- columns from left and rows from top, in the samples of a level
@@ -21,8 +23,8 @@ pub record Rectangle : Type 0 where
 -- level n has at least so many columns of w columns of level 0
 abbrev pub has_columns : List ℕ → ℕ → ℕ → ℕ → Bool
 has_columns f columns w n =
-    option_map_or (λ width. option_map_or (λ first. nat_le (columns * first) (width * w)) (level_value f 0 256 0) false)
-    (level_value f n 256 0) false
+    option_map_or (λ width. option_map_or (λ first. nat_le (columns * first) (width * w)) (level_value f 0 IMAGE_WIDTH 0) false)
+    (level_value f n IMAGE_WIDTH 0) false
 
 -- the greatest such level, level 0 if there is none
 unfoldable pub smallest_level : List ℕ → ℕ → ℕ → ℕ
@@ -39,10 +41,10 @@ scaled_up side first at = (at * side + first - 1) / first
 -- a window of level 0 in level n, rounded outwards
 unfoldable pub scaled : List ℕ → ℕ → ℕ → ℕ → ℕ → ℕ → Option Rectangle
 scaled f n x y w h = do
-  first_width ← level_value f 0 256 0
-  first_length ← level_value f 0 257 0
-  width ← level_value f n 256 0
-  length ← level_value f n 257 0
+  first_width ← level_value f 0 IMAGE_WIDTH 0
+  first_length ← level_value f 0 IMAGE_LENGTH 0
+  width ← level_value f n IMAGE_WIDTH 0
+  length ← level_value f n IMAGE_LENGTH 0
   let left = scaled_down width first_width x in let top = scaled_down length first_length y in
       Some (record {
         level = n;
@@ -66,7 +68,7 @@ passes end side = option_map_or (λ s. nat_lt s end) side false
 abbrev pub is_outside_level : List ℕ → ℕ → ℕ → ℕ → ℕ → ℕ → Bool
 is_outside_level f n x y w h =
     (w == 0) || (h == 0) || is_none (level_directory f n)
-    || passes (x + w) (level_value f n 256 0) || passes (y + h) (level_value f n 257 0)
+    || passes (x + w) (level_value f n IMAGE_WIDTH 0) || passes (y + h) (level_value f n IMAGE_LENGTH 0)
 
 -- The window is outside the level that its numbers are given in.
 unfoldable pub is_outside : List ℕ → Query → Bool
@@ -81,7 +83,7 @@ max_window_samples = 4194304
 unfoldable pub is_too_large : List ℕ → Query → Bool
 is_too_large f q =
     option_map_or (λ r. option_map_or (λ samples. nat_lt max_window_samples (r.width * r.height * samples))
-    (level_value f r.level 277 0) false) (rectangle f q) false
+    (level_value f r.level SAMPLES_PER_PIXEL 0) false) (rectangle f q) false
 
 abbrev pub is_refused : List ℕ → Query → Bool
 is_refused f q = is_outside f q || is_too_large f q
@@ -107,14 +109,14 @@ window_tiles f q =
     else option_map_or (λ r. option_map_or (λ g. tiles_in g r) (level_grid f r.level) []) (rectangle f q) []
 
 -- the values of TileOffsets or TileByteCounts, in the entry or outside
-unfoldable pub array_range : List ℕ → ℕ → ℕ → Option Range
+unfoldable pub array_range : List ℕ → ℕ → ℕ → Option Extent
 array_range f n tag = level_directory f n >>= λ k. field_range f k tag
 
 -- the bytes of a tile
-unfoldable pub tile_range : List ℕ → ℕ → ℕ → Option Range
+unfoldable pub tile_range : List ℕ → ℕ → ℕ → Option Extent
 tile_range f n t = do
-  first ← level_value f n 324 t
-  len ← level_value f n 325 t
+  first ← level_value f n TILE_OFFSETS t
+  len ← level_value f n TILE_BYTE_COUNTS t
   Some (record { first = first; len = len })
 
 -- ---- groups: tiles that follow each other in the file are read by one range
@@ -122,24 +124,24 @@ tile_range f n t = do
 -- some tiles, and the range from the first one's first byte to the last one's last
 pub record Group : Type 0 where
   pub tiles : List ℕ
-  pub range : Range
+  pub range : Extent
 
 abbrev pub max_group_bytes : ℕ
 max_group_bytes = max_range_bytes
 
 -- the range begins where the group's last tile ends, and the group with it isn't too long
-abbrev pub joins : Group → Range → Bool
+abbrev pub joins : Group → Extent → Bool
 joins g r = (r.first == g.range.first + g.range.len) && nat_le (g.range.len + r.len) max_group_bytes
 
-abbrev pub alone : ℕ → Range → Group
+abbrev pub alone : ℕ → Extent → Group
 alone t r = record { tiles = t ∷ []; range = r }
 
-abbrev pub with_tile : Group → ℕ → Range → Group
+abbrev pub with_tile : Group → ℕ → Extent → Group
 with_tile g t r = record { tiles = g.tiles ++ t ∷ []; range = record { first = g.range.first; len = g.range.len + r.len } }
 
 -- A group and the tiles after it: each joins the group of the one before, or begins the next. A tile whose values aren't
 -- there is in no group and ends the one before.
-unfoldable pub grouped_after : Option Group → List (ℕ × Option Range) → List Group
+unfoldable pub grouped_after : Option Group → List (ℕ × Option Extent) → List Group
 grouped_after before [] = option_to_list before
 grouped_after before ((t, None) ∷ rest) = option_to_list before ++ grouped_after None rest
 grouped_after None ((t, Some r) ∷ rest) = grouped_after (Some (alone t r)) rest
@@ -147,7 +149,7 @@ grouped_after (Some g) ((t, Some r) ∷ rest) =
     if joins g r then grouped_after (Some (with_tile g t r)) rest else g ∷ grouped_after (Some (alone t r)) rest
 
 -- the groups of some tiles
-unfoldable pub grouped : (ℕ → Option Range) → List ℕ → List Group
+unfoldable pub grouped : (ℕ → Option Extent) → List ℕ → List Group
 grouped range tiles = grouped_after None (map (λ t. (t, range t)) tiles)
 
 -- The groups of the window's tiles.
@@ -155,29 +157,26 @@ unfoldable pub groups : List ℕ → Query → List Group
 groups f q = option_map_or (λ r. grouped (tile_range f r.level) (window_tiles f q)) (rectangle f q) []
 
 -- the arrays of the window's level
-unfoldable pub array_ranges : List ℕ → Query → List Range
+unfoldable pub array_ranges : List ℕ → Query → List Extent
 array_ranges f q =
     if is_refused f q then []
-    else option_map_or (λ r. option_to_list (array_range f r.level 324) ++ option_to_list (array_range f r.level 325))
+    else option_map_or (λ r. option_to_list (array_range f r.level TILE_OFFSETS) ++ option_to_list (array_range f r.level TILE_BYTE_COUNTS))
     (rectangle f q) []
 
 -- what a window needs, and what Info needs, besides the directories
-unfoldable pub needs_of_query : List ℕ → Query → List Range
+unfoldable pub needs_of_query : List ℕ → Query → List Extent
 needs_of_query f Info = geo_ranges f
 needs_of_query f (Window x y w h p) =
     let q = Window x y w h p in array_ranges f q ++ map (λ (g : Group). g.range) (groups f q)
 
 -- The ranges of the file that the query needs.
-unfoldable pub needs : List ℕ → Query → List Range
+unfoldable pub needs : List ℕ → Query → List Extent
 needs f q = needs_of_directories f ++ needs_of_query f q
 
-abbrev pub block_size : ℕ
-block_size = 16384
-
 -- how many blocks a range touches
-abbrev pub blocks : Range → ℕ
-blocks r = if r.len == 0 then 0 else (r.first + r.len - 1) / block_size - r.first / block_size + 1
+abbrev pub blocks_of_extent : Extent → ℕ
+blocks_of_extent r = blocks r.first r.len
 
 -- The blocks of the ranges that the query needs and that end inside the file.
 unfoldable pub cost : List ℕ → Query → ℕ
-cost f q = sum_by blocks (filter (λ r. not (ends_past f r)) (needs f q))
+cost f q = sum_by blocks_of_extent (filter (λ r. not (ends_past f r)) (needs f q))

@@ -1,4 +1,5 @@
 -- What is known of a file at each stage of a walk over its directories.
+use Rattle.tiff_dir.specs.declared.tags.TheConstants.{BITS_PER_SAMPLE, COMPRESSION, IMAGE_LENGTH, IMAGE_WIDTH, SAMPLES_PER_PIXEL, SAMPLE_FORMAT, TILE_BYTE_COUNTS, TILE_LENGTH, TILE_OFFSETS, TILE_WIDTH}
 use Rattle.std.specs.Prelude.{◌≡◌, ◌≢◌, ℕ, suc, ◌+◌, ◌-◌, ◌*◌, ◌<◌, ◌≤◌, ◌^◌, ⊤, Bool, true, false, ◌&&◌, ◌==◌, nat_lt, if◌then◌else◌, List, [], ◌∷◌, ◌++◌, map, Option, Some, None, IfSome}
 use Rattle.std.specs.Option.{option_map, option_to_list}
 use Rattle.std.specs.List.{filter, flat_map, range_with_len}
@@ -18,12 +19,12 @@ use Rattle.tiff_dir.specs.File.{max_directories, ◌>>=◌, order_of, number, di
 use Rattle.tiff_dir.specs.Profile.{is_depth, is_sample_count, is_long, is_short_or_long}
 use Rattle.tiff_dir.specs.Level.{Layout, is_level, previous_level, place_of, layout_at, compression_of}
 use Rattle.tiff_dir.specs.Described.{described}
-use Rattle.tiff_dir.specs.Needs.{Range, bytes_in, max_entries, is_entry_count, header_range, outside_ranges, ranges_of_directory}
+use Rattle.tiff_dir.specs.Needs.{Extent, bytes_in, max_entries, is_entry_count, header_range, outside_ranges, ranges_of_directory}
 use Rattle.tiff_dir.specs.Fault.{is_directory_place, IsUnsupported, IsFaultAt, IsFaultOfDirectory, IsFaultOfLevel}
 use Rattle.tiff_dir.specs.Table.{field_of, entry_with_tag}
 
 -- the range that is wanted at a stage
-abbrev pub range_of : Stage → Option Range
+abbrev pub range_of : Stage → Option Extent
 range_of Header = Some header_range
 range_of (Count order index at) = Some (record { first = at; len = 2 })
 range_of (Table order index at n) = Some (record { first = at + 2; len = 12 * n + 4 })
@@ -62,15 +63,15 @@ abbrev pub IsBefore : List ℕ → ℕ → Option Level → Type 0
 IsBefore f k previous = option_map (layout_at f) (previous_level f k) ≡ option_map described previous
 
 -- what the directories from k on need
-unfoldable pub ranges_from : List ℕ → ℕ → List Range
+unfoldable pub ranges_from : List ℕ → ℕ → List Extent
 ranges_from f k = flat_map (ranges_of_directory f) (filter (has_directory f) (range_with_len k (max_directories - k)))
 
 -- three numbers of two bytes
-abbrev pub three_shorts : ℕ → Range
+abbrev pub three_shorts : ℕ → Extent
 three_shorts first = record { first = first; len = 6 }
 
 -- the ranges that the file needs from a stage on
-abbrev pub still : List ℕ → Stage → List Range
+abbrev pub still : List ℕ → Stage → List Extent
 still f Header = header_range ∷ ranges_from f 0
 still f (Count order index at) = ranges_from f index
 still f (Table order index at n) =
@@ -113,14 +114,14 @@ pub record IsOver (f : List ℕ) (order : Order) (k : ℕ) : Type 0 where
 
 -- the draft has the values of directory k
 pub record IsDrafted (f : List ℕ) (k : ℕ) (d : Draft) : Type 0 where
-  pub width : value f k 256 0 ≡ Some d.width
-  pub length : value f k 257 0 ≡ Some d.length
-  pub tile_width : value f k 322 0 ≡ Some d.tile_width
-  pub tile_length : value f k 323 0 ≡ Some d.tile_length
-  pub samples : value f k 277 0 ≡ Some d.samples
-  pub compression : (value f k 259 0 >>= compression_of) ≡ Some d.compression
-  pub offsets : (field f k 324 >>= place_of f) ≡ Some d.offsets
-  pub counts : (field f k 325 >>= place_of f) ≡ Some d.counts
+  pub width : value f k IMAGE_WIDTH 0 ≡ Some d.width
+  pub length : value f k IMAGE_LENGTH 0 ≡ Some d.length
+  pub tile_width : value f k TILE_WIDTH 0 ≡ Some d.tile_width
+  pub tile_length : value f k TILE_LENGTH 0 ≡ Some d.tile_length
+  pub samples : value f k SAMPLES_PER_PIXEL 0 ≡ Some d.samples
+  pub compression : (value f k COMPRESSION 0 >>= compression_of) ≡ Some d.compression
+  pub offsets : (field f k TILE_OFFSETS >>= place_of f) ≡ Some d.offsets
+  pub counts : (field f k TILE_BYTE_COUNTS >>= place_of f) ≡ Some d.counts
 
 -- directory k is a level that is read but for the values of 258 and 339, and next is told of the place behind it
 pub record IsPending (f : List ℕ) (p : Pending) : Type 0 where
@@ -132,7 +133,7 @@ pub record IsPending (f : List ℕ) (p : Pending) : Type 0 where
   pub sound : (fault : FileFault) → IsFaultOfDirectory f p.index fault → ⊥
   pub whole : (tag : ℕ) → IsFaultOfLevel f p.index (Missing tag) → ⊥
   pub typed : (tag : ℕ) → IsFaultOfLevel f p.index (FieldType tag) → ⊥
-  pub supported : (tag : ℕ) → tag ≢ 258 → tag ≢ 339 → IsUnsupported f p.index tag → ⊥
+  pub supported : (tag : ℕ) → tag ≢ BITS_PER_SAMPLE → tag ≢ SAMPLE_FORMAT → IsUnsupported f p.index tag → ⊥
   pub drafted : IsDrafted f p.index p.draft
 
 -- the three values of the field stand from first on
@@ -145,8 +146,8 @@ IsSupported f k tag = IsUnsupported f k tag → ⊥
 
 -- SampleFormat stands outside its entry, or it is right
 abbrev pub HasFormats : List ℕ → ℕ → Option ℕ → Type 0
-HasFormats f k None = IsSupported f k 339
-HasFormats f k (Some first) = HasShorts f k 339 first
+HasFormats f k None = IsSupported f k SAMPLE_FORMAT
+HasFormats f k (Some first) = HasShorts f k SAMPLE_FORMAT first
 
 -- the three numbers of two bytes are this one
 abbrev pub all_are : Order → List ℕ → ℕ → Bool
@@ -158,15 +159,15 @@ depth_in o bytes = let bits = number_in o 0 2 bytes in if is_depth bits && all_a
 
 -- the values of BitsPerSample are one and the same depth of the profile, or not
 abbrev pub HasBits : List ℕ → ℕ → Option ℕ → Type 0
-HasBits f k (Some bits) = (value f k 258 0 ≡ Some bits) × (is_depth bits ≡ true) × IsSupported f k 258
-HasBits f k None = IsUnsupported f k 258
+HasBits f k (Some bits) = (value f k BITS_PER_SAMPLE 0 ≡ Some bits) × (is_depth bits ≡ true) × IsSupported f k BITS_PER_SAMPLE
+HasBits f k None = IsUnsupported f k BITS_PER_SAMPLE
 
 abbrev pub AgreesAt : List ℕ → Stage → Type 0
 AgreesAt f Header = ⊤
 AgreesAt f (Count order index at) = Reaches f order index at
 AgreesAt f (Table order index at n) = Counts f order index at n
-AgreesAt f (Bits p first formats) = IsPending f p × HasShorts f p.index 258 first × HasFormats f p.index formats
-AgreesAt f (Formats p first bits) = IsPending f p × HasShorts f p.index 339 first × HasBits f p.index bits
+AgreesAt f (Bits p first formats) = IsPending f p × HasShorts f p.index BITS_PER_SAMPLE first × HasFormats f p.index formats
+AgreesAt f (Formats p first bits) = IsPending f p × HasShorts f p.index SAMPLE_FORMAT first × HasBits f p.index bits
 AgreesAt f (Ended order index) = IsOver f order index
 
 -- the bytes are the table of directory k, with the place of the next one
@@ -182,7 +183,7 @@ pub record StepsOn (f : List ℕ) (stage : Stage) (step : Step) : Type 0 where
   pub here : AgreesAt f step.stage
   pub levels : layouts_below f (index_of step.stage)
       ≡ layouts_below f (index_of stage) ++ map described (option_to_list step.level)
-  pub come : (r : Range) → range_of stage ≡ Some r → still f stage ≡ r ∷ still f step.stage
+  pub come : (r : Extent) → range_of stage ≡ Some r → still f stage ≡ r ∷ still f step.stage
 
 -- The directory is done with: the walk goes on to the next one or ends.
 pub record EndsDirectory (f : List ℕ) (k : ℕ) (step : Step) : Type 0 where

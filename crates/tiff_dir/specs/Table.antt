@@ -1,6 +1,7 @@
 -- What a directory's entries hold in themselves, for fields of the profile's types. An entry here is what the code has of a
 -- field: it is read in the bytes of a table, which are all there, with the numbers in its last four bytes. A field of the
 -- module File is what the file says of it, as far as its bytes are there. `HasTable` in the module Stage joins the two.
+use Rattle.tiff_dir.specs.declared.tags.TheConstants.{BITS_PER_SAMPLE, COMPRESSION, IMAGE_LENGTH, IMAGE_WIDTH, PHOTOMETRIC_INTERPRETATION, PLANAR_CONFIGURATION, SAMPLES_PER_PIXEL, SAMPLE_FORMAT, TILE_BYTE_COUNTS, TILE_LENGTH, TILE_OFFSETS, TILE_WIDTH}
 use Rattle.std.specs.Prelude.{◌≡◌, ◌⊎◌, ℕ, zero, suc, ◌+◌, ◌*◌, ◌<◌, Bool, true, false, not, ◌&&◌, nat_le, ◌==◌, if◌then◌else◌, List, [], ◌∷◌, length, get_or, Option, Some, None, IsSomeAnd}
 use Rattle.std.specs.Option.{option_map, option_map_or}
 use Rattle.std.specs.List.{find, AllPass}
@@ -86,7 +87,7 @@ short_or es tag default = option_map_or (λ e. e.short) (entry_with_tag tag es) 
 
 -- the field has as many values as a pixel has samples, if it is there
 abbrev pub counts_samples : List Entry → ℕ → Bool
-counts_samples es tag = option_map_or (λ e. e.count == short_or es 277 1) (entry_with_tag tag es) true
+counts_samples es tag = option_map_or (λ e. e.count == short_or es SAMPLES_PER_PIXEL 1) (entry_with_tag tag es) true
 
 -- the last four bytes of the entry
 abbrev pub long_in : List Entry → ℕ → Option ℕ
@@ -116,38 +117,38 @@ place_or es tag = option_map_or place_in (entry_with_tag tag es) (record { first
 
 unfoldable pub draft_in : List Entry → Draft
 draft_in es = record {
-  width = single_or es 256 0;
-  length = single_or es 257 0;
-  tile_width = single_or es 322 0;
-  tile_length = single_or es 323 0;
-  samples = short_or es 277 1;
-  compression = (if short_or es 259 0 == 1 then Plain else PackBits);
-  offsets = place_or es 324;
-  counts = place_or es 325;
+  width = single_or es IMAGE_WIDTH 0;
+  length = single_or es IMAGE_LENGTH 0;
+  tile_width = single_or es TILE_WIDTH 0;
+  tile_length = single_or es TILE_LENGTH 0;
+  samples = short_or es SAMPLES_PER_PIXEL 1;
+  compression = (if short_or es COMPRESSION 0 == 1 then Plain else PackBits);
+  offsets = place_or es TILE_OFFSETS;
+  counts = place_or es TILE_BYTE_COUNTS;
 }
 
 -- the values of 262, 277, 284 and 259 are those of the profile
 pub record HasValues (es : List Entry) : Type 0 where
-  pub photometric : accepts 262 (short_or es 262 0) ≡ true
-  pub samples : samples_fit (short_or es 277 1) (short_or es 262 0) ≡ true
-  pub planar : planes_fit (short_or es 284 1) (short_or es 277 1) ≡ true
-  pub compression : accepts 259 (short_or es 259 0) ≡ true
+  pub photometric : accepts PHOTOMETRIC_INTERPRETATION (short_or es PHOTOMETRIC_INTERPRETATION 0) ≡ true
+  pub samples : samples_fit (short_or es SAMPLES_PER_PIXEL 1) (short_or es PHOTOMETRIC_INTERPRETATION 0) ≡ true
+  pub planar : planes_fit (short_or es PLANAR_CONFIGURATION 1) (short_or es SAMPLES_PER_PIXEL 1) ≡ true
+  pub compression : accepts COMPRESSION (short_or es COMPRESSION 0) ≡ true
 
 -- one of them isn't, and its tag
 abbrev pub IsValueFault : List Entry → FileFault → Type 0
 IsValueFault es fault =
-    ((fault ≡ Unsupported 262) × (accepts 262 (short_or es 262 0) ≡ false))
-    ⊎ (((fault ≡ Unsupported 277) × (samples_fit (short_or es 277 1) (short_or es 262 0) ≡ false))
-    ⊎ (((fault ≡ Unsupported 284) × (planes_fit (short_or es 284 1) (short_or es 277 1) ≡ false))
-    ⊎ ((fault ≡ Unsupported 259) × (accepts 259 (short_or es 259 0) ≡ false))))
+    ((fault ≡ Unsupported PHOTOMETRIC_INTERPRETATION) × (accepts PHOTOMETRIC_INTERPRETATION (short_or es PHOTOMETRIC_INTERPRETATION 0) ≡ false))
+    ⊎ (((fault ≡ Unsupported SAMPLES_PER_PIXEL) × (samples_fit (short_or es SAMPLES_PER_PIXEL 1) (short_or es PHOTOMETRIC_INTERPRETATION 0) ≡ false))
+    ⊎ (((fault ≡ Unsupported PLANAR_CONFIGURATION) × (planes_fit (short_or es PLANAR_CONFIGURATION 1) (short_or es SAMPLES_PER_PIXEL 1) ≡ false))
+    ⊎ ((fault ≡ Unsupported COMPRESSION) × (accepts COMPRESSION (short_or es COMPRESSION 0) ≡ false))))
 
 -- the fields of BitsPerSample and SampleFormat have a value for each sample, or the first that has not
 abbrev pub HasCounts : List Entry → Type 0
-HasCounts es = (counts_samples es 258 ≡ true) × (counts_samples es 339 ≡ true)
+HasCounts es = (counts_samples es BITS_PER_SAMPLE ≡ true) × (counts_samples es SAMPLE_FORMAT ≡ true)
 
 abbrev pub IsCountFault : List Entry → FileFault → Type 0
 IsCountFault es fault =
-    ((fault ≡ FieldType 258) × (counts_samples es 258 ≡ false)) ⊎ ((fault ≡ FieldType 339) × (counts_samples es 339 ≡ false))
+    ((fault ≡ FieldType BITS_PER_SAMPLE) × (counts_samples es BITS_PER_SAMPLE ≡ false)) ⊎ ((fault ≡ FieldType SAMPLE_FORMAT) × (counts_samples es SAMPLE_FORMAT ≡ false))
 
 -- the entries keep the profile, and this is what they say of the level
 pub record IsReadIn (es : List Entry) (d : Draft) : Type 0 where

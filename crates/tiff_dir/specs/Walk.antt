@@ -1,4 +1,5 @@
 -- The words for what callers see of a walk over a file's directories, which is given one range of the file after another.
+use Rattle.tiff_dir.specs.declared.tags.TheConstants.{BITS_PER_SAMPLE, GEO_ASCII_PARAMS, GEO_DOUBLE_PARAMS, GEO_KEY_DIRECTORY, IMAGE_LENGTH, IMAGE_WIDTH, MODEL_PIXEL_SCALE, MODEL_TIEPOINT, MODEL_TRANSFORMATION, SAMPLES_PER_PIXEL, TILE_LENGTH, TILE_WIDTH}
 use Rattle.std.specs.Prelude.{◌≡◌, ℕ, ◌+◌, ◌-◌, ◌*◌, ◌<◌, ◌≤◌, ◌^◌, ⊤, true, List, drop, Option, Some, None, Result, Ok, Err, IsSomeAnd}
 use Rattle.tiff_dir.specs.declared.level.Level.{Level}
 use Rattle.tiff_dir.specs.declared.level.Place.{Place}
@@ -13,61 +14,61 @@ use Rattle.tiff_dir.specs.File.{field, has_all_tags, size_of}
 use Rattle.tiff_dir.specs.Level.{level_grid, level_value, plain_row, plain_size}
 use Rattle.tiff_dir.specs.Described.{grid_of, layout_of}
 use Rattle.tiff_dir.specs.Faulty.{level_compression, level_plain_size, level_plain_row}
-use Rattle.tiff_dir.specs.Needs.{Range, range_of_place, max_range_bytes, needs_of_directories}
+use Rattle.tiff_dir.specs.Needs.{Extent, extent_of_place, max_range_bytes, needs_of_directories}
 pub use Rattle.tiff_dir.specs.Needs.{bytes_in}
 use Rattle.tiff_dir.specs.Profile.{max_geo_bytes}
 use Rattle.tiff_dir.specs.Geo.{geo_place, IsGeoFault}
 use Rattle.tiff_dir.specs.Stage.{range_of}
-use Rattle.tiff_dir.specs.Known.{Known, IsTold}
+use Rattle.tiff_dir.specs.WalkState.{WalkState, IsTold}
 
 -- The range that the walk wants next, none at the end.
-unfoldable pub wanted : Known → Option Range
+unfoldable pub wanted : WalkState → Option Extent
 wanted w = range_of w.stage
 
-abbrev pub HasEnded : Known → Type 0
+abbrev pub HasEnded : WalkState → Type 0
 HasEnded w = wanted w ≡ None
 
 -- How many ranges the walk has taken.
-unfoldable pub given_of : Known → ℕ
+unfoldable pub given_of : WalkState → ℕ
 given_of w = w.given
 
 -- The levels that it has read.
-unfoldable pub levels_of : Known → List Level
+unfoldable pub levels_of : WalkState → List Level
 levels_of w = w.levels
 
 -- as many bytes as the walk wants
-abbrev pub IsWanted : Known → ℕ → Type 0
+abbrev pub IsWanted : WalkState → ℕ → Type 0
 IsWanted w len = IsSomeAnd (wanted w) (λ r. len ≡ r.len)
 
 -- the bytes of the file that the walk wants
-abbrev pub IsWantedOf : List ℕ → Known → List ℕ → Type 0
+abbrev pub IsWantedOf : List ℕ → WalkState → List ℕ → Type 0
 IsWantedOf f w bytes = IsSomeAnd (wanted w) (λ r. bytes ≡ bytes_in f r)
 
 -- The ranges of the file that a walk has still to take: those that its directories need, but for the ones taken.
-unfoldable pub to_come : Known → List ℕ → List Range
+unfoldable pub to_come : WalkState → List ℕ → List Extent
 to_come w f = drop w.given (needs_of_directories f)
 
 -- A walk agrees with a file: all that it holds is what the file says, and no fault of the file was passed over.
-unfoldable pub Agrees : Known → List ℕ → Type 0
-Agrees w f = IsTold w f
+unfoldable pub WalkAgrees : WalkState → List ℕ → Type 0
+WalkAgrees w f = IsTold w f
 
-abbrev pub range_of_span : Span → Range
-range_of_span s = record { first = s.first; len = s.last + 1 - s.first }
+abbrev pub extent_of_span : Span → Extent
+extent_of_span s = record { first = s.first; len = s.last + 1 - s.first }
 
 -- the answer is the range that is wanted, of a file of so many bytes
-abbrev pub Wants : Known → ℕ → Option Span → Type 0
+abbrev pub Wants : WalkState → ℕ → Option Span → Type 0
 Wants w complete None = HasEnded w
 Wants w complete (Some span) =
-    (wanted w ≡ Some (range_of_span span)) × (span.last < complete) × (span.last + 1 ≤ span.first + max_range_bytes)
+    (wanted w ≡ Some (extent_of_span span)) × (span.last < complete) × (span.last + 1 ≤ span.first + max_range_bytes)
 
 -- what level n of the file says of itself is what this level has
 pub record IsDescribed (f : List ℕ) (n : ℕ) (l : Level) : Type 0 where
-  pub width : level_value f n 256 0 ≡ Some l.width
-  pub length : level_value f n 257 0 ≡ Some l.length
-  pub tile_width : level_value f n 322 0 ≡ Some l.tile_width
-  pub tile_length : level_value f n 323 0 ≡ Some l.tile_length
-  pub samples : level_value f n 277 0 ≡ Some l.samples
-  pub bits : level_value f n 258 0 ≡ Some l.bits
+  pub width : level_value f n IMAGE_WIDTH 0 ≡ Some l.width
+  pub length : level_value f n IMAGE_LENGTH 0 ≡ Some l.length
+  pub tile_width : level_value f n TILE_WIDTH 0 ≡ Some l.tile_width
+  pub tile_length : level_value f n TILE_LENGTH 0 ≡ Some l.tile_length
+  pub samples : level_value f n SAMPLES_PER_PIXEL 0 ≡ Some l.samples
+  pub bits : level_value f n BITS_PER_SAMPLE 0 ≡ Some l.bits
   pub grid : level_grid f n ≡ Some (grid_of l)
   pub compression : level_compression f n ≡ Some l.compression
   pub plain_size : level_plain_size f n ≡ Some (plain_size (layout_of l))
@@ -81,7 +82,7 @@ IfFile (Err errors.Memory) P = Unit {0}
 
 -- the bytes of the file where a field's values stand
 abbrev pub IsArrayOf : List ℕ → Place → List ℕ → Type 0
-IsArrayOf f p bytes = bytes ≡ bytes_in f (range_of_place p)
+IsArrayOf f p bytes = bytes ≡ bytes_in f (extent_of_place p)
 
 -- the values of a geo field stand at the place, or the field is absent
 abbrev pub IsGeoFieldAt : List ℕ → ℕ → Option Place → Type 0
@@ -91,12 +92,12 @@ IsGeoFieldAt f tag (Some p) = geo_place f tag ≡ Some p
 -- the geo fields that are there stand at these places
 pub record AreGeoPlaces (f : List ℕ) (p : GeoPlaces) : Type 0 where
   pub whole : has_all_tags f 0 ≡ true
-  pub directory : IsGeoFieldAt f 34735 p.directory
-  pub doubles : IsGeoFieldAt f 34736 p.doubles
-  pub ascii : IsGeoFieldAt f 34737 p.ascii
-  pub scale : IsGeoFieldAt f 33550 p.scale
-  pub tiepoints : IsGeoFieldAt f 33922 p.tiepoints
-  pub transformation : IsGeoFieldAt f 34264 p.transformation
+  pub directory : IsGeoFieldAt f GEO_KEY_DIRECTORY p.directory
+  pub doubles : IsGeoFieldAt f GEO_DOUBLE_PARAMS p.doubles
+  pub ascii : IsGeoFieldAt f GEO_ASCII_PARAMS p.ascii
+  pub scale : IsGeoFieldAt f MODEL_PIXEL_SCALE p.scale
+  pub tiepoints : IsGeoFieldAt f MODEL_TIEPOINT p.tiepoints
+  pub transformation : IsGeoFieldAt f MODEL_TRANSFORMATION p.transformation
   -- nothing is wrong with their types, counts and lengths
   pub sound : (fault : FileFault) → IsGeoFault f fault → ⊥
 

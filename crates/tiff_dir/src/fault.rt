@@ -1,9 +1,11 @@
+//! What is wrong with a file.
 ghost use Rattle.std.specs.Prelude.{◌≡◌};
 ghost use Rattle.tiff_dir.specs.declared.fault.WalkError.TheVariants.{File, Memory};
 
 use std::alloc::{AllocError, AllocFailed};
 
-/// What is wrong with a file, or with what is asked of it. A file may have several.
+/// What is wrong with a file (TIFF 6.0 in this profile; GeoTIFF 1.1, OGC 19-008, section 7.1), or with what is asked of it. A
+/// file may have several.
 #[derive(Clone, Copy, Debug, PartialEq, Eq)]
 pub enum FileFault {
     /// The byte order marks or the number 42 are wrong.

@@ -5,52 +5,54 @@ ghost use Rattle.tiff_dir.specs.GeoEntries.{geo_in, place_by, AreNear, ArePlaces
 ghost use Rattle.tiff_dir.specs.Table.{entries_of};
 ghost use Rattle.tiff_dir.specs.Walk.{AreTyped};
 
+use crate::limits::MAX_GEO_BYTES;
 use crate::profile::is_allowed;
 use crate::rule::{Count, Rule, Typing};
 use crate::table::{Entry, Table};
+use crate::tags::{
+    GEO_ASCII_PARAMS, GEO_DOUBLE_PARAMS, GEO_KEY_DIRECTORY, MODEL_PIXEL_SCALE, MODEL_TIEPOINT,
+    MODEL_TRANSFORMATION,
+};
 use crate::values::place_of_entry;
 use crate::{FileFault, Place};
 
-/// The greatest number of bytes of a geo field.
-const MAX_GEO_BYTES: u64 = 65_536;
-
 const DIRECTORY: Rule = Rule {
-    tag: 34735,
+    tag: GEO_KEY_DIRECTORY,
     typing: Typing::Short,
     count: Count::Multiple(1),
     required: false,
 };
 
 const DOUBLES: Rule = Rule {
-    tag: 34736,
+    tag: GEO_DOUBLE_PARAMS,
     typing: Typing::Double,
     count: Count::Multiple(1),
     required: false,
 };
 
 const ASCII: Rule = Rule {
-    tag: 34737,
+    tag: GEO_ASCII_PARAMS,
     typing: Typing::Ascii,
     count: Count::Multiple(1),
     required: false,
 };
 
 const SCALE: Rule = Rule {
-    tag: 33550,
+    tag: MODEL_PIXEL_SCALE,
     typing: Typing::Double,
     count: Count::Exactly(3),
     required: false,
 };
 
 const TIEPOINTS: Rule = Rule {
-    tag: 33922,
+    tag: MODEL_TIEPOINT,
     typing: Typing::Double,
     count: Count::Multiple(6),
     required: false,
 };
 
 const TRANSFORMATION: Rule = Rule {
-    tag: 34264,
+    tag: MODEL_TRANSFORMATION,
     typing: Typing::Double,
     count: Count::Exactly(16),
     required: false,

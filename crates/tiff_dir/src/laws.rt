@@ -5,9 +5,9 @@ ghost use Rattle.tiff_dir.specs.declared.query.Query.TheVariants.{Window};
 ghost use Rattle.tiff_dir.specs.declared.query.Pick.{Pick};
 ghost use Rattle.tiff_dir.specs.declared.fault.FileFault.{FileFault};
 ghost use Rattle.tiff_dir.specs.Fault.{IsFaultOfDirectories};
-ghost use Rattle.tiff_dir.specs.Known.{Known};
+ghost use Rattle.tiff_dir.specs.WalkState.{WalkState};
 ghost use Rattle.tiff_dir.specs.Needs.{needs_of_directories, IsEndOf};
-ghost use Rattle.tiff_dir.specs.Walk.{to_come, Agrees, HasEnded};
+ghost use Rattle.tiff_dir.specs.Walk.{to_come, WalkAgrees, HasEnded};
 ghost use Rattle.tiff_dir.specs.Packets.{PacketsAreApart, TextsAreUnique};
 ghost use Rattle.tiff_dir.specs.Faulty.{IsFaulty, IsWindow};
 
@@ -25,10 +25,10 @@ pub fn some_window()
 
 /// What a walk has still to take is the end of what the directories need: nothing when it has ended.
 pub fn what_comes()
-    ensures end { (w : Known) (f : List ℕ) → IsEndOf (to_come w f) (needs_of_directories f) }
-    ensures over { (w : Known) (f : List ℕ) → Agrees w f → HasEnded w → to_come w f ≡ [] }
+    ensures end { (w : WalkState) (f : List ℕ) → IsEndOf (to_come w f) (needs_of_directories f) }
+    ensures over { (w : WalkState) (f : List ℕ) → WalkAgrees w f → HasEnded w → to_come w f ≡ [] }
     // Its directories are then without fault.
-    ensures clean { (w : Known) (f : List ℕ) → Agrees w f → HasEnded w → (fault : FileFault) → IsFaultOfDirectories f fault → ⊥ }
+    ensures clean { (w : WalkState) (f : List ℕ) → WalkAgrees w f → HasEnded w → (fault : FileFault) → IsFaultOfDirectories f fault → ⊥ }
 {}
 
 /// Bytes are packets in one way, and stand for one text.

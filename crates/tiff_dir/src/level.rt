@@ -1,3 +1,4 @@
+//! One image of a file, and the types of its fields (TIFF 6.0, sections 2 and 15).
 ghost use Rattle.std.specs.Prelude.{◌≡◌, ◌*◌, ◌<◌, ◌≤◌, ◌^◌, ◌&&◌, IsTrue};
 ghost use Rattle.tiff_dir.specs.File.{size_of};
 ghost use Rattle.tiff_dir.specs.Profile.{is_depth, is_long, is_sample_count, is_short_or_long, is_tile_side, max_tile_bytes, max_tiles, tile_bytes, tile_count, tiles_along};
@@ -35,11 +36,15 @@ impl Kind {
     }
 }
 
-/// Where a field's values stand: `len` bytes from `first`, in the entry or outside it.
+/// Where a field's values stand, in the entry or outside it. It is no span, since a field may have no values, and it says of
+/// which type they are and how many.
 #[derive(Clone, Copy, Debug, PartialEq, Eq)]
 pub struct Place {
+    /// The first byte's position in the file.
     pub first: u64,
+    /// How many bytes there are: `count` times the type's size.
     pub len: u64,
+    /// How many values.
     pub count: u32,
     pub kind: Kind,
 }

@@ -1,4 +1,4 @@
-// The steps of the walk over a level: its table, its values outside the entries, and its end.
+//! The steps of the walk over a level: its table, its values outside the entries, and its end.
 ghost use Rattle.std.specs.Prelude.{◌≡◌, ℕ, ◌+◌, ◌*◌, ◌<◌, ◌≤◌, ◌%◌, ◌&&◌, ◌||◌, ◌==◌, List, true, false, Some, IfOk, length, MatchResult};
 ghost use Rattle.std.specs.Option.{ForSome};
 ghost use Rattle.tiff_dir.specs.Number.{number_in};
@@ -18,6 +18,7 @@ use crate::profile::SUBFILE;
 use crate::shape::check_shape;
 use crate::stage::{Draft, Pending, Stage, Step};
 use crate::table::Table;
+use crate::tags::{BITS_PER_SAMPLE, NEW_SUBFILE_TYPE, SAMPLE_FORMAT};
 use crate::{FileFault, Level, Order};
 
 /// How many samples a pixel has whose BitsPerSample doesn't fit in the entry.
@@ -47,7 +48,7 @@ pub(crate) fn check_directory(index: u32, table: &Table<'_>) -> Result<bool, Fil
         return Err(FileFault::TagOrder);
     }
     table.check_rule(SUBFILE)?;
-    let subfile = table.single(254, 0);
+    let subfile = table.single(NEW_SUBFILE_TYPE, 0);
     if is_reduced_first(index, subfile) {
         return Err(FileFault::LevelShape);
     }
@@ -85,10 +86,10 @@ pub(crate) fn after_level(
         draft,
     };
     if draft.samples == COLOUR_SAMPLES {
-        let Some(first) = table.long(258) else {
-            return Err(FileFault::Missing(258));
+        let Some(first) = table.long(BITS_PER_SAMPLE) else {
+            return Err(FileFault::Missing(BITS_PER_SAMPLE));
         };
-        let formats = table.long(339);
+        let formats = table.long(SAMPLE_FORMAT);
         let stage = Stage::Bits {
             pending,
             first,
@@ -96,12 +97,12 @@ pub(crate) fn after_level(
         };
         return Ok(Step { stage, level: None });
     }
-    let bits = table.short(258, 0);
+    let bits = table.short(BITS_PER_SAMPLE, 0);
     if !is_depth(bits) {
-        return Err(FileFault::Unsupported(258));
+        return Err(FileFault::Unsupported(BITS_PER_SAMPLE));
     }
-    if table.short(339, 1) != 1 {
-        return Err(FileFault::Unsupported(339));
+    if table.short(SAMPLE_FORMAT, 1) != 1 {
+        return Err(FileFault::Unsupported(SAMPLE_FORMAT));
     }
     finish(pending, bits, previous)
 }
@@ -148,7 +149,7 @@ pub(crate) fn after_bits(
     requires draft { IsDraft pending.draft }
     requires whole { length bytes.now ≡ 6 }
     ensures next { IfOk result (IsNext (Stage.Bits pending first formats) (4 + 4 * pending.index)) }
-    ensures agrees { (f : List ℕ) → IsPending f pending → HasShorts f pending.index 258 first → HasFormats f pending.index formats
+    ensures agrees { (f : List ℕ) → IsPending f pending → HasShorts f pending.index BITS_PER_SAMPLE first → HasFormats f pending.index formats
         → IsBefore f pending.index previous → bytes.now ≡ bytes_in f (three_shorts first)
         → MatchResult result (StepsOn f (Stage.Bits pending first formats)) (IsFaultOfDirectories f) }
 {
@@ -162,7 +163,7 @@ pub(crate) fn after_bits(
         return Ok(Step { stage, level: None });
     }
     let Some(bits) = bits else {
-        return Err(FileFault::Unsupported(258));
+        return Err(FileFault::Unsupported(BITS_PER_SAMPLE));
     };
     finish(pending, bits, previous)
 }
@@ -180,15 +181,15 @@ pub(crate) fn after_formats(
     requires whole { length bytes.now ≡ 6 }
     requires depth { ForSome bits (λ n. is_depth n ≡ true) }
     ensures next { IfOk result (IsNext (Stage.Formats pending first bits) (5 + 4 * pending.index)) }
-    ensures agrees { (f : List ℕ) → IsPending f pending → HasShorts f pending.index 339 first → HasBits f pending.index bits
+    ensures agrees { (f : List ℕ) → IsPending f pending → HasShorts f pending.index SAMPLE_FORMAT first → HasBits f pending.index bits
         → IsBefore f pending.index previous → bytes.now ≡ bytes_in f (three_shorts first)
         → MatchResult result (StepsOn f (Stage.Formats pending first bits)) (IsFaultOfDirectories f) }
 {
     let Some(bits) = bits else {
-        return Err(FileFault::Unsupported(258));
+        return Err(FileFault::Unsupported(BITS_PER_SAMPLE));
     };
     if !are_all(pending.order, bytes, 1) {
-        return Err(FileFault::Unsupported(339));
+        return Err(FileFault::Unsupported(SAMPLE_FORMAT));
     }
     finish(pending, bits, previous)
 }
@@ -221,7 +222,7 @@ fn finish(pending: Pending, bits: u16, previous: Option<Level>) -> Result<Step, 
     requires draft { IsDraft pending.draft }
     requires depth { is_depth bits ≡ true }
     ensures end { IfOk result (IsEnd pending.index) }
-    ensures agrees { (f : List ℕ) → IsPending f pending → value f pending.index 258 0 ≡ Some bits → IsSupported f pending.index 258 → IsSupported f pending.index 339
+    ensures agrees { (f : List ℕ) → IsPending f pending → value f pending.index BITS_PER_SAMPLE 0 ≡ Some bits → IsSupported f pending.index BITS_PER_SAMPLE → IsSupported f pending.index SAMPLE_FORMAT
         → IsBefore f pending.index previous → MatchResult result (EndsDirectory f pending.index) (IsFaultOfDirectories f) }
 {
     check_shape(previous, pending.draft, bits)?;

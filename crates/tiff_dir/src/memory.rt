@@ -1,3 +1,4 @@
+//! The refusal for want of memory.
 use std::alloc::{AllocError, AllocFailed};
 
 /// The refusal for want of memory. It is answered only where a growth was really refused.

@@ -1,13 +1,12 @@
-// From one directory to the next.
+//! From one directory to the next.
 ghost use Rattle.std.specs.Prelude.{◌≡◌, ℕ, ◌+◌, ◌*◌, ◌<◌, ◌≤◌, List, true, IfOk, MatchResult};
 ghost use Rattle.tiff_dir.specs.File.{max_directories};
 ghost use Rattle.tiff_dir.specs.Fault.{IsFaultOfDirectories};
 ghost use Rattle.tiff_dir.specs.Stage.{index_of, is_past_first, Follows, IsAt, IsKept};
 
+use crate::limits::MAX_DIRECTORIES;
 use crate::stage::Stage;
 use crate::{FileFault, Order};
-
-const MAX_DIRECTORIES: u32 = 16;
 
 /// Goes to directory `index`, of which `at` is told, or to the end.
 pub(crate) fn next(order: Order, index: u32, at: u32) -> Result<Stage, FileFault>

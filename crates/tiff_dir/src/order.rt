@@ -1,3 +1,4 @@
+//! Byte orders (TIFF 6.0, section 2).
 ghost use Rattle.std.specs.Prelude.{◌≡◌, ◌+◌, ◌≤◌, length};
 
 use byteorder::{BigEndian, ByteOrder, LittleEndian};

@@ -1,4 +1,4 @@
-// The fields that a level has, as the table of a directory has them.
+//! The fields that a level has, as the table of a directory has them.
 ghost use Rattle.std.specs.Prelude.{◌≡◌, true, false, MatchResult};
 ghost use Rattle.std.specs.List.{AllPass};
 ghost use Rattle.tiff_dir.specs.Profile.{profile};
@@ -7,10 +7,15 @@ ghost use Rattle.tiff_dir.specs.Table.{allows, entries_of, keeps, IsEntryFault, 
 use crate::FileFault;
 use crate::rule::{Count, Rule, Typing};
 use crate::table::{Entry, Table};
+use crate::tags::{
+    BITS_PER_SAMPLE, COMPRESSION, IMAGE_LENGTH, IMAGE_WIDTH, NEW_SUBFILE_TYPE,
+    PHOTOMETRIC_INTERPRETATION, PLANAR_CONFIGURATION, SAMPLE_FORMAT, SAMPLES_PER_PIXEL,
+    TILE_BYTE_COUNTS, TILE_LENGTH, TILE_OFFSETS, TILE_WIDTH,
+};
 
 /// NewSubfileType, which is looked at in every directory.
 pub const SUBFILE: Rule = Rule {
-    tag: 254,
+    tag: NEW_SUBFILE_TYPE,
     typing: Typing::Long,
     count: Count::One,
     required: false,
@@ -19,86 +24,74 @@ pub const SUBFILE: Rule = Rule {
 /// The fields that are read of a level, in the order of their tags.
 const PROFILE: [Rule; 13] = [
     SUBFILE,
-    // ImageWidth
     Rule {
-        tag: 256,
+        tag: IMAGE_WIDTH,
         typing: Typing::ShortOrLong,
         count: Count::One,
         required: true,
     },
-    // ImageLength
     Rule {
-        tag: 257,
+        tag: IMAGE_LENGTH,
         typing: Typing::ShortOrLong,
         count: Count::One,
         required: true,
     },
-    // BitsPerSample
     Rule {
-        tag: 258,
+        tag: BITS_PER_SAMPLE,
         typing: Typing::Short,
         count: Count::Samples,
         required: true,
     },
-    // Compression
     Rule {
-        tag: 259,
+        tag: COMPRESSION,
         typing: Typing::Short,
         count: Count::One,
         required: true,
     },
-    // PhotometricInterpretation
     Rule {
-        tag: 262,
+        tag: PHOTOMETRIC_INTERPRETATION,
         typing: Typing::Short,
         count: Count::One,
         required: true,
     },
-    // SamplesPerPixel
     Rule {
-        tag: 277,
+        tag: SAMPLES_PER_PIXEL,
         typing: Typing::Short,
         count: Count::One,
         required: false,
     },
-    // PlanarConfiguration
     Rule {
-        tag: 284,
+        tag: PLANAR_CONFIGURATION,
         typing: Typing::Short,
         count: Count::One,
         required: false,
     },
-    // TileWidth
     Rule {
-        tag: 322,
+        tag: TILE_WIDTH,
         typing: Typing::ShortOrLong,
         count: Count::One,
         required: true,
     },
-    // TileLength
     Rule {
-        tag: 323,
+        tag: TILE_LENGTH,
         typing: Typing::ShortOrLong,
         count: Count::One,
         required: true,
     },
-    // TileOffsets
     Rule {
-        tag: 324,
+        tag: TILE_OFFSETS,
         typing: Typing::Long,
         count: Count::Tiles,
         required: true,
     },
-    // TileByteCounts
     Rule {
-        tag: 325,
+        tag: TILE_BYTE_COUNTS,
         typing: Typing::ShortOrLong,
         count: Count::Tiles,
         required: true,
     },
-    // SampleFormat
     Rule {
-        tag: 339,
+        tag: SAMPLE_FORMAT,
         typing: Typing::Short,
         count: Count::Samples,
         required: false,

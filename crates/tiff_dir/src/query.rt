@@ -1,3 +1,4 @@
+//! What is asked of a file.
 /// Which level a window is asked in.
 #[derive(Clone, Copy, Debug, PartialEq, Eq)]
 pub enum Pick {
@@ -11,7 +12,7 @@ pub enum Pick {
 /// What is asked of a file.
 #[derive(Clone, Copy, Debug, PartialEq, Eq)]
 pub enum Query {
-    /// The samples of `w` columns from `x` and `h` rows from `y`.
+    /// The samples of `w` columns from `x` and `h` rows from `y`, in pixels of the level that `pick` names.
     Window {
         x: u32,
         y: u32,

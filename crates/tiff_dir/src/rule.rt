@@ -1,3 +1,4 @@
+//! What the profile asks of a field.
 /// The types that a field of the profile may have.
 #[derive(Clone, Copy)]
 pub enum Typing {

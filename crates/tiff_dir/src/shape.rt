@@ -1,15 +1,12 @@
-// Whether the sides of a level, its tiles and their arrays are those of the profile.
+//! Whether the sides of a level, its tiles and their arrays are those of the profile.
 ghost use Rattle.std.specs.Prelude.{◌≡◌, ◌*◌, ◌<◌, ◌≤◌, true, false, nat_le, MatchOption, MatchResult};
 ghost use Rattle.tiff_dir.specs.Profile.{is_tile_side, max_tile_bytes, max_tiles, tile_bytes};
 ghost use Rattle.tiff_dir.specs.Shape.{fits_under, has_arrays, has_sides, has_tiles, IsShaped, IsShapeFault};
 
 use crate::level::tiles_along;
+use crate::limits::{MAX_TILE_BYTES, MAX_TILES};
 use crate::stage::Draft;
 use crate::{FileFault, Level};
-
-const MAX_TILE_BYTES: u64 = 1_048_576;
-
-const MAX_TILES: u64 = 65_536;
 
 /// The sides are not 0, and smaller than those of the level before.
 fn fits_below(previous: Option<Level>, draft: Draft) -> bool

@@ -1,3 +1,4 @@
+//! A span of bytes.
 ghost use Rattle.std.specs.Prelude.{◌≤◌};
 
 /// Bytes of a file: positions count from 0, both ends belong to the span, and it is not empty.

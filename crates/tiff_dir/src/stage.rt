@@ -1,3 +1,4 @@
+//! Where a walk stands, and what it has read of the directory that it is in.
 use crate::{Compression, Level, Order, Place};
 
 /// What a directory says of its level in the entries: all but the bits of a sample.

@@ -1,22 +1,22 @@
-// One step of the walk for each range that it wants.
+//! One step of the walk for each range that it wants.
 ghost use Rattle.std.specs.Prelude.{◌≡◌, ℕ, ◌+◌, ◌*◌, ◌<◌, ◌≤◌, ◌^◌, List, true, false, IsSomeAnd, IfSome, IfOk, length, MatchResult};
 ghost use Rattle.std.specs.Option.{option_map};
 ghost use Rattle.tiff_dir.specs.File.{max_directories, order_of};
 ghost use Rattle.tiff_dir.specs.Fault.{IsFaultOfDirectories};
 ghost use Rattle.tiff_dir.specs.Needs.{bytes_in, header_range, max_entries, max_range_bytes};
 ghost use Rattle.tiff_dir.specs.GeoEntries.{AreNear};
-ghost use Rattle.tiff_dir.specs.Known.{HasGeo};
+ghost use Rattle.tiff_dir.specs.Walk.{extent_of_span};
+ghost use Rattle.tiff_dir.specs.WalkState.{HasGeo};
 ghost use Rattle.tiff_dir.specs.Shape.{IsNext};
 ghost use Rattle.tiff_dir.specs.Stage.{index_of, is_first_table, range_of, AgreesAt, IsBefore, IsKept, IsTableOf, StepsOn};
 
 use crate::geo::GeoEntries;
 use crate::level_steps::{after_bits, after_formats, after_level, check_directory};
+use crate::limits::MAX_ENTRIES;
 use crate::next::next;
 use crate::stage::{Stage, Step};
 use crate::table::Table;
-use crate::{FileFault, Level, Order};
-
-const MAX_ENTRIES: u16 = 256;
+use crate::{FileFault, Level, Order, Span};
 
 /// The order that the first two bytes name.
 #[tactic(auto, unfolding(crate::specs::File::order_of))]
@@ -160,16 +160,34 @@ pub(crate) fn geo_after(stage: Stage, bytes: &[u8], geo: GeoEntries) -> GeoEntri
     }
 }
 
-/// Where the range begins that a walk wants, and how long it is.
-pub(crate) fn range(stage: Stage) -> Option<(u64, u64)>
-    ensures small { IfSome result (λ p. (0 < p.1) × (p.1 ≤ max_range_bytes) × (p.0 < 2 ^ 33)) }
-    ensures wanted { range_of stage ≡ option_map (λ p. record { first = p.0; len = p.1 }) result }
+/// The `len` bytes from `first`.
+fn span(first: u64, len: u64) -> Span
+    requires near { first < 2 ^ 33 }
+    requires some { 0 < len }
+    requires small { len ≤ max_range_bytes }
+    ensures extent { extent_of_span result ≡ record { first = first; len = len } }
+    ensures small { result.last + 1 ≤ result.first + max_range_bytes }
+{
+    Span {
+        first,
+        last: first + len - 1,
+    }
+}
+
+/// The range that a walk wants.
+pub(crate) fn range(stage: Stage) -> Option<Span>
+    ensures small { IfSome result (λ s. s.last + 1 ≤ s.first + max_range_bytes) }
+    ensures wanted { range_of stage ≡ option_map extent_of_span result }
 {
     match stage {
-        Stage::Header => Some((0, 8)),
-        Stage::Count { at, .. } => Some((u64::from(at), 2)),
-        Stage::Table { at, entries, .. } => Some((u64::from(at) + 2, 12 * u64::from(entries) + 4)),
-        Stage::Bits { first, .. } | Stage::Formats { first, .. } => Some((u64::from(first), 6)),
+        Stage::Header => Some(span(0, 8)),
+        Stage::Count { at, .. } => Some(span(u64::from(at), 2)),
+        Stage::Table { at, entries, .. } => {
+            Some(span(u64::from(at) + 2, 12 * u64::from(entries) + 4))
+        }
+        Stage::Bits { first, .. } | Stage::Formats { first, .. } => {
+            Some(span(u64::from(first), 6))
+        }
         Stage::Ended { .. } => None,
     }
 }

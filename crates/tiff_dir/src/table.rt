@@ -1,4 +1,4 @@
-// The entries in the bytes of a directory's table.
+//! The entries in the bytes of a directory's table.
 ghost use Rattle.std.specs.Prelude.{◌≡◌, ◌+◌, ◌*◌, ◌≤◌, length};
 ghost use Rattle.tiff_dir.specs.Needs.{max_entries};
 

@@ -1,4 +1,4 @@
-// The values and places of a level's fields, as the table of a directory has them.
+//! The values and places of a level's fields, as the table of a directory has them.
 ghost use Rattle.std.specs.Prelude.{◌≡◌, ◌+◌, ◌*◌, ◌<◌, ◌^◌, true, length, MatchResult, if◌then◌else◌, ◌==◌};
 ghost use Rattle.tiff_dir.specs.Profile.{planes_fit, samples_fit};
 ghost use Rattle.tiff_dir.specs.Stage.{IsArrayPlace, IsBounded};
@@ -6,6 +6,11 @@ ghost use Rattle.tiff_dir.specs.Table.{counts_samples, draft_in, kind_in, entrie
 
 use crate::stage::Draft;
 use crate::table::{Entry, Table};
+use crate::tags::{
+    BITS_PER_SAMPLE, COMPRESSION, IMAGE_LENGTH, IMAGE_WIDTH, PHOTOMETRIC_INTERPRETATION,
+    PLANAR_CONFIGURATION, SAMPLE_FORMAT, SAMPLES_PER_PIXEL, TILE_BYTE_COUNTS, TILE_LENGTH,
+    TILE_OFFSETS, TILE_WIDTH,
+};
 use crate::{Compression, FileFault, Kind, Place};
 
 /// The type of this number, of those that the profile has.
@@ -121,14 +126,14 @@ impl Table<'_> {
         ensures bounded { IsBounded result }
     {
         Draft {
-            width: self.single(256, 0),
-            length: self.single(257, 0),
-            tile_width: self.single(322, 0),
-            tile_length: self.single(323, 0),
-            samples: self.short(277, 1),
-            compression: compression(self.short(259, 0)),
-            offsets: self.place(324),
-            counts: self.place(325),
+            width: self.single(IMAGE_WIDTH, 0),
+            length: self.single(IMAGE_LENGTH, 0),
+            tile_width: self.single(TILE_WIDTH, 0),
+            tile_length: self.single(TILE_LENGTH, 0),
+            samples: self.short(SAMPLES_PER_PIXEL, 1),
+            compression: compression(self.short(COMPRESSION, 0)),
+            offsets: self.place(TILE_OFFSETS),
+            counts: self.place(TILE_BYTE_COUNTS),
         }
     }
 
@@ -136,21 +141,21 @@ impl Table<'_> {
     pub fn check_values(&self) -> Result<(), FileFault>
         ensures { MatchResult result (λ _. HasValues (entries_of self.now)) (IsValueFault (entries_of self.now)) }
     {
-        let photometric = self.short(262, 0);
+        let photometric = self.short(PHOTOMETRIC_INTERPRETATION, 0);
         if photometric != 1 && photometric != 2 {
-            return Err(FileFault::Unsupported(262));
+            return Err(FileFault::Unsupported(PHOTOMETRIC_INTERPRETATION));
         }
-        let samples = self.short(277, 1);
+        let samples = self.short(SAMPLES_PER_PIXEL, 1);
         if !fits_samples(samples, photometric) {
-            return Err(FileFault::Unsupported(277));
+            return Err(FileFault::Unsupported(SAMPLES_PER_PIXEL));
         }
-        let planar = self.short(284, 1);
+        let planar = self.short(PLANAR_CONFIGURATION, 1);
         if !fits_planes(planar, samples) {
-            return Err(FileFault::Unsupported(284));
+            return Err(FileFault::Unsupported(PLANAR_CONFIGURATION));
         }
-        let compression = self.short(259, 0);
+        let compression = self.short(COMPRESSION, 0);
         if compression != 1 && compression != 32773 {
-            return Err(FileFault::Unsupported(259));
+            return Err(FileFault::Unsupported(COMPRESSION));
         }
         Ok(())
     }
@@ -159,7 +164,7 @@ impl Table<'_> {
     fn has_samples(&self, tag: u16) -> bool
         ensures { result ≡ counts_samples (entries_of self.now) tag }
     {
-        let samples = self.short(277, 1);
+        let samples = self.short(SAMPLES_PER_PIXEL, 1);
         match self.find(tag) {
             Some(entry) => entry.count == u32::from(samples),
             None => true,
@@ -170,11 +175,11 @@ impl Table<'_> {
     pub fn check_counts(&self) -> Result<(), FileFault>
         ensures { MatchResult result (λ _. HasCounts (entries_of self.now)) (IsCountFault (entries_of self.now)) }
     {
-        if !self.has_samples(258) {
-            return Err(FileFault::FieldType(258));
+        if !self.has_samples(BITS_PER_SAMPLE) {
+            return Err(FileFault::FieldType(BITS_PER_SAMPLE));
         }
-        if !self.has_samples(339) {
-            return Err(FileFault::FieldType(339));
+        if !self.has_samples(SAMPLE_FORMAT) {
+            return Err(FileFault::FieldType(SAMPLE_FORMAT));
         }
         Ok(())
     }

@@ -1,3 +1,4 @@
+//! The walk over the directories of a file (TIFF 6.0, section 2), by one byte range after another.
 ghost use Rattle.std.specs.Prelude.{◌≡◌, ℕ, ◌+◌, ◌<◌, ◌≤◌, List, [], ◌∷◌, ◌++◌, Some, IsSomeAnd, IfOk, IfErr, OnOk, OnErr, length, slice_get};
 ghost use Rattle.std.specs.Option.{option_map, option_to_list};
 ghost use Rattle.tiff_dir.specs.Fault.{IsFaultOfDirectories};
@@ -5,22 +6,23 @@ ghost use Rattle.tiff_dir.specs.File.{order_of};
 ghost use Rattle.tiff_dir.specs.Described.{layout_of, AreLevels};
 ghost use Rattle.tiff_dir.specs.Geo.{IsGeoFault};
 ghost use Rattle.tiff_dir.specs.Level.{level_layout};
-ghost use Rattle.tiff_dir.specs.Needs.{needs_of_directories, range_of_place};
+ghost use Rattle.tiff_dir.specs.Needs.{needs_of_directories, extent_of_place};
 ghost use Rattle.tiff_dir.specs.Query.{array_range};
 ghost use Rattle.tiff_dir.specs.declared.fault.FileFault.{FileFault as Fault};
 ghost use Rattle.tiff_dir.specs.declared.level.Level.{Level as Described};
-ghost use Rattle.tiff_dir.specs.Walk.{given_of, levels_of, to_come, wanted, Agrees, AreGeoPlaces, AreTyped, HasEnded, IfFile, IsDescribed, IsWanted, IsWantedOf, Wants};
+ghost use Rattle.tiff_dir.specs.Walk.{given_of, levels_of, to_come, wanted, WalkAgrees, AreGeoPlaces, AreTyped, HasEnded, IfFile, IsDescribed, IsWanted, IsWantedOf, Wants};
 
 use crate::geo::{GeoEntries, GeoPlaces};
 use crate::stage::Stage;
 use crate::steps::{geo_after, range, step};
+use crate::tags::{TILE_BYTE_COUNTS, TILE_OFFSETS};
 use crate::{FileFault, Level, Order, Span, WalkError};
 use std::alloc::Global;
 use std::marker::Model;
 
-/// A walk over the directories of a file, which is given one range of it after another: the header, and
-/// of each directory the count of its entries, then the entries and the place of the next directory, and
-/// of a level the values of BitsPerSample and SampleFormat that stand outside its entries.
+/// A walk over the directories of a file, which is given one range of it after another: the header (8 bytes), and of each
+/// directory the count of its entries (2 bytes), then the entries and the place of the next directory (12 bytes for each entry,
+/// and 4), and of a level the values of BitsPerSample and SampleFormat that stand outside its entries (6 bytes each).
 #[derive(Drop)]
 pub struct Walk {
     stage: Stage,
@@ -30,10 +32,10 @@ pub struct Walk {
 }
 
 impl Model for Walk {
-    ghost use Rattle.tiff_dir.specs.Known.{Known};
+    ghost use Rattle.tiff_dir.specs.WalkState.{WalkState};
     ghost use Rattle.tiff_dir.specs.Shape.{IsSoFar};
 
-    ghost Value = { Known };
+    ghost Value = { WalkState };
 
     ghost view = { λ w. record { stage = w.stage; levels = w.levels.items; geo = w.geo; given = w.given } };
 
@@ -54,8 +56,16 @@ fn keep(levels: &mut Vec<Level>, level: Option<Level>) -> Result<(), WalkError>
 
 impl Walk {
     /// A walk that knows nothing yet. It takes no memory.
+    ///
+    /// ```
+    /// let mut walk = Walk::new(alloc);
+    /// while let Some(span) = walk.need(file.len() as u64)? {
+    ///     walk.give(&file[span.first as usize..=span.last as usize])?;
+    /// }
+    /// let levels = walk.levels();
+    /// ```
     pub fn new(alloc: Global) -> Walk
-        ensures agrees { (f : List ℕ) → Agrees result f }
+        ensures agrees { (f : List ℕ) → WalkAgrees result f }
         ensures come { (f : List ℕ) → to_come result f ≡ needs_of_directories f }
         ensures given { given_of result ≡ 0 }
     {
@@ -67,33 +77,31 @@ impl Walk {
         }
     }
 
-    /// The range that is wanted next, of a file of `complete` bytes, or `None` at the end.
+    /// The range that is wanted next, of a file of `complete` bytes, or `None` at the end: at most 1,048,576 bytes, all of them
+    /// in the file. Where the range ends after the file, the fault is PastEnd, and the walk stays as it is.
     pub fn need(&self, complete: u64) -> Result<Option<Span>, FileFault>
         ensures wanted { IfOk result (Wants self.now complete) }
         // The only fault is that the range ends after the file.
         ensures past { IfErr result (λ fault. (fault ≡ FileFault.PastEnd) × IsSomeAnd (wanted self.now) (λ r. complete < r.first + r.len)) }
-        ensures fault { IfErr result (λ fault. (f : List ℕ) → length f ≡ complete → Agrees self.now f → IsFaultOfDirectories f fault) }
+        ensures fault { IfErr result (λ fault. (f : List ℕ) → length f ≡ complete → WalkAgrees self.now f → IsFaultOfDirectories f fault) }
         // It is the first of the ranges still to come, and there is none exactly at the end.
-        ensures first { (f : List ℕ) → Agrees self.now f → slice_get (to_come self.now f) 0 ≡ wanted self.now }
+        ensures first { (f : List ℕ) → WalkAgrees self.now f → slice_get (to_come self.now f) 0 ≡ wanted self.now }
     {
-        let Some((first, len)) = range(self.stage) else {
+        let Some(span) = range(self.stage) else {
             return Ok(None);
         };
-        if first + len > complete {
+        if span.last >= complete {
             return Err(FileFault::PastEnd);
         }
-        Ok(Some(Span {
-            first,
-            last: first + len - 1,
-        }))
+        Ok(Some(span))
     }
 
     /// The byte order of the file, when the walk has ended.
     pub fn order(&self) -> Order
         requires { HasEnded self.now }
-        ensures order { (f : List ℕ) → Agrees self.now f → order_of f ≡ Some result }
+        ensures order { (f : List ℕ) → WalkAgrees self.now f → order_of f ≡ Some result }
         // The file's directories are without fault.
-        ensures clean { (f : List ℕ) → Agrees self.now f → (fault : Fault) → IsFaultOfDirectories f fault → ⊥ }
+        ensures clean { (f : List ℕ) → WalkAgrees self.now f → (fault : Fault) → IsFaultOfDirectories f fault → ⊥ }
     {
         match self.stage {
             Stage::Ended { order, .. } => order,
@@ -101,19 +109,19 @@ impl Walk {
         }
     }
 
-    /// The levels of the file, when the walk has ended.
+    /// The levels of the file, when the walk has ended: one at least, each smaller than the one before.
     pub fn levels(&self) -> &[Level]
         requires { HasEnded self.now }
-        ensures levels { (f : List ℕ) → Agrees self.now f → AreLevels f result.now }
+        ensures levels { (f : List ℕ) → WalkAgrees self.now f → AreLevels f result.now }
         ensures held { result.now ≡ levels_of self.now }
         ensures some { 0 < length result.now }
         // The file's directories are without fault.
-        ensures clean { (f : List ℕ) → Agrees self.now f → (fault : Fault) → IsFaultOfDirectories f fault → ⊥ }
+        ensures clean { (f : List ℕ) → WalkAgrees self.now f → (fault : Fault) → IsFaultOfDirectories f fault → ⊥ }
         // Each level is that of its number, has its values, and its arrays stand at its places.
-        ensures level { (f : List ℕ) → Agrees self.now f → (n : ℕ) → level_layout f n ≡ option_map layout_of (slice_get result.now n) }
-        ensures values { (f : List ℕ) → Agrees self.now f → (n : ℕ) (l : Described) → slice_get result.now n ≡ Some l → IsDescribed f n l }
-        ensures offsets { (f : List ℕ) → Agrees self.now f → (n : ℕ) (l : Described) → slice_get result.now n ≡ Some l → array_range f n 324 ≡ Some (range_of_place l.offsets) }
-        ensures counts { (f : List ℕ) → Agrees self.now f → (n : ℕ) (l : Described) → slice_get result.now n ≡ Some l → array_range f n 325 ≡ Some (range_of_place l.counts) }
+        ensures level { (f : List ℕ) → WalkAgrees self.now f → (n : ℕ) → level_layout f n ≡ option_map layout_of (slice_get result.now n) }
+        ensures values { (f : List ℕ) → WalkAgrees self.now f → (n : ℕ) (l : Described) → slice_get result.now n ≡ Some l → IsDescribed f n l }
+        ensures offsets { (f : List ℕ) → WalkAgrees self.now f → (n : ℕ) (l : Described) → slice_get result.now n ≡ Some l → array_range f n TILE_OFFSETS ≡ Some (extent_of_place l.offsets) }
+        ensures counts { (f : List ℕ) → WalkAgrees self.now f → (n : ℕ) (l : Described) → slice_get result.now n ≡ Some l → array_range f n TILE_BYTE_COUNTS ≡ Some (extent_of_place l.counts) }
     {
         self.levels.as_slice()
     }
@@ -123,9 +131,9 @@ impl Walk {
     /// scale, tiepoints, transformation; what is wrong concerns the query Info alone.
     pub fn geo_places(&self) -> Result<GeoPlaces, FileFault>
         requires { HasEnded self.now }
-        ensures places { IfOk result (λ places. (f : List ℕ) → Agrees self.now f → AreGeoPlaces f places) }
+        ensures places { IfOk result (λ places. (f : List ℕ) → WalkAgrees self.now f → AreGeoPlaces f places) }
         ensures typed { IfOk result AreTyped }
-        ensures fault { IfErr result (λ fault. (f : List ℕ) → Agrees self.now f → IsGeoFault f fault) }
+        ensures fault { IfErr result (λ fault. (f : List ℕ) → WalkAgrees self.now f → IsGeoFault f fault) }
     {
         self.geo.places()
     }
@@ -138,12 +146,13 @@ impl Walk {
         self.given
     }
 
-    /// Takes the bytes of the range that is wanted. An `Err` changes nothing.
+    /// Takes the bytes of the range that is wanted, as many as it has. The fault is the first of the order of the checks that the
+    /// bytes show (1 to 12 but for PastEnd), or Memory where no room for a level was left. An `Err` changes nothing.
     pub fn give(&mut self, bytes: &[u8]) -> Result<(), WalkError>
         requires { IsWanted self.old (length bytes.now) }
-        ensures agrees { OnOk result ((f : List ℕ) → Agrees self.old f → IsWantedOf f self.old bytes.now → Agrees self.new f) }
-        ensures come { OnOk result ((f : List ℕ) → Agrees self.old f → IsSomeAnd (wanted self.old) (λ r. to_come self.old f ≡ r ∷ to_come self.new f)) }
-        ensures fault { IfFile result (λ fault. (f : List ℕ) → Agrees self.old f → IsWantedOf f self.old bytes.now → IsFaultOfDirectories f fault) }
+        ensures agrees { OnOk result ((f : List ℕ) → WalkAgrees self.old f → IsWantedOf f self.old bytes.now → WalkAgrees self.new f) }
+        ensures come { OnOk result ((f : List ℕ) → WalkAgrees self.old f → IsSomeAnd (wanted self.old) (λ r. to_come self.old f ≡ r ∷ to_come self.new f)) }
+        ensures fault { IfFile result (λ fault. (f : List ℕ) → WalkAgrees self.old f → IsWantedOf f self.old bytes.now → IsFaultOfDirectories f fault) }
         ensures given { OnOk result (given_of self.new ≡ given_of self.old + 1) }
         ensures few { OnOk result (given_of self.old ≤ 64) }
         ensures err { OnErr result (self.new ≡ self.old) }

@@ -8,7 +8,7 @@ use Rattle.std.proofs.lemmas.List.Elements.{All-cons, All-nil, All-push}
 use Rattle.tiff_dir.specs.declared.level.Level.{Level}
 use Rattle.tiff_dir.specs.Level.{tile_total}
 use Rattle.tiff_dir.specs.Described.{grid_of}
-use Rattle.tiff_dir.specs.Needs.{Range}
+use Rattle.tiff_dir.specs.Needs.{Extent}
 use Rattle.tiff_dir.specs.Query as asked
 use Rattle.tiff_dir.specs.Query.{joins, with_tile, alone, grouped_after, grouped}
 use Rattle.tile_plan.specs.declared.plan.Group.{Group}
@@ -18,7 +18,7 @@ use Rattle.tile_plan.specs.Adding.{added}
 -- ---- in the list of groups
 
 -- the last group takes the tile
-pub added_join : (gs : List Group) (n : ℕ) (g new : Group) (t : ℕ) (r : Range) → suc n ≡ length gs → g ≡ get_or gs n g → joins (group_of g) r ≡ true
+pub added_join : (gs : List Group) (n : ℕ) (g new : Group) (t : ℕ) (r : Extent) → suc n ≡ length gs → g ≡ get_or gs n g → joins (group_of g) r ≡ true
     → group_of new ≡ with_tile (group_of g) t r → map group_of (set gs n new) ≡ added (map group_of gs) t r
 added_join [] n g new t r size is joined next = absurd (omega (arith, size))
 added_join (h ∷ []) zero g new t r size is joined next =
@@ -32,7 +32,7 @@ added_join (h ∷ i ∷ gs) (suc n) g new t r size is joined next = front gs i n
   front gs i n same = ap (λ l. group_of h ∷ l) same
 
 -- the tile is a group of its own, after the last group
-pub added_apart : (gs : List Group) (n : ℕ) (g new : Group) (t : ℕ) (r : Range) → suc n ≡ length gs → g ≡ get_or gs n g → joins (group_of g) r ≡ false
+pub added_apart : (gs : List Group) (n : ℕ) (g new : Group) (t : ℕ) (r : Extent) → suc n ≡ length gs → g ≡ get_or gs n g → joins (group_of g) r ≡ false
     → group_of new ≡ alone t r → map group_of (gs ++ new ∷ []) ≡ added (map group_of gs) t r
 added_apart [] n g new t r size is apart next = absurd (omega (arith, size))
 added_apart (h ∷ []) zero g new t r size is apart next =
@@ -43,17 +43,17 @@ added_apart (h ∷ i ∷ gs) zero g new t r size is apart next = absurd (omega (
 added_apart (h ∷ i ∷ gs) (suc n) g new t r size is apart next = ap (λ l. group_of h ∷ l) (added_apart (i ∷ gs) n g new t r (omega (arith, size)) is apart next)
 
 -- or the first
-pub added_first : (gs : List Group) (new : Group) (t : ℕ) (r : Range) → length gs ≡ 0 → group_of new ≡ alone t r → map group_of (gs ++ new ∷ []) ≡ added (map group_of gs) t r
+pub added_first : (gs : List Group) (new : Group) (t : ℕ) (r : Extent) → length gs ≡ 0 → group_of new ≡ alone t r → map group_of (gs ++ new ∷ []) ≡ added (map group_of gs) t r
 added_first [] new t r none next = ap (λ k. k ∷ []) next
 added_first (h ∷ gs) new t r none next = absurd (omega (arith, none))
 
 -- ---- in the definition
 
-after : (ℕ → Range) → Option asked.Group → List ℕ → List asked.Group
+after : (ℕ → Extent) → Option asked.Group → List ℕ → List asked.Group
 after range before ts = grouped_after before (map (λ t. (t, Some (range t))) ts)
 
 -- a group before is followed by a list that isn't empty
-some_after : (range : ℕ → Range) (g : asked.Group) (ts : List ℕ) → (h : asked.Group) × (hs : List asked.Group) × (after range (Some g) ts ≡ h ∷ hs)
+some_after : (range : ℕ → Extent) (g : asked.Group) (ts : List ℕ) → (h : asked.Group) × (hs : List asked.Group) × (after range (Some g) ts ≡ h ∷ hs)
 unfolding after grouped_after
 some_after range g [] = (g, [], refl)
 some_after range g (t ∷ ts) = elim (cases_Bool (joins g (range t))) [
@@ -61,10 +61,10 @@ some_after range g (t ∷ ts) = elim (cases_Bool (joins g (range t))) [
   | inr h ↦ (g, after range (Some (alone t (range t))) ts, rw h refl)
 ]
 
-later : (g h : asked.Group) (zs hs : List asked.Group) (t : ℕ) (r : Range) → zs ≡ h ∷ hs → added (g ∷ zs) t r ≡ g ∷ added zs t r
+later : (g h : asked.Group) (zs hs : List asked.Group) (t : ℕ) (r : Extent) → zs ≡ h ∷ hs → added (g ∷ zs) t r ≡ g ∷ added zs t r
 later g h zs hs t r is = rw is refl
 
-more_after : (range : ℕ → Range) (g : asked.Group) (ts : List ℕ) (t : ℕ) → after range (Some g) (ts ++ t ∷ []) ≡ added (after range (Some g) ts) t (range t)
+more_after : (range : ℕ → Extent) (g : asked.Group) (ts : List ℕ) (t : ℕ) → after range (Some g) (ts ++ t ∷ []) ≡ added (after range (Some g) ts) t (range t)
 unfolding after grouped_after
 more_after range g [] t = elim (cases_Bool (joins g (range t))) [ inl h ↦ rw h refl | inr h ↦ rw h refl ]
 more_after range g (u ∷ ts) t = elim (cases_Bool (joins g (range u))) [
@@ -77,18 +77,18 @@ more_after range g (u ∷ ts) t = elim (cases_Bool (joins g (range u))) [
 ]
 
 -- the groups of one tile more
-pub grouped_more : (range : ℕ → Range) (ts : List ℕ) (t : ℕ) → grouped (λ t. Some (range t)) (ts ++ t ∷ []) ≡ added (grouped (λ t. Some (range t)) ts) t (range t)
+pub grouped_more : (range : ℕ → Extent) (ts : List ℕ) (t : ℕ) → grouped (λ t. Some (range t)) (ts ++ t ∷ []) ≡ added (grouped (λ t. Some (range t)) ts) t (range t)
 unfolding grouped after grouped_after
 grouped_more range [] t = refl
 grouped_more range (u ∷ ts) t = more_after range (alone u (range u)) ts t
 
-pub grouped_none : (range : ℕ → Option Range) → grouped range [] ≡ []
+pub grouped_none : (range : ℕ → Option Extent) → grouped range [] ≡ []
 unfolding grouped grouped_after
 grouped_none range = refl
 
 -- ---- their tiles
 
-tiles_after : (range : ℕ → Range) (g : asked.Group) (ts : List ℕ) → flat_map (λ (h : asked.Group). h.tiles) (after range (Some g) ts) ≡ g.tiles ++ ts
+tiles_after : (range : ℕ → Extent) (g : asked.Group) (ts : List ℕ) → flat_map (λ (h : asked.Group). h.tiles) (after range (Some g) ts) ≡ g.tiles ++ ts
 unfolding after grouped_after
 tiles_after range g [] = refl
 tiles_after range g (t ∷ ts) = elim (cases_Bool (joins g (range t))) [
@@ -96,7 +96,7 @@ tiles_after range g (t ∷ ts) = elim (cases_Bool (joins g (range t))) [
   | inr h ↦ rw h (ap (λ l. g.tiles ++ l) (tiles_after range (alone t (range t)) ts))
 ]
 
-tiles_joined : (range : ℕ → Range) (ts : List ℕ) → flat_map (λ (h : asked.Group). h.tiles) (grouped (λ t. Some (range t)) ts) ≡ ts
+tiles_joined : (range : ℕ → Extent) (ts : List ℕ) → flat_map (λ (h : asked.Group). h.tiles) (grouped (λ t. Some (range t)) ts) ≡ ts
 unfolding grouped after grouped_after
 tiles_joined range [] = refl
 tiles_joined range (t ∷ ts) = tiles_after range (alone t (range t)) ts
@@ -106,25 +106,25 @@ tiles_kept [] = refl
 tiles_kept (g ∷ gs) = ap (λ l. g.tiles.items ++ l) (tiles_kept gs)
 
 -- the tiles of the groups are the tiles that were grouped
-pub tiles_of_groups : (range : ℕ → Range) (ts : List ℕ) (gs : List Group) → map group_of gs ≡ grouped (λ t. Some (range t)) ts → flat_map (λ (g : Group). g.tiles.items) gs ≡ ts
+pub tiles_of_groups : (range : ℕ → Extent) (ts : List ℕ) (gs : List Group) → map group_of gs ≡ grouped (λ t. Some (range t)) ts → flat_map (λ (g : Group). g.tiles.items) gs ≡ ts
 tiles_of_groups range ts gs is = tiles_kept gs ∙ ap (flat_map (λ (h : asked.Group). h.tiles)) is ∙ tiles_joined range ts
 
 -- ---- each group
 
 -- a tile of the level has few bytes, inside a file of so many
-pub record IsFit (range : ℕ → Range) (l : Level) (complete t : ℕ) : Type 0 where
+pub record IsFit (range : ℕ → Extent) (l : Level) (complete t : ℕ) : Type 0 where
   pub within : t < tile_total (grid_of l)
   pub few : (range t).len ≤ 1048576
   pub inside : (range t).first + (range t).len ≤ complete
 
-adjoin_more : (range : ℕ → Range) (at : ℕ) (ts : List ℕ) (t end : ℕ) → Adjoin range at ts end → (range t).first ≡ end → Adjoin range at (ts ++ t ∷ []) (end + (range t).len)
+adjoin_more : (range : ℕ → Extent) (at : ℕ) (ts : List ℕ) (t end : ℕ) → Adjoin range at ts end → (range t).first ≡ end → Adjoin range at (ts ++ t ∷ []) (end + (range t).len)
 adjoin_more range at [] t end is first = (first ∙ sym is, ap (λ k. k + (range t).len) is)
 adjoin_more range at (u ∷ ts) t end (begin, rest) first = (begin, adjoin_more range (at + (range u).len) ts t end rest first)
 
-group_alone : (range : ℕ → Range) (l : Level) (complete t : ℕ) → IsFit range l complete t → IsGroup range l complete (alone t (range t))
+group_alone : (range : ℕ → Extent) (l : Level) (complete t : ℕ) → IsFit range l complete t → IsGroup range l complete (alone t (range t))
 group_alone range l complete t fit = record { tiles = All-cons (λ t. t < tile_total (grid_of l)) t [] fit.within (All-nil (λ t. t < tile_total (grid_of l))); adjoin = (refl, refl); few = fit.few; inside = fit.inside }
 
-group_more : (range : ℕ → Range) (l : Level) (complete : ℕ) (g : asked.Group) (t : ℕ) → IsGroup range l complete g → IsFit range l complete t → joins g (range t) ≡ true → IsGroup range l complete (with_tile g t (range t))
+group_more : (range : ℕ → Extent) (l : Level) (complete : ℕ) (g : asked.Group) (t : ℕ) → IsGroup range l complete g → IsFit range l complete t → joins g (range t) ≡ true → IsGroup range l complete (with_tile g t (range t))
 group_more range l complete g t is fit joined =
     let (next, few) = and_parts ((range t).first == g.range.first + g.range.len) (nat_le (g.range.len + (range t).len) 1048576) joined in
     let first = eqb-true (range t).first (g.range.first + g.range.len) next in
@@ -136,7 +136,7 @@ group_more range l complete g t is fit joined =
       inside = omega (arith, fit.inside, first);
     }
 
-each_after : (range : ℕ → Range) (l : Level) (complete : ℕ) (g : asked.Group) (ts : List ℕ) → IsGroup range l complete g → AllByRecursion (IsFit range l complete) ts → AllByRecursion (IsGroup range l complete) (after range (Some g) ts)
+each_after : (range : ℕ → Extent) (l : Level) (complete : ℕ) (g : asked.Group) (ts : List ℕ) → IsGroup range l complete g → AllByRecursion (IsFit range l complete) ts → AllByRecursion (IsGroup range l complete) (after range (Some g) ts)
 unfolding after grouped_after
 each_after range l complete g [] is all = (is, tt)
 each_after range l complete g (t ∷ ts) is (fit, all) = elim (cases_Bool (joins g (range t))) [
@@ -145,7 +145,7 @@ each_after range l complete g (t ∷ ts) is (fit, all) = elim (cases_Bool (joins
 ]
 
 -- each group of fitting tiles is the bytes of its tiles
-pub each_group : (range : ℕ → Range) (l : Level) (complete : ℕ) (ts : List ℕ) → AllByRecursion (IsFit range l complete) ts → AllByRecursion (IsGroup range l complete) (grouped (λ t. Some (range t)) ts)
+pub each_group : (range : ℕ → Extent) (l : Level) (complete : ℕ) (ts : List ℕ) → AllByRecursion (IsFit range l complete) ts → AllByRecursion (IsGroup range l complete) (grouped (λ t. Some (range t)) ts)
 unfolding grouped after grouped_after
 each_group range l complete [] all = tt
 each_group range l complete (t ∷ ts) (fit, all) = each_after range l complete (alone t (range t)) ts (group_alone range l complete t fit) all

@@ -16,7 +16,7 @@ use Rattle.tiff_dir.specs.declared.fault.FileFault.{FileFault}
 use Rattle.tiff_dir.specs.declared.fault.FileFault.TheVariants.{PastEnd, TileSize}
 use Rattle.tiff_dir.specs.File.{order_of}
 use Rattle.tiff_dir.specs.Level.{level_layout, level_value, plain_size, tile_total}
-use Rattle.tiff_dir.specs.Needs.{Range, ends_past}
+use Rattle.tiff_dir.specs.Needs.{Extent, ends_past}
 use Rattle.tiff_dir.specs.Described.{grid_of, layout_of}
 use Rattle.tiff_dir.specs.Walk.{IsArrayOf, IsDescribed}
 use Rattle.tiff_dir.specs.Faulty.{HasBadTile, IsTileOfWindow, IsNotPlainSize, IsFaultOfWindow, is_byte_count, level_plain_size}
@@ -70,38 +70,38 @@ groups_are f q order l r complete offsets counts p =
     ap (λ o. option_map_or (λ (s : asked.Rectangle). grouped (tile_range f s.level) (window_tiles f q)) o []) p.rectangle_is
     ∙ ap (grouped (tile_range f r.level)) (window_is f q order l r complete offsets counts p)
 
-range_is : (f : List ℕ) (n t : ℕ) (r : Range) → IsRangeOf f n t r → tile_range f n t ≡ Some r
+range_is : (f : List ℕ) (n t : ℕ) (r : Extent) → IsRangeOf f n t r → tile_range f n t ≡ Some r
 unfolding tile_range
 range_is f n t r is = rw (is.first, is.len) refl
 
-with_range : (ℕ → Option Range) → ℕ → ℕ × Option Range
+with_range : (ℕ → Option Extent) → ℕ → ℕ × Option Extent
 with_range range t = (t, range t)
 
-same_ranges : (a b : ℕ → Option Range) (ts : List ℕ) → AllByRecursion (λ t. a t ≡ b t) ts → map (with_range a) ts ≡ map (with_range b) ts
+same_ranges : (a b : ℕ → Option Extent) (ts : List ℕ) → AllByRecursion (λ t. a t ≡ b t) ts → map (with_range a) ts ≡ map (with_range b) ts
 unfolding with_range
 same_ranges a b [] same = refl
 same_ranges a b (t ∷ ts) (here, rest) =
-    let first : with_range a t ≡ with_range b t = ap (λ (o : Option Range). (t, o)) here in
+    let first : with_range a t ≡ with_range b t = ap (λ (o : Option Extent). (t, o)) here in
     ap (λ x. x ∷ map (with_range a) ts) first ∙ ap (λ l. with_range b t ∷ l) (same_ranges a b ts rest)
 
-grouped_same : (a b : ℕ → Option Range) (ts : List ℕ) → AllByRecursion (λ t. a t ≡ b t) ts → grouped a ts ≡ grouped b ts
+grouped_same : (a b : ℕ → Option Extent) (ts : List ℕ) → AllByRecursion (λ t. a t ≡ b t) ts → grouped a ts ≡ grouped b ts
 unfolding grouped with_range
 grouped_same a b ts same = ap (grouped_after None) (same_ranges a b ts same)
 
 -- ---- a tile past the end makes a group past the end
 
-abbrev past : ℕ → Range → Bool
+abbrev past : ℕ → Extent → Bool
 past complete r = nat_lt complete (r.first + r.len)
 
-abbrev range_of : asked.Group → Range
+abbrev range_of : asked.Group → Extent
 range_of g = g.range
 
 -- one of the tiles ends past the file
-HasPast : ℕ → (ℕ → Option Range) → List ℕ → Type 0
+HasPast : ℕ → (ℕ → Option Extent) → List ℕ → Type 0
 HasPast complete range [] = ⊥
 HasPast complete range (t ∷ ts) = (option_map_or (past complete) (range t) false ≡ true) ⊎ HasPast complete range ts
 
-among_past : (complete : ℕ) (range : ℕ → Option Range) (ts : List ℕ) (i t : ℕ) (r : Range) → i < length ts → t ≡ get_or ts i t → range t ≡ Some r → past complete r ≡ true → HasPast complete range ts
+among_past : (complete : ℕ) (range : ℕ → Option Extent) (ts : List ℕ) (i t : ℕ) (r : Extent) → i < length ts → t ≡ get_or ts i t → range t ≡ Some r → past complete r ≡ true → HasPast complete range ts
 unfolding HasPast
 among_past complete range [] i t r less at is far = absurd (omega (arith, less))
 among_past complete range (u ∷ ts) zero t r less at is far = inl (ap (λ k. option_map_or (past complete) (range k) false) (sym at) ∙ ap (λ o. option_map_or (past complete) o false) is ∙ far)
@@ -114,7 +114,7 @@ or_right false b is = is
 or_left : (a b : Bool) → a ≡ true → (a || b) ≡ true
 or_left a b is = rw is refl
 
-far_group : (complete : ℕ) (g : asked.Group) (t : ℕ) (r : Range) → joins g r ≡ true → (past complete g.range ≡ true) ⊎ (past complete r ≡ true) → past complete (with_tile g t r).range ≡ true
+far_group : (complete : ℕ) (g : asked.Group) (t : ℕ) (r : Extent) → joins g r ≡ true → (past complete g.range ≡ true) ⊎ (past complete r ≡ true) → past complete (with_tile g t r).range ≡ true
 far_group complete g t r joined (inl far) =
     let end = ltb-true complete (g.range.first + g.range.len) far in lt-ltb complete (g.range.first + (g.range.len + r.len)) (omega (arith, end))
 far_group complete g t r joined (inr far) =
@@ -123,10 +123,10 @@ far_group complete g t r joined (inr far) =
     lt-ltb complete (g.range.first + (g.range.len + r.len)) (omega (arith, end, next))
 
 -- the group before ends past the file, or one of the tiles does
-IsFar : ℕ → (ℕ → Option Range) → Option asked.Group → List ℕ → Type 0
+IsFar : ℕ → (ℕ → Option Extent) → Option asked.Group → List ℕ → Type 0
 IsFar complete range before ts = (option_map_or (λ (g : asked.Group). past complete g.range) before false ≡ true) ⊎ HasPast complete range ts
 
-past_after : (complete : ℕ) (range : ℕ → Option Range) (before : Option asked.Group) (ts : List ℕ) → IsFar complete range before ts
+past_after : (complete : ℕ) (range : ℕ → Option Extent) (before : Option asked.Group) (ts : List ℕ) → IsFar complete range before ts
     → list_any (past complete) (map range_of (grouped_after before (map (with_range range) ts))) ≡ true
 unfolding grouped_after with_range HasPast IsFar
 past_after complete range None [] (inl far) = absurd (false≢true far)
@@ -134,7 +134,7 @@ past_after complete range (Some g) [] (inl far) = or_left (past complete g.range
 past_after complete range before [] (inr far) = absurd far
 past_after complete range before (t ∷ ts) far = at (λ b (far : IsFar complete range b ts). past_after complete range b ts far) before (range t) far where
   at : ((b : Option asked.Group) → IsFar complete range b ts → list_any (past complete) (map range_of (grouped_after b (map (with_range range) ts))) ≡ true)
-      → (before : Option asked.Group) (o : Option Range) → (option_map_or (λ (g : asked.Group). past complete g.range) before false ≡ true) ⊎ ((option_map_or (past complete) o false ≡ true) ⊎ HasPast complete range ts)
+      → (before : Option asked.Group) (o : Option Extent) → (option_map_or (λ (g : asked.Group). past complete g.range) before false ≡ true) ⊎ ((option_map_or (past complete) o false ≡ true) ⊎ HasPast complete range ts)
       → list_any (past complete) (map range_of (grouped_after before ((t, o) ∷ map (with_range range) ts))) ≡ true
   at next None None (inl far) = absurd (false≢true far)
   at next None None (inr (inl far)) = absurd (false≢true far)
@@ -149,13 +149,13 @@ past_after complete range before (t ∷ ts) far = at (λ b (far : IsFar complete
     | inl h ↦ rw h (next (Some (with_tile g t r)) (joined g r h far))
     | inr h ↦ rw h (apart g r far (next (Some (alone t r))))
   ] where
-    joined : (g : asked.Group) (r : Range) → joins g r ≡ true → (past complete g.range ≡ true) ⊎ ((past complete r ≡ true) ⊎ HasPast complete range ts)
+    joined : (g : asked.Group) (r : Extent) → joins g r ≡ true → (past complete g.range ≡ true) ⊎ ((past complete r ≡ true) ⊎ HasPast complete range ts)
         → (past complete (with_tile g t r).range ≡ true) ⊎ HasPast complete range ts
     joined g r h (inl far) = inl (far_group complete g t r h (inl far))
     joined g r h (inr (inl far)) = inl (far_group complete g t r h (inr far))
     joined g r h (inr (inr far)) = inr far
 
-    apart : (g : asked.Group) (r : Range) → (past complete g.range ≡ true) ⊎ ((past complete r ≡ true) ⊎ HasPast complete range ts)
+    apart : (g : asked.Group) (r : Extent) → (past complete g.range ≡ true) ⊎ ((past complete r ≡ true) ⊎ HasPast complete range ts)
         → (IsFar complete range (Some (alone t r)) ts → list_any (past complete) (map range_of (grouped_after (Some (alone t r)) (map (with_range range) ts))) ≡ true)
         → (past complete g.range || list_any (past complete) (map range_of (grouped_after (Some (alone t r)) (map (with_range range) ts)))) ≡ true
     apart g r (inl far) rest = or_left (past complete g.range) (list_any (past complete) (map range_of (grouped_after (Some (alone t r)) (map (with_range range) ts)))) far
@@ -221,7 +221,7 @@ planned order l r complete offsets counts e n gs tiles known is =
       sound = λ t among fault wrong. (let k = counted_among e n (tiles_of l r) t tiles among in (known k.0 k.1).sound fault (subst (λ t. IsTileFault l complete (range t) fault) k.2 wrong));
     }
 
-all_inside : (f : List ℕ) (range : ℕ → Range) (l : Level) (complete : ℕ) (gs : List Group) → length f ≡ complete → All (λ g. IsGroup range l complete (group_of g)) gs
+all_inside : (f : List ℕ) (range : ℕ → Extent) (l : Level) (complete : ℕ) (gs : List Group) → length f ≡ complete → All (λ g. IsGroup range l complete (group_of g)) gs
     → list_any (ends_past f) (map range_of (map group_of gs)) ≡ false
 all_inside f range l complete [] size all = refl
 all_inside f range l complete (g ∷ gs) size all =
@@ -231,7 +231,7 @@ all_inside f range l complete (g ∷ gs) size all =
     rw here (all_inside f range l complete gs size (All-tail (λ g. IsGroup range l complete (group_of g)) g gs all))
 
 -- what is wrong with a tile of the window is wrong with its range
-wrong_size : (f : List ℕ) (n t : ℕ) (l : Level) (r : Range) → IsDescribed f n l → IsRangeOf f n t r → IsSomeAnd (level_value f n 325 t) (λ count. (is_byte_count count ≡ false) ⊎ IsNotPlainSize f n count) → IsWrongSize l r.len
+wrong_size : (f : List ℕ) (n t : ℕ) (l : Level) (r : Extent) → IsDescribed f n l → IsRangeOf f n t r → IsSomeAnd (level_value f n 325 t) (λ count. (is_byte_count count ≡ false) ⊎ IsNotPlainSize f n count) → IsWrongSize l r.len
 wrong_size f n t l r here is wrong = at (level_value f n 325 t) is.len wrong where
   plain : (o : Option ℕ) (size : ℕ) → o ≡ Some size → IsSomeAnd o (λ size. (r.len == size) ≡ false) → (r.len == size) ≡ false
   plain None size is wrong = absurd (none-some size is)

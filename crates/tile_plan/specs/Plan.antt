@@ -10,9 +10,9 @@ use Rattle.tiff_dir.specs.declared.fault.FileFault.TheVariants.{PastEnd, TileSiz
 use Rattle.tiff_dir.specs.Number.{number_in}
 use Rattle.tiff_dir.specs.File.{order_of, size_of}
 use Rattle.tiff_dir.specs.Level.{level_layout, level_value, plain_size, tile_total}
-use Rattle.tiff_dir.specs.Needs.{Range, ends_past}
+use Rattle.tiff_dir.specs.Needs.{Extent, ends_past}
 use Rattle.tiff_dir.specs.Described.{grid_of, layout_of}
-use Rattle.tiff_dir.specs.Walk.{IsArrayOf, IsDescribed, range_of_span}
+use Rattle.tiff_dir.specs.Walk.{IsArrayOf, IsDescribed, extent_of_span}
 use Rattle.tiff_dir.specs.Faulty.{HasBadTile, is_byte_count, IsFaultOfWindow}
 use Rattle.tiff_dir.specs.Query as asked
 use Rattle.tiff_dir.specs.Query.{grouped, max_group_bytes, rectangle, is_refused, tiles_in}
@@ -23,7 +23,7 @@ use Rattle.tiff_dir.specs.declared.fault.WalkError.TheVariants.{File, Memory}
 use Rattle.tile_plan.specs.Levels.{rectangle_of}
 
 -- where a tile stands in the file, as the level's arrays say
-abbrev pub range_in : Order → Level → List ℕ → List ℕ → ℕ → Range
+abbrev pub range_in : Order → Level → List ℕ → List ℕ → ℕ → Extent
 range_in order l offsets counts t =
     let size = size_of l.counts.kind in record {
       first = number_in order (t * 4) 4 offsets;
@@ -35,49 +35,49 @@ abbrev pub tiles_of : Level → Rectangle → List ℕ
 tiles_of l r = tiles_in (grid_of l) (rectangle_of r)
 
 abbrev pub group_of : Group → asked.Group
-group_of g = record { tiles = g.tiles.items; range = range_of_span g.span }
+group_of g = record { tiles = g.tiles.items; range = extent_of_span g.span }
 
 -- a tile of the level can't have so many bytes
 abbrev pub IsWrongSize : Level → ℕ → Type 0
 IsWrongSize l n = (is_byte_count n ≡ false) ⊎ ((l.compression ≡ Plain) × ((n == plain_size (layout_of l)) ≡ false))
 
 -- the range is what the arrays of level n of a file say of a tile
-pub record IsRangeOf (f : List ℕ) (n t : ℕ) (r : Range) : Type 0 where
+pub record IsRangeOf (f : List ℕ) (n t : ℕ) (r : Extent) : Type 0 where
   pub first : level_value f n 324 t ≡ Some r.first
   pub len : level_value f n 325 t ≡ Some r.len
 
 -- what may be wrong with the range of a tile, in a file of so many bytes
-abbrev pub IsTileFault : Level → ℕ → Range → FileFault → Type 0
+abbrev pub IsTileFault : Level → ℕ → Extent → FileFault → Type 0
 IsTileFault l complete r TileSize = IsWrongSize l r.len
 IsTileFault l complete r PastEnd = nat_lt complete (r.first + r.len) ≡ true
 IsTileFault l complete r _ = ⊥
 
 -- the tiles' bytes stand one after the other, from one place to another
-abbrev pub Adjoin : (ℕ → Range) → ℕ → List ℕ → ℕ → Type 0
+abbrev pub Adjoin : (ℕ → Extent) → ℕ → List ℕ → ℕ → Type 0
 Adjoin range at [] end = at ≡ end
 Adjoin range at (t ∷ ts) end = ((range t).first ≡ at) × Adjoin range (at + (range t).len) ts end
 
 -- a group is the bytes of its tiles, at most 1,048,576 of the file
-pub record IsGroup (range : ℕ → Range) (l : Level) (complete : ℕ) (g : asked.Group) : Type 0 where
+pub record IsGroup (range : ℕ → Extent) (l : Level) (complete : ℕ) (g : asked.Group) : Type 0 where
   pub tiles : All (λ t. t < tile_total (grid_of l)) g.tiles
   pub adjoin : Adjoin range g.range.first g.tiles (g.range.first + g.range.len)
   pub few : g.range.len ≤ max_group_bytes
   pub inside : g.range.first + g.range.len ≤ complete
 
 -- These are the groups of the rectangle's tiles, of which none has a fault.
-pub record AreGroups (range : ℕ → Range) (l : Level) (r : Rectangle) (complete : ℕ) (gs : List Group) : Type 0 where
+pub record AreGroups (range : ℕ → Extent) (l : Level) (r : Rectangle) (complete : ℕ) (gs : List Group) : Type 0 where
   pub groups : map group_of gs ≡ grouped (λ t. Some (range t)) (tiles_of l r)
   pub tiles : flat_map (λ g. g.tiles.items) gs ≡ tiles_of l r
   pub each : All (λ g. IsGroup range l complete (group_of g)) gs
   pub sound : (t : ℕ) → IsAmong (tiles_of l r) t → (fault : FileFault) → IsTileFault l complete (range t) fault → ⊥
 
 -- a tile of the rectangle has the fault
-pub record HasTileFault (range : ℕ → Range) (l : Level) (r : Rectangle) (complete : ℕ) (fault : FileFault) : Type 0 where
+pub record HasTileFault (range : ℕ → Extent) (l : Level) (r : Rectangle) (complete : ℕ) (fault : FileFault) : Type 0 where
   pub tile : ℕ
   pub among : IsAmong (tiles_of l r) tile
   pub wrong : IsTileFault l complete (range tile) fault
 
-abbrev pub IsPlanError : (ℕ → Range) → Level → Rectangle → ℕ → PlanError → Type 0
+abbrev pub IsPlanError : (ℕ → Extent) → Level → Rectangle → ℕ → PlanError → Type 0
 IsPlanError range l r complete (File fault) = HasTileFault range l r complete fault
 IsPlanError range l r complete Memory = ⊤
 

@@ -5,10 +5,8 @@ ghost use Rattle.tiff_dir.specs.declared.query.Pick.TheVariants as pick;
 ghost use Rattle.tiff_dir.specs.Query.{max_window_samples, scaled_down, scaled_up};
 ghost use Rattle.tile_plan.specs.Levels.{rectangle_of, is_inside, has_columns, last_with_columns, outwards, IsAsked, IsRefusedBy};
 
+use tiff_dir::limits::MAX_WINDOW_SAMPLES;
 use tiff_dir::{FileFault, Level, Pick, Query};
-
-/// The most samples of a window.
-const MOST: u64 = 4194304;
 
 /// A window of a level, in the level's own pixels.
 #[derive(Clone, Copy, Debug, PartialEq, Eq)]
@@ -112,10 +110,10 @@ fn level_of(levels: &[Level], n: usize, x: u32, y: u32, w: u32, h: u32) -> Resul
 
 /// Whether so many pixels have more samples than a window may have.
 fn exceeds(pixels: u64, samples: u16) -> bool
-    ensures { result ≡ nat_lt 4194304 (pixels * samples) }
+    ensures { result ≡ nat_lt max_window_samples (pixels * samples) }
 {
     match pixels.checked_mul(u64::from(samples)) {
-        Some(n) => n > MOST,
+        Some(n) => n > MAX_WINDOW_SAMPLES,
         None => true,
     }
 }
@@ -180,6 +178,13 @@ fn rect_by_columns(
 /// The rectangle that a window query asks for, in the pixels of a level. Where the window isn't in the level that its numbers
 /// are given in, the fault is Outside; where it has more than 4,194,304 samples, TooLarge. `Info` asks for no window, and is
 /// Outside.
+///
+/// ```
+/// let window = Query::Window { x: 5, y: 0, w: 3, h: 1, pick: Pick::Columns(1) };
+/// // In a level of half the sides: columns 2 and 3.
+/// let rectangle = rect(&levels, window)?;
+/// assert_eq!((rectangle.x, rectangle.w), (2, 2));
+/// ```
 pub fn rect(levels: &[Level], query: Query) -> Result<Rectangle, FileFault>
     ensures asked { IfOk result (IsAsked levels.now query) }
     ensures refused { IfErr result (λ fault. (query ≡ Info) ⊎ IsRefusedBy levels.now query fault) }

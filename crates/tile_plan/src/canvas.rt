@@ -43,7 +43,8 @@ fn common(a: usize, a_len: u32, b: usize, b_len: u32) -> Range<usize>
 }
 
 impl Canvas {
-    /// A canvas for a rectangle of the level, all bytes 0. The rectangle lies in the level and has at most 4,194,304 samples.
+    /// A canvas for a rectangle of the level, all bytes 0: the rectangle's samples, of one or two bytes each. The rectangle lies in
+    /// the level and has at most 4,194,304 samples. An `Err` comes where no memory was left.
     pub fn new(alloc: Global, level: &Level, rect: Rectangle) -> Result<Canvas, Memory>
         requires { IsSmall level.now rect }
         ensures { IfOk result (λ c. c ≡ record { level = level.now; rectangle = rect; bytes = replicate (picture_size level.now rect) 0 }) }

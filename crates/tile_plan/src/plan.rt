@@ -6,7 +6,7 @@ ghost use Rattle.tiff_dir.specs.Described.{grid_of, layout_of};
 ghost use Rattle.tiff_dir.specs.Level.{level_layout, plain_size, tile_total};
 ghost use Rattle.tiff_dir.specs.Query.{joins, with_tile, alone};
 ghost use Rattle.tiff_dir.specs.File.{order_of};
-ghost use Rattle.tiff_dir.specs.Walk.{range_of_span, IsArrayOf};
+ghost use Rattle.tiff_dir.specs.Walk.{extent_of_span, IsArrayOf};
 ghost use Rattle.tile_plan.specs.Levels.{is_inside};
 ghost use Rattle.tile_plan.specs.Plan.{range_in, group_of, IsRangeOf, IsWrongSize, IsTileFault, AreGroups, IsPlanError, IsPlanned, AreNeeded, IsErrorOf};
 ghost use Rattle.tile_plan.specs.Adding.{added};
@@ -14,10 +14,8 @@ ghost use Rattle.tile_plan.specs.Adding.{added};
 use crate::Rectangle;
 use crate::block::Block;
 use std::alloc::Global;
+use tiff_dir::limits::{MAX_RANGE_BYTES, MAX_TILE_BYTES};
 use tiff_dir::{Compression, FileFault, Level, Order, Span, WalkError as PlanError, tile_of};
-
-/// The most bytes of a tile, and of a group.
-const MOST: u64 = 1048576;
 
 /// Tiles that stand one after the other in the file, in ascending number, and the bytes that they have together.
 #[derive(Debug, Drop, PartialEq, Eq)]
@@ -28,7 +26,7 @@ pub struct Group {
 
 impl Group {
     fn alone(alloc: Global, tile: u32, span: Span) -> Result<Group, tiff_dir::Memory>
-        ensures { IfOk result (λ g. group_of g ≡ alone tile (range_of_span span)) }
+        ensures { IfOk result (λ g. group_of g ≡ alone tile (extent_of_span span)) }
     {
         let mut tiles = Vec::new(alloc);
         tiles.push(tile)?;
@@ -37,16 +35,16 @@ impl Group {
 
     /// Whether the span begins where the group ends, and the group with it isn't too long.
     fn joins(&self, span: Span) -> bool
-        ensures { result ≡ joins (group_of self.now) (range_of_span span) }
+        ensures { result ≡ joins (group_of self.now) (extent_of_span span) }
     {
         span.first > self.span.last
             && span.first - self.span.last == 1
-            && span.last - self.span.first < MOST
+            && span.last - self.span.first < MAX_RANGE_BYTES
     }
 
     fn add(&mut self, tile: u32, span: Span) -> Result<(), tiff_dir::Memory>
-        requires { joins (group_of self.old) (range_of_span span) ≡ true }
-        ensures { OnOk result (group_of self.new ≡ with_tile (group_of self.old) tile (range_of_span span)) }
+        requires { joins (group_of self.old) (extent_of_span span) ≡ true }
+        ensures { OnOk result (group_of self.new ≡ with_tile (group_of self.old) tile (extent_of_span span)) }
     {
         self.tiles.push(tile)?;
         self.span = Span {
@@ -64,7 +62,7 @@ fn add_tile(
     tile: u32,
     span: Span,
 ) -> Result<(), tiff_dir::Memory>
-    ensures { OnOk result (map group_of groups.new.items ≡ added (map group_of groups.old.items) tile (range_of_span span)) }
+    ensures { OnOk result (map group_of groups.new.items ≡ added (map group_of groups.old.items) tile (extent_of_span span)) }
 {
     match groups.last_mut() {
         Some(group) if group.joins(span) => group.add(tile, span),
@@ -84,7 +82,7 @@ fn is_right_size(level: &Level, len: u64) -> bool
         Compression::Plain => len == level.plain_size() as u64,
         Compression::PackBits => true,
     };
-    0 < len && len <= MOST && fits
+    0 < len && len <= MAX_TILE_BYTES && fits
 }
 
 /// Where a tile stands in a file of `complete` bytes.
@@ -99,7 +97,7 @@ fn tile_span(
     requires tile { tile < tile_total (grid_of level.now) }
     requires offsets { length offsets.now ≡ level.now.offsets.len }
     requires counts { length counts.now ≡ level.now.counts.len }
-    ensures range { IfOk result (λ s. range_of_span s ≡ range_in order level.now offsets.now counts.now tile) }
+    ensures range { IfOk result (λ s. extent_of_span s ≡ range_in order level.now offsets.now counts.now tile) }
     ensures sound { IfOk result (λ _. (fault : Fault) → IsTileFault level.now complete (range_in order level.now offsets.now counts.now tile) fault → ⊥) }
     ensures refused { IfErr result (IsTileFault level.now complete (range_in order level.now offsets.now counts.now tile)) }
     ensures values { (f : List ℕ) (n : ℕ) → order_of f ≡ Some order → level_layout f n ≡ Some (layout_of level.now) → IsArrayOf f level.now.offsets offsets.now
@@ -121,8 +119,10 @@ fn tile_span(
 }
 
 /// The groups of the tiles of a level that have a pixel of the rectangle, for a file of `complete` bytes: by the bytes of the
-/// level's arrays, in the file's order. Where a tile's byte count is wrong the fault is TileSize, where it ends past the file
-/// PastEnd. `rect` lies in the level, and the arrays have the lengths of their places.
+/// level's arrays, in the file's order. A tile that begins where the one before ends joins its group, which has at most 1,048,576
+/// bytes. Tile by tile in ascending number, the fault is TileSize where the byte count is 0, above 1,048,576 or not the plain
+/// size of a plain tile, and PastEnd where the tile ends past the file; Memory comes where none was left. `rect` lies in the
+/// level, and the arrays have the lengths of their places.
 pub fn groups(
     alloc: Global,
     order: Order,

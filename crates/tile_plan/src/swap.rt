@@ -1,3 +1,4 @@
+//! Samples of 16 bits in the other byte order.
 ghost use Rattle.std.specs.Prelude.{◌≡◌, length};
 ghost use Rattle.tile_plan.specs.Pairs.{exchanged};
 

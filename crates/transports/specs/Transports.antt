@@ -6,11 +6,11 @@ use Rattle.transports.specs.declared.scripted.Fate.{Fate}
 use Rattle.transports.specs.declared.scripted.Scripted.{Scripted}
 
 -- the server, and the name that it is asked for
-abbrev pub state_of : InMemory → ServerState
-state_of s = s.server.now
+abbrev pub served_state : InMemory → ServerState
+served_state s = s.server.now
 
-abbrev pub name_of : InMemory → List ℕ
-name_of s = s.name.now
+abbrev pub served_name : InMemory → List ℕ
+served_name s = s.name.now
 
 -- the exchanges so far
 abbrev pub exchanges_of : InMemory → ℕ

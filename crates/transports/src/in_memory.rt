@@ -43,12 +43,18 @@ pub struct InMemory<'s> {
 
 impl<'s> InMemory<'s> {
     ghost use Rattle.std.specs.Prelude.{◌≡◌};
-    ghost use Rattle.transports.specs.Transports.{exchanges_of, name_of, state_of};
+    ghost use Rattle.transports.specs.Transports.{exchanges_of, served_name, served_state};
 
     /// A transport without exchanges.
+    ///
+    /// ```
+    /// let server = server_of_one(rt.alloc(), 1, b"image.tif", file)?;
+    /// let mut transport = InMemory::new(&server, b"image.tif");
+    /// let report = fetch(&mut client, &mut transport, 10)?;
+    /// ```
     pub fn new(server: &'s Server, name: &'s [u8]) -> Self
-        ensures server { state_of result ≡ server.now }
-        ensures name { name_of result ≡ name.now }
+        ensures server { served_state result ≡ server.now }
+        ensures name { served_name result ≡ name.now }
         ensures exchanges { exchanges_of result ≡ 0 }
     {
         InMemory {
@@ -61,9 +67,9 @@ impl<'s> InMemory<'s> {
 
 impl Transport for InMemory<'_> {
     ghost use Rattle.transports.specs.InMemory.{Has};
-    ghost use Rattle.transports.specs.Transports.{exchanges_of, name_of, state_of};
+    ghost use Rattle.transports.specs.Transports.{exchanges_of, served_name, served_state};
 
-    ghost speaks_for = { λ s. Has (state_of s).catalogue (name_of s) };
+    ghost speaks_for = { λ s. Has (served_state s).catalogue (served_name s) };
 
     ghost count = { exchanges_of };
 

@@ -16,10 +16,10 @@ use Rattle.http_range.specs.Response.{Response, IsAnswer, text_of, response_to_c
 use Rattle.cog_client.specs.declared.delivered.Current.{Current}
 use Rattle.cog_client.specs.declared.delivered.Current.TheVariants.{Same, Other}
 use Rattle.cog_client.specs.Check.{current_by}
-use Rattle.cog_client.specs.Client.{Known, host_of, name_of}
+use Rattle.cog_client.specs.Client.{ClientState, host_of, name_of}
 use Rattle.world.specs.declared.event.Event.{Event}
 use Rattle.world.specs.declared.event.Event.TheVariants.{Publish, Epoch, NewClient, Open, Forget, Ask, AskFrom, Deliver, Exchange, Check}
-use Rattle.world.specs.declared.event.Checked.{Checked}
+use Rattle.world.specs.declared.event.AnsweredCheck.{AnsweredCheck}
 use Rattle.world.specs.declared.event.Effect.{Effect}
 use Rattle.world.specs.declared.event.Entry.{Entry}
 use Rattle.world.specs.World.{World, Seen, after, check_in, IsExact, IsExactAt, AllExact}
@@ -54,7 +54,7 @@ whole_told s =
     ap (λ (b : Bool). if b then tag_seen s.reply else Err Cut) enough
 
 module _ (laws : LowerLaws) where
-  exact_check : (w : World) (cs : List Known) (i : ℕ) (c : Known) (k : Checked) → Good w cs → slice_get cs i ≡ Some c → IsCheckOf w.catalogue (length w.sent) i c k → IsExact w i k
+  exact_check : (w : World) (cs : List ClientState) (i : ℕ) (c : ClientState) (k : AnsweredCheck) → Good w cs → slice_get cs i ≡ Some c → IsCheckOf w.catalogue (length w.sent) i c k → IsExact w i k
   exact_check w cs i c k g at h =
       let s = h.answered.response in
       let host = host_of c in
@@ -69,19 +69,19 @@ module _ (laws : LowerLaws) where
       h.current.2 ∙ (ap (λ r. current_by k.tag r) (read ∙ whole_told s) ∙ ap (λ (r : Response). current_by k.tag (tag_seen r.reply)) response) in
       record {
         seen = seen c;
-        there = ap (λ (ss : List Seen). slice_get ss i) (sym g.seen_are) ∙ (get-map seen cs i ∙ ap (λ (o : Option Known). option_map seen o) at);
+        there = ap (λ (ss : List Seen). slice_get ss i) (sym g.seen_are) ∙ (get-map seen cs i ∙ ap (λ (o : Option ClientState). option_map seen o) at);
         exact = exact_by (published name w.catalogue) k.tag k.current told;
       }
 
-  exact_checked : (w : World) (cs : List Known) (i : ℕ) (c : Known) (o : Option Checked) (effect : Effect) → Good w cs → slice_get cs i ≡ Some c → IsChecked w.catalogue (length w.sent) i c o effect → IfSome (check_in effect) (IsExact w i)
+  exact_checked : (w : World) (cs : List ClientState) (i : ℕ) (c : ClientState) (o : Option AnsweredCheck) (effect : Effect) → Good w cs → slice_get cs i ≡ Some c → IsChecked w.catalogue (length w.sent) i c o effect → IfSome (check_in effect) (IsExact w i)
   exact_checked w cs i c None effect g at h = let P : Effect → Type 0 = λ e. IfSome (check_in e) (IsExact w i) in subst P (sym h.0) tt
   exact_checked w cs i c (Some k) effect g at h = let P : Effect → Type 0 = λ e. IfSome (check_in e) (IsExact w i) in subst P (sym h.0) (exact_check w cs i c k g at h.1)
 
-  exact_at : (o : Option Known) (w : World) (cs new : List Known) (i : ℕ) (n : Entry) → slice_get cs i ≡ o → Good w cs → IsCheckBy o w.catalogue (length w.sent) i n cs new → IfSome (check_in n.effect) (IsExact w i)
+  exact_at : (o : Option ClientState) (w : World) (cs new : List ClientState) (i : ℕ) (n : Entry) → slice_get cs i ≡ o → Good w cs → IsCheckBy o w.catalogue (length w.sent) i n cs new → IfSome (check_in n.effect) (IsExact w i)
   exact_at None w cs new i n at g h = let P : Effect → Type 0 = λ e. IfSome (check_in e) (IsExact w i) in subst P (sym h.done) tt
   exact_at (Some c) w cs new i n at g h = exact_checked w cs i c h.check n.effect g at h.checked
 
-  exact_step : (w : World) (cs : List Known) (e : Event) (n : Entry) (new : List Known) → Good w cs → Step w cs e n new → IsExactAt w e n.effect
+  exact_step : (w : World) (cs : List ClientState) (e : Event) (n : Entry) (new : List ClientState) → Good w cs → Step w cs e n new → IsExactAt w e n.effect
   exact_step w cs (Publish name file) n new g h = tt
   exact_step w cs (Epoch e) n new g h = tt
   exact_step w cs (NewClient name blocks) n new g h = tt
@@ -94,7 +94,7 @@ module _ (laws : LowerLaws) where
   exact_step w cs (Check i) n new g h = exact_at (slice_get cs i) w cs new i n refl g h
 
   -- a whole run
-  pub exact_run : (w : World) (cs : List Known) (es : List Event) (ns : List Entry) (new : List Known) → Good w cs → Runs w cs es ns new → AllExact w es ns
+  pub exact_run : (w : World) (cs : List ClientState) (es : List Event) (ns : List Entry) (new : List ClientState) → Good w cs → Runs w cs es ns new → AllExact w es ns
   exact_run w cs [] [] new g h = tt
   exact_run w cs [] (n ∷ ns) new g h = absurd h
   exact_run w cs (e ∷ es) [] new g h = absurd h

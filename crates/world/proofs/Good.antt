@@ -8,23 +8,24 @@ use Rattle.std.proofs.lemmas.Bool.Decides.{nat_tests}
 use Rattle.std.proofs.lemmas.Option.{none-some, same_Some}
 use Rattle.std.proofs.lemmas.Slice.Eq.{bytes_eq-Decides}
 use Rattle.tiff_dir.specs.declared.query.Query.{Query}
+use Rattle.http_range.specs.declared.publication.TheConstants.{FILE_LIMIT}
 use Rattle.http_range.specs.Names.{is_name}
 use Rattle.http_range.specs.Book.{Publication, IsPublication, Book, In, Includes, HasDistinctTags, Catalogue, IsCatalogue, published, Covers, publish, publication_tag}
 use Rattle.cog_server.specs.declared.error.PublishError.{PublishError}
 use Rattle.cog_server.specs.declared.server.Answer.{Answer}
 use Rattle.cog_server.specs.Server.{ServerState, refusal_of}
-use Rattle.cog_client.specs.Client.{Known, Agrees, name_of, query_of}
+use Rattle.cog_client.specs.Client.{ClientState, ClientAgrees, name_of, query_of}
 use Rattle.world.specs.declared.event.Effect.{Effect}
 use Rattle.world.specs.World.{World, Seen, start, added, answer_in, next_of, publish_by, refused_at, server_of, restart_by, with_clients, sending, opened, AllHonest, StaysHonest}
 use Rattle.world.specs.Run.{seen}
 use Rattle.world.specs.LowerLaws.{LowerLaws}
 use Rattle.world.proofs.Lists.{get-map, get-set, get-push, map-set, set_there}
 
-abbrev pub AgreesLater : Known → Book → Type 0
-AgreesLater c book = (later : Book) → Includes later book → HasDistinctTags later → Agrees c later
+abbrev pub AgreesLater : ClientState → Book → Type 0
+AgreesLater c book = (later : Book) → Includes later book → HasDistinctTags later → ClientAgrees c later
 
-abbrev pub AllAgree : List Known → Book → Type 0
-AllAgree cs book = (i : ℕ) (c : Known) → slice_get cs i ≡ Some c → AgreesLater c book
+abbrev pub AllAgree : List ClientState → Book → Type 0
+AllAgree cs book = (i : ℕ) (c : ClientState) → slice_get cs i ≡ Some c → AgreesLater c book
 
 -- the publication's tag is of an earlier epoch, or of this one with a number that is used
 pub record IsOlder (w : World) (p : Publication) : Type 0 where
@@ -47,7 +48,7 @@ older_in w later p old used = record {
   used = used;
 }
 
-pub record Good (w : World) (cs : List Known) : Type 0 where
+pub record Good (w : World) (cs : List ClientState) : Type 0 where
   pub epoch_small : w.epoch < 2 ^ 32
   pub count_small : w.count < 2 ^ 32
   pub older : (p : Publication) → In p w.book → IsOlder w p
@@ -77,7 +78,7 @@ good_start = record {
 record IsAccepted (count : ℕ) (name file : List ℕ) : Type 0 where
   named : is_name name ≡ true
   some : 1 ≤ length file
-  small : length file ≤ 67108864
+  small : length file ≤ FILE_LIMIT
   room : (count == 4294967295) ≡ false
 
 passed : {A : Type 0} (b : Bool) (x : A) (r : Option A) → (if b then Some x else r) ≡ None → (b ≡ false) × (r ≡ None)
@@ -96,12 +97,12 @@ accepted s name file e =
     let d = passed _ _ _ c.1 in
     let x = passed _ _ _ d.1 in
     let some : (length file == 0) ≡ false = b.0 in
-    let small : nat_lt 67108864 (length file) ≡ false = c.0 in
+    let small : nat_lt FILE_LIMIT (length file) ≡ false = c.0 in
     record { named = not_false (is_name name) a.0; some = grind (arith, nat_tests); small = grind (arith, nat_tests); room = x.0 }
 
 module _ (laws : LowerLaws) where
   -- no publication has the next tag
-  unused : (w : World) (cs : List Known) (q : Publication) → Good w cs → w.count + 1 < 2 ^ 32 → In q w.book → q.tag ≡ publication_tag w.epoch (w.count + 1) → ⊥
+  unused : (w : World) (cs : List ClientState) (q : Publication) → Good w cs → w.count + 1 < 2 ^ 32 → In q w.book → q.tag ≡ publication_tag w.epoch (w.count + 1) → ⊥
   unused w cs q g room i e =
       let old = g.older q i in
       let small = g.epoch_small in
@@ -121,7 +122,7 @@ module _ (laws : LowerLaws) where
             inr (covers name q (sym (laws.replaces.others p catalogue name differ) ∙ found)))
       ]
 
-  good_accepted : (w : World) (cs : List Known) (name file : List ℕ) → refused_at w name file ≡ None → Good w cs → Good (publish_by w (next_of w name file) None) cs
+  good_accepted : (w : World) (cs : List ClientState) (name file : List ℕ) → refused_at w name file ≡ None → Good w cs → Good (publish_by w (next_of w name file) None) cs
   good_accepted w cs name file none g =
       let p = next_of w name file in
       let ok = accepted (server_of w) name file none in
@@ -153,11 +154,11 @@ module _ (laws : LowerLaws) where
         honest = λ k a e for later named inc. g.honest k a e for later named (λ q j. inc q (inr j));
       }
 
-  pub good_publish : (w : World) (cs : List Known) (name file : List ℕ) (o : Option PublishError) → refused_at w name file ≡ o → Good w cs → Good (publish_by w (next_of w name file) o) cs
+  pub good_publish : (w : World) (cs : List ClientState) (name file : List ℕ) (o : Option PublishError) → refused_at w name file ≡ o → Good w cs → Good (publish_by w (next_of w name file) o) cs
   good_publish w cs name file (Some refusal) e g = g
   good_publish w cs name file None e g = good_accepted w cs name file e g
 
-pub good_epoch : (b : Bool) (w : World) (cs : List Known) (e : ℕ) → nat_lt w.epoch e ≡ b → e < 2 ^ 32 → Good w cs → Good (restart_by w e b) cs
+pub good_epoch : (b : Bool) (w : World) (cs : List ClientState) (e : ℕ) → nat_lt w.epoch e ≡ b → e < 2 ^ 32 → Good w cs → Good (restart_by w e b) cs
 good_epoch false w cs e t small g = g
 good_epoch true w cs e t small g =
     let greater : w.epoch < e = grind (arith, nat_tests) in
@@ -175,7 +176,7 @@ good_epoch true w cs e t small g =
 
 -- ---- clients
 
-pub good_clients : (w : World) (cs new : List Known) (clients : List Seen) → Good w cs → map seen new ≡ clients → AllAgree new w.book → Good (with_clients w clients) new
+pub good_clients : (w : World) (cs new : List ClientState) (clients : List Seen) → Good w cs → map seen new ≡ clients → AllAgree new w.book → Good (with_clients w clients) new
 good_clients w cs new clients g same agree =
     record {
       epoch_small = g.epoch_small;
@@ -198,7 +199,7 @@ honest_added (Some b) sent book all new = λ k a e. elim (get-push sent k b a e)
   | inr old ↦ all k a old
 ]
 
-pub good_sending : (w : World) (cs : List Known) (effect : Effect) → Good w cs → IfSome (answer_in effect) (λ a. StaysHonest a w.book) → Good (sending w effect) cs
+pub good_sending : (w : World) (cs : List ClientState) (effect : Effect) → Good w cs → IfSome (answer_in effect) (λ a. StaysHonest a w.book) → Good (sending w effect) cs
 good_sending w cs effect g new =
     record {
       epoch_small = g.epoch_small;
@@ -212,37 +213,37 @@ good_sending w cs effect g new =
       honest = honest_added (answer_in effect) w.sent w.book g.honest new;
     }
 
-pub agree_set : (cs : List Known) (i : ℕ) (c next : Known) (book : Book) → slice_get cs i ≡ Some c → AllAgree cs book → AgreesLater next book → AllAgree (slice_set cs i next) book
+pub agree_set : (cs : List ClientState) (i : ℕ) (c next : ClientState) (book : Book) → slice_get cs i ≡ Some c → AllAgree cs book → AgreesLater next book → AllAgree (slice_set cs i next) book
 agree_set cs i c next book there all new = λ j d e. elim (get-set cs i j next d c there e) [
-  | inl is ↦ (let P : Known → Type 0 = λ x. AgreesLater x book in subst P (sym is) new)
+  | inl is ↦ (let P : ClientState → Type 0 = λ x. AgreesLater x book in subst P (sym is) new)
   | inr old ↦ all j d old
 ]
 
-pub agree_push : (cs : List Known) (next : Known) (book : Book) → AllAgree cs book → AgreesLater next book → AllAgree (cs ++ next ∷ []) book
+pub agree_push : (cs : List ClientState) (next : ClientState) (book : Book) → AllAgree cs book → AgreesLater next book → AllAgree (cs ++ next ∷ []) book
 agree_push cs next book all new = λ j d e. elim (get-push cs j next d e) [
-  | inl is ↦ (let P : Known → Type 0 = λ x. AgreesLater x book in subst P (sym is) new)
+  | inl is ↦ (let P : ClientState → Type 0 = λ x. AgreesLater x book in subst P (sym is) new)
   | inr old ↦ all j d old
 ]
 
 abbrev pub see : List ℕ → Option Query → Seen
 see name query = record { name = name; query = query }
 
-pub seen_same : (c next : Known) → name_of next ≡ name_of c → query_of next ≡ query_of c → seen next ≡ seen c
+pub seen_same : (c next : ClientState) → name_of next ≡ name_of c → query_of next ≡ query_of c → seen next ≡ seen c
 seen_same c next n q = ap (λ (m : List ℕ). see m (query_of next)) n ∙ ap (λ (o : Option Query). see (name_of c) o) q
 
 -- a client that keeps its name and its query is seen as before
-pub kept_seen : (cs : List Known) (i : ℕ) (c next : Known) → slice_get cs i ≡ Some c → seen next ≡ seen c → map seen (slice_set cs i next) ≡ map seen cs
+pub kept_seen : (cs : List ClientState) (i : ℕ) (c next : ClientState) → slice_get cs i ≡ Some c → seen next ≡ seen c → map seen (slice_set cs i next) ≡ map seen cs
 kept_seen cs i c next there same =
-    map-set seen cs i next ∙ (ap (λ (s : Seen). slice_set (map seen cs) i s) same ∙ set_there (map seen cs) i (seen c) (get-map seen cs i ∙ ap (λ (o : Option Known). option_map seen o) there))
+    map-set seen cs i next ∙ (ap (λ (s : Seen). slice_set (map seen cs) i s) same ∙ set_there (map seen cs) i (seen c) (get-map seen cs i ∙ ap (λ (o : Option ClientState). option_map seen o) there))
 
-pub opened_there : (cs : List Known) (i : ℕ) (c next : Known) (q : Query) → slice_get cs i ≡ Some c → name_of next ≡ name_of c → query_of next ≡ Some q → map seen (slice_set cs i next) ≡ opened (map seen cs) i q
+pub opened_there : (cs : List ClientState) (i : ℕ) (c next : ClientState) (q : Query) → slice_get cs i ≡ Some c → name_of next ≡ name_of c → query_of next ≡ Some q → map seen (slice_set cs i next) ≡ opened (map seen cs) i q
 opened_there [] i c next q there n e = refl
 opened_there (d ∷ cs) zero c next q there n e =
     let same : d ≡ c = cc in
-    ap (λ (s : Seen). s ∷ map seen cs) (ap (λ (m : List ℕ). see m (query_of next)) (n ∙ ap (λ (x : Known). name_of x) (sym same)) ∙ ap (λ (o : Option Query). see (name_of d) o) e)
+    ap (λ (s : Seen). s ∷ map seen cs) (ap (λ (m : List ℕ). see m (query_of next)) (n ∙ ap (λ (x : ClientState). name_of x) (sym same)) ∙ ap (λ (o : Option Query). see (name_of d) o) e)
 opened_there (d ∷ cs) (suc i) c next q there n e = ap (λ (ss : List Seen). seen d ∷ ss) (opened_there cs i c next q there n e)
 
-pub opened_none : (cs : List Known) (i : ℕ) (q : Query) → slice_get cs i ≡ None → opened (map seen cs) i q ≡ map seen cs
+pub opened_none : (cs : List ClientState) (i : ℕ) (q : Query) → slice_get cs i ≡ None → opened (map seen cs) i q ≡ map seen cs
 opened_none [] i q none = refl
 opened_none (d ∷ cs) zero q none = absurd (none-some d (sym none))
 opened_none (d ∷ cs) (suc i) q none = ap (λ (ss : List Seen). seen d ∷ ss) (opened_none cs i q none)

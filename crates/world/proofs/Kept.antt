@@ -5,14 +5,14 @@ use Rattle.std.proofs.lemmas.Option.{none-some}
 use Rattle.cog_server.specs.declared.error.PublishError.{PublishError}
 use Rattle.cog_server.specs.declared.server.Answer.{Answer}
 use Rattle.cog_client.specs.declared.error.ClientError.{ClientError}
-use Rattle.cog_client.specs.Client.{Known, client_refusal}
+use Rattle.cog_client.specs.Client.{ClientState, client_refusal}
 use Rattle.world.specs.declared.event.Effect.{Effect}
 use Rattle.world.specs.declared.event.Effect.TheVariants as effects
 use Rattle.world.specs.declared.event.Entry.{Entry}
 use Rattle.world.specs.declared.event.Event.{Event}
 use Rattle.world.specs.declared.event.Event.TheVariants.{Publish, Epoch, NewClient, Open, Forget, Ask, AskFrom, Deliver, Exchange, Check}
 use Rattle.world.specs.World.{World, host, added, after, answer_in, next_of, made_by, publish_by, publish_effect, refused_at, restart_by}
-use Rattle.world.specs.Run.{AreKept, AtClient, DeliversWith, ForgetsAll, IsDelivery, MakesBy, OpensWith, Step, answer_at, front_of, noted, receiver}
+use Rattle.world.specs.Run.{AreKept, AtClient, DeliversWith, ForgetsAll, IsDelivery, MakesBy, OpensWith, Step, answer_at, cut_at, noted, receiver}
 
 at_more : (entries : List Entry) (n : Entry) (p : ℕ) (a : Answer) → answer_at entries p ≡ Some a → answer_at (entries ++ n ∷ []) p ≡ Some a
 at_more [] n p a is = absurd (none-some a is)
@@ -70,28 +70,28 @@ restarted_sends : (b : Bool) (w : World) (e : ℕ) (effect : Effect) → effect 
 restarted_sends true w e effect is = none_sent effect _ w.sent is refl
 restarted_sends false w e effect is = none_sent effect _ w.sent is refl
 
-made_sends : (o : Option ClientError) (w : World) (name : List ℕ) (blocks : ℕ) (n : Entry) (old new : List Known) → MakesBy o name blocks n old new → (made_by w name o).sent ≡ added (answer_in n.effect) w.sent
+made_sends : (o : Option ClientError) (w : World) (name : List ℕ) (blocks : ℕ) (n : Entry) (old new : List ClientState) → MakesBy o name blocks n old new → (made_by w name o).sent ≡ added (answer_in n.effect) w.sent
 made_sends None w name blocks n old new h = none_sent n.effect _ w.sent h.done refl
 made_sends (Some refusal) w name blocks n old new h = none_sent n.effect _ w.sent h.done refl
 
-opened_sends : (o : Option Known) (w : World) (q : _) (i : ℕ) (n : Entry) (old new : List Known) → AtClient o (OpensWith q i n.effect) i n old new → w.sent ≡ added (answer_in n.effect) w.sent
+opened_sends : (o : Option ClientState) (w : World) (q : _) (i : ℕ) (n : Entry) (old new : List ClientState) → AtClient o (OpensWith q i n.effect) i n old new → w.sent ≡ added (answer_in n.effect) w.sent
 opened_sends None w q i n old new h = none_sent n.effect _ w.sent h.done refl
 opened_sends (Some c) w q i n old new h = none_sent n.effect _ w.sent h.acts.does.done refl
 
-forgotten_sends : (o : Option Known) (w : World) (i : ℕ) (n : Entry) (old new : List Known) → AtClient o (ForgetsAll i n.effect) i n old new → w.sent ≡ added (answer_in n.effect) w.sent
+forgotten_sends : (o : Option ClientState) (w : World) (i : ℕ) (n : Entry) (old new : List ClientState) → AtClient o (ForgetsAll i n.effect) i n old new → w.sent ≡ added (answer_in n.effect) w.sent
 forgotten_sends None w i n old new h = none_sent n.effect _ w.sent h.done refl
 forgotten_sends (Some c) w i n old new h = none_sent n.effect _ w.sent h.acts.does.done refl
 
-delivery_sends : (o : Option Known) (w : World) (text : List ℕ) (i : ℕ) (n : Entry) (old new : List Known) → AtClient o (DeliversWith text i n.effect) i n old new → w.sent ≡ added (answer_in n.effect) w.sent
+delivery_sends : (o : Option ClientState) (w : World) (text : List ℕ) (i : ℕ) (n : Entry) (old new : List ClientState) → AtClient o (DeliversWith text i n.effect) i n old new → w.sent ≡ added (answer_in n.effect) w.sent
 delivery_sends None w text i n old new h = none_sent n.effect _ w.sent h.done refl
 delivery_sends (Some c) w text i n old new h = none_sent n.effect _ w.sent h.acts.does.done refl
 
-delivered_sends : (o : Option Answer) (oc : Option Known) (w : World) (cut : Option ℕ) (i : ℕ) (n : Entry) (old new : List Known) → IsDelivery o oc cut i n old new → w.sent ≡ added (answer_in n.effect) w.sent
+delivered_sends : (o : Option Answer) (oc : Option ClientState) (w : World) (cut : Option ℕ) (i : ℕ) (n : Entry) (old new : List ClientState) → IsDelivery o oc cut i n old new → w.sent ≡ added (answer_in n.effect) w.sent
 delivered_sends None oc w cut i n old new h = none_sent n.effect _ w.sent h.done refl
-delivered_sends (Some a) oc w cut i n old new h = delivery_sends (receiver a oc) w (front_of cut a.text.items) i n old new h
+delivered_sends (Some a) oc w cut i n old new h = delivery_sends (receiver a oc) w (cut_at cut a.text.items) i n old new h
 
 -- the world's answers after an event are those before and the one that the event has sent
-pub sent_by : (w : World) (old : List Known) (e : Event) (n : Entry) (new : List Known) → Step w old e n new → (after w e n.effect).sent ≡ added (answer_in n.effect) w.sent
+pub sent_by : (w : World) (old : List ClientState) (e : Event) (n : Entry) (new : List ClientState) → Step w old e n new → (after w e n.effect).sent ≡ added (answer_in n.effect) w.sent
 sent_by w old (Publish name file) n new h = published_sends (refused_at w name.items file.items) w name.items file.items n.effect h.done
 sent_by w old (Epoch e) n new h = restarted_sends (nat_lt w.epoch e) w e n.effect h.1.done
 sent_by w old (NewClient name blocks) n new h = made_sends (client_refusal host name.items blocks) w name.items blocks n old new h

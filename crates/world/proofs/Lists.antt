@@ -4,12 +4,12 @@ use Rattle.std.specs.Prelude.{slice_get, slice_set, is_some, Bool, if◌then◌e
 use Rattle.std.specs.Option.{option_map}
 use Rattle.world.specs.declared.event.Entry.{Entry}
 use Rattle.cog_client.specs.Report.{Told, told}
-use Rattle.cog_client.specs.Client.{Known, report_of}
+use Rattle.cog_client.specs.Client.{ClientState, report_of}
 use Rattle.cog_client.specs.Client.{name_of}
 use Rattle.cog_server.specs.declared.server.Answer.{Answer}
 use Rattle.world.specs.declared.event.Effect.TheVariants as effects
 use Rattle.world.specs.World.{name_in}
-use Rattle.world.specs.Run.{Acts, AtClient, Changes, DeliversWith, IsDelivery, NewReport, Quiet, Tells, front_of, is_for}
+use Rattle.world.specs.Run.{Acts, AtClient, Changes, DeliversWith, IsDelivery, NewReport, Quiet, Tells, cut_at, is_for}
 
 pub get_there : {A : Type 0} (xs : List A) (i : ℕ) (x : A) → i < length xs → x ≡ get_or xs i x → slice_get xs i ≡ Some x
 get_there [] i x inside is = absurd (omega arith)
@@ -51,29 +51,29 @@ map-set f (a ∷ xs) zero x = refl
 map-set f (a ∷ xs) (suc i) x = ap (λ ys. f a ∷ ys) (map-set f xs i x)
 
 -- a call of the client that is there
-pub at_client : (R : Known → Known → Type 0) (old : List Known) (i : ℕ) (c next : Known) (n : Entry) → i < length old → c ≡ get_or old i c → Acts R n c next → AtClient (slice_get old i) R i n old (slice_set old i next)
+pub at_client : (R : ClientState → ClientState → Type 0) (old : List ClientState) (i : ℕ) (c next : ClientState) (n : Entry) → i < length old → c ≡ get_or old i c → Acts R n c next → AtClient (slice_get old i) R i n old (slice_set old i next)
 at_client R old i c next n inside is acts =
-    let P : Option Known → Type 0 = λ o. AtClient o R i n old (slice_set old i next) in
+    let P : Option ClientState → Type 0 = λ o. AtClient o R i n old (slice_set old i next) in
     subst P (sym (get_there old i c inside is)) (record { next = next; changed = refl; acts = acts })
 
-pub tells_of : (had : Bool) (old new : Known) (report : Option Told) → had ≡ is_some (report_of old) → NewReport had new report → Tells old new report
+pub tells_of : (had : Bool) (old new : ClientState) (report : Option Told) → had ≡ is_some (report_of old) → NewReport had new report → Tells old new report
 tells_of had old new report is h =
     record { standing = h.standing; stands = h.stands; newly = h.newly ∙ ap (λ (b : Bool). if b then None else option_map told h.standing) is }
 
 -- ---- deliveries
 
 -- an answer for another name isn't delivered
-pub not_received : (a : Answer) (o : Option Known) (cut : Option ℕ) (i : ℕ) (n : Entry) (old new : List Known) (c : Known) → o ≡ Some c → false ≡ is_for (name_of c) (name_in a) → Quiet n effects.Skipped old new
+pub not_received : (a : Answer) (o : Option ClientState) (cut : Option ℕ) (i : ℕ) (n : Entry) (old new : List ClientState) (c : ClientState) → o ≡ Some c → false ≡ is_for (name_of c) (name_in a) → Quiet n effects.Skipped old new
     → IsDelivery (Some a) o cut i n old new
 not_received a o cut i n old new c at other quiet =
-    let P : Option Known → Type 0 = λ o. IsDelivery (Some a) o cut i n old new in
-    let Q : Bool → Type 0 = λ b. AtClient (if b then Some c else None) (DeliversWith (front_of cut a.text.items) i n.effect) i n old new in
+    let P : Option ClientState → Type 0 = λ o. IsDelivery (Some a) o cut i n old new in
+    let Q : Bool → Type 0 = λ b. AtClient (if b then Some c else None) (DeliversWith (cut_at cut a.text.items) i n.effect) i n old new in
     subst P (sym at) (subst Q other quiet)
 
 -- one for its name is
-pub received : (a : Answer) (o : Option Known) (cut : Option ℕ) (i : ℕ) (n : Entry) (old new : List Known) (c : Known) → o ≡ Some c → true ≡ is_for (name_of c) (name_in a)
-    → Changes (DeliversWith (front_of cut a.text.items) i n.effect) i c n old new → IsDelivery (Some a) o cut i n old new
+pub received : (a : Answer) (o : Option ClientState) (cut : Option ℕ) (i : ℕ) (n : Entry) (old new : List ClientState) (c : ClientState) → o ≡ Some c → true ≡ is_for (name_of c) (name_in a)
+    → Changes (DeliversWith (cut_at cut a.text.items) i n.effect) i c n old new → IsDelivery (Some a) o cut i n old new
 received a o cut i n old new c at own changes =
-    let P : Option Known → Type 0 = λ o. IsDelivery (Some a) o cut i n old new in
-    let Q : Bool → Type 0 = λ b. AtClient (if b then Some c else None) (DeliversWith (front_of cut a.text.items) i n.effect) i n old new in
+    let P : Option ClientState → Type 0 = λ o. IsDelivery (Some a) o cut i n old new in
+    let Q : Bool → Type 0 = λ b. AtClient (if b then Some c else None) (DeliversWith (cut_at cut a.text.items) i n.effect) i n old new in
     subst P (sym at) (subst Q own changes)

@@ -9,18 +9,18 @@ use Rattle.http_range.specs.Ask.{request_text}
 use Rattle.http_range.specs.Book.{Publication, Book, HasDistinctTags, In}
 use Rattle.cog_client.specs.declared.error.ClientError.{ClientError}
 use Rattle.cog_client.specs.Case.{Revision}
-use Rattle.cog_client.specs.Client.{Known, Knows, KnowsOne, Agrees, asked_of, client_refusal, host_of, name_of, query_of, revision_of, tag_of}
-use Rattle.cog_client.specs.Calls.{Asks as AsksFor, Requests, request_for}
+use Rattle.cog_client.specs.Client.{ClientState, Knows, KnowsOne, ClientAgrees, asked_of, client_refusal, host_of, name_of, query_of, revision_of, tag_of}
+use Rattle.cog_client.specs.Calls.{AsksFor as AsksFor, Requests, request_for}
 use Rattle.cog_client.specs.Progress.{IsOfNeeded}
 use Rattle.cog_server.specs.declared.server.Answer.{Answer}
 use Rattle.world.specs.declared.event.Event.{Event}
 use Rattle.world.specs.declared.event.Event.TheVariants.{Publish, Epoch, NewClient, Open, Forget, Ask, AskFrom, Deliver, Exchange, Check}
-use Rattle.world.specs.declared.event.Asked.{Asked}
+use Rattle.world.specs.declared.event.AnsweredRequest.{AnsweredRequest}
 use Rattle.world.specs.declared.event.Effect.{Effect}
 use Rattle.world.specs.declared.event.Entry.{Entry}
 use Rattle.world.specs.World.{World, Seen, host, after, name_in}
 use Rattle.world.specs.Progress.{AllNeeded, IsNeededAt, IsNeededBy, IsNeededIn, IsOfPublished, asked_in}
-use Rattle.world.specs.Run.{Asks, AsksWith, AtClient, DeliversWith, ExchangesWith, ForgetsAll, IsCheckBy, IsDelivery, IsExchanged, MakesBy, OpensWith, Runs, Step, asked_effect, front_of, is_for, seen}
+use Rattle.world.specs.Run.{Asks, AsksWith, AtClient, DeliversWith, ExchangesWith, ForgetsAll, IsCheckBy, IsDelivery, IsExchanged, MakesBy, OpensWith, Runs, Step, asked_effect, cut_at, is_for, seen}
 use Rattle.world.specs.LowerLaws.{LowerLaws}
 use Rattle.world.proofs.Lists.{get-map, get-push, get-set}
 use Rattle.world.proofs.Good.{Good}
@@ -28,14 +28,14 @@ use Rattle.world.proofs.Truth.{sound_step}
 
 -- ---- every client asks the one host
 
-abbrev pub AllHosted : List Known → Type 0
-AllHosted cs = (i : ℕ) (c : Known) → slice_get cs i ≡ Some c → host_of c ≡ host
+abbrev pub AllHosted : List ClientState → Type 0
+AllHosted cs = (i : ℕ) (c : ClientState) → slice_get cs i ≡ Some c → host_of c ≡ host
 
-hosted_same : (old new : List Known) → new ≡ old → AllHosted old → AllHosted new
+hosted_same : (old new : List ClientState) → new ≡ old → AllHosted old → AllHosted new
 hosted_same old new same all = subst AllHosted (sym same) all
 
 -- a client that changes keeps its host
-hosted_at : (R : Known → Known → Type 0) → ((c next : Known) → R c next → host_of next ≡ host_of c) → (o : Option Known) (i : ℕ) (n : Entry) (old new : List Known)
+hosted_at : (R : ClientState → ClientState → Type 0) → ((c next : ClientState) → R c next → host_of next ≡ host_of c) → (o : Option ClientState) (i : ℕ) (n : Entry) (old new : List ClientState)
     → slice_get old i ≡ o → AtClient o R i n old new → AllHosted old → AllHosted new
 hosted_at R keeps None i n old new at h all = hosted_same old new h.same all
 hosted_at R keeps (Some c) i n old new at h all =
@@ -44,7 +44,7 @@ hosted_at R keeps (Some c) i n old new at h all =
       | inr there ↦ all j d there
     ])
 
-hosted_made : (o : Option ClientError) (name : List ℕ) (blocks : ℕ) (n : Entry) (old new : List Known) → MakesBy o name blocks n old new → AllHosted old → AllHosted new
+hosted_made : (o : Option ClientError) (name : List ℕ) (blocks : ℕ) (n : Entry) (old new : List ClientState) → MakesBy o name blocks n old new → AllHosted old → AllHosted new
 hosted_made (Some refusal) name blocks n old new h all = hosted_same old new h.same all
 hosted_made None name blocks n old new h all =
     hosted_same (old ++ h.made ∷ []) new h.added (λ j d e. elim (get-push old j h.made d e) [
@@ -52,27 +52,27 @@ hosted_made None name blocks n old new h all =
       | inr there ↦ all j d there
     ])
 
-hosted_exchange : (catalogue : _) (sent i : ℕ) (effect : Effect) (c next : Known) → ExchangesWith catalogue sent i effect c next → host_of next ≡ host_of c
+hosted_exchange : (catalogue : _) (sent i : ℕ) (effect : Effect) (c next : ClientState) → ExchangesWith catalogue sent i effect c next → host_of next ≡ host_of c
 hosted_exchange catalogue sent i effect c next h = at h.asked h.exchanged
   where
-    at : (o : Option Asked) → IsExchanged i o effect h.mid next → host_of next ≡ host_of c
+    at : (o : Option AnsweredRequest) → IsExchanged i o effect h.mid next → host_of next ≡ host_of c
     at None e = ap host_of e.1 ∙ h.asks.requests.goes.same.host
     at (Some a) e = e.2.same.host ∙ h.asks.requests.goes.same.host
 
-hosted_delivery : (o : Option Answer) (client : Option Known) (cut : Option ℕ) (i : ℕ) (n : Entry) (old new : List Known) → slice_get old i ≡ client → IsDelivery o client cut i n old new → AllHosted old → AllHosted new
+hosted_delivery : (o : Option Answer) (client : Option ClientState) (cut : Option ℕ) (i : ℕ) (n : Entry) (old new : List ClientState) → slice_get old i ≡ client → IsDelivery o client cut i n old new → AllHosted old → AllHosted new
 hosted_delivery None client cut i n old new at h all = hosted_same old new h.same all
 hosted_delivery (Some a) None cut i n old new at h all = hosted_same old new h.same all
 hosted_delivery (Some a) (Some c) cut i n old new at h all = by (is_for (name_of c) (name_in a)) h
   where
-    by : (b : Bool) → AtClient (cond b (Some c) None) (DeliversWith (front_of cut a.text.items) i n.effect) i n old new → AllHosted new
-    by true k = hosted_at (DeliversWith (front_of cut a.text.items) i n.effect) (λ c next d. d.delivers.same.host) (Some c) i n old new at k all
+    by : (b : Bool) → AtClient (cond b (Some c) None) (DeliversWith (cut_at cut a.text.items) i n.effect) i n old new → AllHosted new
+    by true k = hosted_at (DeliversWith (cut_at cut a.text.items) i n.effect) (λ c next d. d.delivers.same.host) (Some c) i n old new at k all
     by false k = hosted_same old new k.same all
 
-hosted_check : (o : Option Known) (catalogue : _) (sent i : ℕ) (n : Entry) (old new : List Known) → IsCheckBy o catalogue sent i n old new → AllHosted old → AllHosted new
+hosted_check : (o : Option ClientState) (catalogue : _) (sent i : ℕ) (n : Entry) (old new : List ClientState) → IsCheckBy o catalogue sent i n old new → AllHosted old → AllHosted new
 hosted_check None catalogue sent i n old new h all = hosted_same old new h.same all
 hosted_check (Some c) catalogue sent i n old new h all = hosted_same old new h.same all
 
-pub hosted_step : (w : World) (cs : List Known) (e : Event) (n : Entry) (new : List Known) → Step w cs e n new → AllHosted cs → AllHosted new
+pub hosted_step : (w : World) (cs : List ClientState) (e : Event) (n : Entry) (new : List ClientState) → Step w cs e n new → AllHosted cs → AllHosted new
 hosted_step w cs (Publish name file) n new h all = hosted_same cs new h.same all
 hosted_step w cs (Epoch e) n new h all = hosted_same cs new h.1.same all
 hosted_step w cs (NewClient name blocks) n new h all = hosted_made (client_refusal host name.items blocks) name.items blocks n cs new h all
@@ -88,8 +88,8 @@ hosted_step w cs (Check i) n new h all = hosted_check (slice_get cs i) w.catalog
 -- ---- what a client knows
 
 -- a client that agrees with the book knows the file of each publication whose tag it has
-pub knows_of : (c : Known) (book : Book) (p : Publication) → HasDistinctTags book → Agrees c book → In p book → tag_of c ≡ Some p.tag → Knows p.file c
-unfolding Agrees
+pub knows_of : (c : ClientState) (book : Book) (p : Publication) → HasDistinctTags book → ClientAgrees c book → In p book → tag_of c ≡ Some p.tag → Knows p.file c
+unfolding ClientAgrees
 knows_of c book p distinct agrees among tag = at (revision_of c) refl agrees
   where
     at : (o : Option Revision) → revision_of c ≡ o → IfSome o (KnowsOne c book) → Knows p.file c
@@ -99,15 +99,15 @@ knows_of c book p distinct agrees among tag = at (revision_of c) refl agrees
         let same : k.source ≡ p = distinct k.source p k.published among (k.of_tag ∙ same_tag) in
         subst (λ (s : Publication). Knows s.file c) same k.knows
 
-pub tag_is : (c : Known) (v : Revision) → revision_of c ≡ Some v → tag_of c ≡ Some v.tag
+pub tag_is : (c : ClientState) (v : Revision) → revision_of c ≡ Some v → tag_of c ≡ Some v.tag
 tag_is c v is = ap (λ x. option_map (λ (v : Revision). v.tag) x) is
 
 module _ (laws : LowerLaws) where
   -- ---- requests
 
-  needed_under : (w : World) (c mid : Known) (v : Revision) (span : Span) (q : Query) → revision_of mid ≡ Some v → Agrees mid w.book → AsksFor mid (Some v) span → name_of mid ≡ name_of c → query_of c ≡ Some q → query_of mid ≡ Some q
+  needed_under : (w : World) (c mid : ClientState) (v : Revision) (span : Span) (q : Query) → revision_of mid ≡ Some v → ClientAgrees mid w.book → AsksFor mid (Some v) span → name_of mid ≡ name_of c → query_of c ≡ Some q → query_of mid ≡ Some q
       → IsOfPublished w (seen c) v.tag span
-  unfolding Agrees
+  unfolding ClientAgrees
   needed_under w c mid v span q is agrees asks name query queried =
       let k : KnowsOne mid w.book v = subst (λ o. IfSome o (KnowsOne mid w.book)) is agrees in
       let needed = (laws.needed mid v k.source.file span is k.knows asks).0 in
@@ -121,7 +121,7 @@ module _ (laws : LowerLaws) where
         needed = subst (λ o. IfSome o (λ q. IsOfNeeded k.source.file q span)) queried needed;
       }
 
-  needed_by : (w : World) (c mid : Known) (a : Asked) (o : Option Revision) (q : Query) → revision_of mid ≡ o → a.tag ≡ tag_of mid → Agrees mid w.book → AsksFor mid o a.span → name_of mid ≡ name_of c → query_of c ≡ Some q
+  needed_by : (w : World) (c mid : ClientState) (a : AnsweredRequest) (o : Option Revision) (q : Query) → revision_of mid ≡ o → a.tag ≡ tag_of mid → ClientAgrees mid w.book → AsksFor mid o a.span → name_of mid ≡ name_of c → query_of c ≡ Some q
       → query_of mid ≡ Some q → IsNeededBy w (seen c) a.tag a.span
   needed_by w c mid a None q is tag agrees asks name query queried =
       let none : a.tag ≡ None = tag ∙ ap (λ x. option_map (λ (v : Revision). v.tag) x) is in
@@ -131,14 +131,14 @@ module _ (laws : LowerLaws) where
       subst (λ t. IsNeededBy w (seen c) t a.span) (sym some) (needed_under w c mid v a.span q is agrees asks name query queried)
 
   -- the query of a client that asks
-  pub asks_query : (old mid : Known) (request : Option (List ℕ)) (span : Span) → Requests old request mid → asked_of mid ≡ Some span → (q : Query) × (query_of mid ≡ Some q)
+  pub asks_query : (old mid : ClientState) (request : Option (List ℕ)) (span : Span) → Requests old request mid → asked_of mid ≡ Some span → (q : Query) × (query_of mid ≡ Some q)
   asks_query old mid request span r asked = at (query_of mid) refl
     where
       at : (o : Option Query) → query_of mid ≡ o → (q : Query) × (query_of mid ≡ Some q)
       at None is = absurd (none-some span (sym (r.idle (inl is)) ∙ asked))
       at (Some q) is = (q, is)
 
-  needed_asked : (w : World) (cs : List Known) (i : ℕ) (c mid : Known) (a : Asked) → Good w cs → AllHosted cs → slice_get cs i ≡ Some c → Asks w.catalogue (length w.sent) i (Some a) c mid → IsNeededIn w a
+  needed_asked : (w : World) (cs : List ClientState) (i : ℕ) (c mid : ClientState) (a : AnsweredRequest) → Good w cs → AllHosted cs → slice_get cs i ≡ Some c → Asks w.catalogue (length w.sent) i (Some a) c mid → IsNeededIn w a
   needed_asked w cs i c mid a g hosts at h =
       let r = h.requests in
       let answered = h.answered in
@@ -146,45 +146,45 @@ module _ (laws : LowerLaws) where
       let q = asks_query c mid (Some a.request.items) a.span r asked in
       let tag : a.tag ≡ tag_of c = answered.tag ∙ ap (λ x. option_map (λ (v : Revision). v.tag) x) r.goes.revision in
       let text : a.request.items ≡ request_text (host_of c) (name_of c) a.span.first a.span.last (tag_of c) = same_Some _ _ (r.text ∙ ap (request_for c) asked) in
-      let agrees : Agrees mid w.book = r.goes.agrees w.book (g.agree i c at w.book (λ p j. j) g.distinct) in
+      let agrees : ClientAgrees mid w.book = r.goes.agrees w.book (g.agree i c at w.book (λ p j. j) g.distinct) in
       let asks : AsksFor mid (revision_of mid) a.span = subst (λ o. IfSome o (AsksFor mid (revision_of mid))) asked r.asks in
       record {
         seen = seen c;
         there = ap (λ j. slice_get w.clients j) answered.client
-            ∙ ap (λ (ss : List Seen). slice_get ss i) (sym g.seen_are) ∙ get-map seen cs i ∙ ap (λ (o : Option Known). option_map seen o) at;
+            ∙ ap (λ (ss : List Seen). slice_get ss i) (sym g.seen_are) ∙ get-map seen cs i ∙ ap (λ (o : Option ClientState). option_map seen o) at;
         text = text ∙ ap (λ h. request_text h (name_of c) a.span.first a.span.last (tag_of c)) (hosts i c at)
             ∙ ap (λ t. request_text host (name_of c) a.span.first a.span.last t) (sym tag);
         needed = needed_by w c mid a (revision_of mid) q.0 refl answered.tag agrees asks r.goes.same.name (sym r.goes.same.query ∙ q.1) q.1;
       }
 
-  needed_of : (w : World) (cs : List Known) (i : ℕ) (c mid : Known) (o : Option Asked) → Good w cs → AllHosted cs → slice_get cs i ≡ Some c → Asks w.catalogue (length w.sent) i o c mid → IfSome o (IsNeededIn w)
+  needed_of : (w : World) (cs : List ClientState) (i : ℕ) (c mid : ClientState) (o : Option AnsweredRequest) → Good w cs → AllHosted cs → slice_get cs i ≡ Some c → Asks w.catalogue (length w.sent) i o c mid → IfSome o (IsNeededIn w)
   needed_of w cs i c mid None g hosts at h = tt
   needed_of w cs i c mid (Some a) g hosts at h = needed_asked w cs i c mid a g hosts at h
 
   abbrev InEffect : World → Effect → Type 0
   InEffect w effect = IfSome (asked_in effect) (IsNeededIn w)
 
-  needed_ask_from : (o : Option Known) (w : World) (cs new : List Known) (i : ℕ) (n : Entry) → slice_get cs i ≡ o → Good w cs → AllHosted cs → AtClient o (AsksWith w.catalogue (length w.sent) i n.effect) i n cs new → InEffect w n.effect
+  needed_ask_from : (o : Option ClientState) (w : World) (cs new : List ClientState) (i : ℕ) (n : Entry) → slice_get cs i ≡ o → Good w cs → AllHosted cs → AtClient o (AsksWith w.catalogue (length w.sent) i n.effect) i n cs new → InEffect w n.effect
   needed_ask_from None w cs new i n at g hosts h = subst (InEffect w) (sym h.done) tt
   needed_ask_from (Some c) w cs new i n at g hosts h =
       let d = h.acts.does in
       by d.asked d.done (needed_of w cs i c h.next d.asked g hosts at d.asks)
     where
-      by : (a : Option Asked) → n.effect ≡ asked_effect i a → IfSome a (IsNeededIn w) → InEffect w n.effect
+      by : (a : Option AnsweredRequest) → n.effect ≡ asked_effect i a → IfSome a (IsNeededIn w) → InEffect w n.effect
       by None is k = subst (InEffect w) (sym is) tt
       by (Some a) is k = subst (InEffect w) (sym is) k
 
-  needed_exchange : (o : Option Known) (w : World) (cs new : List Known) (i : ℕ) (n : Entry) → slice_get cs i ≡ o → Good w cs → AllHosted cs → AtClient o (ExchangesWith w.catalogue (length w.sent) i n.effect) i n cs new → InEffect w n.effect
+  needed_exchange : (o : Option ClientState) (w : World) (cs new : List ClientState) (i : ℕ) (n : Entry) → slice_get cs i ≡ o → Good w cs → AllHosted cs → AtClient o (ExchangesWith w.catalogue (length w.sent) i n.effect) i n cs new → InEffect w n.effect
   needed_exchange None w cs new i n at g hosts h = subst (InEffect w) (sym h.done) tt
   needed_exchange (Some c) w cs new i n at g hosts h =
       let d = h.acts.does in
       by d.asked d.exchanged (needed_of w cs i c d.mid d.asked g hosts at d.asks)
     where
-      by : (a : Option Asked) → IsExchanged i a n.effect h.acts.does.mid h.next → IfSome a (IsNeededIn w) → InEffect w n.effect
+      by : (a : Option AnsweredRequest) → IsExchanged i a n.effect h.acts.does.mid h.next → IfSome a (IsNeededIn w) → InEffect w n.effect
       by None is k = subst (InEffect w) (sym is.0) tt
       by (Some a) is k = subst (InEffect w) (sym is.1) k
 
-  needed_step : (w : World) (cs : List Known) (e : Event) (n : Entry) (new : List Known) → Good w cs → AllHosted cs → Step w cs e n new → IsNeededAt w e n.effect
+  needed_step : (w : World) (cs : List ClientState) (e : Event) (n : Entry) (new : List ClientState) → Good w cs → AllHosted cs → Step w cs e n new → IsNeededAt w e n.effect
   needed_step w cs (Publish name file) n new g hosts h = tt
   needed_step w cs (Epoch e) n new g hosts h = tt
   needed_step w cs (NewClient name blocks) n new g hosts h = tt
@@ -197,7 +197,7 @@ module _ (laws : LowerLaws) where
   needed_step w cs (Check i) n new g hosts h = tt
 
   -- a whole run
-  pub needed_run : (w : World) (cs : List Known) (es : List Event) (ns : List Entry) (new : List Known) → Good w cs → AllHosted cs → Runs w cs es ns new → AllNeeded w es ns
+  pub needed_run : (w : World) (cs : List ClientState) (es : List Event) (ns : List Entry) (new : List ClientState) → Good w cs → AllHosted cs → Runs w cs es ns new → AllNeeded w es ns
   needed_run w cs [] [] new g hosts h = tt
   needed_run w cs [] (n ∷ ns) new g hosts h = absurd h
   needed_run w cs (e ∷ es) [] new g hosts h = absurd h

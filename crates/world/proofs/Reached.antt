@@ -14,12 +14,12 @@ use Rattle.cog_client.specs.declared.delivered.Delivered.{Delivered}
 use Rattle.cog_client.specs.declared.report.Report.{Report}
 use Rattle.cog_client.specs.Report.{Told, told}
 use Rattle.cog_client.specs.Case.{Revision}
-use Rattle.cog_client.specs.Client.{Known, Knows, Agrees, asked_of, host_of, name_of, query_of, report_of, tag_of}
+use Rattle.cog_client.specs.Client.{ClientState, Knows, ClientAgrees, asked_of, host_of, name_of, query_of, report_of, tag_of}
 use Rattle.cog_client.specs.Calls.{Delivers, request_for}
 use Rattle.cog_client.specs.Progress.{BringsOn, IsAtWork, IsOwnAnswer, left}
 use Rattle.world.specs.declared.event.Event.{Event}
 use Rattle.world.specs.declared.event.Event.TheVariants.{Open, Exchange}
-use Rattle.world.specs.declared.event.Asked.{Asked}
+use Rattle.world.specs.declared.event.AnsweredRequest.{AnsweredRequest}
 use Rattle.world.specs.declared.event.Entry.{Entry}
 use Rattle.world.specs.World.{World, Seen, after, after_all, told_of, start}
 use Rattle.world.specs.Progress.{AllReport, HasReport, stretch}
@@ -33,18 +33,18 @@ use Rattle.world.proofs.Needed.{knows_of, tag_is}
 -- ---- what is told
 
 -- the report that stands after an event, where none stood before it
-told_now : (old new : Known) (report : Option Told) → Tells old new report → report_of old ≡ None → report ≡ option_map told (report_of new)
+told_now : (old new : ClientState) (report : Option Told) → Tells old new report → report_of old ≡ None → report ≡ option_map told (report_of new)
 told_now old new report t none =
     t.newly ∙ ap (λ o. if is_some o then None else option_map told t.standing) none ∙ ap (option_map told) t.stands.standing
 
 -- ---- one exchange
 
 -- at most m exchanges are left for the client: none of its file was read yet, or so many blocks are left
-abbrev IsWithin : Publication → Query → ℕ → Known → Type 0
+abbrev IsWithin : Publication → Query → ℕ → ClientState → Type 0
 IsWithin p q m c = (cost p.file q < m) ⊎ ((tag_of c ≡ Some p.tag) × (left p.file c ≤ m) × (1 ≤ m))
 
 -- the client reads the query, which isn't answered yet
-record IsReading (q : Query) (name : List ℕ) (c : Known) : Type 0 where
+record IsReading (q : Query) (name : List ℕ) (c : ClientState) : Type 0 where
   query : query_of c ≡ Some q
   name_is : name_of c ≡ name
   silent : report_of c ≡ None
@@ -52,7 +52,7 @@ record IsReading (q : Query) (name : List ℕ) (c : Known) : Type 0 where
 some_of : {A : Type 0} (o : Option A) (x : A) (P : A → Type 0) → o ≡ Some x → IfSome o P → P x
 some_of o x P is h = subst (λ z. IfSome z P) is h
 
-no_request : (c : Known) (o : Option Span) → None ≡ request_for c o → o ≡ None
+no_request : (c : ClientState) (o : Option Span) → None ≡ request_for c o → o ≡ None
 no_request c None is = refl
 no_request c (Some s) is = absurd (none-some _ is)
 
@@ -61,15 +61,15 @@ some_left : (n : ℕ) → (n ≡ 0 → ⊥) → 1 ≤ n
 some_left zero not = absurd (not refl)
 some_left (suc n) not = omega arith
 
-module _ (laws : LowerLaws) (w : World) (cs : List Known) (i : ℕ) (c : Known) (g : Good w cs) (at : slice_get cs i ≡ Some c) (p : Publication) (q : Query) where
-  agrees_now : Agrees c w.book
+module _ (laws : LowerLaws) (w : World) (cs : List ClientState) (i : ℕ) (c : ClientState) (g : Good w cs) (at : slice_get cs i ≡ Some c) (p : Publication) (q : Query) where
+  agrees_now : ClientAgrees c w.book
   agrees_now = g.agree i c at w.book (λ p j. j) g.distinct
 
   in_book : (name : List ℕ) → published name w.catalogue ≡ Some p → In p w.book
   in_book name has = g.covers name p has
 
   -- the answer to the client's request is a server's whole answer to what it asks for
-  own : (mid : Known) (a : Asked) → Asks w.catalogue (length w.sent) i (Some a) c mid → published (name_of c) w.catalogue ≡ Some p → IsOwnAnswer mid p a.span a.answer.text.items
+  own : (mid : ClientState) (a : AnsweredRequest) → Asks w.catalogue (length w.sent) i (Some a) c mid → published (name_of c) w.catalogue ≡ Some p → IsOwnAnswer mid p a.span a.answer.text.items
   own mid a h has =
       let r = h.requests in
       let span = a.span in
@@ -98,13 +98,13 @@ module _ (laws : LowerLaws) (w : World) (cs : List Known) (i : ℕ) (c : Known) 
       }
 
   -- after an answer without a report: fewer exchanges are left
-  fewer : (m : ℕ) (mid next : Known) (a : Asked) (what : Delivered) (name : List ℕ) → IsReading q name c → published (name_of c) w.catalogue ≡ Some p → Asks w.catalogue (length w.sent) i (Some a) c mid
-      → Delivers mid a.answer.text.items what next → Agrees next w.book → report_of next ≡ None → IsWithin p q (suc m) c → IsWithin p q m next
+  fewer : (m : ℕ) (mid next : ClientState) (a : AnsweredRequest) (what : Delivered) (name : List ℕ) → IsReading q name c → published (name_of c) w.catalogue ≡ Some p → Asks w.catalogue (length w.sent) i (Some a) c mid
+      → Delivers mid a.answer.text.items what next → ClientAgrees next w.book → report_of next ≡ None → IsWithin p q (suc m) c → IsWithin p q m next
   fewer m mid next a what name reading has asks d agrees none within =
       let f = p.file in
       let r = asks.requests in
       let among = in_book (name_of c) has in
-      let mid_agrees : Agrees mid w.book = r.goes.agrees w.book agrees_now in
+      let mid_agrees : ClientAgrees mid w.book = r.goes.agrees w.book agrees_now in
       let brings : BringsOn p mid next what =
       laws.brings mid next p a.span a.answer.text.items what (own mid a asks has) (knows_of mid w.book p g.distinct mid_agrees among) d in
       let tag : tag_of next ≡ Some p.tag = tag_is next (record { tag = p.tag; complete = length f }) brings.revision in
@@ -122,35 +122,35 @@ module _ (laws : LowerLaws) (w : World) (cs : List Known) (i : ℕ) (c : Known) 
           let mid_tag : tag_of mid ≡ Some p.tag = ap (λ x. option_map (λ (v : Revision). v.tag) x) asks.requests.goes.revision ∙ had.0 in
           let among = in_book (name_of c) has in
           let knows = knows_of c w.book p g.distinct agrees_now among had.0 in
-          let mid_agrees : Agrees mid w.book = asks.requests.goes.agrees w.book agrees_now in
+          let mid_agrees : ClientAgrees mid w.book = asks.requests.goes.agrees w.book agrees_now in
           let brings : BringsOn p mid next what =
           laws.brings mid next p a.span a.answer.text.items what (own mid a asks has) (knows_of mid w.book p g.distinct mid_agrees among) d in
           omega (arith, had.1, brings.less mid_tag, laws.goes c mid p.file asks.requests.goes knows)
 
   -- what one exchange comes to: the report is told, or the query is still read
-  abbrev Outcome : ℕ → Known → Option Told → Type 0
+  abbrev Outcome : ℕ → ClientState → Option Told → Type 0
   Outcome m next report = ((r : Told) × (report ≡ Some r)) ⊎ IsReading q (name_of c) next × IsWithin p q m next
 
-  exchanged : (m : ℕ) (n : Entry) (next : Known) → IsReading q (name_of c) c → published (name_of c) w.catalogue ≡ Some p → IsWithin p q (suc m) c
+  exchanged : (m : ℕ) (n : Entry) (next : ClientState) → IsReading q (name_of c) c → published (name_of c) w.catalogue ≡ Some p → IsWithin p q (suc m) c
       → ExchangesWith w.catalogue (length w.sent) i n.effect c next → Tells c next (told_of n) → Outcome m next (told_of n)
   exchanged m n next reading has within h tells = by (report_of next) refl
     where
       kept : IsKept c next w.book
       kept = exchanged_kept laws w cs i h.asked n.effect c h.mid next g h.asks h.exchanged (g.agree i c at)
 
-      agrees : Agrees next w.book
+      agrees : ClientAgrees next w.book
       agrees = kept.agrees w.book (λ p j. j) g.distinct
 
       query : query_of next ≡ Some q
       query = ap (λ (s : Seen). s.query) kept.same ∙ reading.query
 
-      silently : (o : Option Asked) → Asks w.catalogue (length w.sent) i o c h.mid → IsExchanged i o n.effect h.mid next → report_of next ≡ None → IsWithin p q m next
+      silently : (o : Option AnsweredRequest) → Asks w.catalogue (length w.sent) i o c h.mid → IsExchanged i o n.effect h.mid next → report_of next ≡ None → IsWithin p q m next
       silently None asks e none =
           let r = asks.requests in
           let unasked = no_request c (asked_of h.mid) r.text in
           absurd (elim (r.silent unasked) [
             | inl no_query ↦ false≢true (sym (ap is_some no_query) ∙ ap is_some (r.goes.same.query ∙ reading.query))
-            | inr stands ↦ false≢true (sym (ap is_some none) ∙ ap (λ (x : Known). is_some (report_of x)) e.1 ∙ stands)
+            | inr stands ↦ false≢true (sym (ap is_some none) ∙ ap (λ (x : ClientState). is_some (report_of x)) e.1 ∙ stands)
           ])
       silently (Some a) asks e none = fewer m h.mid next a e.0 (name_of c) reading has asks e.2 agrees none within
 
@@ -162,7 +162,7 @@ module _ (laws : LowerLaws) (w : World) (cs : List Known) (i : ℕ) (c : Known) 
 
 module _ (laws : LowerLaws) (i : ℕ) (q : Query) (p : Publication) where
   -- so many exchanges have a report
-  reach : (m : ℕ) (name : List ℕ) (w : World) (cs : List Known) (c : Known) (n : ℕ) (later : List Event) (ns : List Entry) (new : List Known) → Good w cs → slice_get cs i ≡ Some c → IsReading q name c
+  reach : (m : ℕ) (name : List ℕ) (w : World) (cs : List ClientState) (c : ClientState) (n : ℕ) (later : List Event) (ns : List Entry) (new : List ClientState) → Good w cs → slice_get cs i ≡ Some c → IsReading q name c
       → published name w.catalogue ≡ Some p → IsWithin p q m c → m ≤ n → Runs w cs (replicate n (Exchange i) ++ later) ns new → HasReport (take m ns)
   reach zero name w cs c n later ns new g at reading has within enough h = absurd (elim within [ inl low ↦ omega arith | inr had ↦ omega (arith, had.2) ])
   reach (suc m) name w cs c zero later ns new g at reading has within enough h = absurd (omega arith)
@@ -172,7 +172,7 @@ module _ (laws : LowerLaws) (i : ℕ) (q : Query) (p : Publication) where
       let changes : Changes R i c x cs mid = subst (λ o. AtClient o R i x cs mid) at step in
       let own_name : name_of c ≡ name = reading.name_is in
       let mine : IsReading q (name_of c) c = record { query = reading.query; name_is = refl; silent = reading.silent } in
-      let there : slice_get mid i ≡ Some changes.next = ap (λ (xs : List Known). slice_get xs i) changes.changed ∙ get-set_same cs i changes.next c at in
+      let there : slice_get mid i ≡ Some changes.next = ap (λ (xs : List ClientState). slice_get xs i) changes.changed ∙ get-set_same cs i changes.next c at in
       elim (exchanged laws w cs i c g at p q m x changes.next mine (ap (λ n. published n w.catalogue) own_name ∙ has) within changes.acts.does changes.acts.tells) [
         | inl told ↦ (told.0, inl told.1)
         | inr on ↦
@@ -182,11 +182,11 @@ module _ (laws : LowerLaws) (i : ℕ) (q : Query) (p : Publication) where
       ]
 
   -- the client that is seen
-  client_at : (cs : List Known) (s : Seen) (o : Option Known) → slice_get cs i ≡ o → option_map seen o ≡ Some s → (c : Known) × (slice_get cs i ≡ Some c) × (name_of c ≡ s.name)
+  client_at : (cs : List ClientState) (s : Seen) (o : Option ClientState) → slice_get cs i ≡ o → option_map seen o ≡ Some s → (c : ClientState) × (slice_get cs i ≡ Some c) × (name_of c ≡ s.name)
   client_at cs s None at is = absurd (none-some s is)
   client_at cs s (Some c) at is = (c, at, ap (λ (x : Seen). x.name) (same_Some _ _ is))
 
-  from_opening : (w : World) (cs : List Known) (n : ℕ) (later : List Event) (ns : List Entry) (new : List Known) (s : Seen) → Good w cs → slice_get w.clients i ≡ Some s → published s.name w.catalogue ≡ Some p
+  from_opening : (w : World) (cs : List ClientState) (n : ℕ) (later : List Event) (ns : List Entry) (new : List ClientState) (s : Seen) → Good w cs → slice_get w.clients i ≡ Some s → published s.name w.catalogue ≡ Some p
       → suc (cost p.file q) ≤ n → Runs w cs (stretch i q n ++ later) ns new → HasReport (take (suc (cost p.file q)) (drop 1 ns))
   from_opening w cs n later [] new s g there has enough h = absurd h
   from_opening w cs n later (x ∷ ns) new s g there has enough (mid, step, rest) =
@@ -197,17 +197,17 @@ module _ (laws : LowerLaws) (i : ℕ) (q : Query) (p : Publication) where
       let changes : Changes R i c x cs mid = subst (λ o. AtClient o R i x cs mid) at step in
       let opens = changes.acts.does.opens in
       let reading : IsReading q s.name changes.next = record { query = opens.asks; name_is = opens.name ∙ found.2; silent = opens.report } in
-      let here : slice_get mid i ≡ Some changes.next = ap (λ (xs : List Known). slice_get xs i) changes.changed ∙ get-set_same cs i changes.next c at in
+      let here : slice_get mid i ≡ Some changes.next = ap (λ (xs : List ClientState). slice_get xs i) changes.changed ∙ get-set_same cs i changes.next c at in
       reach (suc (cost p.file q)) s.name (after w (Open i q) x.effect) mid changes.next n later ns new (sound_step laws w cs (Open i q) x mid g step).good here reading has (inl (omega arith)) enough rest
 
   -- whatever was before it
-  after_others : (w : World) (cs : List Known) (before later : List Event) (n : ℕ) (ns : List Entry) (new : List Known) (s : Seen) → Good w cs → slice_get (after_all w before ns).clients i ≡ Some s
+  after_others : (w : World) (cs : List ClientState) (before later : List Event) (n : ℕ) (ns : List Entry) (new : List ClientState) (s : Seen) → Good w cs → slice_get (after_all w before ns).clients i ≡ Some s
       → published s.name (after_all w before ns).catalogue ≡ Some p → suc (cost p.file q) ≤ n → Runs w cs (before ++ stretch i q n ++ later) ns new → HasReport (take (suc (cost p.file q)) (drop (suc (length before)) ns))
   after_others w cs [] later n ns new s g there has enough h = from_opening w cs n later ns new s g there has enough h
   after_others w cs (e ∷ before) later n [] new s g there has enough h = absurd h
   after_others w cs (e ∷ before) later n (x ∷ ns) new s g there has enough (mid, step, rest) =
       after_others (after w e x.effect) mid before later n ns new s (sound_step laws w cs e x mid g step).good there has enough rest
 
-pub reached : (laws : LowerLaws) (events : List Event) (entries : List Entry) (new : List Known) → Runs start [] events entries new → AllReport events entries
+pub reached : (laws : LowerLaws) (events : List Event) (entries : List Entry) (new : List ClientState) → Runs start [] events entries new → AllReport events entries
 reached laws events entries new runs i q n p s enough =
     after_others laws i q p start [] s.before s.later n entries new s.seen good_start s.there s.has enough (subst (λ es. Runs start [] es entries new) s.are runs)

@@ -22,7 +22,7 @@ use Rattle.cog_reader.specs.Outcome.{IsTrueOf, IsWindowOf}
 use Rattle.cog_reader.specs.Samples.{samples_in}
 use Rattle.tiff_dir.specs.declared.query.Query.TheVariants as queries
 use Rattle.tiff_dir.specs.Faulty.{IsFaulty}
-use Rattle.cog_client.specs.Client.{Known, client_refusal}
+use Rattle.cog_client.specs.Client.{ClientState, client_refusal}
 use Rattle.cog_server.specs.declared.server.Answer.{Answer}
 use Rattle.cog_server.specs.Server.{ServerState}
 use Rattle.world.specs.World.{World, host, start, answer_in, next_of, publish_by, refused_at, server_of, restart_by, made_by, after, after_all, told_of, client_of, IsTrueAt, AllTrue, IsToldIn, AreEqual, SaysTheSame, AreAlike}
@@ -34,13 +34,13 @@ use Rattle.world.proofs.Exact.{exact_run}
 use Rattle.world.proofs.Needed.{hosted_start, needed_run}
 use Rattle.world.proofs.Kept.{kept_after, kept_at, kept_length, sent_by}
 
-pub runs_more : (w : World) (cs : List Known) (es : List Event) (ns : List Entry) (mid : List Known) (e : Event) (n : Entry) (new : List Known) → Runs w cs es ns mid → Step (after_all w es ns) mid e n new → Runs w cs (es ++ e ∷ []) (ns ++ n ∷ []) new
-runs_more w cs [] [] mid e n new h s = (new, (let P : List Known → Type 0 = λ xs. Step w xs e n new in subst P h s), refl)
+pub runs_more : (w : World) (cs : List ClientState) (es : List Event) (ns : List Entry) (mid : List ClientState) (e : Event) (n : Entry) (new : List ClientState) → Runs w cs es ns mid → Step (after_all w es ns) mid e n new → Runs w cs (es ++ e ∷ []) (ns ++ n ∷ []) new
+runs_more w cs [] [] mid e n new h s = (new, (let P : List ClientState → Type 0 = λ xs. Step w xs e n new in subst P h s), refl)
 runs_more w cs [] (m ∷ ns) mid e n new h s = absurd h
 runs_more w cs (d ∷ es) [] mid e n new h s = absurd h
 runs_more w cs (d ∷ es) (m ∷ ns) mid e n new h s = (h.0, h.1, runs_more (after w d m.effect) h.0 es ns mid e n new h.2 s)
 
-after_more : (w : World) (cs : List Known) (es : List Event) (ns : List Entry) (mid : List Known) (e : Event) (n : Entry) → Runs w cs es ns mid → after_all w (es ++ e ∷ []) (ns ++ n ∷ []) ≡ after (after_all w es ns) e n.effect
+after_more : (w : World) (cs : List ClientState) (es : List Event) (ns : List Entry) (mid : List ClientState) (e : Event) (n : Entry) → Runs w cs es ns mid → after_all w (es ++ e ∷ []) (ns ++ n ∷ []) ≡ after (after_all w es ns) e n.effect
 after_more w cs [] [] mid e n h = refl
 after_more w cs [] (m ∷ ns) mid e n h = absurd h
 after_more w cs (d ∷ es) [] mid e n h = absurd h
@@ -93,7 +93,7 @@ source_at (Some s) w client later r inc h e =
     let P : Told → Type 0 = λ t. IsSource t later in
     subst P same (record { source = h.holds.source; published = inc h.holds.source h.holds.published; of_tag = h.holds.of_tag; outcome = h.holds.outcome })
 
-source_of : (w : World) (cs : List Known) (es : List Event) (ns : List Entry) (new : List Known) (r : Told) → Runs w cs es ns new → AllTrue w es ns → IsToldIn r ns → IsSource r (after_all w es ns).book
+source_of : (w : World) (cs : List ClientState) (es : List Event) (ns : List Entry) (new : List ClientState) (r : Told) → Runs w cs es ns new → AllTrue w es ns → IsToldIn r ns → IsSource r (after_all w es ns).book
 source_of w cs [] [] new r h t i = absurd i
 source_of w cs [] (n ∷ ns) new r h t i = absurd h
 source_of w cs (e ∷ es) [] new r h t i = absurd h
@@ -150,7 +150,7 @@ alike laws book ns distinct sources r s i j tag query =
 
 -- ---- the log
 
-pub run_truth : (laws : LowerLaws) (es : List Event) (ns : List Entry) (cs : List Known) → Runs start [] es ns cs → IsTrueLog es ns
+pub run_truth : (laws : LowerLaws) (es : List Event) (ns : List Entry) (cs : List ClientState) → Runs start [] es ns cs → IsTrueLog es ns
 run_truth laws es ns cs runs =
     let t = true_run laws start [] es ns cs good_start runs in
     record {
@@ -162,20 +162,20 @@ run_truth laws es ns cs runs =
       needed = needed_run laws start [] es ns cs good_start hosted_start runs;
     }
 
-pub beginning : (laws : LowerLaws) (events : List Event) (k : ℕ) (ns : List Entry) (cs : List Known) → k ≤ length events → Runs start [] (take k events) ns cs → IsBeginning events ns
+pub beginning : (laws : LowerLaws) (events : List Event) (k : ℕ) (ns : List Entry) (cs : List ClientState) → k ≤ length events → Runs start [] (take k events) ns cs → IsBeginning events ns
 beginning laws events k ns cs le runs = record { count = k; some = le; clients = cs; logged = runs; truth = run_truth laws (take k events) ns cs runs }
 
-pub whole : (events : List Event) (i : ℕ) (ns : List Entry) (cs : List Known) → length events ≤ i → Runs start [] (take i events) ns cs → Runs start [] events ns cs
+pub whole : (events : List Event) (i : ℕ) (ns : List Entry) (cs : List ClientState) → length events ≤ i → Runs start [] (take i events) ns cs → Runs start [] events ns cs
 whole events i ns cs le runs = subst (λ xs. Runs start [] xs ns cs) (take_all i events le) runs
 
-pub whole_truth : (laws : LowerLaws) (events : List Event) (i : ℕ) (ns : List Entry) (cs : List Known) → length events ≤ i → Runs start [] (take i events) ns cs → IsTrueLog events ns
+pub whole_truth : (laws : LowerLaws) (events : List Event) (i : ℕ) (ns : List Entry) (cs : List ClientState) → length events ≤ i → Runs start [] (take i events) ns cs → IsTrueLog events ns
 whole_truth laws events i ns cs le runs = run_truth laws events ns cs (whole events i ns cs le runs)
 
 pub on_err_of : {T E : Type 0} (r : Result T E) (P : Type 0) → P → OnErr r P
 on_err_of (Ok x) P p = tt
 on_err_of (Err e) P p = p
 
-pub begun : (entries : List Entry) (clients : List Known) (server : ServerState) (places : List ℕ) → entries ≡ [] → clients ≡ [] → server ≡ server_of start → places ≡ []
+pub begun : (entries : List Entry) (clients : List ClientState) (server : ServerState) (places : List ℕ) → entries ≡ [] → clients ≡ [] → server ≡ server_of start → places ≡ []
     → Runs start [] [] entries clients × IsState (after_all start [] entries) server entries places
 begun entries clients server places none no_clients at no_places =
     let P : List Entry → Type 0 = λ ns. Runs start [] [] ns clients in
@@ -190,7 +190,7 @@ state_at w server entries lent places lent_places same same_places h =
     subst P (sym same) (subst Q (sym same_places) h)
 
 -- a run with one more event
-pub more : (events : List Event) (i : ℕ) (ns : List Entry) (cs new : List Known) (e : Event) (n : Entry) (entries : List Entry) (old server : ServerState) (ps places : List ℕ) → i < length events → e ≡ get_or events i e → entries ≡ ns ++ n ∷ []
+pub more : (events : List Event) (i : ℕ) (ns : List Entry) (cs new : List ClientState) (e : Event) (n : Entry) (entries : List Entry) (old server : ServerState) (ps places : List ℕ) → i < length events → e ≡ get_or events i e → entries ≡ ns ++ n ∷ []
     → places ≡ noted (answer_in n.effect) (length ns) ps → Runs start [] (take i events) ns cs → IsState (after_all start (take i events) ns) old ns ps → Does (after_all start (take i events) ns) cs e n new server
     → Runs start [] (take (i + 1) events) entries new × IsState (after_all start (take (i + 1) events) entries) server entries places
 more events i ns cs new e n entries old server ps places inside is added_one noted_one runs state does =
@@ -212,14 +212,14 @@ more events i ns cs new e n entries old server ps places inside is added_one not
 -- ---- the code's steps
 
 -- what a step of the code does, where its state is the world's
-abbrev pub DoesIn : ServerState → List Entry → List ℕ → List Known → Event → Entry → List Known → ServerState → Type 0
+abbrev pub DoesIn : ServerState → List Entry → List ℕ → List ClientState → Event → Entry → List ClientState → ServerState → Type 0
 DoesIn server entries places cs e n new after = (w : World) → IsState w server entries places → Does w cs e n new after
 
 published_at : (w : World) (p : Publication) (o : Option PublishError) (s : ServerState) → IsAtAfter o p (server_of w) s → s ≡ server_of (publish_by w p o)
 published_at w p None s at = at
 published_at w p (Some refusal) s at = at
 
-does_publish : (w : World) (old new : ServerState) (cs : List Known) (name file : Vec ℕ Global) (n : Entry) → Publishes name.items file.items n old new → old ≡ server_of w → Does w cs (Publish name file) n cs new
+does_publish : (w : World) (old new : ServerState) (cs : List ClientState) (name file : Vec ℕ Global) (n : Entry) → Publishes name.items file.items n old new → old ≡ server_of w → Does w cs (Publish name file) n cs new
 does_publish w old new cs name file n h at =
     let P : ServerState → Type 0 = λ x. Publishes name.items file.items n x new in
     let here : Publishes name.items file.items n (server_of w) new = subst P at h in
@@ -228,7 +228,7 @@ does_publish w old new cs name file n h at =
       server_at = published_at w (next_of w name.items file.items) (refused_at w name.items file.items) new here.server_at;
     }
 
-pub ok_publish : (r : Result Entry Memory) (old new : ServerState) (entries : List Entry) (places : List ℕ) (cs : List Known) (event : Event) (name file : Vec ℕ Global) (name' file' : List ℕ) → event ≡ Publish name file → name' ≡ name.items → file' ≡ file.items
+pub ok_publish : (r : Result Entry Memory) (old new : ServerState) (entries : List Entry) (places : List ℕ) (cs : List ClientState) (event : Event) (name file : Vec ℕ Global) (name' file' : List ℕ) → event ≡ Publish name file → name' ≡ name.items → file' ≡ file.items
     → IfOk r (λ n. Publishes name' file' n old new) → IfOk r (λ n. DoesIn old entries places cs event n cs new)
 ok_publish (Err e) old new entries places cs event name file name' file' is named filed h = tt
 ok_publish (Ok n) old new entries places cs event name file name' file' is named filed h = λ w s.
@@ -244,7 +244,7 @@ at_server R w server entries places s h =
     let Q : ℕ → Type 0 = λ k. R w.catalogue k in
     subst Q (kept_length entries places w.sent s.kept) (subst P s.server_at h)
 
-pub ok_ask : (r : Result Entry Memory) (server : ServerState) (entries : List Entry) (places : List ℕ) (number : ℕ) (cs : List Known) (event : Event) (message : Vec ℕ Global) (message' : List ℕ)
+pub ok_ask : (r : Result Entry Memory) (server : ServerState) (entries : List Entry) (places : List ℕ) (number : ℕ) (cs : List ClientState) (event : Event) (message : Vec ℕ Global) (message' : List ℕ)
     → event ≡ Ask message → message' ≡ message.items → number ≡ length places → IfOk r (λ n. Answers server.catalogue number message' n)
     → IfOk r (λ n. DoesIn server entries places cs event n cs server)
 ok_ask (Err e) server entries places number cs event message message' is named count h = tt
@@ -256,8 +256,8 @@ ok_ask (Ok n) server entries places number cs event message message' is named co
     subst P (sym is) (record { step = (at_server R w server entries places s (subst C count (subst Q named h)), refl); server_at = s.server_at })
 
 -- a call of client i that the server answers
-pub ok_call : (F : ℕ → Event) (R : Catalogue → ℕ → ℕ → Entry → List Known → List Known → Type 0) (steps : (w : World) (i : ℕ) (n : Entry) (cs new : List Known) → R w.catalogue (length w.sent) i n cs new → Step w cs (F i) n new × (server_of (after w (F i) n.effect) ≡ server_of w))
-    → (r : Result Entry Memory) (server : ServerState) (entries : List Entry) (places : List ℕ) (number : ℕ) (cs new : List Known) (event : Event) (i i' : ℕ) → event ≡ F i → i' ≡ i → number ≡ length places
+pub ok_call : (F : ℕ → Event) (R : Catalogue → ℕ → ℕ → Entry → List ClientState → List ClientState → Type 0) (steps : (w : World) (i : ℕ) (n : Entry) (cs new : List ClientState) → R w.catalogue (length w.sent) i n cs new → Step w cs (F i) n new × (server_of (after w (F i) n.effect) ≡ server_of w))
+    → (r : Result Entry Memory) (server : ServerState) (entries : List Entry) (places : List ℕ) (number : ℕ) (cs new : List ClientState) (event : Event) (i i' : ℕ) → event ≡ F i → i' ≡ i → number ≡ length places
     → IfOk r (λ n. R server.catalogue number i' n cs new) → IfOk r (λ n. DoesIn server entries places cs event n new server)
 ok_call F R steps (Err e) server entries places number cs new event i i' is same count h = tt
 ok_call F R steps (Ok n) server entries places number cs new event i i' is same count h = λ w s.
@@ -268,7 +268,7 @@ ok_call F R steps (Ok n) server entries places number cs new event i i' is same 
     let t = steps w i n cs new here in
     subst P (sym is) (record { step = t.0; server_at = s.server_at ∙ sym t.1 })
 
-pub ok_deliver : (r : Result Entry Memory) (server : ServerState) (entries : List Entry) (places : List ℕ) (cs new : List Known) (event : Event) (i k : ℕ) (cut : Option ℕ) (answer : Option Answer) → event ≡ Deliver i k cut
+pub ok_deliver : (r : Result Entry Memory) (server : ServerState) (entries : List Entry) (places : List ℕ) (cs new : List ClientState) (event : Event) (i k : ℕ) (cut : Option ℕ) (answer : Option Answer) → event ≡ Deliver i k cut
     → answer ≡ option_and_then (answer_at entries) (slice_get places k) → IfOk r (λ n. IsDelivery answer (slice_get cs i) cut i n cs new) → IfOk r (λ n. DoesIn server entries places cs event n new server)
 ok_deliver (Err e) server entries places cs new event i k cut answer is found h = tt
 ok_deliver (Ok n) server entries places cs new event i k cut answer is found h = λ w s.

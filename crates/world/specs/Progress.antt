@@ -10,7 +10,7 @@ use Rattle.cog_client.specs.Take.{first_span}
 use Rattle.cog_client.specs.Progress.{IsOfNeeded}
 use Rattle.world.specs.declared.event.Event.{Event}
 use Rattle.world.specs.declared.event.Event.TheVariants.{Open, AskFrom, Exchange}
-use Rattle.world.specs.declared.event.Asked.{Asked}
+use Rattle.world.specs.declared.event.AnsweredRequest.{AnsweredRequest}
 use Rattle.world.specs.declared.event.Effect.{Effect}
 use Rattle.world.specs.declared.event.Effect.TheVariants as effects
 use Rattle.world.specs.declared.event.Entry.{Entry}
@@ -19,7 +19,7 @@ use Rattle.world.specs.World.{World, Seen, host, start, after, after_all, IsTold
 -- ---- what is asked
 
 -- the request of an entry
-abbrev pub asked_in : Effect → Option Asked
+abbrev pub asked_in : Effect → Option AnsweredRequest
 asked_in (effects.Asked a) = Some a
 asked_in (effects.Exchanged a what) = Some a
 asked_in effect = None
@@ -40,7 +40,7 @@ IsNeededBy w s None span = span ≡ first_span
 IsNeededBy w s (Some tag) span = IsOfPublished w s tag span
 
 -- The request has the text of its client's request for a span that is needed.
-pub record IsNeededIn (w : World) (a : Asked) : Type 0 where
+pub record IsNeededIn (w : World) (a : AnsweredRequest) : Type 0 where
   pub seen : Seen
   pub there : slice_get w.clients a.client ≡ Some seen
   pub text : a.request.items ≡ request_text host seen.name a.span.first a.span.last a.tag

@@ -13,53 +13,55 @@ use Rattle.cog_client.specs.declared.error.ClientError.{ClientError}
 use Rattle.cog_client.specs.declared.delivered.Delivered.{Delivered}
 use Rattle.cog_client.specs.declared.report.Report.{Report}
 use Rattle.cog_client.specs.Report.{Told, told}
-use Rattle.cog_client.specs.Client.{Known, client_refusal, host_of, name_of, query_of, asked_of, tag_of, report_of}
+use Rattle.cog_client.specs.Client.{ClientState, client_refusal, host_of, name_of, query_of, asked_of, tag_of, report_of}
 use Rattle.cog_client.specs.Calls.{Starts, Opens, Forgets, Requests, Delivers, Stands}
 use Rattle.cog_client.specs.Check.{IsCurrent}
+use Rattle.world.specs.declared.calls.Call.{Call}
+use Rattle.world.specs.declared.calls.Call.TheVariants as calls
 use Rattle.world.specs.declared.event.Event.{Event}
 use Rattle.world.specs.declared.event.Event.TheVariants.{Publish, Epoch, NewClient, Open, Forget, Ask, AskFrom, Deliver, Exchange, Check}
-use Rattle.world.specs.declared.event.Asked.{Asked}
-use Rattle.world.specs.declared.event.Checked.{Checked}
+use Rattle.world.specs.declared.event.AnsweredRequest.{AnsweredRequest}
+use Rattle.world.specs.declared.event.AnsweredCheck.{AnsweredCheck}
 use Rattle.world.specs.declared.event.Effect.{Effect}
 use Rattle.world.specs.declared.event.Effect.TheVariants as effects
 use Rattle.world.specs.declared.event.Entry.{Entry}
 use Rattle.world.specs.World.{World, Seen, host, start, name_in, answer_in, next_of, publish_effect, refused_at, server_of, after, after_all, told_of, AllTrue, AllExact, AllHonest, AreAlike}
 use Rattle.world.specs.Progress.{AllNeeded}
 
-abbrev pub seen : Known → Seen
+abbrev pub seen : ClientState → Seen
 seen c = record { name = name_of c; query = query_of c }
 
 -- the event does this, tells no report and leaves the clients
-pub record Quiet (n : Entry) (effect : Effect) (old new : List Known) : Type 0 where
+pub record Quiet (n : Entry) (effect : Effect) (old new : List ClientState) : Type 0 where
   pub done : n.effect ≡ effect
   pub report : told_of n ≡ None
   pub same : new ≡ old
 
 -- what stands at the client after the event and did not stand before it
-pub record Tells (old new : Known) (report : Option Told) : Type 0 where
+pub record Tells (old new : ClientState) (report : Option Told) : Type 0 where
   pub standing : Option Report
   pub stands : Stands new standing
   pub newly : report ≡ (if is_some (report_of old) then None else option_map told standing)
 
 -- what a call does to a client, and what is told of it
-pub record Acts (R : Known → Known → Type 0) (n : Entry) (old new : Known) : Type 0 where
+pub record Acts (R : ClientState → ClientState → Type 0) (n : Entry) (old new : ClientState) : Type 0 where
   pub does : R old new
   pub tells : Tells old new (told_of n)
 
 -- the same, where it is known whether a report stood
-pub record NewReport (had : Bool) (c : Known) (report : Option Told) : Type 0 where
+pub record NewReport (had : Bool) (c : ClientState) (report : Option Told) : Type 0 where
   pub standing : Option Report
   pub stands : Stands c standing
   pub newly : report ≡ (if had then None else option_map told standing)
 
 -- client i becomes another as R says, and the others stay
-pub record Changes (R : Known → Known → Type 0) (i : ℕ) (c : Known) (n : Entry) (old new : List Known) : Type 0 where
-  pub next : Known
+pub record Changes (R : ClientState → ClientState → Type 0) (i : ℕ) (c : ClientState) (n : Entry) (old new : List ClientState) : Type 0 where
+  pub next : ClientState
   pub changed : new ≡ slice_set old i next
   pub acts : Acts R n c next
 
 -- the client's call with its effect, or nothing where there is no such client
-abbrev pub AtClient : Option Known → (Known → Known → Type 0) → ℕ → Entry → List Known → List Known → Type 0
+abbrev pub AtClient : Option ClientState → (ClientState → ClientState → Type 0) → ℕ → Entry → List ClientState → List ClientState → Type 0
 AtClient None R i n old new = Quiet n effects.Skipped old new
 AtClient (Some c) R i n old new = Changes R i c n old new
 
@@ -90,30 +92,30 @@ pub record Answers (catalogue : Catalogue) (sent : ℕ) (message : List ℕ) (n 
   pub answered : IsAnswered catalogue message answer
 
 -- a client is made
-pub record Adds (name : List ℕ) (blocks : ℕ) (n : Entry) (old new : List Known) : Type 0 where
-  pub made : Known
+pub record Adds (name : List ℕ) (blocks : ℕ) (n : Entry) (old new : List ClientState) : Type 0 where
+  pub made : ClientState
   pub starts : Starts host name blocks made
   pub done : n.effect ≡ effects.Made (length old)
   pub report : told_of n ≡ None
   pub added : new ≡ old ++ made ∷ []
 
 -- or it is refused
-abbrev pub MakesBy : Option ClientError → List ℕ → ℕ → Entry → List Known → List Known → Type 0
+abbrev pub MakesBy : Option ClientError → List ℕ → ℕ → Entry → List ClientState → List ClientState → Type 0
 MakesBy None name blocks n old new = Adds name blocks n old new
 MakesBy (Some refusal) name blocks n old new = Quiet n effects.Skipped old new
 
 -- the client opens a query
-pub record OpensWith (query : Query) (i : ℕ) (effect : Effect) (c next : Known) : Type 0 where
+pub record OpensWith (query : Query) (i : ℕ) (effect : Effect) (c next : ClientState) : Type 0 where
   pub done : effect ≡ effects.Opened i
   pub opens : Opens query c next
 
 -- the client forgets
-pub record ForgetsAll (i : ℕ) (effect : Effect) (c next : Known) : Type 0 where
+pub record ForgetsAll (i : ℕ) (effect : Effect) (c next : ClientState) : Type 0 where
   pub done : effect ≡ effects.Forgot i
   pub forgets : Forgets c next
 
 -- this is logged of a client's request that is answered from the catalogue
-pub record IsAnswerTo (catalogue : Catalogue) (sent i : ℕ) (c : Known) (a : Asked) : Type 0 where
+pub record IsAnswerTo (catalogue : Catalogue) (sent i : ℕ) (c : ClientState) (a : AnsweredRequest) : Type 0 where
   pub client : a.client ≡ i
   pub number : a.number ≡ sent
   pub span : asked_of c ≡ Some a.span
@@ -121,29 +123,29 @@ pub record IsAnswerTo (catalogue : Catalogue) (sent i : ℕ) (c : Known) (a : As
   pub answered : IsAnswered catalogue a.request.items a.answer
 
 -- a client makes its request, if it has one, which is answered
-pub record Asks (catalogue : Catalogue) (sent i : ℕ) (asked : Option Asked) (c next : Known) : Type 0 where
+pub record Asks (catalogue : Catalogue) (sent i : ℕ) (asked : Option AnsweredRequest) (c next : ClientState) : Type 0 where
   pub requests : Requests c (option_map (λ a. a.request.items) asked) next
   pub answered : IfSome asked (IsAnswerTo catalogue sent i next)
 
-abbrev pub asked_effect : ℕ → Option Asked → Effect
+abbrev pub asked_effect : ℕ → Option AnsweredRequest → Effect
 asked_effect i None = effects.Nothing i
 asked_effect i (Some a) = effects.Asked a
 
 -- the answer is kept
-pub record AsksWith (catalogue : Catalogue) (sent i : ℕ) (effect : Effect) (c next : Known) : Type 0 where
-  pub asked : Option Asked
+pub record AsksWith (catalogue : Catalogue) (sent i : ℕ) (effect : Effect) (c next : ClientState) : Type 0 where
+  pub asked : Option AnsweredRequest
   pub asks : Asks catalogue sent i asked c next
   pub done : effect ≡ asked_effect i asked
 
 -- the answer, if there is one, is delivered whole
-abbrev pub IsExchanged : ℕ → Option Asked → Effect → Known → Known → Type 0
+abbrev pub IsExchanged : ℕ → Option AnsweredRequest → Effect → ClientState → ClientState → Type 0
 IsExchanged i None effect mid next = (effect ≡ effects.Nothing i) × (next ≡ mid)
 IsExchanged i (Some a) effect mid next =
     (what : Delivered) × (effect ≡ effects.Exchanged a what) × Delivers mid a.answer.text.items what next
 
-pub record ExchangesWith (catalogue : Catalogue) (sent i : ℕ) (effect : Effect) (c next : Known) : Type 0 where
-  pub asked : Option Asked
-  pub mid : Known
+pub record ExchangesWith (catalogue : Catalogue) (sent i : ℕ) (effect : Effect) (c next : ClientState) : Type 0 where
+  pub asked : Option AnsweredRequest
+  pub mid : ClientState
   pub asks : Asks catalogue sent i asked c mid
   pub exchanged : IsExchanged i asked effect mid next
 
@@ -155,31 +157,39 @@ is_for name None = true
 is_for name (Some other) = bytes_eq other name
 
 -- the client, where the answer isn't for another name
-abbrev pub receiver : Answer → Option Known → Option Known
+abbrev pub receiver : Answer → Option ClientState → Option ClientState
 receiver a None = None
 receiver a (Some c) = if is_for (name_of c) (name_in a) then Some c else None
 
 -- the first bytes of a text, or all
-abbrev pub front_of : Option ℕ → List ℕ → List ℕ
-front_of None text = text
-front_of (Some n) text = take n text
+abbrev pub cut_at : Option ℕ → List ℕ → List ℕ
+cut_at None text = text
+cut_at (Some n) text = take n text
 
 -- a text is delivered
-pub record DeliversWith (text : List ℕ) (i : ℕ) (effect : Effect) (c next : Known) : Type 0 where
+pub record DeliversWith (text : List ℕ) (i : ℕ) (effect : Effect) (c next : ClientState) : Type 0 where
   pub what : Delivered
   pub done : effect ≡ effects.Delivered i what
   pub delivers : Delivers c text what next
 
+-- what a client does, by which of its calls an event makes
+abbrev pub CallsWith : Catalogue → ℕ → ℕ → Call → Effect → ClientState → ClientState → Type 0
+CallsWith catalogue sent i (calls.Open query) effect c next = OpensWith query i effect c next
+CallsWith catalogue sent i calls.Forget effect c next = ForgetsAll i effect c next
+CallsWith catalogue sent i calls.AskFrom effect c next = AsksWith catalogue sent i effect c next
+CallsWith catalogue sent i calls.Exchange effect c next = ExchangesWith catalogue sent i effect c next
+CallsWith catalogue sent i (calls.Deliver text) effect c next = DeliversWith text.now i effect c next
+
 -- the front of the answer is delivered, if it is there
-abbrev pub IsDelivery : Option Answer → Option Known → Option ℕ → ℕ → Entry → List Known → List Known → Type 0
+abbrev pub IsDelivery : Option Answer → Option ClientState → Option ℕ → ℕ → Entry → List ClientState → List ClientState → Type 0
 IsDelivery None client cut i n old new = Quiet n effects.Skipped old new
 IsDelivery (Some a) client cut i n old new =
-    AtClient (receiver a client) (DeliversWith (front_of cut a.text.items) i n.effect) i n old new
+    AtClient (receiver a client) (DeliversWith (cut_at cut a.text.items) i n.effect) i n old new
 
 -- ---- a check
 
 -- this is logged of a client's check that is answered from the catalogue
-pub record IsCheckOf (catalogue : Catalogue) (sent i : ℕ) (c : Known) (k : Checked) : Type 0 where
+pub record IsCheckOf (catalogue : Catalogue) (sent i : ℕ) (c : ClientState) (k : AnsweredCheck) : Type 0 where
   pub client : k.client ≡ i
   pub number : k.number ≡ sent
   pub tag : tag_of c ≡ Some k.tag
@@ -189,24 +199,24 @@ pub record IsCheckOf (catalogue : Catalogue) (sent i : ℕ) (c : Known) (k : Che
   pub current : IsCurrent (Some k.tag) k.answer.text.items k.current
 
 -- what is logged where there is no check: the client has no revision
-abbrev pub IsChecked : Catalogue → ℕ → ℕ → Known → Option Checked → Effect → Type 0
+abbrev pub IsChecked : Catalogue → ℕ → ℕ → ClientState → Option AnsweredCheck → Effect → Type 0
 IsChecked catalogue sent i c None effect = (effect ≡ effects.Unchecked i) × (tag_of c ≡ None)
 IsChecked catalogue sent i c (Some k) effect = (effect ≡ effects.Checked k) × IsCheckOf catalogue sent i c k
 
 -- the client's check, if it has one, is answered; no client changes, and no report is told
-pub record ChecksWith (catalogue : Catalogue) (sent i : ℕ) (c : Known) (n : Entry) (old new : List Known) : Type 0 where
-  pub check : Option Checked
+pub record ChecksWith (catalogue : Catalogue) (sent i : ℕ) (c : ClientState) (n : Entry) (old new : List ClientState) : Type 0 where
+  pub check : Option AnsweredCheck
   pub checked : IsChecked catalogue sent i c check n.effect
   pub report : told_of n ≡ None
   pub same : new ≡ old
 
 -- or nothing, where there is no such client
-abbrev pub IsCheckBy : Option Known → Catalogue → ℕ → ℕ → Entry → List Known → List Known → Type 0
+abbrev pub IsCheckBy : Option ClientState → Catalogue → ℕ → ℕ → Entry → List ClientState → List ClientState → Type 0
 IsCheckBy None catalogue sent i n old new = Quiet n effects.Skipped old new
 IsCheckBy (Some c) catalogue sent i n old new = ChecksWith catalogue sent i c n old new
 
 -- One event, with what is logged of it.
-abbrev pub Step : World → List Known → Event → Entry → List Known → Type 0
+abbrev pub Step : World → List ClientState → Event → Entry → List ClientState → Type 0
 Step w old (Publish name file) n new = Quiet n (publish_effect (next_of w name.items file.items).tag (refused_at w name.items file.items)) old new
 Step w old (Epoch e) n new = (e < 2 ^ 32) × Quiet n (if nat_lt w.epoch e then effects.Epoch e else effects.Skipped) old new
 Step w old (NewClient name blocks) n new = MakesBy (client_refusal host name.items blocks) name.items blocks n old new
@@ -220,11 +230,11 @@ Step w old (Check i) n new = IsCheckBy (slice_get old i) w.catalogue (length w.s
 
 -- The log of a run has an entry for each event, in order, with what the schedule makes of the world and of clients that keep
 -- their contracts; these are the clients before and after it.
-abbrev pub Runs : World → List Known → List Event → List Entry → List Known → Type 0
+abbrev pub Runs : World → List ClientState → List Event → List Entry → List ClientState → Type 0
 Runs w old [] [] new = new ≡ old
 Runs w old [] (n ∷ ns) new = ⊥
 Runs w old (e ∷ es) [] new = ⊥
-Runs w old (e ∷ es) (n ∷ ns) new = (mid : List Known) × Step w old e n mid × Runs (after w e n.effect) mid es ns new
+Runs w old (e ∷ es) (n ∷ ns) new = (mid : List ClientState) × Step w old e n mid × Runs (after w e n.effect) mid es ns new
 
 -- What holds of every log: its reports are true, those of one tag and one query are alike, its checks tell of the catalogue,
 -- no two publications have one tag, the answers that were kept are honest, and what is asked is needed.
@@ -240,7 +250,7 @@ pub record IsTrueLog (events : List Event) (entries : List Entry) : Type 0 where
 pub record IsBeginning (events : List Event) (entries : List Entry) : Type 0 where
   pub count : ℕ
   pub some : count ≤ length events
-  pub clients : List Known
+  pub clients : List ClientState
   pub logged : Runs start [] (take count events) entries clients
   pub truth : IsTrueLog (take count events) entries
 
@@ -267,6 +277,6 @@ pub record IsState (w : World) (server : ServerState) (entries : List Entry) (pl
   pub server_at : server ≡ server_of w
   pub kept : AreKept entries places w.sent
 
-pub record Does (w : World) (old : List Known) (e : Event) (n : Entry) (new : List Known) (server : ServerState) : Type 0 where
+pub record Does (w : World) (old : List ClientState) (e : Event) (n : Entry) (new : List ClientState) (server : ServerState) : Type 0 where
   pub step : Step w old e n new
   pub server_at : server ≡ server_of (after w e n.effect)

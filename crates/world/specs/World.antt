@@ -8,7 +8,7 @@ use Rattle.http_range.specs.Honest.{IsHonest}
 use Rattle.cog_server.specs.declared.error.PublishError.{PublishError}
 use Rattle.world.specs.declared.event.Event.{Event}
 use Rattle.world.specs.declared.event.Event.TheVariants.{Publish, Epoch, NewClient, Open, Forget, Ask, AskFrom, Deliver, Exchange, Check}
-use Rattle.world.specs.declared.event.Checked.{Checked}
+use Rattle.world.specs.declared.event.AnsweredCheck.{AnsweredCheck}
 use Rattle.world.specs.declared.event.Effect.{Effect}
 use Rattle.world.specs.declared.event.Effect.TheVariants as effects
 use Rattle.world.specs.declared.event.Entry.{Entry}
@@ -193,7 +193,7 @@ abbrev pub AllHonest : World → Type 0
 AllHonest w = (k : ℕ) (a : Answer) → slice_get w.sent k ≡ Some a → StaysHonest a w.book
 
 -- the check of an entry
-abbrev pub check_in : Effect → Option Checked
+abbrev pub check_in : Effect → Option AnsweredCheck
 check_in (effects.Checked k) = Some k
 check_in effect = None
 
@@ -202,7 +202,7 @@ abbrev pub HasTag : Catalogue → List ℕ → List ℕ → Type 0
 HasTag catalogue name tag = option_map (λ p. p.tag) (published name catalogue) ≡ Some tag
 
 -- The check says "same" exactly where the catalogue has the tag under the client's name.
-pub record IsExact (w : World) (i : ℕ) (k : Checked) : Type 0 where
+pub record IsExact (w : World) (i : ℕ) (k : AnsweredCheck) : Type 0 where
   pub seen : Seen
   pub there : slice_get w.clients i ≡ Some seen
   pub exact : (k.current ≡ Same) ↔ HasTag w.catalogue seen.name k.tag

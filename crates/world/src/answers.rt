@@ -2,13 +2,13 @@
 ghost use Rattle.std.specs.Prelude.{◌≡◌, ◌++◌, ◌∷◌, [], IfOk, OnOk, option_and_then, option_copied, slice_get};
 ghost use Rattle.cog_client.specs.Client.{name_of};
 ghost use Rattle.world.specs.World.{answer_in, name_in};
-ghost use Rattle.world.specs.Run.{Acts, DeliversWith, IsDelivery, answer_at, front_of, is_for, noted};
+ghost use Rattle.world.specs.Run.{IsDelivery, answer_at, cut_at, is_for, noted};
 
-use crate::calls::{has_report, new_report};
+use crate::calls::{Call, call_at};
 use crate::event::{Effect, Entry};
 use crate::server::quiet;
 use cog_client::Client;
-use cog_server::Answer;
+use cog_server::{Answer, Server};
 use http_range::Memory;
 use std::alloc::Global;
 
@@ -23,7 +23,7 @@ pub fn answer_of<'a>(entries: &'a [Entry], places: &[usize], number: u32) -> Opt
 
 /// The first bytes of a text, or all.
 fn front(text: &[u8], cut: Option<u32>) -> &[u8]
-    ensures { result.now ≡ front_of cut text.now }
+    ensures { result.now ≡ cut_at cut text.now }
 {
     match cut {
         None => text,
@@ -41,24 +41,10 @@ fn is_for(client: &Client, answer: &Answer) -> bool
     }
 }
 
-fn deliver_one(alloc: Global, client: &mut Client, i: u32, text: &[u8]) -> Result<Entry, Memory>
-    ensures { IfOk result (λ n. Acts (DeliversWith text.now i n.effect) n client.old client.new) }
-{
-    let had = has_report(client);
-    let delivered = client.deliver(text)?;
-    let report = new_report(alloc, client, had)?;
-    Ok(Entry {
-        effect: Effect::Delivered {
-            client: i,
-            delivered,
-        },
-        report,
-    })
-}
-
 /// Client i gets the front of an answer that was sent, unless it is for another name.
 pub fn deliver_at(
     alloc: Global,
+    server: &Server,
     answer: Option<&Answer>,
     clients: &mut Vec<Client>,
     i: u32,
@@ -69,14 +55,12 @@ pub fn deliver_at(
     let Some(answer) = answer else {
         return Ok(quiet(Effect::Skipped));
     };
-    let Some(client) = clients.get_mut(i as usize) else {
-        return Ok(quiet(Effect::Skipped));
-    };
-    if !is_for(client, answer) {
-        return Ok(quiet(Effect::Skipped));
+    match clients.get(i as usize) {
+        Some(client) if is_for(client, answer) => {}
+        _ => return Ok(quiet(Effect::Skipped)),
     }
-    let entry = deliver_one(alloc, client, i, front(&answer.text, cut))?;
-    Ok(entry)
+    let text = front(&answer.text, cut);
+    call_at(alloc, server, 0, clients, i, Call::Deliver(text))
 }
 
 /// Notes the place of the next entry, where it has an answer.

@@ -1,17 +1,32 @@
-//! What happens at a client alone.
+//! What happens at a client.
 ghost use Rattle.std.specs.Prelude.{◌≡◌, IfOk, is_some, slice_get};
 ghost use Rattle.std.specs.Option.{option_map};
 ghost use Rattle.cog_client.specs.Report.{told};
 ghost use Rattle.cog_client.specs.Client.{client_refusal, report_of};
 ghost use Rattle.world.specs.World.{host};
-ghost use Rattle.world.specs.Run.{Acts, AtClient, ForgetsAll, MakesBy, NewReport, OpensWith};
+ghost use Rattle.world.specs.Run.{AtClient, CallsWith, MakesBy, NewReport};
 
 use crate::event::{Effect, Entry};
+use crate::exchange::{ask_from, deliver_whole};
 use crate::server::quiet;
 use cog_client::{Client, ClientError, Report};
+use cog_server::Server;
 use http_range::Memory;
 use std::alloc::Global;
 use tiff_dir::Query;
+
+/// What an event has a client do.
+#[derive(Clone, Copy)]
+pub enum Call<'a> {
+    Open(Query),
+    Forget,
+    /// Its request is answered.
+    AskFrom,
+    /// Its request is answered, and it gets the answer whole.
+    Exchange,
+    /// It gets these bytes of an answer.
+    Deliver(&'a [u8]),
+}
 
 /// A report stands.
 pub fn has_report(client: &Client) -> bool
@@ -34,6 +49,7 @@ pub fn new_report(alloc: Global, client: &Client, had: bool) -> Result<Option<Re
     }
 }
 
+/// A client is made, or the event is skipped where its name or its blocks are refused.
 pub fn make_client(
     alloc: Global,
     clients: &mut Vec<Client>,
@@ -53,51 +69,59 @@ pub fn make_client(
     }
 }
 
-fn open_one(alloc: Global, client: &mut Client, number: u32, query: Query) -> Result<Entry, Memory>
-    ensures { IfOk result (λ n. Acts (OpensWith query number n.effect) n client.old client.new) }
+/// Client i does this: what the event did.
+fn effect_of(
+    server: &Server,
+    number: usize,
+    client: &mut Client,
+    i: u32,
+    what: Call<'_>,
+) -> Result<Effect, Memory>
+    ensures { IfOk result (λ effect. CallsWith server.now.catalogue number i what.entry effect client.old client.new) }
 {
-    let had = has_report(client);
-    client.open(query);
-    let report = new_report(alloc, client, had)?;
-    Ok(Entry {
-        effect: Effect::Opened(number),
-        report,
-    })
+    match what {
+        Call::Open(query) => {
+            client.open(query);
+            Ok(Effect::Opened(i))
+        }
+        Call::Forget => {
+            client.forget();
+            Ok(Effect::Forgot(i))
+        }
+        Call::AskFrom => match ask_from(server, number, client, i)? {
+            None => Ok(Effect::Nothing(i)),
+            Some(asked) => Ok(Effect::Asked(asked)),
+        },
+        Call::Exchange => {
+            let asked = ask_from(server, number, client, i)?;
+            deliver_whole(client, i, asked)
+        }
+        Call::Deliver(text) => {
+            let delivered = client.deliver(text)?;
+            Ok(Effect::Delivered {
+                client: i,
+                delivered,
+            })
+        }
+    }
 }
 
-pub fn open_at(
+/// Client i does this, if there is such a client; what newly stands is told.
+pub fn call_at(
     alloc: Global,
+    server: &Server,
+    number: usize,
     clients: &mut Vec<Client>,
-    number: u32,
-    query: Query,
+    i: u32,
+    what: Call<'_>,
 ) -> Result<Entry, Memory>
-    ensures { IfOk result (λ n. AtClient (slice_get clients.old.items number) (OpensWith query number n.effect) number n clients.old.items clients.new.items) }
+    ensures { IfOk result (λ n. AtClient (slice_get clients.old.items i) (CallsWith server.now.catalogue number i what.entry n.effect) i n clients.old.items clients.new.items) }
 {
-    let Some(client) = clients.get_mut(number as usize) else {
+    let Some(client) = clients.get_mut(i as usize) else {
         return Ok(quiet(Effect::Skipped));
     };
-    let entry = open_one(alloc, client, number, query)?;
-    Ok(entry)
-}
-
-fn forget_one(alloc: Global, client: &mut Client, number: u32) -> Result<Entry, Memory>
-    ensures { IfOk result (λ n. Acts (ForgetsAll number n.effect) n client.old client.new) }
-{
     let had = has_report(client);
-    client.forget();
+    let effect = effect_of(server, number, client, i, what)?;
     let report = new_report(alloc, client, had)?;
-    Ok(Entry {
-        effect: Effect::Forgot(number),
-        report,
-    })
-}
-
-pub fn forget_at(alloc: Global, clients: &mut Vec<Client>, number: u32) -> Result<Entry, Memory>
-    ensures { IfOk result (λ n. AtClient (slice_get clients.old.items number) (ForgetsAll number n.effect) number n clients.old.items clients.new.items) }
-{
-    let Some(client) = clients.get_mut(number as usize) else {
-        return Ok(quiet(Effect::Skipped));
-    };
-    let entry = forget_one(alloc, client, number)?;
-    Ok(entry)
+    Ok(Entry { effect, report })
 }

@@ -46,7 +46,7 @@ pub enum Event {
 
 /// A client's request and its answer.
 #[derive(Drop)]
-pub struct Asked {
+pub struct AnsweredRequest {
     pub client: u32,
     /// The bytes that are asked for.
     pub span: Span,
@@ -61,7 +61,7 @@ pub struct Asked {
 
 /// A client's check and its answer.
 #[derive(Drop)]
-pub struct Checked {
+pub struct AnsweredCheck {
     pub client: u32,
     /// The tag of the client's revision.
     pub tag: Tag,
@@ -86,15 +86,24 @@ pub enum Effect {
     Opened(u32),
     Forgot(u32),
     /// The message has this answer, with its number: answers are counted from 0.
-    Answered { number: usize, answer: Answer },
+    Answered {
+        number: usize,
+        answer: Answer,
+    },
     /// The client had no request.
     Nothing(u32),
-    Asked(Asked),
-    Delivered { client: u32, delivered: Delivered },
-    Exchanged { asked: Asked, delivered: Delivered },
+    Asked(AnsweredRequest),
+    Delivered {
+        client: u32,
+        delivered: Delivered,
+    },
+    Exchanged {
+        asked: AnsweredRequest,
+        delivered: Delivered,
+    },
     /// The client had no revision to check.
     Unchecked(u32),
-    Checked(Checked),
+    Checked(AnsweredCheck),
 }
 
 impl Effect {

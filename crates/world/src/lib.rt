@@ -13,5 +13,5 @@ pub use cog_client::{
     Client, ClientError, Current, Delivered, Ignored, Info, Outcome, Report, Unknown, Window,
 };
 pub use cog_server::{Answer, PublishError};
-pub use event::{Asked, Checked, Effect, Entry, Event, Log};
+pub use event::{AnsweredCheck, AnsweredRequest, Effect, Entry, Event, Log};
 pub use world::run;

@@ -19,6 +19,7 @@ pub fn quiet(effect: Effect) -> Entry
     }
 }
 
+/// A file is published, or refused.
 pub fn publish(
     alloc: Global,
     server: &mut Server,
@@ -35,6 +36,7 @@ pub fn publish(
     }
 }
 
+/// The server is started anew in a greater epoch, or the event is skipped.
 pub fn restart(alloc: Global, server: &mut Server, epoch: u32) -> Entry
     ensures { Restarts epoch result server.old server.new }
 {

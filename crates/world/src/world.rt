@@ -7,9 +7,9 @@ ghost use Rattle.world.specs.Progress.{AllNeeded, AllReport};
 ghost use Rattle.world.specs.Run.{Does, IsBeginning, IsState, Runs};
 
 use crate::answers::{answer_of, deliver_at, keep};
-use crate::calls::{forget_at, make_client, open_at};
+use crate::calls::{Call, call_at, make_client};
 use crate::event::{Entry, Event, Log};
-use crate::exchange::{ask_from_at, check_at, exchange_at};
+use crate::exchange::check_at;
 use crate::server::{ask, publish, restart};
 use cog_client::{
     Client, left_never_grows, needed_are_asked, nothing_left_is_reported, own_answers_bring_on,
@@ -24,6 +24,12 @@ use tiff_dir::one_window;
 
 /// Runs the events in order and logs each. Want of memory ends the run: then the log is that of the events
 /// before the one that met it.
+///
+/// ```
+/// let events = vec![in rt.alloc(); Event::Epoch(1), Event::Publish { name, file }]?;
+/// let mut log = Log::new(rt.alloc());
+/// run(rt.alloc(), &events, &mut log)?;
+/// ```
 pub fn run(alloc: Global, events: &[Event], log: &mut Log) -> Result<(), Memory>
     requires entries { log.old.entries.items ≡ [] }
     requires clients { log.old.clients.items ≡ [] }
@@ -103,19 +109,23 @@ fn step(
         Event::Publish { name, file } => publish(alloc, server, name, file),
         Event::Epoch(epoch) => Ok(restart(alloc, server, *epoch)),
         Event::NewClient { name, blocks } => make_client(alloc, clients, name, *blocks),
-        Event::Open { client, query } => open_at(alloc, clients, *client, *query),
-        Event::Forget(client) => forget_at(alloc, clients, *client),
+        Event::Open { client, query } => {
+            call_at(alloc, server, number, clients, *client, Call::Open(*query))
+        }
+        Event::Forget(client) => call_at(alloc, server, number, clients, *client, Call::Forget),
         Event::Ask(message) => ask(server, number, message),
-        Event::AskFrom(client) => ask_from_at(alloc, server, number, clients, *client),
+        Event::AskFrom(client) => call_at(alloc, server, number, clients, *client, Call::AskFrom),
         Event::Deliver {
             client,
             answer,
             cut,
         } => {
             let answer = answer_of(entries, places, *answer);
-            deliver_at(alloc, answer, clients, *client, *cut)
+            deliver_at(alloc, server, answer, clients, *client, *cut)
         }
-        Event::Exchange(client) => exchange_at(alloc, server, number, clients, *client),
+        Event::Exchange(client) => {
+            call_at(alloc, server, number, clients, *client, Call::Exchange)
+        }
         Event::Check(client) => check_at(server, number, clients, *client),
     }
 }

@@ -1,11 +1,11 @@
 use Rattle.std.proofs.Common.{◌≡◌}
 use Rattle.cog_reader.specs.Reader.{complete_of, steps_of}
-use Rattle.cog_client.specs.Going.{work, GoesOn}
+use Rattle.cog_client.specs.Going.{work, ReaderGoesOn}
 use Rattle.cog_client.proofs.going.fill.Given as goal
 
 abbrev pub invariant-loop-span : goal.invariant-loop-span
 invariant-loop-span l = record {
-  goes : GoesOn (work l.fn.reader l.fn.cache) (work l.reader l.cache);
+  goes : ReaderGoesOn (work l.fn.reader l.fn.cache) (work l.reader l.cache);
   complete : complete_of l.reader ≡ l.fn.complete;
 }
 

@@ -1,6 +1,6 @@
 use Rattle.std.proofs.Common.{◌≡◌, ◌+◌, length, arith, refl, sym, ap, subst, ◌∙◌}
 use Rattle.std.specs.Prelude.{slice_range}
-use Rattle.tiff_dir.specs.Walk.{range_of_span}
+use Rattle.tiff_dir.specs.Walk.{extent_of_span}
 use Rattle.range_cache.specs.Cache.{Blocks}
 use Rattle.cog_client.specs.Going.{IsMissing}
 use Rattle.cog_client.proofs.GoingLemmas.{given, lacking, read}
@@ -12,7 +12,7 @@ returns-in_ok-give-in-Ok-clause-goes c =
     let e = c.in-Ok.ensures in
     let g = c.in_ok-give-in-Ok.ensures in
     let old = a.reader.now in
-    given old c.give.new.self a.cache.now c.read_into.new.self (range_of_span a.span) c.read_into.new.out c.requires.wanted
+    given old c.give.new.self a.cache.now c.read_into.new.self (extent_of_span a.span) c.read_into.new.out c.requires.wanted
     (λ f agrees holds.
     let known : length f ≡ a.complete = c.lengths_are_known.ensures old f agrees ∙ c.requires.complete in
     let room = c.requires.room in
@@ -31,7 +31,7 @@ returns-in-Err-clause-given c =
     let small = c.requires.small in
     let complete = c.requires.complete in (
       refl,
-      subst (λ n. IsMissing c.read_into.new.self n (range_of_span a.span) c.span_of.result) (sym complete)
-          (lacking a.cache.now c.read_into.new.self a.complete (length a.out.now) (range_of_span a.span) c.in-Err.missing c.span_of.result
+      subst (λ n. IsMissing c.read_into.new.self n (extent_of_span a.span) c.span_of.result) (sym complete)
+          (lacking a.cache.now c.read_into.new.self a.complete (length a.out.now) (extent_of_span a.span) c.in-Err.missing c.span_of.result
           c.requires.room (omega arith) (omega arith) (omega arith) (omega (arith, e.sound.least, ap (λ (b : Blocks). b.capacity) e.entries)) e.same e.exact e.led c.span_of.ensures.first c.span_of.ensures.last),
     )

@@ -3,18 +3,18 @@ use Rattle.std.specs.Option.{option_map}
 use Rattle.tiff_dir.specs.declared.geo.GeoPlaces.{GeoPlaces}
 use Rattle.tiff_dir.specs.Geo.{key_source}
 use Rattle.tiff_dir.specs.Keys.{KeySource, IsFaultOfKeys}
-use Rattle.tiff_dir.specs.Walk.{Agrees}
+use Rattle.tiff_dir.specs.Walk.{WalkAgrees}
 use Rattle.geokeys.specs.Doubles.{doubles_in}
 use Rattle.geokeys.specs.Keys.{AreKeys, IsKeyError}
 use Rattle.cog_reader.specs.Fields.{geo_bytes, IsReadOf}
-use Rattle.cog_reader.specs.Turn.{IsInfoError}
+use Rattle.cog_reader.specs.Step.{IsInfoError}
 use Rattle.cog_reader.proofs.PaintLemmas.{passed_on}
 use Rattle.cog_reader.proofs.InfoLemmas.{file_parts, info_error, info_sound, items_are, parts_source, sides_told}
 use Rattle.cog_reader.proofs.info.info.Goals as goal
 
 pub returns-in_err-geo-clause-refused : goal.returns-in_err-geo-clause-refused
 returns-in_err-geo-clause-refused c =
-    passed_on c.from_residual.result c.in_err-geo.field-0.0 (λ e. (f : List _) → Agrees c.args.walk.now f → IsReadOf f c.args.fields.now → IsInfoError f e) c.from_residual.ensures.1
+    passed_on c.from_residual.result c.in_err-geo.field-0.0 (λ e. (f : List _) → WalkAgrees c.args.walk.now f → IsReadOf f c.args.fields.now → IsInfoError f e) c.from_residual.ensures.1
     (λ f agrees read. (
     let x = c.args.fields.now in
     let parts = file_parts f x _ _ _ _ _ _ read c.requires.read c.parts-parts.ensures.parts in

@@ -6,21 +6,21 @@ use Rattle.tiff_dir.specs.Level.{plain_row, plain_size}
 use Rattle.tiff_dir.specs.Packets.{Packs}
 use Rattle.tiff_dir.specs.Described.{layout_of}
 use Rattle.tile_plan.specs.Plan.{Adjoin}
-use Rattle.cog_reader.specs.Mosaic.{range_of, IsPainted, HasDamage}
+use Rattle.cog_reader.specs.Mosaic.{tile_extent, IsPainted, HasDamage}
 use Rattle.cog_reader.proofs.PaintLemmas.{tile_step, tile_end, segment_is, passed_on, painted_more}
 use Rattle.cog_reader.proofs.mosaic.paint_tiles.Goals as goal
 
 pub overflow_add-end : goal.overflow_add-end
 overflow_add-end c =
     let first = c.requires.whole.first in
-    let within = tile_end (range_of c.args.arrays.now) first c.loop-tile.at (length c.args.bytes.now) c.args.tiles.now c.loop-tile.tile-index (c.loop-tile.invariant.rest first c.requires.whole.adjoin)
+    let within = tile_end (tile_extent c.args.arrays.now) first c.loop-tile.at (length c.args.bytes.now) c.args.tiles.now c.loop-tile.tile-index (c.loop-tile.invariant.rest first c.requires.whole.adjoin)
     c.loop-tile-test.true in
     omega (arith, within, c.len_of.ensures.len)
 
 pub slice_bounds-paint-end : goal.slice_bounds-paint-end
 slice_bounds-paint-end c =
     let first = c.requires.whole.first in
-    let within = tile_end (range_of c.args.arrays.now) first c.loop-tile.at (length c.args.bytes.now) c.args.tiles.now c.loop-tile.tile-index (c.loop-tile.invariant.rest first c.requires.whole.adjoin)
+    let within = tile_end (tile_extent c.args.arrays.now) first c.loop-tile.at (length c.args.bytes.now) c.args.tiles.now c.loop-tile.tile-index (c.loop-tile.invariant.rest first c.requires.whole.adjoin)
     c.loop-tile-test.true in
     omega (arith, within, c.len_of.ensures.len)
 
@@ -36,9 +36,9 @@ loop-tile-preserved c =
     let less : i < length ts = c.loop-tile-test.true in
     record {
       rest = λ first adjoin. (
-          let step = tile_step (range_of a) (first + at) ts i (first + size) (c.loop-tile.invariant.rest first adjoin) less in
-          let place : first + at + (range_of a t).len ≡ first + (at + len) = omega (arith, c.len_of.ensures.len) in
-          subst (λ k. Adjoin (range_of a) k (drop (i + 1) ts) (first + size)) place step.1
+          let step = tile_step (tile_extent a) (first + at) ts i (first + size) (c.loop-tile.invariant.rest first adjoin) less in
+          let place : first + at + (tile_extent a t).len ≡ first + (at + len) = omega (arith, c.len_of.ensures.len) in
+          subst (λ k. Adjoin (tile_extent a) k (drop (i + 1) ts) (first + size)) place step.1
           );
       level = c.paint.ensures.level ∙ sym c.requires.level;
       rectangle = c.paint.ensures.rectangle ∙ c.loop-tile.invariant.rectangle;
@@ -46,9 +46,9 @@ loop-tile-preserved c =
       room = c.paint.auto.plain ∙ c.loop-tile.invariant.room;
       painted = λ f n first done arrays bytes_of adjoin all. (
           let rest = c.loop-tile.invariant.rest first adjoin in
-          let within = tile_end (range_of a) first at size ts i rest less in
+          let within = tile_end (tile_extent a) first at size ts i rest less in
           let values = c.len_of.ensures.values f n arrays in
-          let segment = segment_is f n t at first size len (at + len - at) c.args.bytes.now (values.first ∙ ap Some (tile_step (range_of a) (first + at) ts i (first + size) rest less).0)
+          let segment = segment_is f n t at first size len (at + len - at) c.args.bytes.now (values.first ∙ ap Some (tile_step (tile_extent a) (first + at) ts i (first + size) rest less).0)
           (values.len ∙ ap Some (sym c.len_of.ensures.len)) bytes_of.inside (omega (arith, within, c.len_of.ensures.len)) bytes_of.are (omega arith) in
           let more : done ++ take (i + 1) ts ≡ (done ++ take i ts) ++ t ∷ [] = ap (λ l. done ++ l) (take_more ts i 0 less) ∙ sym (append_assoc done (take i ts) (t ∷ [])) in
           subst (All (IsPainted f n c.paint.new.canvas)) (sym more)
@@ -68,9 +68,9 @@ returns-in_err-paint-clause-damaged c f n first arrays bytes_of adjoin =
     let size = length c.args.bytes.now in
     let less : i < length ts = c.loop-tile-test.true in
     let rest = c.loop-tile.invariant.rest first adjoin in
-    let within = tile_end (range_of a) first at size ts i rest less in
+    let within = tile_end (tile_extent a) first at size ts i rest less in
     let values = c.len_of.ensures.values f n arrays in
-    let segment = segment_is f n t at first size len (at + len - at) c.args.bytes.now (values.first ∙ ap Some (tile_step (range_of a) (first + at) ts i (first + size) rest less).0)
+    let segment = segment_is f n t at first size len (at + len - at) c.args.bytes.now (values.first ∙ ap Some (tile_step (tile_extent a) (first + at) ts i (first + size) rest less).0)
     (values.len ∙ ap Some (sym c.len_of.ensures.len)) bytes_of.inside (omega (arith, within, c.len_of.ensures.len)) bytes_of.are (omega arith) in
     let bad = c.in_err-paint.ensures.bad in
     let level = c.loop-tile.invariant.level ∙ c.requires.level in

@@ -14,7 +14,7 @@ returns-else-len-bytes-clause-first c =
       omega (arith, c.if-len-bytes.false),
       omega (arith, c.min-room.ensures, c.if-len-room.false),
       room,
-      copied_first c.args.bytes.now _ head (sym c.from-head.ensures) c.if-head-lt128.true c.if-len-bytes.false
+      copied_first c.args.bytes.now _ head (sym c.from-head.ensures) c.if-head-lt-NO_OP.true c.if-len-bytes.false
           (front ∙ c.copy_from_slice.ensures.after ∙ ap (λ k. take k (drop 1 c.args.bytes.now)) count),
     )
 
@@ -25,6 +25,6 @@ returns-else-bytes-lt2-clause-first c =
       c.if-bytes-lt2.false,
       omega (arith, c.min-room.ensures, c.if-times-room.false),
       room,
-      repeated_first c.args.bytes.now _ head (sym c.from-head.ensures) c.if-head-gt128.true (omega (arith, c.type_inv.bytes 0, c.from-head.ensures)) c.if-bytes-lt2.false
+      repeated_first c.args.bytes.now _ head (sym c.from-head.ensures) c.if-head-gt-NO_OP.true (omega (arith, c.type_inv.bytes 0, c.from-head.ensures)) c.if-bytes-lt2.false
           c.repeat.ensures,
     )

@@ -1,6 +1,6 @@
 use Rattle.std.proofs.Common.{◌≡◌, ℕ, List, ◌+◌, ◌-◌, ◌*◌, ◌≤◌, take, length, min, max}
 use Rattle.std.specs.List.{All, slice_range}
-use Rattle.range_cache.specs.Block.{block_size, block_of, first_block, blocks}
+use Rattle.tiff_dir.specs.Block.{block_size, block_of, first_block, blocks}
 use Rattle.range_cache.specs.Numbers.{AreThere}
 use Rattle.range_cache.specs.Cache.{blocks_in, numbers}
 use Rattle.range_cache.proofs.blocks.copy.Given as goal

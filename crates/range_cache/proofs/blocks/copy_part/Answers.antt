@@ -1,7 +1,7 @@
 use Rattle.std.proofs.Common.{◌≡◌, ◌+◌, ◌*◌, ap, sym, ◌∙◌, arith, length, inl, inr}
 use Rattle.std.specs.List.{slice_range}
 use Rattle.std.specs.Option.{option_copied}
-use Rattle.range_cache.specs.Block.{block_size}
+use Rattle.tiff_dir.specs.Block.{block_size}
 use Rattle.range_cache.proofs.Bytes.{found_of, not_there, length-block, part_of_block}
 use Rattle.range_cache.proofs.blocks.copy_part.Goals as goal
 

@@ -1,6 +1,6 @@
 use Rattle.std.proofs.Common.{◌≡◌, ◌+◌, ◌-◌, ◌*◌, arith, sym, ap, ◌∙◌, refl, map}
 use Rattle.std.specs.List.{range_with_len, slice_range}
-use Rattle.range_cache.specs.Block.{end_of}
+use Rattle.tiff_dir.specs.Block.{end_of}
 use Rattle.range_cache.specs.Cache.{Block, blocks_in, stored, stores, put_one}
 use Rattle.range_cache.specs.Piece.{block_in}
 use Rattle.range_cache.proofs.Stored.{stored-more, stored-none, stores-next, stores-none}

@@ -1,3 +1,4 @@
+use Rattle.tiff_dir.specs.declared.tags.TheConstants.{BITS_PER_SAMPLE}
 use Rattle.std.proofs.Common.{ℕ, Option, None, MatchResult, sym, subst}
 use Rattle.tiff_dir.specs.declared.stage.Stage.TheVariants.{Bits, Formats}
 use Rattle.tiff_dir.specs.declared.fault.FileFault.TheVariants.{Unsupported}
@@ -19,7 +20,7 @@ pub returns-in_default-bits-clause-agrees : goal.returns-in_default-bits-clause-
 returns-in_default-bits-clause-agrees c = λ f is shorts formats before part.
     let H : Option ℕ → Type 0 = λ o. HasBits f c.args.pending.index o in
     let bits = subst H (sym c.depth_of-bits.ensures) (has_bits f c.args.bytes.now c.args.pending.order c.args.pending.index c.args.first is.walked.named shorts part c.requires.whole) in
-    level_fault f c.args.pending.index (Unsupported 258) c.requires.few is.there is.level (bits_none f c.args.pending.index c.depth_of-bits.result c.in_default-bits.is bits)
+    level_fault f c.args.pending.index (Unsupported BITS_PER_SAMPLE) c.requires.few is.there is.level (bits_none f c.args.pending.index c.depth_of-bits.result c.in_default-bits.is bits)
 
 pub returns-clause-agrees : goal.returns-clause-agrees
 returns-clause-agrees c = λ f is shorts formats before part.

@@ -1,3 +1,4 @@
+use Rattle.tiff_dir.specs.declared.tags.TheConstants.{BITS_PER_SAMPLE, SAMPLE_FORMAT}
 use Rattle.std.proofs.Common.{◌∙◌, sym}
 use Rattle.tiff_dir.specs.declared.stage.Stage.TheVariants.{Formats}
 use Rattle.tiff_dir.specs.declared.fault.FileFault.TheVariants.{Unsupported}
@@ -9,11 +10,11 @@ use Rattle.tiff_dir.proofs.level_steps.after_formats.Goals as goal
 
 pub returns-in_default-clause-agrees : goal.returns-in_default-clause-agrees
 returns-in_default-clause-agrees c = λ f is shorts bits before part.
-    level_fault f c.args.pending.index (Unsupported 258) c.requires.few is.there is.level (bits_none f c.args.pending.index c.args.bits c.in_default.is bits)
+    level_fault f c.args.pending.index (Unsupported BITS_PER_SAMPLE) c.requires.few is.there is.level (bits_none f c.args.pending.index c.args.bits c.in_default.is bits)
 
 pub returns-then-not-are_all-clause-agrees : goal.returns-then-not-are_all-clause-agrees
 returns-then-not-are_all-clause-agrees c = λ f is shorts bits before part.
-    level_fault f c.args.pending.index (Unsupported 339) c.requires.few is.there is.level
+    level_fault f c.args.pending.index (Unsupported SAMPLE_FORMAT) c.requires.few is.there is.level
     (formats_wrong f c.args.bytes.now c.args.pending.order c.args.pending.index c.args.first is.walked.named shorts part c.requires.whole (sym c.are_all.ensures ∙ c.if-not-are_all.true))
 
 pub returns-clause-agrees : goal.returns-clause-agrees

@@ -1,3 +1,4 @@
+use Rattle.tiff_dir.specs.declared.tags.TheConstants.{BITS_PER_SAMPLE, SAMPLES_PER_PIXEL, SAMPLE_FORMAT}
 use Rattle.std.proofs.Common.{◌≡◌, ◌≢◌, ◌∙◌, Some, true, false, sym, ap, refl}
 use Rattle.tiff_dir.specs.declared.stage.Pending.{Pending}
 use Rattle.tiff_dir.specs.declared.stage.Stage.TheVariants.{Table}
@@ -28,8 +29,8 @@ returns-then-draft-eq-COLOUR_SAMPLES-clause-agrees c = λ f is level sound befor
     let read = c.in_ok-draft.ensures.read in
     let p : Pending = record { order = c.args.table.now.order; index = c.args.index; next = c.next.result; draft = c.in_ok-draft.draft } in
     let pending : IsPending f p = rw c.next.ensures (pending_is f _ c.args.table.now.order c.args.index c.args.table.now.at c.args.table.now.entries es c.in_ok-draft.draft is c.args.table.now.whole has read level sound) in
-    let samples : short_or es 277 1 ≡ 3 = sym (draft_samples es c.in_ok-draft.draft read) ∙ c.if-draft-eq-COLOUR_SAMPLES.true in
-    let bits : long_in es 258 ≡ Some c.in-Some.first = sym c.long.ensures ∙ c.in-Some.is in
+    let samples : short_or es SAMPLES_PER_PIXEL 1 ≡ 3 = sym (draft_samples es c.in_ok-draft.draft read) ∙ c.if-draft-eq-COLOUR_SAMPLES.true in
+    let bits : long_in es BITS_PER_SAMPLE ≡ Some c.in-Some.first = sym c.long.ensures ∙ c.in-Some.is in
     table_to_bits f c.args.table.now.order c.args.index c.args.table.now.at c.args.table.now.entries p c.in-Some.first c.long-formats.result refl level pending
     (bits_outside f c.args.index es c.in-Some.first has read.met read.counts samples bits)
     (formats_outside f c.args.index es c.long-formats.result has read.met read.counts samples (sym c.long-formats.ensures))
@@ -39,20 +40,20 @@ returns-then-not-is_depth-clause-agrees c = λ f is level sound before.
     let es = entries_of c.args.table.now in
     let has : HasTable f c.args.index es = has_table f _ _ _ _ _ is c.args.table.now.whole in
     let read = c.in_ok-draft.ensures.read in
-    let three : short_or es 277 1 ≢ 3 = λ e. c.if-draft-eq-COLOUR_SAMPLES.false (draft_samples es c.in_ok-draft.draft read ∙ e) in
+    let three : short_or es SAMPLES_PER_PIXEL 1 ≢ 3 = λ e. c.if-draft-eq-COLOUR_SAMPLES.false (draft_samples es c.in_ok-draft.draft read ∙ e) in
     let samples = one_sample es read.values three in
-    let bad : is_depth (short_or es 258 0) ≡ false = rw (← c.short-bits.ensures) (sym c.is_depth.ensures ∙ c.if-not-is_depth.true) in
-    level_fault f c.args.index (Unsupported 258) c.requires.few has.there level (bits_unsupported f c.args.index es has read.met read.counts samples bad)
+    let bad : is_depth (short_or es BITS_PER_SAMPLE 0) ≡ false = rw (← c.short-bits.ensures) (sym c.is_depth.ensures ∙ c.if-not-is_depth.true) in
+    level_fault f c.args.index (Unsupported BITS_PER_SAMPLE) c.requires.few has.there level (bits_unsupported f c.args.index es has read.met read.counts samples bad)
 
 pub returns-then-short-ne1-clause-agrees : goal.returns-then-short-ne1-clause-agrees
 returns-then-short-ne1-clause-agrees c = λ f is level sound before.
     let es = entries_of c.args.table.now in
     let has : HasTable f c.args.index es = has_table f _ _ _ _ _ is c.args.table.now.whole in
     let read = c.in_ok-draft.ensures.read in
-    let three : short_or es 277 1 ≢ 3 = λ e. c.if-draft-eq-COLOUR_SAMPLES.false (draft_samples es c.in_ok-draft.draft read ∙ e) in
+    let three : short_or es SAMPLES_PER_PIXEL 1 ≢ 3 = λ e. c.if-draft-eq-COLOUR_SAMPLES.false (draft_samples es c.in_ok-draft.draft read ∙ e) in
     let samples = one_sample es read.values three in
-    let bad : short_or es 339 1 ≢ 1 = λ e. c.if-short-ne1.true (c.short.ensures ∙ e) in
-    level_fault f c.args.index (Unsupported 339) c.requires.few has.there level (formats_unsupported f c.args.index es has read.met read.counts samples bad)
+    let bad : short_or es SAMPLE_FORMAT 1 ≢ 1 = λ e. c.if-short-ne1.true (c.short.ensures ∙ e) in
+    level_fault f c.args.index (Unsupported SAMPLE_FORMAT) c.requires.few has.there level (formats_unsupported f c.args.index es has read.met read.counts samples bad)
 
 pub returns-clause-agrees : goal.returns-clause-agrees
 returns-clause-agrees c = λ f is level sound before.
@@ -61,10 +62,10 @@ returns-clause-agrees c = λ f is level sound before.
     let read = c.in_ok-draft.ensures.read in
     let p : Pending = record { order = c.args.table.now.order; index = c.args.index; next = c.next.result; draft = c.in_ok-draft.draft } in
     let pending : IsPending f p = rw c.next.ensures (pending_is f _ c.args.table.now.order c.args.index c.args.table.now.at c.args.table.now.entries es c.in_ok-draft.draft is c.args.table.now.whole has read level sound) in
-    let three : short_or es 277 1 ≢ 3 = λ e. c.if-draft-eq-COLOUR_SAMPLES.false (draft_samples es c.in_ok-draft.draft read ∙ e) in
+    let three : short_or es SAMPLES_PER_PIXEL 1 ≢ 3 = λ e. c.if-draft-eq-COLOUR_SAMPLES.false (draft_samples es c.in_ok-draft.draft read ∙ e) in
     let samples = one_sample es read.values three in
-    let depth : is_depth (short_or es 258 0) ≡ true = rw (← c.short-bits.ensures) (sym c.is_depth.ensures ∙ c.if-not-is_depth.false) in
-    let one : short_or es 339 1 ≡ 1 = sym c.short.ensures ∙ c.if-short-ne1.false in
+    let depth : is_depth (short_or es BITS_PER_SAMPLE 0) ≡ true = rw (← c.short-bits.ensures) (sym c.is_depth.ensures ∙ c.if-not-is_depth.false) in
+    let one : short_or es SAMPLE_FORMAT 1 ≡ 1 = sym c.short.ensures ∙ c.if-short-ne1.false in
     let bits = bits_inside f c.args.index es has read.met read.counts samples depth in
     let formats = formats_inside f c.args.index es has read.met read.counts samples one in
     then_also (EndsDirectory f c.args.index) (StepsOn f (Table c.args.table.now.order c.args.index c.args.table.now.at c.args.table.now.entries)) (IsFaultOfDirectories f) c.finish.result

@@ -1,3 +1,4 @@
+use Rattle.tiff_dir.specs.declared.tags.TheConstants.{TILE_BYTE_COUNTS, TILE_OFFSETS}
 use Rattle.std.proofs.Common.{◌≡◌, ◌*◌, ◌<◌, ◌∙◌, Some, sym, ap}
 use Rattle.tiff_dir.specs.declared.level.Kind.TheVariants.{Long}
 use Rattle.tiff_dir.specs.Described.{layout_of}
@@ -11,7 +12,7 @@ returns-in-Short-clause-first c = λ f n named level part.
     let l = c.args.level.now in
     let is_long = long_is l.offsets.kind l.kinds.0 in
     let less : c.args.t < l.offsets.count = rw l.offset_of_each c.requires.tile in
-    let told : level_value f n 324 c.args.t ≡ Some (number_in c.args.order (c.args.t * 4) 4 c.args.offsets.now) =
+    let told : level_value f n TILE_OFFSETS c.args.t ≡ Some (number_in c.args.order (c.args.t * 4) 4 c.args.offsets.now) =
     rw is_long at (offset_told f c.args.offsets.now c.args.order n c.args.t (layout_of l) named level l.lens.0 less c.requires.offsets part) in
     told ∙ ap Some (sym c.long_at-offset.ensures)
 
@@ -20,7 +21,7 @@ returns-in-Short-clause-len c = λ f n named level part.
     let l = c.args.level.now in
     let is_long = long_is l.offsets.kind l.kinds.0 in
     let less : c.args.t < l.counts.count = rw l.count_of_each c.requires.tile in
-    let told : level_value f n 325 c.args.t ≡ Some (number_in c.args.order (c.args.t * 2) 2 c.args.counts.now) =
+    let told : level_value f n TILE_BYTE_COUNTS c.args.t ≡ Some (number_in c.args.order (c.args.t * 2) 2 c.args.counts.now) =
     rw c.in-Short.is at (count_told f c.args.counts.now c.args.order n c.args.t (layout_of l) named level l.lens.1 less c.requires.counts part) in
     told ∙ ap Some (sym c.short_at.ensures ∙ sym c.from-count.ensures)
 
@@ -34,12 +35,12 @@ returns-in_default c =
       count = rw long c.long_at-count.ensures;
       first = λ f n named level part. (
           let less : c.args.t < l.offsets.count = rw l.offset_of_each c.requires.tile in
-          let told : level_value f n 324 c.args.t ≡ Some (number_in c.args.order (c.args.t * 4) 4 c.args.offsets.now) =
+          let told : level_value f n TILE_OFFSETS c.args.t ≡ Some (number_in c.args.order (c.args.t * 4) 4 c.args.offsets.now) =
           rw is_long at (offset_told f c.args.offsets.now c.args.order n c.args.t (layout_of l) named level l.lens.0 less c.requires.offsets part) in
           told ∙ ap Some (sym c.long_at-offset.ensures));
       len = λ f n named level part. (
           let less : c.args.t < l.counts.count = rw l.count_of_each c.requires.tile in
-          let told : level_value f n 325 c.args.t ≡ Some (number_in c.args.order (c.args.t * 4) 4 c.args.counts.now) =
+          let told : level_value f n TILE_BYTE_COUNTS c.args.t ≡ Some (number_in c.args.order (c.args.t * 4) 4 c.args.counts.now) =
           rw long at (count_told f c.args.counts.now c.args.order n c.args.t (layout_of l) named level l.lens.1 less c.requires.counts part) in
           told ∙ ap Some (sym c.long_at-count.ensures));
     }

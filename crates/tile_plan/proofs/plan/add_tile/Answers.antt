@@ -3,7 +3,7 @@ use Rattle.std.specs.Result.{OnOk}
 use Rattle.std.specs.Vec.{vec_len}
 use Rattle.std.proofs.lemmas.Grind.{common_steps}
 use Rattle.std.proofs.lemmas.List.{set-get_or}
-use Rattle.tiff_dir.specs.Walk.{range_of_span}
+use Rattle.tiff_dir.specs.Walk.{extent_of_span}
 use Rattle.tiff_dir.specs.Query.{with_tile}
 use Rattle.tile_plan.specs.Plan.{group_of}
 use Rattle.tile_plan.proofs.GroupLemmas.{added_join, added_apart, added_first}
@@ -20,8 +20,8 @@ returns-in-Some c =
     let g = c.in-Some.group.now in
     let some : 0 < vec_len c.args.groups.now = c.in-Some.ensures.variant.0 refl in
     on_ok c.add.result
-    (λ (next : group_of c.add.new.self ≡ with_tile (group_of g) c.args.tile (range_of_span c.args.span)).
-    added_join gs (vec_len c.args.groups.now - 1) g c.add.new.self c.args.tile (range_of_span c.args.span) (omega (arith, some)) c.in-Some.ensures.value
+    (λ (next : group_of c.add.new.self ≡ with_tile (group_of g) c.args.tile (extent_of_span c.args.span)).
+    added_join gs (vec_len c.args.groups.now - 1) g c.add.new.self c.args.tile (extent_of_span c.args.span) (omega (arith, some)) c.in-Some.ensures.value
     (sym c.joins.ensures ∙ c.if-joins.true) next)
     c.add.ensures
 
@@ -30,7 +30,7 @@ returns-in_ok-push-in_default c =
     let gs = c.args.groups.now.items in
     let new = c.in_ok-alone-in_default.field-0 in
     let len = vec_len c.args.groups.now in
-    let r = range_of_span c.args.span in
+    let r = extent_of_span c.args.span in
     elim c.in_default.branch [
       | in_default-via-in-Some+else-joins w ↦ (
           let some : 0 < len = w.in-Some.ensures.variant.0 refl in

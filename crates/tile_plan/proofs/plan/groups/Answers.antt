@@ -3,7 +3,7 @@ use Rattle.std.specs.List.{range_with_len}
 use Rattle.tiff_dir.specs.Level.{tile_total}
 use Rattle.tiff_dir.specs.Described.{grid_of}
 use Rattle.tiff_dir.specs.Query.{grouped}
-use Rattle.tiff_dir.specs.Walk.{range_of_span}
+use Rattle.tiff_dir.specs.Walk.{extent_of_span}
 use Rattle.tiff_dir.specs.declared.fault.WalkError.TheVariants.{File}
 use Rattle.tile_plan.specs.Block.{tile_of_block}
 use Rattle.tile_plan.specs.Plan.{range_in, group_of, tiles_of, IsRangeOf, IsTileFault, IsPlanError, IsErrorOf}
@@ -55,7 +55,7 @@ loop-n-preserved c =
     let tile = c.tile-tile.result in
     let before = map (tile_of_block b) (range_with_len 0 n) in
     record {
-      groups = c.in_ok-add_tile.ensures ∙ ap (λ gs. added gs tile (range_of_span c.in_ok-span.span)) c.loop-n.invariant.groups
+      groups = c.in_ok-add_tile.ensures ∙ ap (λ gs. added gs tile (extent_of_span c.in_ok-span.span)) c.loop-n.invariant.groups
           ∙ ap (added (grouped (λ t. Some (range t)) before) tile) c.in_ok-span.ensures.range ∙ sym (grouped_more range before tile)
           ∙ ap (λ t. grouped (λ t. Some (range t)) (before ++ t ∷ [])) c.tile-tile.ensures ∙ ap (grouped (λ t. Some (range t))) (counted_all (tile_of_block b) n);
       known = below_more (λ k. IsKnown c.args.order l c.args.complete c.args.offsets.now c.args.counts.now (tile_of_block b k)) n c.loop-n.invariant.known

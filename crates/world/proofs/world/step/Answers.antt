@@ -1,6 +1,6 @@
 use Rattle.std.proofs.Common.{List, length, refl, subst}
 use Rattle.std.specs.Prelude.{IfOk, slice_get}
-use Rattle.cog_client.specs.Client.{Known}
+use Rattle.cog_client.specs.Client.{ClientState}
 use Rattle.world.specs.declared.event.Event.TheVariants.{AskFrom, Exchange, Check}
 use Rattle.world.specs.Run.{AsksWith, AtClient, ExchangesWith, IsCheckBy}
 use Rattle.world.proofs.Whole.{ok_ask, ok_call, ok_deliver, ok_publish}
@@ -19,8 +19,8 @@ returns-in-Ask c =
 pub returns-in-AskFrom : goal.returns-in-AskFrom
 returns-in-AskFrom c =
     ok_call (λ i. AskFrom i) (λ catalogue sent i n old new. AtClient (slice_get old i) (AsksWith catalogue sent i n.effect) i n old new) (λ w i n old new h. (h, refl))
-    c.ask_from_at.result c.args.server.now c.args.entries.now c.args.places.now (length c.args.places.now) c.args.clients.now.items c.ask_from_at.new.clients.items c.args.event.now c.in-AskFrom.client c.in-AskFrom.client
-    c.in-AskFrom.is refl refl c.ask_from_at.ensures
+    c.call_at-in-AskFrom.result c.args.server.now c.args.entries.now c.args.places.now (length c.args.places.now) c.args.clients.now.items c.call_at-in-AskFrom.new.clients.items c.args.event.now c.in-AskFrom.client c.in-AskFrom.client
+    c.in-AskFrom.is refl refl c.call_at-in-AskFrom.ensures
 
 pub returns-in-Deliver : goal.returns-in-Deliver
 returns-in-Deliver c =
@@ -29,12 +29,12 @@ returns-in-Deliver c =
 pub returns-in-Exchange : goal.returns-in-Exchange
 returns-in-Exchange c =
     ok_call (λ i. Exchange i) (λ catalogue sent i n old new. AtClient (slice_get old i) (ExchangesWith catalogue sent i n.effect) i n old new) (λ w i n old new h. (h, refl))
-    c.exchange_at.result c.args.server.now c.args.entries.now c.args.places.now (length c.args.places.now) c.args.clients.now.items c.exchange_at.new.clients.items c.args.event.now c.in-Exchange.client c.in-Exchange.client
-    c.in-Exchange.is refl refl c.exchange_at.ensures
+    c.call_at-in-Exchange.result c.args.server.now c.args.entries.now c.args.places.now (length c.args.places.now) c.args.clients.now.items c.call_at-in-Exchange.new.clients.items c.args.event.now c.in-Exchange.client c.in-Exchange.client
+    c.in-Exchange.is refl refl c.call_at-in-Exchange.ensures
 
 pub returns-in-Check : goal.returns-in-Check
 returns-in-Check c =
-    let P : List Known → Type 0 = λ cs. IfOk c.check_at.result (λ n. IsCheckBy (slice_get cs c.in-Check.client) c.args.server.now.catalogue (length c.args.places.now) c.in-Check.client n cs cs) in
+    let P : List ClientState → Type 0 = λ cs. IfOk c.check_at.result (λ n. IsCheckBy (slice_get cs c.in-Check.client) c.args.server.now.catalogue (length c.args.places.now) c.in-Check.client n cs cs) in
     ok_call (λ i. Check i) (λ catalogue sent i n old new. IsCheckBy (slice_get old i) catalogue sent i n old new) (λ w i n old new h. (h, refl))
     c.check_at.result c.args.server.now c.args.entries.now c.args.places.now (length c.args.places.now) c.args.clients.now.items c.args.clients.now.items c.args.event.now c.in-Check.client c.in-Check.client
     c.in-Check.is refl refl (subst P c.deref-in-Check.ensures.value c.check_at.ensures)

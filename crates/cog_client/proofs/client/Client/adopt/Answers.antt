@@ -1,6 +1,6 @@
 use Rattle.std.proofs.Common.{◌≡◌, Some, None, sym, ap, subst, ◌∙◌}
 use Rattle.http_range.specs.Piece.{piece_seen}
-use Rattle.cog_client.specs.Client.{IsClient, Known, report_of}
+use Rattle.cog_client.specs.Client.{IsClient, ClientState, report_of}
 use Rattle.cog_client.specs.Steps.{Adopts}
 use Rattle.cog_client.proofs.ClientLemmas.{adopted, known}
 use Rattle.cog_client.proofs.client.Client.adopt.Goals as goal
@@ -11,7 +11,7 @@ returns c =
     let i = c.self.inside in
     let e = c.new.ensures in
     let p = piece_seen c.args.piece.now in
-    let silent : i.report ≡ None = subst (λ (k : Known). report_of k ≡ None) (sym c.self.view_is) c.requires.report in
+    let silent : i.report ≡ None = subst (λ (k : ClientState). report_of k ≡ None) (sym c.self.view_is) c.requires.report in
     let is : known i.host.items i.name.items i.query i.asked i.source i.cache i.report ≡ known i.host.items i.name.items i.query i.asked i.source i.cache None =
     ap (known i.host.items i.name.items i.query i.asked i.source i.cache) silent in
     subst (λ r. Adopts p c.args.asked c.args.self.now (known i.host.items i.name.items i.query c.args.asked (Some c.new.result) c.clear.new.self r)) (sym silent)

@@ -1,8 +1,8 @@
 use Rattle.std.proofs.Common.{◌≡◌, Some, None, true, false, sym, ap, subst, ◌∙◌, refl}
 use Rattle.std.specs.Prelude.{is_some, not}
 use Rattle.http_range.specs.Ask.{CanAsk}
-use Rattle.cog_client.specs.Client.{Known, asked_of, host_of, name_of, query_of, report_of, revision_of, tag_of}
-use Rattle.cog_client.specs.Calls.{Asks, GoesOn, Misses, StopsAsking, request_for}
+use Rattle.cog_client.specs.Client.{ClientState, asked_of, host_of, name_of, query_of, report_of, revision_of, tag_of}
+use Rattle.cog_client.specs.Calls.{AsksFor, GoesOn, Misses, StopsAsking, request_for}
 use Rattle.cog_client.proofs.GoingLemmas.{refused}
 use Rattle.cog_client.proofs.ClientLemmas.{goes_trans, known}
 use Rattle.cog_client.proofs.RequestLemmas.{asking_sound, none_asked, requested, unasked}
@@ -28,7 +28,7 @@ invariant_of-self-3 c =
     let m : known j.host.items j.name.items j.query j.asked j.source j.cache j.report ≡ c.missing.new.self = c.self-2.view_is in
     asking_sound j.host.items j.name.items j.query j.asked j.source j.cache j.report c.in-Some.span c.self-2.invariant
     (ap report_of m ∙ e.silent (ap is_some c.in-Some.is))
-    (subst (λ k. Asks k (revision_of k) c.in-Some.span) (sym m) (subst (Misses c.missing.new.self) c.in-Some.is e.ok))
+    (subst (λ k. AsksFor k (revision_of k) c.in-Some.span) (sym m) (subst (Misses c.missing.new.self) c.in-Some.is e.ok))
 
 pub returns-clause-ok : goal.returns-clause-ok
 unfolding query_of report_of
@@ -40,12 +40,12 @@ returns-clause-ok c =
     let old : GoesOn c.args.self.now before = subst (λ k. GoesOn k before) c.self.view_is (unasked i.host.items i.name.items i.query i.asked i.source i.cache i.report c.self.invariant) in
     let m : known j.host.items j.name.items j.query j.asked j.source j.cache j.report ≡ c.missing.new.self = c.self-2.view_is in
     let silent = ap report_of m ∙ e.silent (ap is_some c.in-Some.is) in
-    let asks = subst (λ k. Asks k (revision_of k) c.in-Some.span) (sym m) (subst (Misses c.missing.new.self) c.in-Some.is e.ok) in
+    let asks = subst (λ k. AsksFor k (revision_of k) c.in-Some.span) (sym m) (subst (Misses c.missing.new.self) c.in-Some.is e.ok) in
     let some : is_some i.query ≡ true = c.is_none.ensures ∙ ap not c.if-is_none.false in
     let quiet : is_some i.report ≡ false = sym c.is_some.ensures ∙ c.if-is_some.false in
     requested j.host.items j.name.items j.query j.asked j.source j.cache j.report c.in-Some.span c.args.self.now c.in_ok-text.text.items
     (subst (GoesOn c.args.self.now) (sym m) (goes_trans c.args.self.now before c.missing.new.self old e.goes)) c.self-2.invariant
     (asking_sound j.host.items j.name.items j.query j.asked j.source j.cache j.report c.in-Some.span c.self-2.invariant silent asks)
-    (ap (λ (k : Known). is_some (query_of k)) (sym c.self.view_is) ∙ some) (ap (λ (k : Known). is_some (report_of k)) (sym c.self.view_is) ∙ quiet) silent
+    (ap (λ (k : ClientState). is_some (query_of k)) (sym c.self.view_is) ∙ some) (ap (λ (k : ClientState). is_some (report_of k)) (sym c.self.view_is) ∙ quiet) silent
     (c.in_ok-text.ensures.text ∙ ap (λ k. request_for k (Some c.in-Some.span)) (sym m))
     (subst (λ k. CanAsk (host_of k) (name_of k) c.in-Some.span.first c.in-Some.span.last (tag_of k)) (sym m) c.request_for.ensures.lawful) asks

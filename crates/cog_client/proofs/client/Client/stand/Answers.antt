@@ -1,5 +1,5 @@
 use Rattle.std.proofs.Common.{◌≡◌, Some, None, sym, subst, ◌∙◌}
-use Rattle.cog_client.specs.Client.{IsClient, Known, report_of}
+use Rattle.cog_client.specs.Client.{IsClient, ClientState, report_of}
 use Rattle.cog_client.specs.Calls.{GoesOn}
 use Rattle.cog_client.proofs.ClientLemmas.{concluded, known, known_is}
 use Rattle.cog_client.proofs.client.Client.stand.Goals as goal
@@ -11,7 +11,7 @@ returns-in-Some-conclude-clause-goes c =
     let q = c.in-Some.query in
     let s = c.in-Some-source.source in
     let x = c.in-Some-conclude.report in
-    let silent : i.report ≡ None = subst (λ (k : Known). report_of k ≡ None) (sym c.self.view_is) c.requires in
+    let silent : i.report ≡ None = subst (λ (k : ClientState). report_of k ≡ None) (sym c.self.view_is) c.requires in
     let is : known i.host.items i.name.items i.query i.asked i.source i.cache i.report ≡ known i.host.items i.name.items (Some q) i.asked (Some s) i.cache None =
     known_is i.host.items i.name.items i.query (Some q) i.asked i.source (Some s) i.cache i.report None c.in-Some.is c.in-Some-source.is silent in
     subst (λ k. GoesOn k (known i.host.items i.name.items i.query None (Some c.conclude.new.self) i.cache (Some x))) (sym is ∙ c.self.view_is)

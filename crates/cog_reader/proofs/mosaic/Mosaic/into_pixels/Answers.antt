@@ -4,7 +4,7 @@ use Rattle.tiff_dir.specs.Number.{number_in}
 use Rattle.tiff_dir.specs.Profile.{sample_bytes}
 use Rattle.tiff_dir.specs.Window.{HasSamples}
 use Rattle.tile_plan.specs.Levels.{rectangle_of}
-use Rattle.cog_reader.specs.Mosaic.{Work}
+use Rattle.cog_reader.specs.Mosaic.{MosaicState}
 use Rattle.cog_reader.specs.Samples.{samples_in}
 use Rattle.cog_reader.proofs.WindowSamples.{painted_all, window_is}
 use Rattle.cog_reader.proofs.SoundLemmas.{whole_window}
@@ -17,7 +17,7 @@ returns-clause-samples c f q u done =
     let old = c.into_data-bytes.result in
     let new = c.big_first.new.bytes in
     let whole = with_items_is old new (c.big_first.ensures.len ∙ ap length c.deref_mut.ensures.value ∙ sym old.ok.0) in
-    let bytes : c.deref_mut.result.now ≡ c.args.self.picture.bytes = c.deref_mut.ensures.value ∙ c.into_data-bytes.ensures ∙ ap (λ (w : Work). w.picture.bytes) c.self.view_is in
+    let bytes : c.deref_mut.result.now ≡ c.args.self.picture.bytes = c.deref_mut.ensures.value ∙ c.into_data-bytes.ensures ∙ ap (λ (w : MosaicState). w.picture.bytes) c.self.view_is in
     subst (λ l. HasSamples f (rectangle_of c.args.self.picture.rectangle) (samples_in a.level.bits l)) (sym whole)
     (window_is f q a c.args.self new c.tiles_cover.ensures u done (c.big_first.ensures.len ∙ ap length bytes)
     (λ k fits. c.big_first.ensures.samples k (subst (λ l. k * sample_bytes a.level.bits + sample_bytes a.level.bits ≤ length l) (sym bytes) fits)
@@ -29,7 +29,7 @@ returns-clause-window c f q u done clean =
     let old = c.into_data-bytes.result in
     let new = c.big_first.new.bytes in
     let whole = with_items_is old new (c.big_first.ensures.len ∙ ap length c.deref_mut.ensures.value ∙ sym old.ok.0) in
-    let bytes : c.deref_mut.result.now ≡ c.args.self.picture.bytes = c.deref_mut.ensures.value ∙ c.into_data-bytes.ensures ∙ ap (λ (w : Work). w.picture.bytes) c.self.view_is in
+    let bytes : c.deref_mut.result.now ≡ c.args.self.picture.bytes = c.deref_mut.ensures.value ∙ c.into_data-bytes.ensures ∙ ap (λ (w : MosaicState). w.picture.bytes) c.self.view_is in
     subst (λ l. IsWindow f q (samples_in a.level.bits l)) (sym whole)
     (whole_window f q a c.args.self (samples_in a.level.bits new) u (painted_all f q a c.args.self u done) clean
     (window_is f q a c.args.self new c.tiles_cover.ensures u done (c.big_first.ensures.len ∙ ap length bytes)

@@ -3,7 +3,7 @@ use Rattle.std.proofs.lemmas.List.{length-replicate}
 use Rattle.tile_plan.specs.Levels.{IsSmall}
 use Rattle.tile_plan.specs.Canvas.{Picture, picture_size}
 use Rattle.tile_plan.specs.Plan.{range_in, AreGroups, IsPlanned}
-use Rattle.cog_reader.specs.Mosaic.{range_of}
+use Rattle.cog_reader.specs.Mosaic.{tile_extent}
 use Rattle.cog_reader.proofs.mosaic.Mosaic.new.Goals as goal
 
 pub returns-clause-plan : goal.returns-clause-plan
@@ -15,7 +15,7 @@ returns-clause-plan c =
     let counts = subst (λ n. AreGroups (range_in a.order a.level a.offsets.items n) a.level c.args.rect c.args.complete gs) c.deref-2.ensures.value offsets in
     record {
       level = ap (λ (p : Picture). p.level) canvas;
-      are = subst (λ r. AreGroups (range_of a) a.level r c.args.complete gs) (sym (ap (λ (p : Picture). p.rectangle) canvas)) counts;
+      are = subst (λ r. AreGroups (tile_extent a) a.level r c.args.complete gs) (sym (ap (λ (p : Picture). p.rectangle) canvas)) counts;
     }
 
 pub returns-clause-underway : goal.returns-clause-underway
@@ -30,7 +30,7 @@ returns-clause-underway c f q size p =
     record {
       planned = subst (λ n. IsPlanned f q a.order a.level c.in_ok-canvas.canvas.rectangle n a.offsets.items a.counts.items) (sym size)
           (subst (λ r. IsPlanned f q a.order a.level r c.args.complete a.offsets.items a.counts.items) rectangle p);
-      are = subst (λ n. AreGroups (range_of a) a.level c.in_ok-canvas.canvas.rectangle n gs) (sym size) (subst (λ r. AreGroups (range_of a) a.level r c.args.complete gs) rectangle counts);
+      are = subst (λ n. AreGroups (tile_extent a) a.level c.in_ok-canvas.canvas.rectangle n gs) (sym size) (subst (λ r. AreGroups (tile_extent a) a.level r c.args.complete gs) rectangle counts);
       level = ap (λ (p : Picture). p.level) c.in_ok-canvas.ensures;
       small = subst (IsSmall a.level) rectangle c.requires;
       size = ap (λ (p : Picture). length p.bytes) c.in_ok-canvas.ensures ∙ length-replicate (picture_size a.level c.args.rect) 0 ∙ ap (picture_size a.level) rectangle;

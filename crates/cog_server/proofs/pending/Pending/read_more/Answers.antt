@@ -1,5 +1,5 @@
 use Rattle.std.proofs.Common.{◌≡◌, ◌-◌, ◌≤◌, ◌++◌, List, ℕ, length, take, drop, slice_range, sym, ap, ◌∙◌, subst, arith, length-take, length-drop}
-use Rattle.http_range.specs.Stream.{IsUnfinished}
+use Rattle.http_range.specs.Stream.{HasNoMessage, IsUnfinished}
 use Rattle.cog_server.specs.Pending.{held}
 use Rattle.cog_server.proofs.PendingLemmas.{came, kept_full, none_later, passed_on, stayed}
 use Rattle.cog_server.proofs.pending.Pending.read_more.Goals as goal
@@ -52,4 +52,23 @@ returns-clause-bytes g c =
       gave = c.in_ok-n.ensures.ok.2;
       came = came old.bytes.items buffer (drop (length buffer) old.bytes.items) old.bytes.len old.start old.end c.in_ok-n.n c.compact.ensures.start full same
           ∙ ap (λ (xs : List ℕ). xs ++ take c.in_ok-n.n (drop old.end buffer)) c.compact.ensures.held;
+    }
+
+pub invariant_of-self : goal.invariant_of-self
+invariant_of-self g c =
+    let old = c.compact.new.self in
+    let buffer = c.read_into.new.buffer in
+    let rest = drop (length buffer) old.bytes.items in
+    let full : length buffer ≡ old.bytes.len = omega arith in
+    let same : take old.end buffer ≡ take old.end old.bytes.items =
+    c.read_into.ensures.front ∙ ap (λ (xs : List ℕ). take old.end xs) c.deref_mut.ensures.value in
+    let all : old.bytes.len ≡ 8192 = omega (arith, old.full, old.bytes.ok.0) in
+    let kept = kept_full buffer rest old.bytes.len 8192 full all in
+    record {
+      ordered = old.ordered;
+      within = omega (arith, kept, old.within, old.full);
+      full = kept;
+      searched = old.searched;
+      none = subst (λ (xs : List ℕ). HasNoMessage xs old.scanned)
+          (sym (stayed old.bytes.items buffer rest old.bytes.len old.start old.end c.compact.ensures.start full same)) old.none;
     }

@@ -1,6 +1,6 @@
 use Rattle.std.proofs.Common.{◌≡◌, ℕ, ◌+◌, ◌-◌, ◌/◌, ◌<◌, List, length, ap, sym, ◌∙◌, subst, arith}
 use Rattle.std.specs.List.{All, range_with_len}
-use Rattle.range_cache.specs.Block.{first_block, blocks}
+use Rattle.tiff_dir.specs.Block.{first_block, blocks}
 use Rattle.range_cache.specs.Numbers.{has, AreThere, IsLed}
 use Rattle.range_cache.specs.Cache.{Block, Blocks, block_at, kept_blocks, blocks_in, numbers, brought, Holds}
 use Rattle.range_cache.proofs.Bytes.{IsOf, blocks-some}

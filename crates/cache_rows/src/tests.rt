@@ -1,4 +1,0 @@
-mod model;
-mod piece;
-mod random_run;
-mod values;

@@ -1,0 +1,51 @@
+-- Taking a piece of the revision that is read.
+use Rattle.std.proofs.Common.{◌≡◌, ℕ, List, length, Option, Some, None, sym, ap, ◌∙◌, subst, arith}
+use Rattle.std.proofs.lemmas.List.{take_all}
+use Rattle.tiff_dir.specs.declared.span.Span.{Span}
+use Rattle.http_range.specs.Piece.{SeenPiece}
+use Rattle.range_cache.specs.Cache.{Block, Blocks, stored}
+use Rattle.cog_client.specs.declared.report.Report.{Report}
+use Rattle.cog_client.specs.Take.{asked_or_first, brought_by, stored_count, stored_front, stored_of}
+use Rattle.cog_client.specs.Client.{ClientState, asked_of, blocks_of, report_of}
+use Rattle.cog_client.specs.Calls.{GoesOn, Misses, unless_reported}
+use Rattle.cog_client.specs.Going.{AreSame}
+use Rattle.cog_client.specs.Steps.{Stores, StopsStoring, AcceptsPiece}
+use Rattle.cog_client.proofs.ClientLemmas.{same_trans, stays_trans}
+
+-- the first of all of them are all of them
+all_stored : (p : SeenPiece) (span : Span) (b : Blocks) → stored_front (length (brought_by p span)) p span b ≡ stored_of p span b
+all_stored p span b =
+    ap (λ (bs : List Block). record b { entries = stored b.capacity bs b.entries }) (take_all (length (brought_by p span)) (brought_by p span) (omega arith))
+
+unreported : (r : Option Report) (a : Option Span) → r ≡ None → unless_reported r a ≡ a
+unreported r a none = ap (λ o. unless_reported o a) none
+
+span_is : (a : Option Span) (span : Span) → a ≡ Some span → span ≡ asked_or_first a
+span_is a span is = sym (ap asked_or_first is)
+
+pub accept_stops : (p : SeenPiece) (span : Span) (k : ℕ) (old mid new : ClientState) → asked_of old ≡ Some span → Stores p span k old mid → GoesOn mid new
+    → asked_of new ≡ unless_reported (report_of new) (asked_of mid) → report_of new ≡ None → StopsStoring p old new
+accept_stops p span k old mid new is s g asked none = record {
+  same = same_trans old mid new s.same g.same;
+  asked = asked ∙ unreported (report_of new) (asked_of mid) none ∙ s.asked;
+  revision = g.revision ∙ s.revision;
+  report = none;
+  blocks = (
+    k,
+    subst (λ b. AreSame b (blocks_of new)) (s.blocks ∙ ap (λ x. stored_front k p x (blocks_of old)) (span_is (asked_of old) span is)) g.blocks,
+  );
+  file = λ f size piece knows. let first = s.file f size piece knows in stays_trans f old mid new first (g.file f first.knows);
+}
+
+pub accept_goes : (p : SeenPiece) (span : Span) (count : ℕ) (o : Option Span) (old mid new : ClientState) → asked_of old ≡ Some span → Stores p span (length (brought_by p span)) old mid
+    → count ≡ stored_count p span (blocks_of old) → GoesOn mid new → asked_of new ≡ unless_reported (report_of new) (asked_of mid) → Misses new o → AcceptsPiece p old new count
+accept_goes p span count o old mid new is s counted g asked misses = record {
+  same = same_trans old mid new s.same g.same;
+  asked = asked ∙ ap (unless_reported (report_of new)) s.asked;
+  revision = g.revision ∙ s.revision;
+  blocks = subst (λ b. AreSame b (blocks_of new))
+      (s.blocks ∙ all_stored p span (blocks_of old) ∙ ap (λ x. stored_of p x (blocks_of old)) (span_is (asked_of old) span is)) g.blocks;
+  counted = counted ∙ ap (λ x. stored_count p x (blocks_of old)) (span_is (asked_of old) span is);
+  rests = (o, misses);
+  file = λ f size piece knows. let first = s.file f size piece knows in stays_trans f old mid new first (g.file f first.knows);
+}

@@ -1,0 +1,147 @@
+//! Each test passes whether memory is there or is refused once: `rt try --test --fail-alloc N -- NAME` refuses the Nth. The
+//! call that finds no memory is made again, and goes on to the same report.
+use cog_client::{Client, ClientError, Query, Tag};
+use cog_client_support::Answer::{Part, Whole};
+use cog_client_support::Step::{Asks, AsksNothing, Checks, Copies, Open, Opens, Reports, Uses};
+use cog_client_support::{
+    F2_REPLACED, FIRST, NEW, NotDone, OLD, Publication, Revisions, Session, Step, client_of_a,
+};
+use cog_reader_support::{FACTS_OF_F3, Fixture, Want};
+use std::alloc::{AllocError, Global};
+use std::test::Fail;
+use tiff_dir::Pick;
+
+/// A file, built again if no memory is found.
+fn file_again(alloc: Global, fixture: Fixture) -> Result<Vec<u8>, AllocError> {
+    match fixture.file(alloc) {
+        Err(AllocError) => fixture.file(alloc),
+        file => file,
+    }
+}
+
+/// A client, made again if no memory is found.
+fn client_again(alloc: Global) -> Result<Client, ClientError> {
+    match client_of_a(alloc, 66) {
+        Err(ClientError::Memory) => client_of_a(alloc, 66),
+        client => client,
+    }
+}
+
+/// Whether the client's call that found no memory has left what it has to: after a request nothing is asked, and the revision is
+/// as before; after an answer something still is asked, and there is a revision. No report stands after either.
+fn is_left(client: &Client, step: Step<'_>, tag: Option<&Tag>) -> bool {
+    match step {
+        Asks(..) | AsksNothing => {
+            client.asked().is_none() && client.report().is_none() && client.tag() == tag
+        }
+        Uses(_) => {
+            client.asked().is_some() && client.report().is_none() && client.tag().is_some()
+        }
+        _ => true,
+    }
+}
+
+/// Does a step, again if no memory is found.
+fn step_again(alloc: Global, session: &mut Session<'_>, step: Step<'_>) -> Result<bool, NotDone> {
+    let tag = session.client.tag().map(|tag| tag.copy());
+    match session.step(alloc, step) {
+        Err(NotDone::NoRoom) => session.step(alloc, step),
+        Err(NotDone::Memory) if is_left(&session.client, step, tag.as_ref()) => {
+            session.step(alloc, step)
+        }
+        done => done,
+    }
+}
+
+/// The number of the first step that goes otherwise.
+fn step_otherwise(
+    alloc: Global,
+    session: &mut Session<'_>,
+    steps: &[Step<'_>],
+) -> Result<Option<usize>, NotDone> {
+    for (i, step) in steps.iter().enumerate() {
+        if !step_again(alloc, session, *step)? {
+            return Ok(Some(i));
+        }
+    }
+    Ok(None)
+}
+
+/// The number of the first step of a new client that goes otherwise.
+fn otherwise(
+    alloc: Global,
+    revisions: &Revisions<'_>,
+    steps: &[Step<'_>],
+) -> Result<Option<usize>, NotDone> {
+    let [old, new] = revisions.files;
+    let [tag, next_tag] = revisions.tags;
+    let (old, new) = (file_again(alloc, old)?, file_again(alloc, new)?);
+    let files = Publication::in_turn(tag, &old, next_tag, &new);
+    let mut session = Session::new(client_again(alloc)?, &files);
+    step_otherwise(alloc, &mut session, steps)
+}
+
+/// The last window is read from blocks that are there: the going on is in the request.
+const REPLACED: [Step<'static>; 12] = [
+    Opens(240, 240, 16, 16),
+    Asks(FIRST, None),
+    Uses(Part(0, 0, 65535)),
+    Asks((65536, 67705), Some(OLD)),
+    Uses(Whole(1)),
+    Asks((65536, 67705), Some(NEW)),
+    Uses(Part(1, 65536, 67705)),
+    Reports(NEW, Want::Window(16, 16, 1, 8, &[0; 256])),
+    Copies,
+    Opens(0, 0, 1, 1),
+    AsksNothing,
+    Reports(NEW, Want::Window(1, 1, 1, 8, &[255])),
+];
+
+#[test]
+fn goes_on_after_refused_memory_where_the_file_is_replaced(rt: HostRuntime) -> Result<(), Fail> {
+    assert_eq!(rt; otherwise(rt.alloc(), &F2_REPLACED, &REPLACED)?, None);
+    Ok(())
+}
+
+/// The file f3, published twice.
+const F3_TWICE: Revisions<'static> = Revisions {
+    files: [Fixture::F3, Fixture::F3],
+    ..F2_REPLACED
+};
+
+const CHECK: &str =
+    "HEAD /a HTTP/1.1\r\nHost: cog.test\r\nIf-None-Match: \"1-1\"\r\nConnection: close\r\n\r\n";
+
+/// A window of the packed level of f3.
+const THIN: Query = Query::Window {
+    x: 3,
+    y: 4,
+    w: 1,
+    h: 3,
+    pick: Pick::Level(1),
+};
+
+const INFO: [Step<'static>; 16] = [
+    Open(Query::Info),
+    Asks(FIRST, None),
+    Uses(Part(0, 0, 1455)),
+    Reports(OLD, Want::Info(FACTS_OF_F3)),
+    Copies,
+    Checks(Some(CHECK)),
+    Opens(15, 15, 2, 1),
+    AsksNothing,
+    Reports(OLD, Want::Window(2, 1, 1, 8, &[0x10, 0x11])),
+    Copies,
+    Open(THIN),
+    AsksNothing,
+    Reports(OLD, Want::Window(1, 3, 1, 8, &[4, 5, 6])),
+    Open(Query::Info),
+    AsksNothing,
+    Reports(OLD, Want::Info(FACTS_OF_F3)),
+];
+
+#[test]
+fn goes_on_after_refused_memory_between_info_and_windows(rt: HostRuntime) -> Result<(), Fail> {
+    assert_eq!(rt; otherwise(rt.alloc(), &F3_TWICE, &INFO)?, None);
+    Ok(())
+}

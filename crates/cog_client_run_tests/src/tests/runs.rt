@@ -1,0 +1,230 @@
+//! Random runs: answers that are cut, lost, repeated or late, of a file that is replaced again and again. Each report is what
+//! the plain program reads in the file that has its tag.
+ghost use Rattle.std.specs.Prelude.{◌<◌};
+
+use super::other_file;
+use cog_client::{Client, Outcome, Report};
+use cog_client_support::{NotDone, Publication, client_of_a};
+use cog_reader_support::{Plain, of_level};
+use fixtures_support::{Numbers, f2, f2b, f5};
+use std::alloc::{AllocError, Global};
+use std::test::Fail;
+use tiff_dir::Query;
+
+/// The seed of each run.
+const SEED: u64 = 1;
+
+/// A publication, and what the plain program reads in its file.
+#[derive(Clone, Copy)]
+struct Revision<'a> {
+    publication: Publication<'a>,
+    plain: &'a Plain,
+}
+
+/// Whether a report is the window that the plain program reads in the file that was published under its tag.
+fn is_right(
+    alloc: Global,
+    report: &Report,
+    revisions: &[Revision<'_>],
+    query: Query,
+) -> Result<bool, AllocError> {
+    if report.query != query || !matches!(&report.outcome, Outcome::Window(_)) {
+        return Ok(false);
+    }
+    let tag = report.tag.as_bytes();
+    match revisions
+        .iter()
+        .find(|revision| revision.publication.tag.as_bytes() == tag)
+    {
+        None => Ok(false),
+        Some(revision) => revision.plain.is_answer(alloc, query, &report.outcome),
+    }
+}
+
+/// Where answers come from, and those that may come again.
+#[derive(Drop)]
+struct Net<'a> {
+    revisions: &'a [Revision<'a>],
+    now: usize,
+    kept: Vec<Vec<u8>>,
+    numbers: Numbers,
+}
+
+impl<'a> Net<'a> {
+    /// What the server answers to the client's request: a part of the publication of now, or all of it where the client has
+    /// another.
+    fn answer(&self, alloc: Global, client: &Client) -> Result<Vec<u8>, NotDone> {
+        let revision = self.revisions.get(self.now).ok_or(NotDone::NoSuchPart)?;
+        let publication = revision.publication;
+        let span = client.asked().ok_or(NotDone::NoSuchPart)?;
+        match client.tag() {
+            Some(tag) if tag.as_bytes() != publication.tag.as_bytes() => publication.whole(alloc),
+            _ => publication.asked(alloc, span),
+        }
+    }
+
+    /// Keeps an answer, in the place of another once there are eight.
+    fn keep(&mut self, answer: Vec<u8>) -> Result<(), AllocError> {
+        let at = self.numbers.below(8);
+        match self.kept.get_mut(at) {
+            Some(place) => *place = answer,
+            None => self.kept.push(answer)?,
+        }
+        Ok(())
+    }
+
+    /// Delivers an answer that is kept.
+    fn repeat(&mut self, client: &mut Client) -> Result<(), NotDone> {
+        let at = self.numbers.below(8);
+        if let Some(answer) = self.kept.get(at) {
+            client.deliver(answer)?;
+        }
+        Ok(())
+    }
+
+    /// How many bytes of an answer come.
+    fn end(&mut self, len: usize, is_cut: bool) -> usize {
+        if is_cut && len > 0 {
+            self.numbers.below(len)
+        } else {
+            len
+        }
+    }
+
+    /// Makes a request, if there is one, and delivers its answer, or a front of it.
+    fn exchange(
+        &mut self,
+        alloc: Global,
+        client: &mut Client,
+        is_cut: bool,
+    ) -> Result<(), NotDone> {
+        if client.request()?.is_none() {
+            return Ok(());
+        }
+        let answer = self.answer(alloc, client)?;
+        let end = self.end(answer.len(), is_cut);
+        client.deliver(answer.get(..end).unwrap_or(&[]))?;
+        self.keep(answer)?;
+        Ok(())
+    }
+
+    /// One of the things that happen on the way: the file is replaced, an answer comes again, a request or its answer is lost,
+    /// an answer is cut, everything is forgotten, or all goes well.
+    fn happen(&mut self, alloc: Global, client: &mut Client) -> Result<(), NotDone> {
+        match self.numbers.below(10) {
+            0 => self.now = self.numbers.below(4),
+            1 | 2 => self.repeat(client)?,
+            3 => {
+                client.request()?;
+            }
+            4 | 5 => self.exchange(alloc, client, true)?,
+            6 => client.forget(),
+            _ => self.exchange(alloc, client, false)?,
+        }
+        Ok(())
+    }
+
+    /// Lets things happen until a report stands: anything at first, then whole answers alone. Whether the report is right.
+    fn settle(
+        &mut self,
+        alloc: Global,
+        client: &mut Client,
+        query: Query,
+    ) -> Result<bool, NotDone> {
+        client.open(query);
+        for step in 0..60u32 {
+            if step < 30 {
+                self.happen(alloc, client)?;
+            } else {
+                self.exchange(alloc, client, false)?;
+            }
+            if let Some(report) = client.report() {
+                return Ok(is_right(alloc, report, self.revisions, query)?);
+            }
+        }
+        Ok(false)
+    }
+}
+
+/// Where a window begins along a side, and how long it is there, at most 300.
+fn stretch(numbers: &mut Numbers, side: u32) -> (u32, u32)
+    requires { 0 < side }
+{
+    let first = numbers.below(side as usize);
+    let len = 1 + numbers.below((side as usize - first).min(300));
+    (first as u32, len as u32)
+}
+
+/// Reads so many windows of an image of these sides. The first that isn't read right.
+fn wrong_window(
+    alloc: Global,
+    net: &mut Net<'_>,
+    sides: (u32, u32),
+    windows: u32,
+) -> Result<Option<Query>, NotDone>
+    requires width { 0 < sides.0 }
+    requires length { 0 < sides.1 }
+{
+    let mut client = client_of_a(alloc, 66)?;
+    for _ in 0..windows {
+        let (x, w) = stretch(&mut net.numbers, sides.0);
+        let (y, h) = stretch(&mut net.numbers, sides.1);
+        let query = of_level(x, y, w, h, 0);
+        if !net.settle(alloc, &mut client, query)? {
+            return Ok(Some(query));
+        }
+    }
+    Ok(None)
+}
+
+fn revision_of<'a>(tag: &'a str, plain: &'a Plain) -> Revision<'a> {
+    let file = &plain.file;
+    Revision {
+        publication: Publication { tag, file },
+        plain,
+    }
+}
+
+/// Reads windows of two files that are published in turn. The first that isn't read right.
+fn wrong_of_two(
+    alloc: Global,
+    files: [&Plain; 2],
+    sides: (u32, u32),
+    windows: u32,
+) -> Result<Option<Query>, NotDone>
+    requires width { 0 < sides.0 }
+    requires length { 0 < sides.1 }
+{
+    let [old, new] = files;
+    let revisions = [
+        revision_of("\"1-1\"", old),
+        revision_of("\"1-2\"", new),
+        revision_of("\"1-3\"", old),
+        revision_of("\"1-4\"", new),
+    ];
+    let mut net = Net {
+        revisions: &revisions,
+        now: 0,
+        kept: Vec::new(alloc),
+        numbers: Numbers::new(SEED),
+    };
+    wrong_window(alloc, &mut net, sides, windows)
+}
+
+#[test]
+fn reads_small_tiles_whatever_befalls_the_answers(rt: HostRuntime) -> Result<(), Fail> {
+    let old = Plain::new(rt.alloc(), f2(rt.alloc())?)?;
+    let new = Plain::new(rt.alloc(), f2b(rt.alloc())?)?;
+    let found = wrong_of_two(rt.alloc(), [&old, &new], (256, 256), 300)?;
+    assert!(rt; found.is_none(), "seed {SEED}: {found:?}");
+    Ok(())
+}
+
+#[test]
+fn reads_large_tiles_whatever_befalls_the_answers(rt: HostRuntime) -> Result<(), Fail> {
+    let old = Plain::new(rt.alloc(), f5(rt.alloc())?)?;
+    let new = Plain::new(rt.alloc(), other_file(rt.alloc())?)?;
+    let found = wrong_of_two(rt.alloc(), [&old, &new], (1280, 1024), 60)?;
+    assert!(rt; found.is_none(), "seed {SEED}: {found:?}");
+    Ok(())
+}

@@ -1,0 +1,242 @@
+//! Answers as texts: heads that are written out, and bytes of a file behind them.
+use cog_client::{ClientError, Memory};
+use std::alloc::{AllocError, Global};
+use tiff_dir::Span;
+
+/// Why a step can't be done.
+#[derive(Clone, Copy, Debug)]
+pub enum NotDone {
+    /// The client found no memory.
+    Memory,
+    /// There is no memory for what the client is given, or compared with.
+    NoRoom,
+    /// No client is made.
+    NoClient,
+    /// There is no such publication, or no such part of it.
+    NoSuchPart,
+}
+
+impl From<AllocError> for NotDone {
+    fn from(_refused: AllocError) -> NotDone {
+        NotDone::NoRoom
+    }
+}
+
+impl From<Memory> for NotDone {
+    fn from(_refused: Memory) -> NotDone {
+        NotDone::Memory
+    }
+}
+
+impl From<ClientError> for NotDone {
+    fn from(refusal: ClientError) -> NotDone {
+        match refusal {
+            ClientError::Memory => NotDone::Memory,
+            _ => NotDone::NoClient,
+        }
+    }
+}
+
+/// The tags of a test's publications, in turn.
+pub const OLD: &str = "\"1-1\"";
+
+pub const NEW: &str = "\"1-2\"";
+
+/// A file that is published as `a`, and its tag with the quotes.
+#[derive(Clone, Copy)]
+pub struct Publication<'a> {
+    pub tag: &'a str,
+    pub file: &'a [u8],
+}
+
+impl<'a> Publication<'a> {
+    /// A file under a tag, and another under the next one.
+    pub fn in_turn(
+        tag: &'a str,
+        file: &'a [u8],
+        next_tag: &'a str,
+        next_file: &'a [u8],
+    ) -> [Publication<'a>; 2] {
+        [
+            Publication { tag, file },
+            Publication {
+                tag: next_tag,
+                file: next_file,
+            },
+        ]
+    }
+}
+
+/// A text and what follows it.
+fn joined(alloc: Global, head: &str, body: &[u8]) -> Result<Vec<u8>, AllocError> {
+    let mut text = Vec::from_slice(alloc, head.as_bytes())?;
+    text.extend_from_slice(body)?;
+    Ok(text)
+}
+
+/// The head of the answer 206 that has `len` bytes from `first` on, of a file of `complete` bytes.
+fn head_of_part(
+    alloc: Global,
+    tag: &str,
+    (first, last): (usize, usize),
+    len: usize,
+    complete: usize,
+) -> Result<String, AllocError> {
+    format!(in alloc;
+        "HTTP/1.1 206 Partial Content\r\nETag: {tag}\r\nAccept-Ranges: bytes\r\nContent-Type: image/tiff\r\n\
+        Content-Range: bytes {first}-{last}/{complete}\r\nContent-Length: {len}\r\nConnection: close\r\n\r\n"
+    )
+}
+
+/// The answer 206 that has these bytes from a first position on, of a file of so many bytes.
+fn part_of(
+    alloc: Global,
+    tag: &str,
+    first: usize,
+    body: &[u8],
+    complete: usize,
+) -> Result<Vec<u8>, NotDone> {
+    let end = first.checked_add(body.len()).ok_or(NotDone::NoSuchPart)?;
+    let last = end.checked_sub(1).ok_or(NotDone::NoSuchPart)?;
+    let head = head_of_part(alloc, tag, (first, last), body.len(), complete)?;
+    Ok(joined(alloc, head.as_str(), body)?)
+}
+
+/// The answer 200 that has these bytes.
+fn whole_of(alloc: Global, tag: &str, body: &[u8]) -> Result<Vec<u8>, NotDone> {
+    let len = body.len();
+    let head = format!(in alloc;
+        "HTTP/1.1 200 OK\r\nETag: {tag}\r\nAccept-Ranges: bytes\r\nContent-Type: image/tiff\r\n\
+        Content-Length: {len}\r\nConnection: close\r\n\r\n"
+    )?;
+    Ok(joined(alloc, head.as_str(), body)?)
+}
+
+impl Publication<'_> {
+    /// The bytes from a first position to a last one.
+    fn bytes(&self, first: usize, last: usize) -> Result<&[u8], NotDone> {
+        let end = last.checked_add(1).ok_or(NotDone::NoSuchPart)?;
+        self.file.get(first..end).ok_or(NotDone::NoSuchPart)
+    }
+
+    /// The answer 206 that has the bytes from a first position to a last one.
+    pub fn part(&self, alloc: Global, first: usize, last: usize) -> Result<Vec<u8>, NotDone> {
+        let body = self.bytes(first, last)?;
+        part_of(alloc, self.tag, first, body, self.file.len())
+    }
+
+    /// The answer 206 to a request for a span, as far as the file goes.
+    pub fn asked(&self, alloc: Global, span: Span) -> Result<Vec<u8>, NotDone> {
+        let end = self.file.len().checked_sub(1).ok_or(NotDone::NoSuchPart)?;
+        self.part(alloc, span.first as usize, end.min(span.last as usize))
+    }
+
+    /// The answer 200.
+    pub fn whole(&self, alloc: Global) -> Result<Vec<u8>, NotDone> {
+        whole_of(alloc, self.tag, self.file)
+    }
+}
+
+/// The answer that a name isn't published.
+pub const NOT_FOUND: &[u8] =
+    b"HTTP/1.1 404 Not Found\r\nContent-Length: 0\r\nConnection: close\r\n\r\n";
+
+/// The publication of a number.
+pub fn published<'a>(files: &[Publication<'a>], which: usize) -> Result<Publication<'a>, NotDone> {
+    files.get(which).copied().ok_or(NotDone::NoSuchPart)
+}
+
+/// An answer. Publications are named by their numbers.
+#[derive(Clone, Copy, Debug)]
+pub enum Answer<'a> {
+    /// The bytes of a publication from a first position to a last one.
+    Part(usize, usize, usize),
+    /// All bytes of a publication.
+    Whole(usize),
+    /// A part of which so many bytes at its end are lost.
+    CutPart(usize, usize, usize, usize),
+    /// A whole file of which so many bytes at its end are lost.
+    CutWhole(usize, usize),
+    /// A part, and behind it the publication's next bytes up to a position, which aren't announced.
+    LongPart(usize, usize, usize, usize),
+    /// A part that is told as one of a file of so many bytes.
+    PartOf(usize, usize, usize, usize),
+    /// A publication without so many bytes at its end, told as a whole file.
+    ShortWhole(usize, usize),
+    /// Bytes under a tag, from a first position on, of a file of so many bytes.
+    Bytes(&'a str, usize, &'a [u8], usize),
+    /// A whole file under a tag.
+    WholeOf(&'a str, &'a [u8]),
+    Text(&'a [u8]),
+}
+
+/// A text without so many bytes at its end.
+fn cut(mut text: Vec<u8>, lost: usize) -> Result<Vec<u8>, NotDone> {
+    let len = text.len().checked_sub(lost).ok_or(NotDone::NoSuchPart)?;
+    text.truncate(len);
+    Ok(text)
+}
+
+/// A part, and behind it the publication's next bytes up to a position.
+fn long_part(
+    alloc: Global,
+    publication: Publication<'_>,
+    (first, last): (usize, usize),
+    end: usize,
+) -> Result<Vec<u8>, NotDone> {
+    let next = last.checked_add(1).ok_or(NotDone::NoSuchPart)?;
+    let bytes = publication.bytes(next, end)?;
+    let mut text = publication.part(alloc, first, last)?;
+    text.extend_from_slice(bytes)?;
+    Ok(text)
+}
+
+/// A part that is told as one of a file of so many bytes.
+fn told_part(
+    alloc: Global,
+    publication: Publication<'_>,
+    (first, last): (usize, usize),
+    complete: usize,
+) -> Result<Vec<u8>, NotDone> {
+    let body = publication.bytes(first, last)?;
+    part_of(alloc, publication.tag, first, body, complete)
+}
+
+/// A publication without so many bytes at its end, told as a whole file.
+fn short_whole(
+    alloc: Global,
+    publication: Publication<'_>,
+    less: usize,
+) -> Result<Vec<u8>, NotDone> {
+    let len = publication
+        .file
+        .len()
+        .checked_sub(less)
+        .ok_or(NotDone::NoSuchPart)?;
+    let body = publication.file.get(..len).ok_or(NotDone::NoSuchPart)?;
+    whole_of(alloc, publication.tag, body)
+}
+
+impl Answer<'_> {
+    /// The bytes of the answer.
+    pub fn text(&self, alloc: Global, files: &[Publication<'_>]) -> Result<Vec<u8>, NotDone> {
+        match *self {
+            Answer::Part(which, first, last) => published(files, which)?.part(alloc, first, last),
+            Answer::Whole(which) => published(files, which)?.whole(alloc),
+            Answer::CutPart(which, first, last, lost) => {
+                cut(published(files, which)?.part(alloc, first, last)?, lost)
+            }
+            Answer::CutWhole(which, lost) => cut(published(files, which)?.whole(alloc)?, lost),
+            Answer::LongPart(which, first, last, end) => {
+                long_part(alloc, published(files, which)?, (first, last), end)
+            }
+            Answer::PartOf(which, first, last, complete) => {
+                told_part(alloc, published(files, which)?, (first, last), complete)
+            }
+            Answer::ShortWhole(which, less) => short_whole(alloc, published(files, which)?, less),
+            Answer::Bytes(tag, first, body, complete) => part_of(alloc, tag, first, body, complete),
+            Answer::WholeOf(tag, body) => whole_of(alloc, tag, body),
+            Answer::Text(text) => Ok(Vec::from_slice(alloc, text)?),
+        }
+    }
+}

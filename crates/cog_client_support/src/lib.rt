@@ -1,0 +1,12 @@
+//! Support for tests of the client: answers written out as texts, and a client in steps, each with what is expected of it.
+#![tactic(auto)]
+
+mod answers;
+mod new_client;
+mod session;
+mod steps;
+
+pub use answers::{Answer, NEW, NOT_FOUND, NotDone, OLD, Publication, published};
+pub use new_client::{ASKS_END, ASKS_FRONT, END, F2_REPLACED, F2_TWICE, Revisions};
+pub use session::{Session, client_of_a, otherwise};
+pub use steps::{FIRST, Kind, Positions, Said, Step};

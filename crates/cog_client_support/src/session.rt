@@ -1,0 +1,311 @@
+//! A client between steps.
+use crate::answers::{Answer, NotDone, Publication, published};
+use crate::steps::{Kind, Positions, Said, Step};
+use cog_client::{Client, ClientError, Delivered, Memory, Query, Report};
+use cog_reader_support::{Want, is_wanted, of_level};
+use std::alloc::{AllocError, Global};
+
+/// A client of `a` with so many blocks.
+pub fn client_of_a(alloc: Global, blocks: u32) -> Result<Client, ClientError> {
+    Client::new(alloc, b"cog.test", b"a", blocks)
+}
+
+/// The text of a request.
+fn request_text(
+    alloc: Global,
+    (first, last): Positions,
+    tag: Option<&str>,
+) -> Result<String, AllocError> {
+    match tag {
+        None => format!(in alloc;
+            "GET /a HTTP/1.1\r\nHost: cog.test\r\nRange: bytes={first}-{last}\r\nConnection: close\r\n\r\n"
+        ),
+        Some(tag) => format!(in alloc;
+            "GET /a HTTP/1.1\r\nHost: cog.test\r\nRange: bytes={first}-{last}\r\nIf-Range: {tag}\r\n\
+            Connection: close\r\n\r\n"
+        ),
+    }
+}
+
+/// Whether this is asked, and this is the revision's tag.
+fn stands(client: &Client, asked: Option<Positions>, tag: Option<&str>) -> bool {
+    let span = client.asked().map(|span| (span.first, span.last));
+    let found = client.tag().map(|tag| tag.as_bytes());
+    span == asked && found == tag.map(|tag| tag.as_bytes())
+}
+
+/// Whether the next request is for these positions, of the revision with this tag.
+fn asks(
+    alloc: Global,
+    client: &mut Client,
+    positions: Positions,
+    tag: Option<&str>,
+) -> Result<bool, NotDone> {
+    let want = request_text(alloc, positions, tag)?;
+    match client.request()? {
+        None => Ok(false),
+        Some(text) => {
+            Ok(text.as_slice() == want.as_bytes() && stands(client, Some(positions), tag))
+        }
+    }
+}
+
+/// Whether there is no request, and nothing is asked.
+fn asks_nothing(client: &mut Client) -> Result<bool, Memory> {
+    let text = client.request()?;
+    Ok(text.is_none() && client.asked().is_none())
+}
+
+/// What an answer does that changes neither what is asked, nor the revision's tag, nor whether a report stands. None where it
+/// changes one of them.
+fn does_quietly(client: &mut Client, answer: &[u8]) -> Result<Option<Delivered>, Memory> {
+    let asked = client.asked();
+    let tag = client.tag().map(|tag| tag.copy());
+    let is_silent = client.report().is_none();
+    let delivered = client.deliver(answer)?;
+    if client.asked() == asked
+        && client.tag() == tag.as_ref()
+        && client.report().is_none() == is_silent
+    {
+        Ok(Some(delivered))
+    } else {
+        Ok(None)
+    }
+}
+
+/// Whether an answer is ignored under this number, and nothing that callers see is changed by it.
+fn ignores(client: &mut Client, answer: &[u8], number: u8) -> Result<bool, Memory> {
+    match does_quietly(client, answer)? {
+        Some(Delivered::Ignored(why)) => Ok(why.number() == number),
+        _ => Ok(false),
+    }
+}
+
+/// Whether an answer is taken with so many blocks, and the client goes on asking for the same.
+fn takes_more(client: &mut Client, answer: &[u8], blocks: u32) -> Result<bool, Memory> {
+    match does_quietly(client, answer)? {
+        Some(Delivered::Took(count)) => Ok(count == blocks && client.report().is_none()),
+        _ => Ok(false),
+    }
+}
+
+/// Whether each of these answers is ignored under its number, and nothing that callers see is changed by it.
+fn refuses(client: &mut Client, answers: &[(&str, u8)]) -> Result<bool, Memory> {
+    for (answer, number) in answers {
+        if !ignores(client, answer.as_bytes(), *number)? {
+            return Ok(false);
+        }
+    }
+    Ok(true)
+}
+
+/// Whether an answer isn't ignored.
+fn uses(client: &mut Client, answer: &[u8]) -> Result<bool, Memory> {
+    let delivered = client.deliver(answer)?;
+    Ok(!matches!(delivered, Delivered::Ignored(_)))
+}
+
+/// Answers the client's requests with parts of one publication, and says how many there were until there was none.
+fn read(
+    alloc: Global,
+    client: &mut Client,
+    publication: Publication<'_>,
+) -> Result<usize, NotDone> {
+    for count in 0..1000usize {
+        if client.request()?.is_none() {
+            return Ok(count);
+        }
+        let span = client.asked().ok_or(NotDone::NoSuchPart)?;
+        client.deliver(&publication.asked(alloc, span)?)?;
+    }
+    Ok(1000)
+}
+
+/// Whether two reports say the same.
+fn are_same(report: &Report, other: &Report) -> bool {
+    report.query == other.query && report.tag == other.tag && report.outcome == other.outcome
+}
+
+/// Whether a copy of the report, and a copy of that, says the same.
+fn copies(alloc: Global, client: &Client) -> Result<bool, Memory> {
+    let Some(report) = client.report() else {
+        return Ok(false);
+    };
+    let copy = report.copy(alloc)?;
+    let again = copy.copy(alloc)?;
+    Ok(are_same(&copy, report) && are_same(&again, report))
+}
+
+/// Whether this is the check, or there is none.
+fn checks(client: &Client, want: Option<&str>) -> Result<bool, Memory> {
+    let text = client.check()?;
+    let found = text.as_ref().map(|text| text.as_slice());
+    Ok(found == want.map(|want| want.as_bytes()))
+}
+
+/// Whether each of these answers to a check says this.
+fn says(client: &Client, answers: &[&str], said: Said) -> bool {
+    answers.iter().all(|answer| Said::from(client.current(answer.as_bytes())) == said)
+}
+
+/// Whether answers to a check say what is expected of their kind.
+fn hears(client: &Client, kinds: &[Kind<'_>]) -> bool {
+    kinds
+        .iter()
+        .all(|(answers, said)| says(client, answers, *said))
+}
+
+/// A client, the publications that its answers are of, and its query.
+#[derive(Drop)]
+pub struct Session<'a> {
+    pub client: Client,
+    files: &'a [Publication<'a>],
+    query: Option<Query>,
+}
+
+impl<'a> Session<'a> {
+    /// A client that has been asked nothing yet.
+    pub fn new(client: Client, files: &'a [Publication<'a>]) -> Session<'a> {
+        Session {
+            client,
+            files,
+            query: None,
+        }
+    }
+
+    /// Asks a query.
+    fn open(&mut self, query: Query) {
+        self.query = Some(query);
+        self.client.open(query);
+    }
+
+    /// Whether this is the report, under this tag, of the query that was opened last, and nothing is asked.
+    fn reports(&self, tag: &str, want: Want<'_>) -> bool {
+        match self.client.report() {
+            None => false,
+            Some(report) => {
+                Some(report.query) == self.query
+                    && report.tag.as_bytes() == tag.as_bytes()
+                    && is_wanted(Some(&report.outcome), want)
+                    && stands(&self.client, None, Some(tag))
+            }
+        }
+    }
+
+    /// Whether an answer does this.
+    fn does(
+        &mut self,
+        alloc: Global,
+        answer: Answer<'_>,
+        want: Delivered,
+    ) -> Result<bool, NotDone> {
+        let text = answer.text(alloc, self.files)?;
+        Ok(self.client.deliver(&text)? == want)
+    }
+
+    /// Does a step in which an answer is delivered, and says whether it went as expected.
+    fn deliver(&mut self, alloc: Global, step: Step<'_>) -> Result<bool, NotDone> {
+        match step {
+            Step::Takes(answer, blocks) => self.does(alloc, answer, Delivered::Took(blocks)),
+            Step::Restarts(answer) => self.does(alloc, answer, Delivered::Restarted),
+            Step::Uses(answer) => {
+                let text = answer.text(alloc, self.files)?;
+                Ok(uses(&mut self.client, &text)?)
+            }
+            Step::TakesMore(answer, blocks) => {
+                let text = answer.text(alloc, self.files)?;
+                Ok(takes_more(&mut self.client, &text, blocks)?)
+            }
+            Step::Ignores(answer, number) => {
+                let text = answer.text(alloc, self.files)?;
+                Ok(ignores(&mut self.client, &text, number)?)
+            }
+            Step::Refuses(answers) => Ok(refuses(&mut self.client, answers)?),
+            Step::Reads(which, requests) => {
+                let publication = published(self.files, which)?;
+                Ok(read(alloc, &mut self.client, publication)? == requests)
+            }
+            _ => Ok(false),
+        }
+    }
+
+    /// Does a step that changes nothing, and says whether it went as expected.
+    fn look(&self, alloc: Global, step: Step<'_>) -> Result<bool, NotDone> {
+        match step {
+            Step::Stands(asked, tag) => Ok(stands(&self.client, asked, tag)),
+            Step::IsSilent => Ok(self.client.report().is_none()),
+            Step::Reports(tag, want) => Ok(self.reports(tag, want)),
+            Step::Copies => Ok(copies(alloc, &self.client)?),
+            Step::Checks(want) => Ok(checks(&self.client, want)?),
+            Step::Hears(kinds) => Ok(hears(&self.client, kinds)),
+            _ => Ok(false),
+        }
+    }
+
+    /// Does a step, and says whether it went as expected.
+    pub fn step(&mut self, alloc: Global, step: Step<'_>) -> Result<bool, NotDone> {
+        match step {
+            Step::Opens(x, y, w, h) => {
+                self.open(of_level(x, y, w, h, 0));
+                Ok(true)
+            }
+            Step::Open(query) => {
+                self.open(query);
+                Ok(true)
+            }
+            Step::Forgets => {
+                self.client.forget();
+                Ok(true)
+            }
+            Step::Asks(positions, tag) => asks(alloc, &mut self.client, positions, tag),
+            Step::AsksNothing => Ok(asks_nothing(&mut self.client)?),
+            Step::Takes(..)
+            | Step::TakesMore(..)
+            | Step::Uses(_)
+            | Step::Ignores(..)
+            | Step::Refuses(_)
+            | Step::Restarts(_)
+            | Step::Reads(..) => self.deliver(alloc, step),
+            other => self.look(alloc, other),
+        }
+    }
+
+    /// Does these steps. The number of the first that went otherwise than expected, none where all went well.
+    pub fn go(&mut self, alloc: Global, steps: &[Step<'_>]) -> Result<Option<usize>, NotDone> {
+        for (i, step) in steps.iter().enumerate() {
+            if !self.step(alloc, *step)? {
+                return Ok(Some(i));
+            }
+        }
+        Ok(None)
+    }
+
+    /// Does these lists of steps, one after another. The number of the first step that went otherwise than expected, counted
+    /// from the first of all.
+    pub fn go_through(
+        &mut self,
+        alloc: Global,
+        parts: &[&[Step<'_>]],
+    ) -> Result<Option<usize>, NotDone> {
+        let mut done = 0usize;
+        for steps in parts {
+            if let Some(step) = self.go(alloc, steps)? {
+                return Ok(Some(done.saturating_add(step)));
+            }
+            done = done.saturating_add(steps.len());
+        }
+        Ok(None)
+    }
+}
+
+/// Does these lists of steps, one after another, with a new client that has so many blocks. The number of the first step that
+/// went otherwise than expected, counted from the first of all.
+pub fn otherwise(
+    alloc: Global,
+    blocks: u32,
+    files: &[Publication<'_>],
+    parts: &[&[Step<'_>]],
+) -> Result<Option<usize>, NotDone> {
+    let client = client_of_a(alloc, blocks)?;
+    Session::new(client, files).go_through(alloc, parts)
+}

@@ -1,0 +1,125 @@
+//! Clients that are made, and those that aren't.
+use cog_client::{Client, ClientError};
+use cog_reader_support::of_level;
+use std::alloc::{AllocError, Global};
+use std::test::Fail;
+
+/// A host, a name, a number of blocks, and the number of the refusal.
+type Row = (&'static [u8], &'static [u8], u32, u8);
+
+const REFUSED: [Row; 27] = [
+    (b"", b"a", 66, 1),
+    (&[b'h'; 65], b"a", 66, 1),
+    (b"a b", b"a", 66, 1),
+    (b"a/b", b"a", 66, 1),
+    (b"a_b", b"a", 66, 1),
+    (b"a@b", b"a", 66, 1),
+    (b"a\r\nb", b"a", 66, 1),
+    (b"[::1]", b"a", 66, 1),
+    (b"\xc3\xa4", b"a", 66, 1),
+    (b"h", b"", 66, 2),
+    (b"h", &[b'a'; 201], 66, 2),
+    (b"h", b"a b", 66, 2),
+    (b"h", b"a?b", 66, 2),
+    (b"h", b"a#b", 66, 2),
+    (b"h", b"a%20", 66, 2),
+    (b"h", b"a\r\nb", 66, 2),
+    (b"h", b"a:b", 66, 2),
+    (b"h", b"~", 66, 2),
+    (b"h", b"a", 0, 3),
+    (b"h", b"a", 65, 3),
+    (b"h", b"a", 4097, 3),
+    (b"h", b"a", 4294967295, 3),
+    // The first refusal that holds.
+    (b"", b"", 0, 1),
+    (b"", b"a", 0, 1),
+    (b"", b"", 66, 1),
+    (b"h", b"", 0, 2),
+    (b"h", b"a", 0, 3),
+];
+
+/// A host, a name and a number of blocks with which a client is made.
+const MADE: [(&[u8], &[u8], u32); 8] = [
+    (b"h", b"a", 66),
+    (&[b'h'; 64], b"a", 66),
+    (b"az-AZ.09:8080", b"a", 66),
+    (b"cog.test", &[b'a'; 200], 66),
+    (b"h", b"az/AZ/09._-.tif", 66),
+    (b"h", b"a", 67),
+    (b"h", b"a", 4095),
+    (b"h", b"a", 4096),
+];
+
+/// The number of the refusal, 0 where a client is made.
+fn refusal(alloc: Global, host: &[u8], name: &[u8], blocks: u32) -> u8 {
+    match Client::new(alloc, host, name, blocks) {
+        Ok(_client) => 0,
+        Err(refusal) => refusal.number(),
+    }
+}
+
+#[test]
+fn refuses_hosts_names_and_caches(rt: HostRuntime) -> Result<(), Fail> {
+    let found = REFUSED
+        .iter()
+        .position(|row| refusal(rt.alloc(), row.0, row.1, row.2) != row.3);
+    assert_eq!(rt; found, None);
+    Ok(())
+}
+
+/// The first request to a host for a name.
+fn first_request(alloc: Global, host: &[u8], name: &[u8]) -> Result<Vec<u8>, AllocError> {
+    let mut text = Vec::from_slice(alloc, b"GET /")?;
+    text.extend_from_slice(name)?;
+    text.extend_from_slice(b" HTTP/1.1\r\nHost: ")?;
+    text.extend_from_slice(host)?;
+    text.extend_from_slice(b"\r\nRange: bytes=0-65535\r\nConnection: close\r\n\r\n")?;
+    Ok(text)
+}
+
+/// Whether a new client has nothing, and asks for the first bytes.
+fn is_new(client: &mut Client, request: &[u8]) -> bool {
+    let is_empty = client.asked().is_none() && client.tag().is_none() && client.report().is_none();
+    client.open(of_level(0, 0, 1, 1, 0));
+    match client.request() {
+        Ok(Some(text)) => is_empty && text.as_slice() == request,
+        _ => false,
+    }
+}
+
+/// Whether a client is made, whose first request is this one.
+fn is_made(alloc: Global, host: &[u8], name: &[u8], blocks: u32, request: &[u8]) -> bool {
+    match Client::new(alloc, host, name, blocks) {
+        Ok(mut client) => is_new(&mut client, request),
+        Err(_refusal) => false,
+    }
+}
+
+/// The first of these clients that isn't made.
+fn first_unmade(alloc: Global) -> Result<Option<usize>, AllocError> {
+    for (i, (host, name, blocks)) in MADE.iter().enumerate() {
+        let request = first_request(alloc, host, name)?;
+        if !is_made(alloc, host, name, *blocks, &request) {
+            return Ok(Some(i));
+        }
+    }
+    Ok(None)
+}
+
+#[test]
+fn makes_clients_within_the_limits(rt: HostRuntime) -> Result<(), Fail> {
+    assert_eq!(rt; first_unmade(rt.alloc())?, None);
+    Ok(())
+}
+
+#[test]
+fn numbers_its_refusals(rt: HostRuntime) {
+    for (refusal, number) in [
+        (ClientError::Host, 1),
+        (ClientError::Name, 2),
+        (ClientError::Blocks, 3),
+        (ClientError::Memory, 4),
+    ] {
+        assert_eq!(rt; refusal.number(), number);
+    }
+}

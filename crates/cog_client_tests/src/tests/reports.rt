@@ -1,0 +1,204 @@
+//! Reports of each kind after one exchange, and their copies.
+use super::{expect, only};
+use cog_client_support::Answer::Part;
+use cog_client_support::Step::{Asks, AsksNothing, Copies, IsSilent, Open, Opens, Reports, Takes};
+use cog_client_support::{F2_TWICE, FIRST, NotDone, OLD, Revisions, Step, otherwise};
+use cog_reader_support::{
+    CHANGED, FACTS_OF_F3, Facts, Fixture, NO_FACTS, WINDOWS, Want, change, of_level, window,
+};
+use std::alloc::Global;
+use std::process::Abort;
+use std::test::Fail;
+use tiff_dir::{FileFault, Pick, Query};
+
+/// The number of the first step that goes otherwise, where a new client is answered with all bytes of a file of one block.
+fn exchange_otherwise(
+    alloc: Global,
+    file: &[u8],
+    query: Query,
+    want: Want<'_>,
+) -> Result<Option<usize>, NotDone> {
+    let last = file.len().checked_sub(1).ok_or(NotDone::NoSuchPart)?;
+    let steps = [
+        Open(query),
+        Asks(FIRST, None),
+        IsSilent,
+        Takes(Part(0, 0, last), 1),
+        Reports(OLD, want),
+        Copies,
+        AsksNothing,
+        Reports(OLD, want),
+    ];
+    otherwise(alloc, 66, &only(file), &[&steps])
+}
+
+const FACTS_OF_F1: Facts<'static> = Facts {
+    sides: &[(16, 16)],
+    ..NO_FACTS
+};
+
+/// What Info tells of f3 without its scale.
+const WITHOUT_SCALE: Facts<'static> = Facts {
+    scale: None,
+    ..FACTS_OF_F3
+};
+
+/// A file, bytes that are put at a place of it, and the outcome of Info.
+const INFO: [(Fixture, (usize, &[u8]), Want<'static>); 4] = [
+    (
+        Fixture::F1,
+        (54, &[5]),
+        Want::Fault(FileFault::Unsupported(259)),
+    ),
+    (Fixture::F1, (0, b""), Want::Info(FACTS_OF_F1)),
+    (Fixture::F3, (0, b""), Want::Info(FACTS_OF_F3)),
+    // A tag that isn't named, of an unknown type, in the place of the scale's.
+    (
+        Fixture::F3,
+        (118, &[0x0f, 0x83, 0xff]),
+        Want::Info(WITHOUT_SCALE),
+    ),
+];
+
+/// Expects the outcome of a query of a changed file. Those of more than a block are passed over.
+fn expect_report(
+    rt: &(impl Abort + AllocGlobal),
+    fixture: Fixture,
+    (place, bytes): (usize, &[u8]),
+    query: Query,
+    want: Want<'_>,
+) -> Result<(), Fail> {
+    let mut file = fixture.file(rt.alloc())?;
+    change(&mut file, place, bytes);
+    if file.len() <= 16384 {
+        let found = exchange_otherwise(rt.alloc(), &file, query, want)?;
+        assert_eq!(rt; found, None, "{fixture:?} {place} {bytes:?} {query:?}");
+    }
+    Ok(())
+}
+
+#[test]
+fn reports_windows_of_one_answer(rt: HostRuntime) -> Result<(), Fail> {
+    for (fixture, numbers, want) in WINDOWS {
+        expect_report(&rt, fixture, (0, b""), window(numbers), want)?;
+    }
+    Ok(())
+}
+
+#[test]
+fn reports_windows_of_changed_files(rt: HostRuntime) -> Result<(), Fail> {
+    for (fixture, changed, numbers, want) in CHANGED {
+        expect_report(&rt, fixture, changed, window(numbers), want)?;
+    }
+    Ok(())
+}
+
+#[test]
+fn reports_info_of_one_answer(rt: HostRuntime) -> Result<(), Fail> {
+    for (fixture, changed, want) in INFO {
+        expect_report(&rt, fixture, changed, Query::Info, want)?;
+    }
+    Ok(())
+}
+
+/// The samples of level 0 of f3: every one of tile t is 16 + t.
+fn large_samples(alloc: Global) -> Result<Vec<u8>, NotDone> {
+    let mut samples = Vec::new(alloc);
+    for row in 0..32u8 {
+        let tile = 16 + row / 16 * 2;
+        samples.extend_from_slice(&[tile; 16])?;
+        samples.extend_from_slice(&[tile + 1; 16])?;
+    }
+    Ok(samples)
+}
+
+/// The samples of level 1 of f3: every one of row r is r.
+fn small_samples(alloc: Global) -> Result<Vec<u8>, NotDone> {
+    let mut samples = Vec::new(alloc);
+    for row in 0..16u8 {
+        samples.extend_from_slice(&[row; 16])?;
+    }
+    Ok(samples)
+}
+
+/// The first step that goes otherwise where f3 is asked for the level that has so many columns.
+fn level_otherwise(alloc: Global, columns: u32, want: Want<'_>) -> Result<Option<usize>, NotDone> {
+    let file = Fixture::F3.file(alloc)?;
+    let query = window((0, 0, 32, 32, Pick::Columns(columns)));
+    exchange_otherwise(alloc, &file, query, want)
+}
+
+/// The first step that goes otherwise where f1 lacks its last byte.
+fn short_otherwise(alloc: Global) -> Result<Option<usize>, NotDone> {
+    let mut file = Fixture::F1.file(alloc)?;
+    file.truncate(377);
+    let want = Want::Fault(FileFault::PastEnd);
+    exchange_otherwise(alloc, &file, of_level(0, 0, 1, 1, 0), want)
+}
+
+#[test]
+fn picks_the_least_level_of_so_many_columns(rt: HostRuntime) -> Result<(), Fail> {
+    let (large, small) = (large_samples(rt.alloc())?, small_samples(rt.alloc())?);
+    for (columns, want) in [
+        (16, Want::Window(16, 16, 1, 8, &small)),
+        (17, Want::Window(32, 32, 1, 8, &large)),
+    ] {
+        let found = level_otherwise(rt.alloc(), columns, want)?;
+        assert_eq!(rt; found, None, "{columns} columns");
+    }
+    Ok(())
+}
+
+#[test]
+fn reports_a_fault_where_the_last_byte_lacks(rt: HostRuntime) -> Result<(), Fail> {
+    assert_eq!(rt; short_otherwise(rt.alloc())?, None);
+    Ok(())
+}
+
+/// Windows of two levels of f3 in turn.
+const LARGE: Want<'static> = Want::Window(2, 1, 1, 8, &[0x10, 0x11]);
+
+const THIN_WINDOW: Query = Query::Window {
+    x: 3,
+    y: 4,
+    w: 1,
+    h: 3,
+    pick: Pick::Level(1),
+};
+
+const THIN: Want<'static> = Want::Window(1, 3, 1, 8, &[4, 5, 6]);
+
+/// The file f3, published twice.
+const F3_TWICE: Revisions<'static> = Revisions {
+    files: [Fixture::F3, Fixture::F3],
+    ..F2_TWICE
+};
+
+const IN_TURN: [Step<'static>; 21] = [
+    Opens(15, 15, 2, 2),
+    Asks(FIRST, None),
+    Takes(Part(0, 0, 1455), 1),
+    Opens(15, 15, 2, 1),
+    AsksNothing,
+    Reports(OLD, LARGE),
+    Open(Query::Info),
+    AsksNothing,
+    Reports(OLD, Want::Info(FACTS_OF_F3)),
+    Open(THIN_WINDOW),
+    AsksNothing,
+    Reports(OLD, THIN),
+    Open(Query::Info),
+    AsksNothing,
+    Reports(OLD, Want::Info(FACTS_OF_F3)),
+    Opens(15, 15, 2, 1),
+    AsksNothing,
+    Reports(OLD, LARGE),
+    Open(THIN_WINDOW),
+    AsksNothing,
+    Reports(OLD, THIN),
+];
+
+#[test]
+fn answers_further_queries_from_one_answer(rt: HostRuntime) -> Result<(), Fail> {
+    expect(&rt, &F3_TWICE, &[&IN_TURN])
+}

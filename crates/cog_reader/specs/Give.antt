@@ -1,0 +1,77 @@
+-- A range that is given.
+use Rattle.std.specs.Prelude.{◌≡◌, ℕ, ◌+◌, ◌<◌, ◌≤◌, ◌⊎◌, List, [], ◌∷◌, Option, Some, None, IsSome, IsSomeAnd}
+use Rattle.tiff_dir.specs.declared.query.Query.{Query}
+use Rattle.tiff_dir.specs.declared.fault.FileFault.{FileFault}
+use Rattle.tiff_dir.specs.Fault.{IsFaultOfDirectories}
+use Rattle.tiff_dir.specs.Faulty.{IsFaulty}
+use Rattle.tiff_dir.specs.WalkState.{WalkState}
+use Rattle.tiff_dir.specs.Needs.{Extent, bytes_in}
+use Rattle.tiff_dir.specs.Walk as walk
+use Rattle.cog_reader.specs.declared.kept.Kept.{Kept}
+use Rattle.cog_reader.specs.declared.state.State.{State}
+use Rattle.cog_reader.specs.Kept.{IsKeptOf}
+use Rattle.cog_reader.specs.Reader.{come_by, outcome_in, steps_by, wanted_by, IsState, StateAgrees}
+use Rattle.cog_reader.specs.Step.{IsBase}
+
+-- the bytes lead a walk on, after which one range less is to come
+pub record AcceptsDirectoryRange (bytes : List ℕ) (old new : WalkState) : Type 0 where
+  pub agrees : (f : List ℕ) → walk.WalkAgrees old f → walk.IsWantedOf f old bytes → walk.WalkAgrees new f
+  pub come : (f : List ℕ) → walk.WalkAgrees old f → IsSomeAnd (walk.wanted old) (λ r. walk.to_come old f ≡ r ∷ walk.to_come new f)
+  pub given : walk.given_of new ≡ walk.given_of old + 1
+  pub few : walk.given_of old ≤ 64
+
+-- the bytes lead a walk on, or tell a fault of the directories and leave it
+abbrev pub AcceptsDirectories : List ℕ → WalkState → WalkState → Option FileFault → Type 0
+AcceptsDirectories bytes old new None = AcceptsDirectoryRange bytes old new
+AcceptsDirectories bytes old new (Some fault) =
+    (new ≡ old)
+    × ((f : List ℕ) → walk.WalkAgrees old f → walk.IsWantedOf f old bytes → IsFaultOfDirectories f fault)
+
+-- a walk, the arrays that are kept, and what is done
+pub record Snapshot : Type 0 where
+  pub walk : WalkState
+  pub kept : Kept
+  pub state : State
+
+-- the range that is wanted next, and all that are still to come
+abbrev pub wanted_in : Snapshot → Option Extent
+wanted_in s = wanted_by s.walk s.kept s.state
+
+abbrev pub come_in : List ℕ → Query → Snapshot → List Extent
+come_in f q s = come_by f s.walk s.kept q s.state
+
+-- the bytes are those of the file that are wanted
+abbrev pub AreWantedBytes : List ℕ → Snapshot → List ℕ → Type 0
+AreWantedBytes f s bytes = IsSomeAnd (wanted_in s) (λ r. bytes ≡ bytes_in f r)
+
+-- The bytes lead from one state to another, which wants one range less.
+pub record Advances (complete : ℕ) (bytes : List ℕ) (old new : Snapshot) : Type 0 where
+  pub kept : IsKeptOf new.walk new.kept
+  pub state : IsState complete new.walk new.kept new.state
+  pub same : (f : List ℕ) (q : Query) → IsBase f complete old.walk old.kept → StateAgrees f q old.kept old.state → AreWantedBytes f old bytes
+      → IsBase f complete new.walk new.kept × StateAgrees f q new.kept new.state
+  pub come : (f : List ℕ) (q : Query) → IsBase f complete old.walk old.kept → StateAgrees f q old.kept old.state
+      → IsSomeAnd (wanted_in old) (λ r. come_in f q old ≡ r ∷ come_in f q new)
+  pub steps : steps_by new.walk new.kept new.state < steps_by old.walk old.kept old.state
+
+-- the bytes tell a fault, which stands in the file for the query; the walk and the arrays are as they were
+pub record TellsFault (complete : ℕ) (bytes : List ℕ) (old new : Snapshot) (fault : FileFault) : Type 0 where
+  pub walk : new.walk ≡ old.walk
+  pub kept : new.kept ≡ old.kept
+  pub stands : (f : List ℕ) (q : Query) → IsBase f complete old.walk old.kept → StateAgrees f q old.kept old.state
+      → AreWantedBytes f old bytes → IsFaulty f q fault
+
+abbrev pub AcceptsRange : ℕ → List ℕ → Snapshot → Snapshot → Option FileFault → Type 0
+AcceptsRange complete bytes old new None = Advances complete bytes old new
+AcceptsRange complete bytes old new (Some fault) = TellsFault complete bytes old new fault
+
+-- The bytes that are wanted lead a query from one state to another: one range less is to come, or none, being done.
+pub record Gives (complete : ℕ) (bytes : List ℕ) (q : Query) (old new : Snapshot) : Type 0 where
+  pub kept : IsKeptOf new.walk new.kept
+  pub state : IsState complete new.walk new.kept new.state
+  pub same : (f : List ℕ) → IsBase f complete old.walk old.kept → StateAgrees f q old.kept old.state → AreWantedBytes f old bytes
+      → IsBase f complete new.walk new.kept × StateAgrees f q new.kept new.state
+  pub come : (f : List ℕ) → IsBase f complete old.walk old.kept → StateAgrees f q old.kept old.state
+      → (IsSome (outcome_in new.state) × (come_in f q new ≡ []))
+      ⊎ IsSomeAnd (wanted_in old) (λ r. come_in f q old ≡ r ∷ come_in f q new)
+  pub steps : steps_by new.walk new.kept new.state < steps_by old.walk old.kept old.state

@@ -1,0 +1,58 @@
+-- What a state becomes without another byte of the file.
+use Rattle.std.specs.Prelude.{◌≡◌, ℕ, ◌+◌, ◌<◌, ◌≤◌, ⊤, List, length, slice_get, Some, None, IsSome}
+use Rattle.tiff_dir.specs.declared.query.Query.{Query}
+use Rattle.tiff_dir.specs.Faulty.{IsFaulty}
+use Rattle.tiff_dir.specs.declared.query.Query.TheVariants as query
+use Rattle.tiff_dir.specs.WalkState.{WalkState}
+use Rattle.tiff_dir.specs.Needs.{Extent}
+use Rattle.tiff_dir.specs.Query.{max_group_bytes}
+use Rattle.tiff_dir.specs.Walk as walk
+use Rattle.tiff_dir.specs.Walk.{extent_of_span}
+use Rattle.tiff_dir.specs.declared.fault.WalkError.{WalkError}
+use Rattle.tiff_dir.specs.declared.fault.WalkError.TheVariants.{File, Memory}
+use Rattle.cog_reader.specs.declared.kept.Kept.{Kept}
+use Rattle.cog_reader.specs.declared.state.State.{State}
+use Rattle.cog_reader.specs.declared.state.State.TheVariants.{Answered}
+use Rattle.cog_reader.specs.declared.state.Step.{Step}
+use Rattle.cog_reader.specs.declared.state.Step.TheVariants.{Read, Answer}
+use Rattle.cog_reader.specs.Kept.{KeptAgrees}
+use Rattle.cog_reader.specs.Reader.{come_by, outcome_in, steps_by, wanted_by, IsState, StateAgrees}
+
+-- the walk and the arrays that are kept are those of a file of so many bytes
+pub record IsBase (f : List ℕ) (complete : ℕ) (w : WalkState) (k : Kept) : Type 0 where
+  pub size : length f ≡ complete
+  pub walked : walk.WalkAgrees w f
+  pub kept : KeptAgrees f k
+
+-- One state takes the place of another: what it holds is the file's, and it wants the same ranges, or none, being done.
+pub record Becomes (complete : ℕ) (w : WalkState) (k : Kept) (q : Query) (old new : State) : Type 0 where
+  pub sound : IsState complete w k new
+  pub same : (f : List ℕ) → IsBase f complete w k → StateAgrees f q k old → StateAgrees f q k new
+  pub come : (f : List ℕ) → IsBase f complete w k → StateAgrees f q k old → outcome_in new ≡ None
+      → come_by f w k q new ≡ come_by f w k q old
+  pub steps : steps_by w k new ≤ steps_by w k old
+  pub done : IsSome (outcome_in old) → IsSome (outcome_in new)
+
+-- the range isn't empty, ends in a file of so many bytes, and isn't too long
+pub record IsFair (complete : ℕ) (r : Extent) : Type 0 where
+  pub some : 0 < r.len
+  pub inside : r.first + r.len ≤ complete
+  pub few : r.len ≤ max_group_bytes
+
+-- the state wants this range, which can be given, and which is the first of those that are still to come
+pub record IsWantedBy (complete : ℕ) (w : WalkState) (k : Kept) (state : State) (r : Extent) : Type 0 where
+  pub is : wanted_by w k state ≡ Some r
+  pub fair : IsFair complete r
+  pub undone : outcome_in state ≡ None
+  pub first : (f : List ℕ) (q : Query) → IsBase f complete w k → StateAgrees f q k state
+      → slice_get (come_by f w k q state) 0 ≡ Some r
+
+-- the step leads from a state to a range that is wanted in a state, or to an outcome
+abbrev pub IsStep : ℕ → WalkState → Kept → Query → State → Step → Type 0
+IsStep complete w k q old (Read new span) = Becomes complete w k q old new × IsWantedBy complete w k new (extent_of_span span)
+IsStep complete w k q old (Answer o) = Becomes complete w k q old (Answered o)
+
+-- the fault stands in the file for Info
+abbrev pub IsInfoError : List ℕ → WalkError → Type 0
+IsInfoError f (File fault) = IsFaulty f query.Info fault
+IsInfoError f Memory = ⊤

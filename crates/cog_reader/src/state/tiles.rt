@@ -1,0 +1,43 @@
+//! The groups of a window's tiles are read.
+ghost use Rattle.std.specs.Prelude.{◌≡◌, ℕ, length};
+ghost use Rattle.tiff_dir.specs.declared.query.Query.{Query as Asks};
+ghost use Rattle.tiff_dir.specs.Walk.{HasEnded};
+ghost use Rattle.tiff_dir.specs.WalkState.{WalkState};
+ghost use Rattle.cog_reader.specs.declared.kept.Kept.TheVariants as kept;
+ghost use Rattle.cog_reader.specs.declared.state.State.TheVariants as state;
+ghost use Rattle.cog_reader.specs.Give.{AcceptsRange};
+ghost use Rattle.cog_reader.specs.Kept.{HasBoth, IsKeptOf};
+ghost use Rattle.cog_reader.specs.Mosaic.{HasPlan, IsGroupLen, IsPlan};
+ghost use Rattle.cog_reader.specs.Step.{IsStep};
+
+use crate::Outcome;
+use crate::arrays::Arrays;
+use crate::kept::Kept;
+use crate::mosaic::Mosaic;
+use crate::state::{State, Step};
+use tiff_dir::FileFault;
+
+/// What comes next: a group, or, where all were given, the window.
+pub fn next(arrays: &Arrays, mosaic: Mosaic) -> Step
+    ensures { (complete n : ℕ) (w : WalkState) (q : Asks) → HasEnded w → IsPlan complete arrays.now mosaic
+        → IsStep complete w (kept.Both n arrays.now) q (state.Tiles mosaic) result }
+{
+    match mosaic.need() {
+        Some(span) => Step::Read(State::Tiles(mosaic), span),
+        None => Step::Answer(Outcome::Window(mosaic.into_window(arrays))),
+    }
+}
+
+/// Gives the window a group, or tells the fault that it has.
+pub fn accept(kept: &Kept, mosaic: &mut Mosaic, bytes: &[u8]) -> Option<FileFault>
+    requires plan { HasBoth kept.now (λ a. HasPlan a mosaic.old) }
+    requires wanted { IsGroupLen mosaic.old (length bytes.now) }
+    ensures { (complete : ℕ) (w : WalkState) → HasEnded w → HasBoth kept.now (λ a. IsPlan complete a mosaic.old) → IsKeptOf w kept.now
+        → AcceptsRange complete bytes.now (record { walk = w; kept = kept.now; state = state.Tiles mosaic.old })
+        (record { walk = w; kept = kept.now; state = state.Tiles mosaic.new }) result }
+{
+    match mosaic.give(kept.both(), bytes) {
+        Ok(()) => None,
+        Err(fault) => Some(fault),
+    }
+}

@@ -1,0 +1,90 @@
+//! A file in memory, and a reader of it that is kept from one query to the next.
+ghost use Rattle.std.specs.Prelude.{◌≡◌, IfSome, length};
+ghost use Rattle.tiff_dir.specs.Walk.{extent_of_span};
+
+use cog_reader::{Outcome, Reader};
+use std::alloc::Global;
+use tiff_dir::{Memory, Query, Span};
+
+/// A file and its reader.
+#[derive(Drop)]
+pub struct Image {
+    pub file: Vec<u8>,
+    reader: Reader,
+}
+
+/// What was wanted for a query, in turn, and its outcome. There is none where a wanted range isn't in the file.
+#[derive(Drop)]
+pub struct Answer<'a> {
+    pub wanted: Vec<Span>,
+    pub outcome: Option<&'a Outcome>,
+}
+
+/// The bytes of a file in a span.
+pub fn part(file: &[u8], span: Span) -> Option<&[u8]>
+    ensures { IfSome result (λ bytes. length bytes.now ≡ (extent_of_span span).len) }
+{
+    let end = span.last.checked_add(1)?;
+    file.get(span.first as usize..end as usize)
+}
+
+/// Gives the reader what it wants until there is an outcome, and lists it.
+fn read(alloc: Global, reader: &mut Reader, file: &[u8]) -> Result<Vec<Span>, Memory> {
+    let mut wanted = Vec::new(alloc);
+    while let Some(span) = reader.need()? {
+        wanted.push(span)?;
+        let Some(bytes) = part(file, span) else {
+            return Ok(wanted);
+        };
+        reader.give(bytes)?;
+    }
+    Ok(wanted)
+}
+
+impl Image {
+    /// A file of which nothing is read.
+    pub fn new(alloc: Global, file: Vec<u8>) -> Image {
+        let reader = Reader::new(alloc, file.len() as u64);
+        Image { file, reader }
+    }
+
+    /// Puts a new reader in the place of the one before.
+    pub fn renew(&mut self, alloc: Global) {
+        self.reader = Reader::new(alloc, self.file.len() as u64);
+    }
+
+    /// Asks a query, and gives the first so many ranges that are wanted.
+    pub fn begin(&mut self, query: Query, count: usize) -> Result<(), Memory> {
+        self.reader.open(query);
+        for _ in 0..count {
+            let Some(span) = self.reader.need()? else {
+                return Ok(());
+            };
+            let Some(bytes) = part(&self.file, span) else {
+                return Ok(());
+            };
+            self.reader.give(bytes)?;
+        }
+        Ok(())
+    }
+
+    /// The range that is wanted next.
+    pub fn need(&mut self) -> Result<Option<Span>, Memory> {
+        self.reader.need()
+    }
+
+    /// What answers the query, taken out of the reader.
+    pub fn take_outcome(&mut self) -> Option<Outcome> {
+        self.reader.take_outcome()
+    }
+
+    /// The answer to a query.
+    pub fn answer(&mut self, alloc: Global, query: Query) -> Result<Answer<'_>, Memory> {
+        self.reader.open(query);
+        let wanted = read(alloc, &mut self.reader, &self.file)?;
+        Ok(Answer {
+            wanted,
+            outcome: self.reader.outcome(),
+        })
+    }
+}

@@ -1,0 +1,105 @@
+//! Each test passes whether memory is there or is refused once: `rt try --test --fail-alloc N -- NAME` refuses the Nth.
+ghost use Rattle.std.specs.Prelude.{◌<◌, ◌≤◌, IfOk, OnOk, length};
+ghost use Rattle.cog_reader.specs.Reader.{steps_of, IsWanted, Wants};
+
+use super::image::{Image, part};
+use cog_reader::{Outcome, Reader};
+use cog_reader_support::{FACTS_OF_F3, Fixture, Want, is_wanted, of_level};
+use std::process::Abort;
+use std::test::Fail;
+use tiff_dir::{FileFault, Memory, Query, Span};
+
+/// What is wanted, asked twice if no memory is found.
+fn need_again(reader: &mut Reader) -> Result<Option<Span>, Memory>
+    ensures wants { IfOk result (Wants reader.new) }
+    ensures steps { steps_of reader.new ≤ steps_of reader.old }
+{
+    match reader.need() {
+        Err(Memory) => reader.need(),
+        Ok(span) => Ok(span),
+    }
+}
+
+/// Gives the bytes, twice if no memory is found.
+fn give_again(reader: &mut Reader, bytes: &[u8]) -> Result<(), Memory>
+    requires { IsWanted reader.old (length bytes.now) }
+    ensures { OnOk result (steps_of reader.new < steps_of reader.old) }
+{
+    match reader.give(bytes) {
+        Err(Memory) => reader.give(bytes),
+        Ok(()) => Ok(()),
+    }
+}
+
+/// Gives the reader what it wants, each call being made again if no memory is found.
+fn read_again(reader: &mut Reader, file: &[u8]) -> Result<(), Memory> {
+    while let Some(span) = need_again(reader)? {
+        let Some(bytes) = part(file, span) else {
+            return Ok(());
+        };
+        give_again(reader, bytes)?;
+    }
+    Ok(())
+}
+
+/// Whether this is the outcome of the query, one of the three of f3 that are asked here.
+fn is_right(outcome: Option<&Outcome>, query: Query) -> bool {
+    if query == Query::Info {
+        is_wanted(outcome, Want::Info(FACTS_OF_F3))
+    } else if query == of_level(15, 15, 2, 2, 0) {
+        let bytes = [0x10, 0x11, 0x12, 0x13];
+        is_wanted(outcome, Want::Window(2, 2, 1, 8, &bytes))
+    } else {
+        is_wanted(outcome, Want::Window(1, 3, 1, 8, &[4, 5, 6]))
+    }
+}
+
+/// A window of plain tiles, one of a packed tile, and Info.
+fn queries() -> [Query; 3] {
+    [
+        of_level(15, 15, 2, 2, 0),
+        of_level(3, 4, 1, 3, 1),
+        Query::Info,
+    ]
+}
+
+/// The call that finds no memory is made again, and goes on.
+#[test]
+fn goes_on_after_refused_memory(rt: HostRuntime) -> Result<(), Fail> {
+    let Ok(file) = Fixture::F3.file(rt.alloc()) else {
+        return Ok(());
+    };
+    let mut reader = Reader::new(rt.alloc(), file.len() as u64);
+    for query in queries() {
+        reader.open(query);
+        assert!(rt; read_again(&mut reader, &file).is_ok(), "{query:?}");
+        assert!(rt; is_right(reader.outcome(), query), "{query:?}");
+    }
+    Ok(())
+}
+
+/// Expects the outcome of the query, or that it is refused for want of memory. Whether it is refused.
+fn is_refused(rt: &(impl Abort + AllocGlobal), image: &mut Image, query: Query) -> bool {
+    match image.answer(rt.alloc(), query) {
+        Ok(answer) => {
+            assert!(rt; is_right(answer.outcome, query), "{query:?}");
+            false
+        }
+        Err(Memory) => true,
+    }
+}
+
+/// The query that finds no memory is asked again, and answered.
+#[test]
+fn answers_a_query_that_is_asked_again(rt: HostRuntime) -> Result<(), Fail> {
+    let Ok(file) = Fixture::F3.file(rt.alloc()) else {
+        return Ok(());
+    };
+    let mut image = Image::new(rt.alloc(), file);
+    for query in queries() {
+        if is_refused(&rt, &mut image, query) {
+            assert!(rt; !is_refused(&rt, &mut image, query), "{query:?}");
+        }
+    }
+    Ok(())
+}

@@ -1,0 +1,41 @@
+//! Files that end early.
+use cog_reader::{Outcome, read_file};
+use cog_reader_support::{Fixture, Want, is_wanted, of_level};
+use std::test::Fail;
+use tiff_dir::{FileFault, Query};
+
+#[test]
+fn tells_past_end_of_every_front(rt: HostRuntime) -> Result<(), Fail> {
+    let file = Fixture::F1.file(rt.alloc())?;
+    assert_eq!(rt; file.len(), 378);
+    for len in 0..file.len() {
+        for query in [of_level(2, 1, 3, 2, 0), of_level(0, 0, 1, 1, 0)] {
+            let outcome = read_file(rt.alloc(), &file[..len], query);
+            let outcome = outcome.ok().ok_or("no memory")?;
+            let want = Want::Fault(FileFault::PastEnd);
+            assert!(rt; is_wanted(Some(&outcome), want), "at {len}: {outcome:?}");
+        }
+    }
+    Ok(())
+}
+
+/// The tiles aren't needed for Info.
+#[test]
+fn tells_info_without_the_tiles(rt: HostRuntime) -> Result<(), Fail> {
+    let file = Fixture::F3.file(rt.alloc())?;
+    assert_eq!(rt; file.len(), 1456);
+    let whole = read_file(rt.alloc(), &file, Query::Info);
+    let whole = whole.ok().ok_or("no memory")?;
+    assert!(rt; matches!(&whole, Outcome::Info(_)), "{whole:?}");
+    for len in 0..file.len() {
+        let outcome = read_file(rt.alloc(), &file[..len], Query::Info);
+        let outcome = outcome.ok().ok_or("no memory")?;
+        if len < 400 {
+            let want = Outcome::Fault(FileFault::PastEnd);
+            assert_eq!(rt; outcome, want, "at {len}");
+        } else {
+            assert_eq!(rt; &outcome, &whole, "at {len}");
+        }
+    }
+    Ok(())
+}

@@ -1,0 +1,230 @@
+//! Answers to requests for ranges of f1, which is published as `a` in epoch 1.
+use super::streams::expect_served;
+use cog_server::{Ended, Served, Server};
+use fixtures_support::f1;
+use std::alloc::Global;
+use std::process::Abort;
+use std::test::Fail;
+
+/// What an answer is: its head and status, whether it closes and carries the tag of `a`, and the places of its body
+/// in f1.
+#[derive(Clone, Copy)]
+pub struct Want {
+    pub head: &'static [u8],
+    pub status: u16,
+    pub close: bool,
+    pub named: bool,
+    pub from: usize,
+    pub to: usize,
+}
+
+/// A server that has f1.
+pub fn server_of_f1(alloc: Global) -> Result<Server, Fail> {
+    let mut server = Server::new(alloc, 1);
+    server.publish(b"a", f1(alloc)?).map_err(|_| "refused")?;
+    Ok(server)
+}
+
+/// A message, and its answer.
+pub type Row<'a> = (&'a str, Want);
+
+/// Expects that a message is answered so, by a call and on a stream of this message alone.
+pub fn expect_answer(
+    rt: &(impl Abort + AllocGlobal),
+    server: &Server,
+    (message, want): Row<'_>,
+) -> Result<(), Fail> {
+    expect_called(rt, server, (message, want))?;
+    let text = text_of(rt.alloc(), &want)?;
+    let ended = if want.close {
+        Ended::Closed
+    } else {
+        Ended::EndOfInput
+    };
+    let one = Served { answers: 1, ended };
+    expect_served(rt, server, message.as_bytes(), &[], &text, one)
+}
+
+/// Expects that a message is answered so by a call.
+pub fn expect_called(
+    rt: &(impl Abort + AllocGlobal),
+    server: &Server,
+    (message, want): Row<'_>,
+) -> Result<(), Fail> {
+    let file = f1(rt.alloc())?;
+    let answer = server.answer(message.as_bytes())?;
+    let body = file.get(want.from..want.to).ok_or("no such part")?;
+    assert!(rt; answer.text.starts_with(want.head), "to {message:?}");
+    assert_eq!(rt;
+        answer.text.get(want.head.len()..),
+        Some(body),
+        "to {message:?}"
+    );
+    assert_eq!(rt; answer.body, body.len() as u64, "to {message:?}");
+    assert_eq!(rt; answer.status, want.status, "to {message:?}");
+    assert_eq!(rt; answer.close, want.close, "to {message:?}");
+    match &answer.name {
+        Some(name) => {
+            assert!(rt; want.named, "to {message:?}");
+            assert_eq!(rt; name.as_slice(), b"a".as_slice(), "to {message:?}");
+        }
+        None => assert!(rt; !want.named, "to {message:?}"),
+    }
+    Ok(())
+}
+
+/// The bytes of an answer.
+pub fn text_of(alloc: Global, want: &Want) -> Result<Vec<u8>, Fail> {
+    let file = f1(alloc)?;
+    let mut text = Vec::from_slice(alloc, want.head)?;
+    text.extend_from_slice(file.get(want.from..want.to).ok_or("no such part")?)?;
+    Ok(text)
+}
+
+/// All bytes of the file as a range.
+const ALL: Want = Want {
+    head: b"HTTP/1.1 206 Partial Content\r\nETag: \"1-1\"\r\nAccept-Ranges: bytes\r\nContent-Type: image/tiff\r\nContent-Range: bytes 0-377/378\r\nContent-Length: 378\r\n\r\n",
+    status: 206,
+    close: false,
+    named: true,
+    from: 0,
+    to: 378,
+};
+
+/// The whole file, without a range.
+pub const WHOLE: Want = Want {
+    head: b"HTTP/1.1 200 OK\r\nETag: \"1-1\"\r\nAccept-Ranges: bytes\r\nContent-Type: image/tiff\r\nContent-Length: 378\r\n\r\n",
+    status: 200,
+    ..ALL
+};
+
+/// The first byte.
+pub const FIRST: Want = Want {
+    head: b"HTTP/1.1 206 Partial Content\r\nETag: \"1-1\"\r\nAccept-Ranges: bytes\r\nContent-Type: image/tiff\r\nContent-Range: bytes 0-0/378\r\nContent-Length: 1\r\n\r\n",
+    to: 1,
+    ..ALL
+};
+
+/// The last byte.
+pub const LAST: Want = Want {
+    head: b"HTTP/1.1 206 Partial Content\r\nETag: \"1-1\"\r\nAccept-Ranges: bytes\r\nContent-Type: image/tiff\r\nContent-Range: bytes 377-377/378\r\nContent-Length: 1\r\n\r\n",
+    from: 377,
+    ..ALL
+};
+
+/// A range of which the file has nothing.
+const UNSATISFIED: Want = Want {
+    head: b"HTTP/1.1 416 Range Not Satisfiable\r\nContent-Range: bytes */378\r\nContent-Length: 0\r\n\r\n",
+    status: 416,
+    named: false,
+    to: 0,
+    ..ALL
+};
+
+/// Expects that a GET of `/a` with these field lines behind Host is answered so.
+fn expect_get(
+    rt: &(impl Abort + AllocGlobal),
+    server: &Server,
+    (lines, want): Row<'_>,
+) -> Result<(), Fail> {
+    let message = format!(in rt.alloc(); "GET /a HTTP/1.1\r\nHost: h\r\n{lines}\r\n")?;
+    expect_answer(rt, server, (message.as_str(), want))
+}
+
+/// The same of each row, by a server that has f1.
+fn expect_gets(rt: &(impl Abort + AllocGlobal), rows: &[Row<'_>]) -> Result<(), Fail> {
+    let server = server_of_f1(rt.alloc())?;
+    for row in rows {
+        expect_get(rt, &server, *row)?;
+    }
+    Ok(())
+}
+
+/// Field lines of a GET of f1, and its answer: ranges about its end.
+#[rattlefmt::skip]
+const ABOUT_THE_END: [Row<'static>; 2] = [
+    ("Range: bytes=378-\r\n", UNSATISFIED),
+    ("Range: bytes=377-\r\n", LAST),
+];
+
+/// Ranges of the last bytes.
+#[rattlefmt::skip]
+const SUFFIXES: [Row<'static>; 2] = [
+    ("Range: bytes=-0\r\n", UNSATISFIED),
+    ("Range: bytes=-1000\r\n", ALL),
+];
+
+/// Ranges in other letters and in many digits.
+#[rattlefmt::skip]
+const OTHER_FORMS: [Row<'static>; 3] = [
+    ("rAnGe:\t BYTES=0-0 \r\n", FIRST),
+    ("Range: bytes=0-999999999999999999999999999999\r\n", ALL),
+    ("Range: bytes=999999999999999999999999999999-99999999999999999999999999999\r\n", WHOLE),
+];
+
+/// No range of bytes, and more than one.
+#[rattlefmt::skip]
+const NOT_ONE_RANGE: [Row<'static>; 5] = [
+    ("", WHOLE),
+    ("Range: bytes=5-4\r\n", WHOLE),
+    ("Range: bytes=0-0,5-6\r\n", WHOLE),
+    ("Range: lines=0-1\r\n", WHOLE),
+    ("Range: bytes=0-0\r\nRange: bytes=0-0\r\n", WHOLE),
+];
+
+/// Ranges on the condition of a tag.
+#[rattlefmt::skip]
+const IF_RANGE: [Row<'static>; 5] = [
+    ("Range: bytes=0-0\r\nIf-Range: W/\"1-1\"\r\n", WHOLE),
+    ("Range: bytes=0-0\r\nIf-Range: \"1-1\"\r\n", FIRST),
+    ("Range: bytes=0-0\r\nIf-Range: \"1-1\"\r\nIf-Range: \"1-1\"\r\n", WHOLE),
+    ("Range: bytes=378-\r\nIf-Range: \"1-2\"\r\n", WHOLE),
+    ("If-Range: \"1-1\"\r\n", WHOLE),
+];
+
+#[test]
+fn refuses_a_range_from_the_end_on(rt: HostRuntime) -> Result<(), Fail> {
+    expect_gets(&rt, &ABOUT_THE_END)
+}
+
+#[test]
+fn answers_a_suffix_range_with_the_end_of_the_file(rt: HostRuntime) -> Result<(), Fail> {
+    expect_gets(&rt, &SUFFIXES)
+}
+
+#[test]
+fn reads_ranges_in_any_case_and_of_any_length(rt: HostRuntime) -> Result<(), Fail> {
+    expect_gets(&rt, &OTHER_FORMS)
+}
+
+#[test]
+fn ignores_a_value_that_is_not_one_range(rt: HostRuntime) -> Result<(), Fail> {
+    expect_gets(&rt, &NOT_ONE_RANGE)
+}
+
+#[test]
+fn answers_the_range_only_if_the_tag_is_the_same(rt: HostRuntime) -> Result<(), Fail> {
+    expect_gets(&rt, &IF_RANGE)
+}
+
+/// Another name's file changes no answer, and a new file of the name changes them all.
+#[test]
+fn answers_anew_only_where_the_name_is_published_again(rt: HostRuntime) -> Result<(), Fail> {
+    let alloc = rt.alloc();
+    let mut server = server_of_f1(alloc)?;
+    server
+        .publish(b"b", Vec::from_slice(alloc, b"b")?)
+        .map_err(|_| "refused")?;
+    expect_get(&rt, &server, ("Range: bytes=377-\r\n", LAST))?;
+    server.publish(b"a", f1(alloc)?).map_err(|_| "refused")?;
+    let answer = server.answer(
+        b"GET /a HTTP/1.1\r\nHost: h\r\nRange: bytes=0-0\r\nIf-Range: \"1-1\"\r\n\r\n",
+    )?;
+    assert_eq!(rt; answer.status, 200);
+    assert!(rt;
+        answer
+            .text
+            .starts_with(b"HTTP/1.1 200 OK\r\nETag: \"1-3\"\r\n")
+    );
+    Ok(())
+}

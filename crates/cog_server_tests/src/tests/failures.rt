@@ -1,0 +1,154 @@
+//! Readers and writers that fail: what was written by then, and which failure is told.
+use super::answers::{FIRST, server_of_f1, text_of};
+use super::streams::{ASKS_FIRST, two_messages};
+use cog_server::{
+    AfterBytes, AfterPieces, Ended, Inlet, Outlet, ScriptedInlet, ScriptedOutlet, ServeError,
+    Served, Server,
+};
+use std::alloc::Global;
+use std::process::Abort;
+use std::test::Fail;
+
+/// The head of 65,536 bytes that are published second.
+const LONG_HEAD: &[u8] =
+    b"HTTP/1.1 200 OK\r\nETag: \"1-2\"\r\nAccept-Ranges: bytes\r\nContent-Type: image/tiff\r\nContent-Length: 65536\r\n\r\n";
+
+#[test]
+fn numbers_the_failures_of_a_stream(rt: HostRuntime) {
+    assert_eq!(rt; ServeError::Read.number(), 1);
+    assert_eq!(rt; ServeError::Write.number(), 2);
+    assert_eq!(rt; ServeError::Memory.number(), 3);
+}
+
+/// What serving a stream tells, and the reader and the writer after it.
+type Run = (Result<Served, ServeError>, ScriptedInlet, ScriptedOutlet);
+
+/// Serves a stream, with this behind its bytes, to a writer that takes such pieces and what comes after them.
+fn serve(
+    server: &Server,
+    alloc: Global,
+    (stream, behind): (&[u8], AfterBytes),
+    (pieces, after): (Vec<usize>, AfterPieces),
+) -> Result<Run, Fail> {
+    let bytes = Vec::from_slice(alloc, stream)?;
+    let mut inlet = ScriptedInlet::new(bytes, Vec::new(alloc), behind);
+    let mut outlet = ScriptedOutlet::new(alloc, pieces, after);
+    let result = server.serve(&mut inlet, &mut outlet);
+    Ok((result, inlet, outlet))
+}
+
+/// Expects that reading fails behind a stream, once this text is written.
+fn expect_read_failure(
+    rt: &(impl Abort + AllocGlobal),
+    server: &Server,
+    stream: &[u8],
+    text: &[u8],
+) -> Result<(), Fail> {
+    let all = (Vec::new(rt.alloc()), AfterPieces::All);
+    let length = stream.len();
+    let (result, inlet, outlet) = serve(server, rt.alloc(), (stream, AfterBytes::Failure), all)?;
+    assert_eq!(rt; result, Err(ServeError::Read), "behind {length} bytes");
+    assert_eq!(rt; outlet.taken(), text, "behind {length} bytes");
+    assert!(rt; inlet.failed(), "behind {length} bytes");
+    assert!(rt; !outlet.failed(), "behind {length} bytes");
+    Ok(())
+}
+
+#[test]
+fn answers_the_whole_messages_before_a_failed_read(rt: HostRuntime) -> Result<(), Fail> {
+    let server = server_of_f1(rt.alloc())?;
+    let first = text_of(rt.alloc(), &FIRST)?;
+    assert_eq!(rt; first.len(), 143);
+    expect_read_failure(&rt, &server, ASKS_FIRST, &first)?;
+    let (stream, text) = two_messages(rt.alloc())?;
+    expect_read_failure(&rt, &server, &stream, &text)?;
+    for end in 0..stream.len() {
+        let front = stream.get(..end).ok_or("no such front")?;
+        let text: &[u8] = if end < ASKS_FIRST.len() { b"" } else { &first };
+        expect_read_failure(&rt, &server, front, text)?;
+    }
+    Ok(())
+}
+
+/// Expects that exactly the first bytes of the text are written where the writer takes so many, one at a time, and then
+/// fails, or takes nothing.
+fn expect_write_failure(
+    rt: &(impl Abort + AllocGlobal),
+    server: &Server,
+    (stream, text): (&[u8], &[u8]),
+    count: usize,
+    after: AfterPieces,
+) -> Result<(), Fail> {
+    let pieces = (vec![in rt.alloc(); 1usize; count]?, after);
+    let (result, inlet, outlet) = serve(server, rt.alloc(), (stream, AfterBytes::End), pieces)?;
+    assert_eq!(rt;
+        Some(outlet.taken()),
+        text.get(..count),
+        "{after:?} after {count}"
+    );
+    assert_eq!(rt; result, Err(ServeError::Write), "{after:?} after {count}");
+    assert!(rt; outlet.failed(), "{after:?} after {count}");
+    assert!(rt; !inlet.failed(), "{after:?} after {count}");
+    Ok(())
+}
+
+#[test]
+fn writes_what_a_failing_writer_takes(rt: HostRuntime) -> Result<(), Fail> {
+    let server = server_of_f1(rt.alloc())?;
+    let first = text_of(rt.alloc(), &FIRST)?;
+    for after in [AfterPieces::Zero, AfterPieces::Failure] {
+        for count in 0..143 {
+            expect_write_failure(&rt, &server, (ASKS_FIRST, first.as_slice()), count, after)?;
+        }
+    }
+    Ok(())
+}
+
+#[test]
+fn writes_what_a_failing_writer_takes_of_two_answers(rt: HostRuntime) -> Result<(), Fail> {
+    let server = server_of_f1(rt.alloc())?;
+    let (stream, text) = two_messages(rt.alloc())?;
+    for after in [AfterPieces::Zero, AfterPieces::Failure] {
+        for count in 0..text.len() {
+            let both = (stream.as_slice(), text.as_slice());
+            expect_write_failure(&rt, &server, both, count, after)?;
+        }
+    }
+    Ok(())
+}
+
+/// Expects that a stream of this message is answered by this text where the writer takes such pieces and then fails.
+fn expect_pieces(
+    rt: &(impl Abort + AllocGlobal),
+    server: &Server,
+    stream: &[u8],
+    pieces: Vec<usize>,
+    text: &[u8],
+) -> Result<(), Fail> {
+    let pieces = (pieces, AfterPieces::Failure);
+    let (result, inlet, outlet) = serve(server, rt.alloc(), (stream, AfterBytes::End), pieces)?;
+    let ended = Ended::EndOfInput;
+    assert_eq!(rt; result, Ok(Served { answers: 1, ended }));
+    assert_eq!(rt; outlet.taken(), text);
+    assert!(rt; !inlet.failed());
+    Ok(())
+}
+
+/// A short answer is one write, and one with a long body two, the first of which has at most 16,384 bytes.
+#[test]
+fn writes_a_short_answer_at_once_and_a_long_body_in_two(rt: HostRuntime) -> Result<(), Fail> {
+    let alloc = rt.alloc();
+    let mut server = server_of_f1(alloc)?;
+    let first = text_of(alloc, &FIRST)?;
+    let ones = vec![in alloc; 1usize; 143]?;
+    expect_pieces(&rt, &server, ASKS_FIRST, ones, &first)?;
+    let one = vec![in alloc; usize::MAX]?;
+    expect_pieces(&rt, &server, ASKS_FIRST, one, &first)?;
+    let file = vec![in alloc; 7u8; 65536]?;
+    server.publish(b"b", file).map_err(|_| "refused")?;
+    let message = b"GET /b HTTP/1.1\r\nHost: h\r\n\r\n";
+    let mut text = Vec::from_slice(alloc, LONG_HEAD)?;
+    text.resize(LONG_HEAD.len() + 65536, 7)?;
+    let two = vec![in alloc; 16384usize, usize::MAX]?;
+    expect_pieces(&rt, &server, message, two, &text)
+}

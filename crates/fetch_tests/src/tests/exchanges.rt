@@ -1,0 +1,73 @@
+//! What the transports bring.
+use cog_client::{Lost, Transport};
+use fixtures_support::{f1, f2};
+use std::test::Fail;
+use transports::{Fate, InMemory, Scripted, server_of_one};
+
+const REQUEST: &[u8] = b"GET /a HTTP/1.1\r\nHost: h\r\nRange: bytes=1-2\r\n\r\n";
+
+const TEXT: &[u8] =
+    b"HTTP/1.1 206 Partial Content\r\nETag: \"1-1\"\r\nAccept-Ranges: bytes\r\nContent-Type: image/tiff\r\n\
+    Content-Range: bytes 1-2/378\r\nContent-Length: 2\r\n\r\nI*";
+
+const FATES: [Fate; 6] = [
+    Fate::Whole,
+    Fate::Lost,
+    Fate::Cut(0),
+    Fate::Cut(17),
+    Fate::Cut(1000),
+    Fate::Whole,
+];
+
+/// How many bytes of the text come of each answer: of one more than there are fates.
+const LENGTHS: [Option<usize>; 7] = [
+    Some(TEXT.len()),
+    None,
+    Some(0),
+    Some(17),
+    Some(TEXT.len()),
+    Some(TEXT.len()),
+    None,
+];
+
+/// Whether so many bytes of the text came, or nothing.
+fn is_front(came: &Result<Vec<u8>, Lost>, length: Option<usize>) -> bool {
+    match (came, length) {
+        (Err(Lost), None) => true,
+        (Ok(text), Some(length)) => TEXT.get(..length) == Some(text.as_slice()),
+        _ => false,
+    }
+}
+
+#[test]
+fn loses_and_cuts_answers_by_its_list(rt: HostRuntime) -> Result<(), Fail> {
+    let server = server_of_one(rt.alloc(), 1, b"a", f1(rt.alloc())?)?;
+    let mut transport = Scripted::new(InMemory::new(&server, b"a"), &FATES);
+    for length in LENGTHS {
+        assert!(rt; transport.exchanges() < 7);
+        let came = transport.exchange(REQUEST);
+        assert!(rt; is_front(&came, length), "{length:?}");
+    }
+    assert_eq!(rt; transport.exchanges(), 7);
+    Ok(())
+}
+
+/// A server of two files, asked over a transport for one of them: messages, and whether their answers come.
+const MESSAGES: [(&[u8], bool); 4] = [
+    (REQUEST, true),
+    (b"GET /b HTTP/1.1\r\nHost: h\r\n\r\n", false),
+    (b"GET /c HTTP/1.1\r\nHost: h\r\n\r\n", true),
+    (b"\r\n", true),
+];
+
+#[test]
+fn brings_no_answer_about_another_file(rt: HostRuntime) -> Result<(), Fail> {
+    let mut server = server_of_one(rt.alloc(), 1, b"a", f1(rt.alloc())?)?;
+    server.publish(b"b", f2(rt.alloc())?)?;
+    let mut transport = InMemory::new(&server, b"a");
+    for (message, comes) in MESSAGES {
+        assert!(rt; transport.exchanges() < 4);
+        assert_eq!(rt; transport.exchange(message).is_ok(), comes, "{message:?}");
+    }
+    Ok(())
+}

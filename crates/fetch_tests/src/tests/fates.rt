@@ -1,0 +1,136 @@
+//! Every list of up to four of these fates. The heads of the answers have 165 to 174 bytes, that of f2's first answer
+//! 171. So what comes of an answer that is cut after 0, 170 or 171 bytes has no whole block; after 16,555 bytes the first
+//! block of f2 is whole, and the other answers are shorter. An answer that is lost or brings no block changes nothing of
+//! what is needed: the report stands with the first answer that brings blocks, of f2 with the second.
+use super::fetched::fetch_by;
+use super::{LAST_TILE, window};
+use cog_client::{Query, Report};
+use cog_server::Server;
+use fixtures_support::{f1, f2, f3};
+use std::process::Abort;
+use std::test::Fail;
+use transports::{Fate, server_of_one};
+
+const FATES: [Fate; 6] = [
+    Fate::Lost,
+    Fate::Cut(0),
+    Fate::Cut(170),
+    Fate::Cut(171),
+    Fate::Cut(16555),
+    Fate::Whole,
+];
+
+/// As many exchanges as the longest list has fates.
+const TRIES: u32 = 4;
+
+/// What is fetched, how many answers that bring blocks it needs, and the report.
+#[derive(Clone, Copy)]
+struct Case<'a> {
+    server: &'a Server,
+    query: Query,
+    needed: usize,
+    report: &'a Report,
+}
+
+fn brings_blocks(fate: Fate) -> bool {
+    matches!(fate, Fate::Cut(16555) | Fate::Whole)
+}
+
+/// How many fates of the list are used up until so many answers have brought blocks. None where there are fewer.
+fn used_up(fates: &[Fate], needed: usize) -> Option<usize> {
+    let mut left = needed;
+    for (i, fate) in fates.iter().enumerate() {
+        if brings_blocks(*fate) {
+            left = left.saturating_sub(1);
+        }
+        if left == 0 {
+            return Some(i.saturating_add(1));
+        }
+    }
+    None
+}
+
+fn are_same(found: Option<&Report>, want: Option<&Report>) -> bool {
+    match (found, want) {
+        (None, None) => true,
+        (Some(found), Some(want)) => {
+            found.query == want.query && found.tag == want.tag && found.outcome == want.outcome
+        }
+        _ => false,
+    }
+}
+
+fn expect_list(
+    rt: &(impl Abort + AllocGlobal),
+    case: &Case<'_>,
+    fates: &[Fate],
+) -> Result<(), Fail> {
+    let fetched = fetch_by(rt.alloc(), case.server, case.query, fates, TRIES)?;
+    let used = used_up(fates, case.needed);
+    let want = used.map(|_| case.report);
+    let exchanges = used.unwrap_or(TRIES as usize) as u64;
+    assert_eq!(rt; fetched.exchanges, exchanges, "{fates:?}");
+    assert!(rt; are_same(fetched.report.as_ref(), want), "{fates:?}");
+    Ok(())
+}
+
+/// The list of a number: its digits to the base 6, the last one first.
+fn set_fates(fates: &mut [Fate], number: usize) {
+    let mut rest = number;
+    for fate in fates.iter_mut() {
+        *fate = FATES[rest % 6];
+        rest /= 6;
+    }
+}
+
+/// The lists of so many numbers.
+fn expect_lists(
+    rt: &(impl Abort + AllocGlobal),
+    case: &Case<'_>,
+    fates: &mut [Fate],
+    count: usize,
+) -> Result<(), Fail> {
+    for number in 0..count {
+        set_fates(fates, number);
+        expect_list(rt, case, fates)?;
+    }
+    Ok(())
+}
+
+/// All lists, beside the report of a run in which every answer comes whole.
+fn expect_all(
+    rt: &(impl Abort + AllocGlobal),
+    file: Vec<u8>,
+    query: Query,
+    needed: usize,
+) -> Result<(), Fail> {
+    let server = server_of_one(rt.alloc(), 1, b"a", file)?;
+    let ample = fetch_by(rt.alloc(), &server, query, &[Fate::Whole; 4], TRIES)?;
+    let report = ample.report.ok_or("no report")?;
+    let case = Case {
+        server: &server,
+        query,
+        needed,
+        report: &report,
+    };
+    expect_list(rt, &case, &[])?;
+    expect_lists(rt, &case, &mut [Fate::Lost; 1], 6)?;
+    expect_lists(rt, &case, &mut [Fate::Lost; 2], 36)?;
+    expect_lists(rt, &case, &mut [Fate::Lost; 3], 216)?;
+    expect_lists(rt, &case, &mut [Fate::Lost; 4], 1296)
+}
+
+#[test]
+fn fetches_a_window_of_one_answer_whatever_is_lost(rt: HostRuntime) -> Result<(), Fail> {
+    expect_all(&rt, f1(rt.alloc())?, window(2, 1, 3, 2), 1)
+}
+
+#[test]
+fn fetches_a_window_of_two_answers_whatever_is_lost(rt: HostRuntime) -> Result<(), Fail> {
+    expect_all(&rt, f2(rt.alloc())?, LAST_TILE, 2)
+}
+
+#[test]
+fn fetches_info_whatever_is_lost(rt: HostRuntime) -> Result<(), Fail> {
+    expect_all(&rt, f3(rt.alloc())?, Query::Info, 1)
+}

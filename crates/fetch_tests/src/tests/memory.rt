@@ -1,0 +1,37 @@
+//! The test passes whether memory is there or is refused once: `rt try --test --fail-alloc N -- goes_on` refuses
+//! the Nth.
+use super::LAST_TILE;
+use super::fetched::is_last_tile;
+use cog_client::{Client, ClientError, fetch};
+use fixtures_support::f2;
+use std::alloc::Global;
+use std::test::Fail;
+use transports::{InMemory, server_of_one};
+
+/// A client of `a`, made again if no memory is found.
+fn make_again(alloc: Global) -> Result<Client, ClientError> {
+    match Client::new(alloc, b"cog.test", b"a", 66) {
+        Err(ClientError::Memory) => Client::new(alloc, b"cog.test", b"a", 66),
+        made => made,
+    }
+}
+
+/// Fetching is refused, or loses one answer of three; the client goes on to the same report.
+#[test]
+fn goes_on_after_refused_memory(rt: HostRuntime) -> Result<(), Fail> {
+    let Ok(file) = f2(rt.alloc()) else {
+        return Ok(());
+    };
+    let Ok(server) = server_of_one(rt.alloc(), 1, b"a", file) else {
+        return Ok(());
+    };
+    let mut client = make_again(rt.alloc())?;
+    client.open(LAST_TILE);
+    let mut transport = InMemory::new(&server, b"a");
+    if let Err(refusal) = fetch(&mut client, &mut transport, 3) {
+        assert_eq!(rt; refusal.number(), 1);
+    }
+    let report = fetch(&mut client, &mut transport, 3)?.ok_or("no report")?;
+    assert!(rt; is_last_tile(report));
+    Ok(())
+}

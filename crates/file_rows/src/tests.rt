@@ -1,5 +1,0 @@
-mod beside;
-mod bytes;
-mod changes;
-mod fronts;
-mod plain;

@@ -1,0 +1,9 @@
+//! Tests of what http_range reads and writes.
+mod answer_heads;
+mod answers;
+mod conditions;
+mod names;
+mod ranges;
+mod requests;
+mod streams;
+mod tags;

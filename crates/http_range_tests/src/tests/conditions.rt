@@ -1,0 +1,104 @@
+//! Conditions of requests, and checks.
+use super::tags::tag_1;
+use http_range::{CheckReading, any_match, read_check, read_request, write_check};
+use std::test::Fail;
+
+/// Values of a condition, and whether they match the tag weakly and strongly.
+const VALUES: [(&str, bool, bool); 17] = [
+    ("\"1-1\"", true, true),
+    ("W/\"1-1\"", true, false),
+    ("\"x,y\", \"1-1\"", true, true),
+    ("\"x,y\",W/\"1-1\"", true, false),
+    ("*", true, true),
+    (" , \t\"1-1\" ,,", true, true),
+    ("\"1-2\"", false, false),
+    ("\"1-1\", x", false, false),
+    ("x, \"1-1\"", false, false),
+    ("\"1-1\" \"1-1\"", false, false),
+    ("\"1-1\", *", false, false),
+    ("w/\"1-1\"", false, false),
+    ("1-1", false, false),
+    ("\"x,\"1-1\"\"", false, false),
+    ("\"1-1", false, false),
+    (",", false, false),
+    ("", false, false),
+];
+
+#[test]
+fn matches_a_tag_of_a_list_weakly_or_strongly(rt: HostRuntime) -> Result<(), Fail> {
+    let tag = tag_1()?;
+    for (value, weak, strong) in VALUES {
+        assert_eq!(rt;
+            any_match(value.as_bytes(), &tag, false),
+            weak,
+            "{value:?} weakly"
+        );
+        assert_eq!(rt;
+            any_match(value.as_bytes(), &tag, true),
+            strong,
+            "{value:?} strongly"
+        );
+    }
+    Ok(())
+}
+
+#[test]
+fn matches_a_condition_in_its_only_field(rt: HostRuntime) -> Result<(), Fail> {
+    let tag = tag_1()?;
+    let request = read_request(
+        b"GET /a HTTP/1.1\r\nHost: h\r\nConnection: te,\t Close \r\nIf-Match: \"1-2\"\r\nif-match: x, W/\"1-1\"\r\nIf-None-Match: \"1-2\"\r\nIf-None-Match: W/\"1-1\"\r\n\r\n",
+    ).ok_or("no request")?;
+    assert!(rt; request.has_member(b"connection", b"CLOSE"));
+    assert!(rt; !request.has_member(b"Connection", b"clos"));
+    assert!(rt; !request.has_member(b"Host", b"close"));
+    assert!(rt; request.has(b"if-MATCH"));
+    assert!(rt; !request.has(b"If"));
+    assert_eq!(rt; request.only(b"host"), Some(b"h".as_slice()));
+    assert!(rt; request.only(b"If-Match").is_none());
+    assert!(rt; request.only(b"If-Range").is_none());
+    assert!(rt; !request.one_matches(b"If-Match", &tag, true));
+    assert!(rt; request.one_matches(b"If-None-Match", &tag, false));
+    assert!(rt; !request.one_matches(b"If-None-Match", &tag, true));
+    Ok(())
+}
+
+#[test]
+fn writes_a_check_as_a_head_request(rt: HostRuntime) -> Result<(), Fail> {
+    let text = write_check(rt.alloc(), b"cog.test", b"a", &tag_1()?)?;
+    assert_eq!(rt;
+        text.as_slice(),
+        b"HEAD /a HTTP/1.1\r\nHost: cog.test\r\nIf-None-Match: \"1-1\"\r\nConnection: close\r\n\r\n".as_slice()
+    );
+    Ok(())
+}
+
+/// Answers to a check, and the number of the reason why they are not used, or 0 for the tag.
+#[rattlefmt::skip]
+const ANSWERS: [(&str, u8); 11] = [
+    ("HTTP/1.1 304 Not Modified\r\nETag: \"1-1\"\r\n\r\n", 0),
+    ("HTTP/1.1 200 OK\r\nETag: \"1-1\"\r\nContent-Length: 378\r\n\r\n", 0),
+    ("HTTP/1.1 206 \r\nETag: \"1-1\"\r\n\r\nII*", 0),
+    ("HTTP/1.1 304 Not Modified\r\nETag: \"1-1\"\r\n\r", 1),
+    ("HTP/1.1 304", 2),
+    ("HTTP/1.1 404 Not Found\r\nContent-Length: 0\r\n\r\n", 3),
+    ("HTTP/1.1 412 Precondition Failed\r\nETag: \"1-1\"\r\n\r\n", 3),
+    ("HTTP/1.1 304 Not Modified\r\n\r\n", 4),
+    ("HTTP/1.1 304 Not Modified\r\nETag: W/\"1-1\"\r\n\r\n", 5),
+    ("HTTP/1.1 304 Not Modified\r\nETag: \"234567890123456789012345678901234567890123456789012345678901234\"\r\n\r\n", 6),
+    ("HTTP/1.1 304 Not Modified\r\nETag: \"1-1\"\r\nContent-Encoding: gzip\r\n\r\n", 9),
+];
+
+#[test]
+fn reads_the_tag_of_an_answer_to_a_check(rt: HostRuntime) -> Result<(), Fail> {
+    let tag = tag_1()?;
+    for (text, want) in ANSWERS {
+        match read_check(text.as_bytes()) {
+            CheckReading::Seen(seen) => {
+                assert_eq!(rt; want, 0, "{text:?}");
+                assert!(rt; seen == tag, "{text:?}");
+            }
+            CheckReading::NotUsed(why) => assert_eq!(rt; why.number(), want, "{text:?}"),
+        }
+    }
+    Ok(())
+}

@@ -1,9 +1,0 @@
-mod answers;
-mod conditions;
-mod definitions;
-mod heads;
-mod names;
-mod ranges;
-mod requests;
-mod streams;
-mod tags;

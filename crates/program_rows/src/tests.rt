@@ -1,2 +1,0 @@
-mod loopback;
-mod serving;

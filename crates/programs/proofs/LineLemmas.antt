@@ -1,0 +1,189 @@
+-- What a parse of the command gives: each word that has to stand is there.
+use Rattle.std.proofs.Common.{◌≡◌, ◌∙◌, ◌<◌, ◌≤◌, ◌&&◌, ◌⊎◌, ℕ, zero, suc, Bool, true, false, not, List, [], ◌∷◌, length, map, Option, Some, None, Result, Ok, Err, is_some, IfErr, IsErrAnd, codes, option_map, refl, sym, ap, ap₂, subst, inl, inr, arith, true≢false}
+use Rattle.std.specs.Borrow.{Bor}
+use Rattle.std.specs.List.{slice_index_or}
+use Rattle.std.specs.Str.{bytes_eq}
+use Rattle.std.proofs.lemmas.List.{get_or-map, length-map}
+use Rattle.clap.specs.Facts.{unwrap_or_range}
+use Rattle.clap.specs.Words.{App, IsParsedFrom, IsPlain, IsPlainArg, Row, Rule, all_of, app_of, args_of, first_of, first_value, found_of, is_simple, matched_of, raw_values, rows_of, rule_of}
+use Rattle.clap.specs.Walk.{is_empty, is_free_arg, is_simple_arg}
+use Rattle.clap.specs.declared.builder.arg.Arg.{Arg}
+use Rattle.clap.specs.declared.builder.command.Command.{Command}
+use Rattle.clap.specs.declared.builder.command.Command.TheViews.{out-Command}
+use Rattle.clap.specs.declared.builder.range.ValueRange.{ValueRange}
+use Rattle.clap.specs.declared.parser.matches.ArgMatches.{ArgMatches}
+use Rattle.clap.specs.declared.parser.matches.Found.{Found}
+use Rattle.clap.proofs.SimpleLemmas.{is_false, is_nil}
+use Rattle.clap.proofs.OnLiterals.{clap_on_literals}
+use Rattle.clap.proofs.WalkLemmas.{both, first_value-rows, raw_values-rows}
+use Rattle.clap.proofs.CallerLemmas.{present_has_entry, required_has_value, required_present}
+use Rattle.programs.specs.ServeLine.{option, serve_app, words}
+
+no_some : {X : Type 0} (o : Option X) → not (is_some o) ≡ true → o ≡ None
+no_some None e = refl
+no_some (Some x) e = absurd (true≢false (sym e))
+
+head : {X : Type 0} (xs : List X) → 0 < length xs → X
+head [] some = absurd (omega arith)
+head (x ∷ xs) some = x
+
+abbrev rules : List Rule
+rules = option (codes "listen") ∷ option (codes "epoch") ∷ option (codes "connections") ∷ words (codes "files") ∷ []
+
+rules_are : (c : Command) → app_of c ≡ serve_app → map rule_of (args_of c) ≡ rules
+unfolding serve_app
+rules_are c e = ap (λ (a : App). a.top.rules) e
+
+four : (c : Command) → app_of c ≡ serve_app → length (args_of c) ≡ 4
+four c e = sym (length-map (args_of c) rule_of) ∙ ap length (rules_are c e)
+
+rule_at : (c : Command) → app_of c ≡ serve_app → (k : ℕ) (d : Arg) → k < length (args_of c)
+    → rule_of (slice_index_or (args_of c) k d) ≡ slice_index_or rules k (rule_of d)
+rule_at c e k d low =
+    sym (get_or-map rule_of (args_of c) k d (rule_of d) low) ∙ ap (λ (rs : List Rule). slice_index_or rs k (rule_of d)) (rules_are c e)
+
+-- the argument has no rule on another
+abbrev is_alone : Rule → Bool
+is_alone r = r.is_simple && r.is_free
+
+alone_at : (k : ℕ) (d : Rule) → k < 4 → is_alone (slice_index_or rules k d) ≡ true
+alone_at zero d low = refl
+alone_at (suc zero) d low = refl
+alone_at (suc (suc zero)) d low = refl
+alone_at (suc (suc (suc zero))) d low = refl
+alone_at (suc (suc (suc (suc k)))) d low = absurd (omega arith)
+
+plain_arg : (a : Arg) → is_alone (rule_of a) ≡ true → IsPlainArg a
+plain_arg a e =
+    let simple : is_simple_arg a ≡ true = (both _ _ e).0 in
+    let free : is_free_arg a ≡ true = (both _ _ e).1 in
+    let exclusive = both _ _ free in
+    let overrides = both _ _ simple in
+    let groups = both _ _ (both _ _ overrides.1).1 in
+    (is_false _ exclusive.0, is_nil _ (both _ _ exclusive.1).0, is_nil _ overrides.0, is_nil _ groups.0)
+
+no_delimiter : (a : Arg) → is_alone (rule_of a) ≡ true → a.val_delim ≡ None
+no_delimiter a e =
+    let simple : is_simple_arg a ≡ true = (both _ _ e).0 in
+    let overrides = both (is_empty a.overrides.items) _ simple in
+    let defaults = both (is_empty a.default_vals_ifs.items) _ overrides.1 in
+    let groups = both (is_empty a.groups.items) _ defaults.1 in
+    let rest = not (is_some a.terminator) && (not a.allow_hyphen_values && (not a.allow_negative_numbers && (not a.require_equals && (not a.last && not a.global)))) in
+    let delimiter = both (not (is_some a.val_delim)) rest groups.1 in
+    no_some _ delimiter.0
+
+plain : (c : Command) → app_of c ≡ serve_app → IsPlain c
+unfolding serve_app
+plain c e =
+    let low4 : (k : ℕ) → k < length (args_of c) → k < 4 = λ k low. omega (arith, four c e) in (
+      λ k d low. plain_arg (slice_index_or (args_of c) k d) (ap is_alone (rule_at c e k d low) ∙ alone_at k (rule_of d) (low4 k low)),
+      is_nil _ (both _ _ (ap (λ (a : App). a.top.is_plain) e)).0,
+    )
+
+local : (c : Command) → app_of c ≡ serve_app → (out-Command c).has_globals ≡ false
+unfolding serve_app
+local c e = is_false _ (both _ _ (both _ _ (both _ _ (ap (λ (a : App). a.top.is_plain) e)).1).1).0
+
+negates : (c : Command) → app_of c ≡ serve_app → (out-Command c).subcommand_negates_reqs ≡ false
+unfolding serve_app
+negates c e = ap (λ (a : App). a.top.subcommand_negates_reqs) e
+
+-- an option has a value
+there : (c : Command) (m : ArgMatches) (name : List ℕ) (k : ℕ) → app_of c ≡ serve_app → IsParsedFrom c m → k < 4
+    → ((d : Rule) → slice_index_or rules k d ≡ option name)
+    → ((j : ℕ) (d : Rule) → j < 4 → bytes_eq (slice_index_or rules j d).id name ≡ true → j ≡ k)
+    → (name ≡ [] → ⊥) → ((name ≡ codes "help") ⊎ (name ≡ codes "version") → ⊥)
+    → is_some (first_value (found_of m) name) ≡ true
+there c m name k e p low is only named own =
+    let some : 0 < length (args_of c) = omega (arith, four c e) in
+    let d = head (args_of c) some in
+    let within : k < length (args_of c) = omega (arith, four c e) in
+    let a = slice_index_or (args_of c) k d in
+    let rule : rule_of a ≡ option name = rule_at c e k d within ∙ is (rule_of d) in
+    let id : a.id.now ≡ name = ap (λ (r : Rule). r.id) rule in
+    let least : 1 ≤ (unwrap_or_range a.num_vals).start_inclusive =
+    subst (λ (o : Option ValueRange). 1 ≤ (unwrap_or_range o).start_inclusive) (sym (ap (λ (r : Rule). r.range) rule)) (omega arith) in
+    let unique : (j : ℕ) (x : Arg) → j < length (args_of c) → bytes_eq (slice_index_or (args_of c) j x).id.now a.id.now ≡ true → j ≡ k =
+    λ j x at same. only j (rule_of x) (omega (arith, four c e))
+    (ap₂ bytes_eq (sym (ap (λ (r : Rule). r.id) (rule_at c e j x at))) (sym id) ∙ same) in
+    let has : is_some (first_value (found_of m) a.id.now) ≡ true =
+    required_has_value c m p (plain c e) (local c e) (negates c e) k d within (ap (λ (r : Rule). r.required) rule)
+    (ap (λ (r : Rule). r.action) rule) (no_delimiter a (ap is_alone rule)) least unique
+    (λ empty. named (sym id ∙ empty))
+    (λ auto. own (elim auto [ inl h ↦ inl (sym id ∙ h) | inr h ↦ inr (sym id ∙ h) ])) in
+    subst (λ (n : List ℕ). is_some (first_value (found_of m) n) ≡ true) id has
+
+only_listen : (j : ℕ) (d : Rule) → j < 4 → bytes_eq (slice_index_or rules j d).id (codes "listen") ≡ true → j ≡ 0
+only_listen zero d low same = refl
+only_listen (suc zero) d low same = absurd (true≢false (sym same))
+only_listen (suc (suc zero)) d low same = absurd (true≢false (sym same))
+only_listen (suc (suc (suc zero))) d low same = absurd (true≢false (sym same))
+only_listen (suc (suc (suc (suc k)))) d low same = absurd (omega arith)
+
+only_epoch : (j : ℕ) (d : Rule) → j < 4 → bytes_eq (slice_index_or rules j d).id (codes "epoch") ≡ true → j ≡ 1
+only_epoch zero d low same = absurd (true≢false (sym same))
+only_epoch (suc zero) d low same = refl
+only_epoch (suc (suc zero)) d low same = absurd (true≢false (sym same))
+only_epoch (suc (suc (suc zero))) d low same = absurd (true≢false (sym same))
+only_epoch (suc (suc (suc (suc k)))) d low same = absurd (omega arith)
+
+only_connections : (j : ℕ) (d : Rule) → j < 4 → bytes_eq (slice_index_or rules j d).id (codes "connections") ≡ true → j ≡ 2
+only_connections zero d low same = absurd (true≢false (sym same))
+only_connections (suc zero) d low same = absurd (true≢false (sym same))
+only_connections (suc (suc zero)) d low same = refl
+only_connections (suc (suc (suc zero))) d low same = absurd (true≢false (sym same))
+only_connections (suc (suc (suc (suc k)))) d low same = absurd (omega arith)
+
+pub listen_there : (c : Command) (m : ArgMatches) → app_of c ≡ serve_app → IsParsedFrom c m
+    → is_some (first_value (found_of m) (codes "listen")) ≡ true
+listen_there c m e p = there c m (codes "listen") 0 e p (omega arith) (λ d. refl) only_listen
+    (λ no. absurd (cc)) (λ no. elim no [ inl h ↦ cc | inr h ↦ cc ])
+
+pub epoch_there : (c : Command) (m : ArgMatches) → app_of c ≡ serve_app → IsParsedFrom c m
+    → is_some (first_value (found_of m) (codes "epoch")) ≡ true
+epoch_there c m e p = there c m (codes "epoch") 1 e p (omega arith) (λ d. refl) only_epoch
+    (λ no. absurd (cc)) (λ no. elim no [ inl h ↦ cc | inr h ↦ cc ])
+
+pub connections_there : (c : Command) (m : ArgMatches) → app_of c ≡ serve_app → IsParsedFrom c m
+    → is_some (first_value (found_of m) (codes "connections")) ≡ true
+connections_there c m e p = there c m (codes "connections") 2 e p (omega arith) (λ d. refl) only_connections
+    (λ no. absurd (cc)) (λ no. elim no [ inl h ↦ cc | inr h ↦ cc ])
+
+-- the files have an entry
+pub files_there : (c : Command) (m : ArgMatches) → app_of c ≡ serve_app → IsParsedFrom c m
+    → is_some (matched_of (found_of m) (codes "files")) ≡ true
+files_there c m e p =
+    let some : 0 < length (args_of c) = omega (arith, four c e) in
+    let d = head (args_of c) some in
+    let within : 3 < length (args_of c) = omega (arith, four c e) in
+    let rule : rule_of (slice_index_or (args_of c) 3 d) ≡ words (codes "files") = rule_at c e 3 d within in
+    let present = required_present c m p (plain c e) (local c e) (negates c e) 3 d within (ap (λ (r : Rule). r.required) rule) in
+    subst (λ (n : List ℕ). is_some (matched_of (found_of m) n) ≡ true) (ap (λ (r : Rule). r.id) rule)
+    (present_has_entry (found_of m) (slice_index_or (args_of c) 3 d).id.now present)
+
+pub simple : is_simple serve_app ≡ true
+unfolding serve_app clap_on_literals
+simple = refl
+
+-- the value of an option that was found is its value by the matches
+pub option_value : (f : Found) (matches : List Row) (name : List ℕ) (o : Option (Bor (List ℕ))) (v : Bor (List ℕ)) → rows_of f ≡ matches
+    → option_map (λ s. s.now) o ≡ first_value f name → o ≡ Some v → first_of name matches ≡ Some v.now
+option_value f matches name o v rows found is =
+    ap (first_of name) (sym rows) ∙ sym (first_value-rows f name) ∙ sym found ∙ ap (option_map (λ (s : Bor (List ℕ)). s.now)) is
+
+-- and so are several
+pub all_values : (f : Found) (matches : List Row) (name : List ℕ) (o : Option (Bor (List (Bor (List ℕ))))) (v : Bor (List (Bor (List ℕ)))) → rows_of f ≡ matches
+    → option_map (λ s. map (λ w. w.now) s.now) o ≡ option_map raw_values (matched_of f name) → o ≡ Some v
+    → all_of name matches ≡ Some (map (λ w. w.now) v.now)
+all_values f matches name o v rows found is =
+    ap (all_of name) (sym rows) ∙ sym (raw_values-rows f name) ∙ sym found
+    ∙ ap (option_map (λ (s : Bor (List (Bor (List ℕ)))). map (λ (w : Bor (List ℕ)). w.now) s.now)) is
+
+pub some_mapped : {X Y : Type 0} (f : X → Y) (o : Option X) → is_some o ≡ true → is_some (option_map f o) ≡ true
+some_mapped f None e = e
+some_mapped f (Some x) e = refl
+
+-- an error that is passed on
+pub passed_on : {A E : Type 0} (result : Result A E) (error : E) (P : E → Type 0) → IsErrAnd result (λ e. e ≡ error) → P error → IfErr result P
+passed_on (Ok a) error P bad good = absurd bad
+passed_on (Err e) error P is good = subst P (sym is) good

@@ -1,0 +1,51 @@
+use Rattle.std.proofs.Common.{◌≡◌, ◌∙◌, ap, codes, ℕ, List, Some, map, sym}
+use Rattle.std.specs.Borrow.{Bor}
+use Rattle.clap.specs.Words.{App, found_of, is_simple, matches_of, raw_values, rows_of, takes}
+use Rattle.clap.proofs.CallerLemmas.{some_of_text}
+use Rattle.programs.specs.ServeLine.{serve_app}
+use Rattle.programs.proofs.LineLemmas.{all_values, connections_there, epoch_there, files_there, listen_there, option_value, passed_on, simple, some_mapped}
+use Rattle.programs.proofs.command_lines.serve.serve_line.Goals as goal
+
+pub unwrap-listen-requires : goal.unwrap-listen-requires
+unwrap-listen-requires g c =
+    let there = listen_there c.in_ok-command.command c.in_ok-matches.matches c.in_ok-command.ensures c.in_ok-matches.ensures.parsed in
+    some_of_text _ c.get_str.result _ c.get_str.ensures there
+
+pub unwrap-epoch-requires : goal.unwrap-epoch-requires
+unwrap-epoch-requires g c =
+    let there = epoch_there c.in_ok-command.command c.in_ok-matches.matches c.in_ok-command.ensures c.in_ok-matches.ensures.parsed in
+    some_of_text _ c.get_str-2.result _ c.get_str-2.ensures there
+
+pub unwrap-connections-requires : goal.unwrap-connections-requires
+unwrap-connections-requires g c =
+    let there = connections_there c.in_ok-command.command c.in_ok-matches.matches c.in_ok-command.ensures c.in_ok-matches.ensures.parsed in
+    some_of_text _ c.get_str-3.result _ c.get_str-3.ensures there
+
+pub unwrap-requires : goal.unwrap-requires
+unwrap-requires g c =
+    let there = files_there c.in_ok-command.command c.in_ok-matches.matches c.in_ok-command.ensures c.in_ok-matches.ensures.parsed in
+    some_of_text _ c.get_strs.result _ c.get_strs.ensures (some_mapped raw_values _ there)
+
+pub returns-in_err-matches-clause-err : goal.returns-in_err-matches-clause-err
+returns-in_err-matches-clause-err g c =
+    let texts : List (List ℕ) = map g.S.AsStr.text c.args.words.now in
+    let is = c.in_ok-command.ensures in
+    passed_on c.from_residual-in_err-matches.result c.in_err-matches.field-0.0 _ c.from_residual-in_err-matches.ensures.1
+    (λ taken. c.in_err-matches.ensures.passes (ap (λ (a : App). takes a texts) is ∙ taken))
+
+pub returns-clause-ok : goal.returns-clause-ok
+returns-clause-ok g c =
+    let texts : List (List ℕ) = map g.S.AsStr.text c.args.words.now in
+    let is = c.in_ok-command.ensures in
+    let found = found_of c.in_ok-matches.matches in
+    let matches = matches_of serve_app texts in
+    let rows : rows_of found ≡ matches =
+    (c.in_ok-matches.ensures.matches (ap is_simple is ∙ simple)).0 ∙ ap (λ (a : App). matches_of a texts) is in
+    record {
+      listen = option_value found matches (codes "listen") c.get_str.result c.unwrap-listen.result rows c.get_str.ensures c.unwrap-listen.ensures;
+      epoch = option_value found matches (codes "epoch") c.get_str-2.result c.unwrap-epoch.result rows c.get_str-2.ensures c.unwrap-epoch.ensures;
+      connections = option_value found matches (codes "connections") c.get_str-3.result c.unwrap-connections.result rows c.get_str-3.ensures
+          c.unwrap-connections.ensures;
+      files = all_values found matches (codes "files") c.get_strs.result c.unwrap.result rows c.get_strs.ensures c.unwrap.ensures
+          ∙ ap (λ (l : List (Bor (List ℕ))). Some (map (λ (w : Bor (List ℕ)). w.now) l)) (sym c.in_ok-files.ensures.items);
+    }

@@ -1,0 +1,24 @@
+-- The command `cogserve`, and what its words give by clap's definition of a simple command.
+use Rattle.std.specs.Prelude.{◌≡◌, true, ℕ, List, Some, codes, map}
+use Rattle.clap.specs.Words.{App, Row, Rule, all_of, first_of, new_app, new_rule, with_rule}
+use Rattle.clap.specs.declared.builder.action.ArgAction.TheVariants.{Set, Append}
+use Rattle.programs.specs.declared.command_lines.serve.ServeLine.{ServeLine}
+
+-- an option that has to stand, with one value
+abbrev pub option : List ℕ → Rule
+option name = record (new_rule name) { long = Some name; value_names = 1; required = true; action = Some Set }
+
+-- words of which at least one has to stand
+abbrev pub words : List ℕ → Rule
+words name = record (new_rule name) { value_names = 1; required = true; action = Some Append }
+
+unfoldable pub serve_app : App
+serve_app = with_rule (with_rule (with_rule (with_rule (new_app (codes "cogserve"))
+    (option (codes "listen"))) (option (codes "epoch"))) (option (codes "connections"))) (words (codes "files"))
+
+-- the line has the values of these matches
+pub record HasValues (matches : List Row) (line : ServeLine) : Type 0 where
+  pub listen : first_of (codes "listen") matches ≡ Some line.listen.now
+  pub epoch : first_of (codes "epoch") matches ≡ Some line.epoch.now
+  pub connections : first_of (codes "connections") matches ≡ Some line.connections.now
+  pub files : all_of (codes "files") matches ≡ Some (map (λ file. file.now) line.files.items)

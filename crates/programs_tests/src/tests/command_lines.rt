@@ -1,0 +1,155 @@
+//! The words of `cogread` and `cogserve`, and the lines that they are.
+use super::words_of;
+use clap::Error;
+use clap::error::ErrorKind;
+use programs::{AskedWords, ReadLine, WindowWords, read_line, serve_line};
+use std::alloc::{AllocError, Global};
+use std::test::Fail;
+
+const WINDOW: WindowWords<'static> = WindowWords {
+    x: "2",
+    y: "1",
+    w: "3",
+    h: "2",
+    level: None,
+    columns: None,
+};
+
+const OF_LEVEL_0: WindowWords<'static> = WindowWords {
+    level: Some("0"),
+    ..WINDOW
+};
+
+const OF_4_COLUMNS: WindowWords<'static> = WindowWords {
+    columns: Some("4"),
+    ..WINDOW
+};
+
+const LINE: ReadLine<'static> = ReadLine {
+    server: "h:1",
+    name: "a",
+    asked: AskedWords::Window(WINDOW),
+    requests: None,
+    blocks: None,
+};
+
+const INFO: ReadLine<'static> = ReadLine {
+    asked: AskedWords::Info,
+    ..LINE
+};
+
+/// Words of `cogread`, and the line that they are.
+#[rattlefmt::skip]
+const READ: [(&str, ReadLine<'static>); 6] = [
+    ("cogread window h:1 a 2 1 3 2", LINE),
+    ("cogread window h:1 a 2 1 3 2 --level 0", ReadLine { asked: AskedWords::Window(OF_LEVEL_0), ..LINE }),
+    ("cogread window --columns=4 h:1 a 2 1 3 2", ReadLine { asked: AskedWords::Window(OF_4_COLUMNS), ..LINE }),
+    ("cogread info h:1 a", INFO),
+    ("cogread info --blocks 66 h:1 --requests=1 a", ReadLine { requests: Some("1"), blocks: Some("66"), ..INFO }),
+    ("cogread window --requests x h:1 a 2 1 3 2 --blocks ''", ReadLine { requests: Some("x"), blocks: Some(""), ..LINE }),
+];
+
+fn is_read(alloc: Global, line: &str, want: &ReadLine<'_>) -> Result<bool, AllocError> {
+    let words = words_of(alloc, line)?;
+    let is_read = match read_line(alloc, &words) {
+        Ok(found) => found == *want,
+        Err(_) => false,
+    };
+    Ok(is_read)
+}
+
+#[test]
+fn reads_the_options_of_cogread_anywhere(rt: HostRuntime) -> Result<(), Fail> {
+    for (line, want) in &READ {
+        assert!(rt; is_read(rt.alloc(), line, want)?, "{line:?}");
+    }
+    Ok(())
+}
+
+/// Words of `cogserve`: the address, the epoch, the number of connections, and the files.
+type ServedRow = (
+    &'static str,
+    &'static str,
+    &'static str,
+    &'static str,
+    &'static [&'static str],
+);
+
+#[rattlefmt::skip]
+const SERVED: [ServedRow; 3] = [
+    ("cogserve --listen h:1 --epoch 1 --connections 2 a=p", "h:1", "1", "2", &["a=p"]),
+    ("cogserve a=p --connections=3 b=q=r --epoch x --listen=[::1]:80 c", "[::1]:80", "x", "3", &["a=p", "b=q=r", "c"]),
+    ("cogserve --listen '' --epoch '' --connections '' -- --a=p", "", "", "", &["--a=p"]),
+];
+
+fn is_served(alloc: Global, row: ServedRow) -> Result<bool, AllocError> {
+    let (line, listen, epoch, connections, files) = row;
+    let words = words_of(alloc, line)?;
+    let is_served = match serve_line(alloc, &words) {
+        Ok(found) => {
+            found.listen == listen
+                && found.epoch == epoch
+                && found.connections == connections
+                && found.files.as_slice() == files
+        }
+        Err(_) => false,
+    };
+    Ok(is_served)
+}
+
+#[test]
+fn reads_the_options_and_files_of_cogserve_anywhere(rt: HostRuntime) -> Result<(), Fail> {
+    for row in SERVED {
+        assert!(rt; is_served(rt.alloc(), row)?, "{:?}", row.0);
+    }
+    Ok(())
+}
+
+/// Words that are refused, or ask for help, and how clap names that.
+#[rattlefmt::skip]
+const REFUSED: [(&str, ErrorKind); 19] = [
+    ("cogread --help", ErrorKind::DisplayHelp),
+    ("cogread window --help", ErrorKind::DisplayHelp),
+    ("cogread info -h", ErrorKind::DisplayHelp),
+    ("cogread", ErrorKind::MissingSubcommand),
+    ("cogread picture", ErrorKind::InvalidSubcommand),
+    ("cogread info h:1", ErrorKind::MissingRequiredArgument),
+    ("cogread info h:1 a 0", ErrorKind::UnknownArgument),
+    ("cogread info h:1 a --level 0", ErrorKind::UnknownArgument),
+    ("cogread window h:1 a 0 0 1", ErrorKind::MissingRequiredArgument),
+    ("cogread window h:1 a 0 0 1 1 --level 0 --level 0", ErrorKind::ArgumentConflict),
+    ("cogread window h:1 a 0 0 1 1 --level 0 --columns 4", ErrorKind::ArgumentConflict),
+    ("cogserve --help", ErrorKind::DisplayHelp),
+    ("cogserve -h", ErrorKind::DisplayHelp),
+    ("cogserve", ErrorKind::MissingRequiredArgument),
+    ("cogserve --listen h:1 --epoch 1 --connections 2", ErrorKind::MissingRequiredArgument),
+    ("cogserve --listen h:1 --connections 2 a=p", ErrorKind::MissingRequiredArgument),
+    ("cogserve --port h:1", ErrorKind::UnknownArgument),
+    ("cogserve --listen h:1 --listen h:2 a=p", ErrorKind::ArgumentConflict),
+    ("cogserve a=p --epoch", ErrorKind::InvalidValue),
+];
+
+/// How clap names the refusal, if there is one.
+fn refusal<T: Drop>(line: Result<T, Error>) -> Option<ErrorKind> {
+    match line {
+        Ok(_) => None,
+        Err(error) => Some(error.kind()),
+    }
+}
+
+/// How the words of a line are refused by the program that is their first.
+fn refusal_of(alloc: Global, line: &str) -> Result<Option<ErrorKind>, AllocError> {
+    let words = words_of(alloc, line)?;
+    if line.starts_with("cogserve") {
+        return Ok(refusal(serve_line(alloc, &words)));
+    }
+    Ok(refusal(read_line(alloc, &words)))
+}
+
+#[test]
+fn refuses_words_of_another_form(rt: HostRuntime) -> Result<(), Fail> {
+    for (line, want) in REFUSED {
+        assert_eq!(rt; refusal_of(rt.alloc(), line)?, Some(want), "{line:?}");
+    }
+    Ok(())
+}

@@ -1,0 +1,104 @@
+//! Help, and faults of the form of a line.
+use super::words_of;
+use programs_support::{Told, tell};
+use std::test::Fail;
+
+const WINDOW_PARTS: &[&str] = &[
+    "Usage: cogread window [OPTIONS] <SERVER> <NAME> <X> <Y> <W> <H>\n",
+    "HOST:PORT",
+    "in pixels from 0",
+    "in pixels\n",
+    "--level <N>",
+    "0 for the largest (default 0)",
+    "--columns <C>",
+    "(no default)",
+    "--requests <N>",
+    "1 to 65536 (default 64)",
+    "--blocks <N>",
+    "Blocks of 16384 bytes that are kept, 66 to 4096 (default 256)",
+    "Example:\n  cogtools cogread window 127.0.0.1:8080 a.tif 0 0 256 256 > window.pgm\n",
+];
+
+/// A command line that asks for help, and what stands in the help: each word and option with its unit and its default, and an
+/// example.
+#[rattlefmt::skip]
+const HELPS: [(&str, &[&str]); 7] = [
+    ("--help", &[
+        "cogtools cogserve --listen HOST:PORT --epoch N --connections N NAME=PATH..\n",
+        "cogtools cogread window SERVER NAME X Y W H [--level N] [--columns C] [--requests N] [--blocks N]\n",
+        "cogtools cogread info SERVER NAME [--requests N] [--blocks N]\n",
+        "cogtools cogworld SCRIPT\n",
+    ]),
+    ("cogserve --help", &[
+        "--listen <HOST:PORT>",
+        "--epoch <N>",
+        "0 to 4294967295 (no default)",
+        "--connections <N>",
+        "1 to 4294967295 (no default)",
+        "NAME=PATH",
+        "files of 1 to 67108864 bytes",
+        "Example:\n  cogtools cogserve --listen 127.0.0.1:8080 --epoch 1 --connections 100 a.tif=/data/a.tif\n",
+    ]),
+    ("cogread --help", &[
+        "window",
+        "info",
+        "Example:\n  cogtools cogread info 127.0.0.1:8080 a.tif\n",
+    ]),
+    ("cogread window --help", WINDOW_PARTS),
+    ("cogread window a -h", WINDOW_PARTS),
+    ("cogread info --help", &[
+        "HOST:PORT",
+        "1 to 65536 (default 64)",
+        "Blocks of 16384 bytes that are kept, 66 to 4096 (default 256)",
+        "Example:\n  cogtools cogread info 127.0.0.1:8080 a.tif\n",
+    ]),
+    ("cogworld --help", &[
+        "SCRIPT",
+        "(no default)",
+        "Example:\n  cogtools cogworld one_window.txt\n",
+    ]),
+];
+
+/// The first part that isn't in the help on standard output.
+fn missing_part(told: &Told, parts: &'static [&'static str]) -> Option<&'static str> {
+    let Ok(help) = str::from_utf8(&told.out) else {
+        return parts.first().copied();
+    };
+    parts.iter().copied().find(|part| !help.contains(*part))
+}
+
+#[test]
+fn prints_each_word_with_its_unit_and_default(rt: HostRuntime) -> Result<(), Fail> {
+    for (line, parts) in HELPS {
+        let told = tell(&rt, &words_of(rt.alloc(), line)?)?;
+        assert_eq!(rt; missing_part(&told, parts), None, "{line:?}");
+        assert!(rt; told.err.is_empty(), "{line:?}");
+        assert_eq!(rt; told.status, 0, "{line:?}");
+    }
+    Ok(())
+}
+
+/// Lines that aren't of their program's form.
+const OTHERS: [&str; 9] = [
+    "cogworld",
+    "cogworld a b",
+    "cogworld --fast a",
+    "cogserve",
+    "cogserve --listen h:1 --epoch 1 --connections 1",
+    "cogread",
+    "cogread picture",
+    "cogread info h:1",
+    "cogread window h:1 a 0 0 1 1 --level 0 --columns 4",
+];
+
+/// What clap tells of them stands on standard error.
+#[test]
+fn refuses_a_line_that_is_not_of_its_program(rt: HostRuntime) -> Result<(), Fail> {
+    for line in OTHERS {
+        let told = tell(&rt, &words_of(rt.alloc(), line)?)?;
+        assert!(rt; told.out.is_empty(), "{line:?}");
+        assert!(rt; told.err.starts_with(b"error: "), "{line:?}");
+        assert_eq!(rt; told.status, 2, "{line:?}");
+    }
+    Ok(())
+}

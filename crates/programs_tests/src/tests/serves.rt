@@ -1,0 +1,138 @@
+//! `cogserve`: the lines of its faults, and the lines of what was published before. No listener can have its address.
+use super::expect_told;
+use std::alloc::{AllocError, Global};
+use std::convert::AsStr;
+use std::fs::OpenFile;
+use std::rt::Files;
+use std::test::Fail;
+use std::{fs, io};
+
+const LISTENS_NOWHERE: [&str; 4] = ["cogserve", "--listen", "nowhere", "--epoch"];
+
+/// The words of `cogserve` with this epoch, this number of connections and these files.
+fn words_of<S: AsStr>(
+    alloc: Global,
+    epoch: &str,
+    connections: &str,
+    files: &[S],
+) -> Result<Vec<String>, AllocError> {
+    let mut words = Vec::new(alloc);
+    for word in LISTENS_NOWHERE {
+        words.push(String::from_str(alloc, word)?)?;
+    }
+    words.push(String::from_str(alloc, epoch)?)?;
+    words.push(String::from_str(alloc, "--connections")?)?;
+    words.push(String::from_str(alloc, connections)?)?;
+    for file in files {
+        words.push(String::from_str(alloc, file.as_str())?)?;
+    }
+    Ok(words)
+}
+
+/// One file, without a path.
+const NO_FILE: &[&str] = &["a"];
+
+/// An epoch, a number of connections and files, and what is told of them on standard error.
+#[rattlefmt::skip]
+const OF_WORDS: [(&str, &str, &[&str], &str); 9] = [
+    ("e", "0", NO_FILE, "cogserve: not a number: e\n"),
+    ("", "1", NO_FILE, "cogserve: not a number: \n"),
+    ("+1", "1", NO_FILE, "cogserve: not a number: +1\n"),
+    ("4294967296", "1", NO_FILE, "cogserve: not a number: 4294967296\n"),
+    ("00000000001", "1", NO_FILE, "cogserve: not a number: 00000000001\n"),
+    ("4294967295", "0", NO_FILE, "cogserve: not a number: 0\n"),
+    ("1", "4294967296", NO_FILE, "cogserve: not a number: 4294967296\n"),
+    ("0", "1", NO_FILE, "cogserve: not a file: a\n"),
+    ("1", "1", &["a=programs_tests_nowhere", "b", "c"], "cogserve: not a file: b\n"),
+];
+
+#[test]
+fn refuses_the_first_word_of_another_form(rt: HostRuntime) -> Result<(), Fail> {
+    for (epoch, connections, files, err) in OF_WORDS {
+        let words = words_of(rt.alloc(), epoch, connections, files)?;
+        expect_told(&rt, err, &words, ("", err, 2))?;
+    }
+    Ok(())
+}
+
+/// An epoch and files, and what is printed of them to standard output and told on standard error.
+#[rattlefmt::skip]
+const OF_FILES: [(&str, &[&str], &str, &str); 7] = [
+    ("1", &["a=programs_tests_nowhere"], "", "cogserve: can't read programs_tests_nowhere\n"),
+    ("1", &["a b=programs_tests_some"], "", "cogserve: refused 1 a b\n"),
+    ("1", &["a=programs_tests_empty"], "", "cogserve: refused 2 a\n"),
+    ("1", &["a=programs_tests_large"], "", "cogserve: refused 3 a\n"),
+    (
+        "4294967295", &["b=programs_tests_some", "=programs_tests_some"],
+        "published b \"4294967295-1\"\n", "cogserve: refused 1 \n",
+    ),
+    (
+        "0", &["a=programs_tests_some", "a=programs_tests_equals=", "a=programs_tests_some"],
+        "published a \"0-1\"\npublished a \"0-2\"\npublished a \"0-3\"\n", "cogserve: can't listen\n",
+    ),
+    ("1", &["a=programs_tests_some"], "published a \"1-1\"\n", "cogserve: can't listen\n"),
+];
+
+const PATHS: [&str; 4] = [
+    "programs_tests_some",
+    "programs_tests_empty",
+    "programs_tests_equals=",
+    "programs_tests_large",
+];
+
+/// Files at these paths: two of some bytes, one of none, and one of a byte more than may be published.
+fn make_files<R: Files>(rt: &R) -> io::Result<()> {
+    let [some, empty, equals, large] = PATHS;
+    fs::write(rt, some, "some bytes")?;
+    fs::write(rt, empty, "")?;
+    fs::write(rt, equals, "other bytes")?;
+    fs::create(rt, large)?.set_len(67_108_865)
+}
+
+#[test]
+fn publishes_the_files_before_the_first_fault(rt: HostRuntime) -> Result<(), Fail> {
+    make_files(&rt)?;
+    for (epoch, files, out, err) in OF_FILES {
+        let words = words_of(rt.alloc(), epoch, "1", files)?;
+        expect_told(&rt, err, &words, (out, err, 1))?;
+    }
+    for path in PATHS {
+        fs::remove_file(&rt, path)?;
+    }
+    Ok(())
+}
+
+/// So many files of one path, named by numbers.
+fn many_files(alloc: Global, count: usize) -> Result<Vec<String>, AllocError> {
+    let mut files = Vec::new(alloc);
+    for k in 0..count {
+        files.push(format!(in alloc; "{k}=programs_tests_one")?)?;
+    }
+    Ok(files)
+}
+
+/// The lines of so many publications.
+fn many_lines(alloc: Global, count: u32) -> Result<String, AllocError> {
+    let mut lines = String::new(alloc);
+    for k in 0..count {
+        let line = format!(in alloc; "published {k} \"1-{}\"\n", k + 1)?;
+        lines.push_str(line.as_str())?;
+    }
+    Ok(lines)
+}
+
+#[test]
+fn refuses_the_65th_name(rt: HostRuntime) -> Result<(), Fail> {
+    fs::write(&rt, "programs_tests_one", "some bytes")?;
+    let files = many_files(rt.alloc(), 65)?;
+    let lines = many_lines(rt.alloc(), 64)?;
+    let words = words_of(rt.alloc(), "1", "1", &files)?;
+    expect_told(
+        &rt,
+        "65 names",
+        &words,
+        (lines.as_str(), "cogserve: refused 4 64\n", 1),
+    )?;
+    fs::remove_file(&rt, "programs_tests_one")?;
+    Ok(())
+}

@@ -1,0 +1,57 @@
+//! `cogworld`, and words that name no program.
+use super::{FaultRow, expect_faults, expect_told};
+use programs_support::{Capture, tell, tell_on};
+use std::fs;
+use std::test::Fail;
+
+/// The log of the stored script.
+const LOG: &str = "\
+epoch 1
+published \"1-1\"
+client 0
+opened 0
+asked 0 0-65535 - answer 0 206 378 took 1
+report 0 \"1-1\" window 3 2 1 121314222324
+";
+
+#[test]
+fn runs_the_stored_script_where_there_are_no_words(rt: HostRuntime) -> Result<(), Fail> {
+    let words: [&str; 0] = [];
+    assert!(rt; tell(&rt, &words)?.is(LOG, "", 0));
+    assert!(rt; tell_on(Capture::closed(&rt), &words)?.is("", "cogworld: can't write\n", 1));
+    Ok(())
+}
+
+#[rattlefmt::skip]
+const FAULTS: [FaultRow<'static>; 3] = [
+    ("world", "cogtools: not a program: world\n", 2),
+    ("'' --help", "cogtools: not a program: \n", 2),
+    ("cogworld programs_tests_nowhere", "cogworld: can't read programs_tests_nowhere\n", 1),
+];
+
+#[test]
+fn refuses_other_programs_and_scripts_that_are_not_there(rt: HostRuntime) -> Result<(), Fail> {
+    Ok(expect_faults(&rt, &FAULTS)?)
+}
+
+const PATH: &str = "programs_tests_script";
+
+/// A script, and what it prints, tells and ends with.
+#[rattlefmt::skip]
+const SCRIPTS: [(&str, &str, &str, u8); 5] = [
+    ("", "", "", 0),
+    ("epoch 1\nclient a 66\nexchange 0\n", "epoch 1\nclient 0\nasked 0 nothing\n", "", 0),
+    ("epoch 1\nno event\n", "", "line 2: not an event\n", 2),
+    ("# two faults\npublish a programs_tests_nowhere\nno event\n", "", "line 2: can't read\n", 1),
+    ("epoch 4294967296\n", "", "line 1: not an event\n", 2),
+];
+
+#[test]
+fn runs_a_script_of_the_disk_or_tells_its_first_fault(rt: HostRuntime) -> Result<(), Fail> {
+    for (script, out, err, status) in SCRIPTS {
+        fs::write(&rt, PATH, script)?;
+        expect_told(&rt, script, &["cogworld", PATH], (out, err, status))?;
+    }
+    fs::remove_file(&rt, PATH)?;
+    Ok(())
+}

@@ -1,5 +1,0 @@
-use Rattle.cog_reader.specs.Reader.{steps_of}
-use Rattle.reader_rows.proofs.tests.image.read.Given as goal
-
-abbrev pub decreases-loop-wanted : goal.decreases-loop-wanted
-decreases-loop-wanted l = steps_of l.reader

@@ -1,5 +1,0 @@
-use Rattle.cog_reader.specs.Reader.{steps_of}
-use Rattle.reader_rows.proofs.tests.refused.read_again.Given as goal
-
-abbrev pub decreases-loop-span : goal.decreases-loop-span
-decreases-loop-span l = steps_of l.reader

@@ -1,4 +1,0 @@
-use Rattle.reference.proofs.directories.+directory.Given as goal
-
-abbrev pub decreases-directory : goal.decreases-directory
-decreases-directory l = l.k

@@ -1,4 +1,0 @@
-use Rattle.reference.proofs.directories.+has_directory.Given as goal
-
-abbrev pub decreases-has_directory : goal.decreases-has_directory
-decreases-has_directory l = l.k

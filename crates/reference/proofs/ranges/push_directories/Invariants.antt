@@ -1,9 +1,0 @@
-use Rattle.std.proofs.Common.{◌≡◌, ◌++◌, take}
-use Rattle.std.specs.List.{flat_map}
-use Rattle.tiff_dir.specs.Needs.{ranges_of_directory}
-use Rattle.reference.specs.Ranges.{ranges_of}
-use Rattle.reference.proofs.ranges.push_directories.Given as goal
-
--- the ranges of the directories so far are added
-abbrev pub invariant-loop-k : goal.invariant-loop-k
-invariant-loop-k l = ranges_of l.out.items ≡ ranges_of l.fn.out.items ++ flat_map (ranges_of_directory l.file) (take l.k-index l.directories)

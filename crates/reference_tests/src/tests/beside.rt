@@ -1,0 +1,77 @@
+//! A walk over a file, beside the plain program's answers.
+use faults_support::faults_of_directories;
+use reference_support::{Extent, level_of, needs_of_directories};
+use std::process::Abort;
+use std::test::Fail;
+use tiff_dir::{Level, Span};
+use tiff_dir_support::{Course, walk_over};
+
+/// Whether the plain program describes the level in the same way.
+fn is_same(level: &Level, plain: &reference_support::Level) -> bool {
+    level.width == plain.grid.width
+        && level.length == plain.grid.length
+        && level.tile_width == plain.grid.tile_width
+        && level.tile_length == plain.grid.tile_length
+        && level.samples == plain.samples
+        && level.bits == plain.bits
+        && level.compression == plain.compression
+        && level.offsets == plain.offsets
+        && level.counts == plain.counts
+}
+
+fn compare_levels<R: Abort + AllocGlobal>(
+    rt: &R,
+    file: &[u8],
+    levels: &[Level],
+    name: &str,
+) -> Result<(), Fail> {
+    for (n, level) in levels.iter().enumerate() {
+        match level_of(rt.alloc(), file, n)? {
+            Some(plain) => assert!(rt; is_same(level, &plain), "{name}: level {n}"),
+            None => panic!(rt; "{name}: no level {n}"),
+        }
+    }
+    assert!(rt;
+        level_of(rt.alloc(), file, levels.len())?.is_none(),
+        "{name}"
+    );
+    Ok(())
+}
+
+/// Whether the walk took the first of the ranges that are needed, in their order.
+fn are_first(taken: &[Span], needs: &[Extent]) -> bool {
+    taken.len() <= needs.len()
+        && taken
+            .iter()
+            .zip(needs.iter())
+            .all(|(span, range)| range.span() == Some(*span))
+}
+
+/// Compares a walk over the file with the plain program: it takes ranges that are needed, in their order; where it ends it
+/// took all and has the plain program's levels, and no fault of the directories stands; where it refuses, its fault is one of
+/// those that stand. Whether the walk ended.
+/// A failure tells the file's name.
+pub fn compare<R: Abort + AllocGlobal>(rt: &R, file: &[u8], name: &str) -> Result<bool, Fail> {
+    let needs = needs_of_directories(rt.alloc(), file)?;
+    let faults = faults_of_directories(rt.alloc(), file)?;
+    let Course { ranges, end } = walk_over(rt.alloc(), file).ok().ok_or("no memory")?;
+    assert!(rt;
+        are_first(&ranges, &needs),
+        "{name}: another range is taken"
+    );
+    match end {
+        Ok(walk) => {
+            assert!(rt; faults.is_empty(), "{name}: {faults:?} stand");
+            assert_eq!(rt; ranges.len(), needs.len(), "{name}");
+            compare_levels(rt, file, walk.levels(), name)?;
+            Ok(true)
+        }
+        Err(fault) => {
+            assert!(rt;
+                faults.contains(&fault),
+                "{name}: {fault:?} is none of {faults:?}"
+            );
+            Ok(false)
+        }
+    }
+}

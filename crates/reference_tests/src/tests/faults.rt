@@ -1,0 +1,150 @@
+//! The plain program's faults: of the fixtures none, of fixtures in which bytes are changed all that stand by the definitions.
+use faults_support::faults;
+use fixtures_support::{f1, f1m, f2, f2b, f3, f4, f5, f6, f6m};
+use std::process::Abort;
+use std::test::Fail;
+use tiff_dir::FileFault::{
+    DirCount, DirPlace, FieldType, Header, KeyHead, KeyOrder, KeyPlace, LevelShape, Missing,
+    Outside, Packet, PastEnd, TagOrder, TileArray, TileSize, TooLarge, TooManyDirs, Unsupported,
+};
+use tiff_dir::{FileFault, Pick, Query};
+
+/// A window by x, y, w, h and its level, or Info.
+type Asked = Option<(u32, u32, u32, u32, u32)>;
+
+const PIXEL: Asked = Some((0, 0, 1, 1, 0));
+
+const INFO: Asked = None;
+
+fn query_of(asked: Asked) -> Query {
+    match asked {
+        Some((x, y, w, h, level)) => Query::Window {
+            x,
+            y,
+            w,
+            h,
+            pick: Pick::Level(level),
+        },
+        None => Query::Info,
+    }
+}
+
+/// What a row says, bytes that are put at a place of the file, a query, and all faults that stand, in any order.
+type Row = (
+    &'static str,
+    usize,
+    &'static [u8],
+    Asked,
+    &'static [FileFault],
+);
+
+#[rattlefmt::skip]
+const OF_F1: [Row; 24] = [
+    ("two byte orders", 0, b"IM", INFO, &[Header]),
+    ("number 43", 2, &[43], PIXEL, &[Header]),
+    ("an odd place", 4, &[9], INFO, &[PastEnd, DirPlace, DirCount, Missing(256), Missing(257), Missing(258), Missing(259), Missing(262), Missing(322), Missing(323), Missing(324), Missing(325)]),
+    ("itself as the next directory", 118, &[8], PIXEL, &[TooManyDirs]),
+    ("a next directory at an odd place past the end", 118, &[0xff, 0xff], PIXEL, &[DirPlace, PastEnd]),
+    ("a second 256", 22, &[0x00], INFO, &[TagOrder, Missing(257)]),
+    ("depth as LONG", 36, &[4], PIXEL, &[FieldType(258)]),
+    ("two depths, of which one stands in the entry", 38, &[2], PIXEL, &[FieldType(258), Unsupported(258)]),
+    ("compression 5", 54, &[5], PIXEL, &[Unsupported(259)]),
+    ("photometric interpretation 2", 66, &[2], PIXEL, &[Unsupported(277)]),
+    ("photometric interpretation 3", 66, &[3], PIXEL, &[Unsupported(262), Unsupported(277)]),
+    ("width 0", 18, &[0], PIXEL, &[LevelShape, TileArray, Outside]),
+    ("width 0 for Info", 18, &[0], INFO, &[LevelShape, TileArray]),
+    ("tiles of width 0", 78, &[0], INFO, &[TileSize]),
+    ("tiles of width 24", 78, &[24], INFO, &[TileSize]),
+    ("an array past the end", 98, &[0xff, 0xff, 0xff, 0xff], PIXEL, &[TileArray, PastEnd]),
+    ("the same array for Info", 98, &[0xff, 0xff, 0xff, 0xff], INFO, &[TileArray]),
+    ("a tile past the end", 102, &[0xff, 0xff, 0xff, 0xff], PIXEL, &[PastEnd]),
+    ("byte count 255", 114, &[0xff, 0x00], PIXEL, &[TileSize]),
+    ("byte count 255 for Info", 114, &[0xff, 0x00], INFO, &[]),
+    ("a window past the side", 0, b"I", Some((16, 0, 1, 1, 0)), &[Outside]),
+    ("a window of no rows", 0, b"I", Some((0, 0, 1, 0, 0)), &[Outside]),
+    ("a window of another level", 0, b"I", Some((0, 0, 1, 1, 1)), &[Outside]),
+    ("a window of 4,198,400 samples", 0, b"I", Some((0, 0, 4096, 1025, 0)), &[Outside, TooLarge]),
+];
+
+#[rattlefmt::skip]
+const OF_F3: [Row; 16] = [
+    ("packets that don't fill the tile", 1454, &[0xf2], Some((0, 0, 1, 1, 1)), &[Packet]),
+    ("the same packets, in another level", 1454, &[0xf2], PIXEL, &[]),
+    ("key version 2", 352, &[2], INFO, &[KeyHead]),
+    ("key version 2, and a window", 352, &[2], PIXEL, &[]),
+    ("four keys of three", 358, &[4], INFO, &[KeyHead]),
+    ("a key twice", 368, &[0x00, 0x04], INFO, &[KeyOrder]),
+    ("location 5", 362, &[5], INFO, &[KeyPlace]),
+    ("two values at location 0", 364, &[2], INFO, &[KeyPlace]),
+    ("nine items of a field of eight", 372, &[9], INFO, &[KeyPlace]),
+    ("no items behind the field's end", 372, &[0, 0, 200], INFO, &[]),
+    ("4,294,967,295 numbers", 134, &[0xff, 0xff, 0xff, 0xff], INFO, &[TooLarge, PastEnd, KeyHead]),
+    ("scale as FLOAT", 120, &[11], INFO, &[FieldType(33550)]),
+    ("keys as LONG", 132, &[4], INFO, &[FieldType(34735), KeyHead, KeyOrder, KeyPlace]),
+    ("keys past the end, of another version", 138, &[0xff, 0xff], INFO, &[PastEnd]),
+    ("a second level as wide as the first", 192, &[33], INFO, &[LevelShape, TileArray]),
+    ("a second level of another type", 172, &[0xfe, 0x00, 0x03], PIXEL, &[FieldType(254)]),
+];
+
+/// Whether the faults that were found are these.
+fn are_faults(found: &[FileFault], want: &[FileFault]) -> bool {
+    found.len() == want.len() && want.iter().all(|fault| found.contains(fault))
+}
+
+/// Expects the faults of each row, of a file with the row's bytes.
+fn expect_rows<R: Abort + AllocGlobal>(rt: &R, fixture: &[u8], rows: &[Row]) -> Result<(), Fail> {
+    for (name, place, bytes, asked, want) in rows {
+        let mut file = Vec::from_slice(rt.alloc(), fixture)?;
+        for (here, byte) in file.iter_mut().skip(*place).zip(*bytes) {
+            *here = *byte;
+        }
+        let found = faults(rt.alloc(), &file, query_of(*asked))?;
+        let found = found.ok_or("a level that the plain program doesn't read")?;
+        assert!(rt; are_faults(&found, want), "{name}: {found:?}");
+    }
+    Ok(())
+}
+
+#[test]
+fn tells_all_faults_of_one_tile(rt: HostRuntime) -> Result<(), Fail> {
+    expect_rows(&rt, &f1(rt.alloc())?, &OF_F1)
+}
+
+#[test]
+fn tells_all_faults_of_levels_and_keys(rt: HostRuntime) -> Result<(), Fail> {
+    expect_rows(&rt, &f3(rt.alloc())?, &OF_F3)
+}
+
+#[test]
+fn tells_none_of_fixtures(rt: HostRuntime) -> Result<(), Fail> {
+    let alloc = rt.alloc();
+    let files = [
+        ("f1", f1(alloc)?),
+        ("f1m", f1m(alloc)?),
+        ("f2", f2(alloc)?),
+        ("f2b", f2b(alloc)?),
+        ("f3", f3(alloc)?),
+        ("f4", f4(alloc)?),
+        ("f5", f5(alloc)?),
+        ("f6", f6(alloc)?),
+        ("f6m", f6m(alloc)?),
+    ];
+    for (name, file) in files {
+        for asked in [PIXEL, INFO, Some((3, 2, 13, 14, 0))] {
+            let found = faults(alloc, &file, query_of(asked))?.ok_or("a level isn't read")?;
+            assert!(rt; found.is_empty(), "{name}: {found:?}");
+        }
+    }
+    Ok(())
+}
+
+#[test]
+fn tells_the_end_of_each_front(rt: HostRuntime) -> Result<(), Fail> {
+    let file = f1(rt.alloc())?;
+    for len in 0..file.len() {
+        let found = faults(rt.alloc(), &file[..len], query_of(INFO))?.ok_or("not read")?;
+        let want = if len < 122 { &[PastEnd][..] } else { &[][..] };
+        assert!(rt; are_faults(&found, want), "at {len}: {found:?}");
+    }
+    Ok(())
+}

@@ -1,0 +1,542 @@
+//! The plain program on the fixtures, with worked values.
+use fixtures_support::{f1, f1m, f2, f2b, f3, f4, f5, f6, f6m};
+use reference_support::{
+    Extent, Grid, Level, asked_rectangle, cost, is_outside, is_refused, is_too_large, level_of,
+    level_samples, level_sides, needs, needs_of_directories, number, order_of, sample, unpack,
+    value, values, window_tiles,
+};
+use std::alloc::Global;
+use std::process::Abort;
+use std::test::Fail;
+use tiff_dir::{Compression, Kind, Order, Pick, Place, Query};
+
+fn at(first: u64, len: u64, count: u32) -> Place {
+    Place {
+        first,
+        len,
+        count,
+        kind: Kind::Long,
+    }
+}
+
+/// A level of tiles of 16 by 16.
+fn level(side: u32, compression: Compression, offsets: Place, counts: Place) -> Level {
+    Level {
+        grid: Grid {
+            width: side,
+            length: side,
+            tile_width: 16,
+            tile_length: 16,
+        },
+        samples: 1,
+        bits: 8,
+        compression,
+        offsets,
+        counts,
+    }
+}
+
+fn window(x: u32, y: u32, w: u32, h: u32, level: u32) -> Query {
+    Query::Window {
+        x,
+        y,
+        w,
+        h,
+        pick: Pick::Level(level),
+    }
+}
+
+fn columns(x: u32, y: u32, w: u32, h: u32, columns: u32) -> Query {
+    Query::Window {
+        x,
+        y,
+        w,
+        h,
+        pick: Pick::Columns(columns),
+    }
+}
+
+fn expect_ranges(rt: &impl Abort, ranges: &[Extent], want: &[(u64, u64)]) {
+    assert_eq!(rt; ranges.len(), want.len());
+    for (range, (first, len)) in ranges.iter().zip(want.iter()) {
+        let pair = (range.first, range.len);
+        assert_eq!(rt; pair, (*first, *len));
+    }
+}
+
+fn expect_needs(
+    rt: &impl Abort,
+    alloc: Global,
+    file: &[u8],
+    query: Query,
+    want: &[(u64, u64)],
+    blocks: u64,
+) -> Result<(), Fail> {
+    match needs(alloc, file, query)? {
+        Some(ranges) => expect_ranges(rt, &ranges, want),
+        None => return Err(Fail::new("no ranges")),
+    }
+    assert_eq!(rt; cost(alloc, file, query)?, Some(blocks));
+    Ok(())
+}
+
+/// Expects these tiles of the window.
+fn expect_tiles(
+    rt: &impl Abort,
+    alloc: Global,
+    file: &[u8],
+    query: Query,
+    want: &[u64],
+) -> Result<(), Fail> {
+    match window_tiles(alloc, file, query)? {
+        Some(tiles) => assert_eq!(rt; tiles.as_slice(), want),
+        None => return Err(Fail::new("no tiles")),
+    }
+    Ok(())
+}
+
+#[test]
+fn reads_single_samples(rt: HostRuntime) -> Result<(), Fail> {
+    let alloc = rt.alloc();
+    for file in [f1(alloc)?, f1m(alloc)?] {
+        assert_eq!(rt; sample(alloc, &file, 0, 15, 2, 0)?, Some(47));
+        assert_eq!(rt; sample(alloc, &file, 1, 0, 0, 0)?, None);
+    }
+    assert_eq!(rt; sample(alloc, &f2(alloc)?, 0, 240, 255, 0)?, Some(255));
+    assert_eq!(rt; sample(alloc, &f2b(alloc)?, 0, 240, 255, 0)?, Some(0));
+    assert_eq!(rt; sample(alloc, &f3(alloc)?, 0, 31, 15, 0)?, Some(17));
+    assert_eq!(rt; sample(alloc, &f3(alloc)?, 1, 3, 9, 0)?, Some(9));
+    assert_eq!(rt; sample(alloc, &f4(alloc)?, 0, 16, 17, 1)?, Some(3));
+    assert_eq!(rt; sample(alloc, &f6(alloc)?, 0, 1, 1, 0)?, Some(32785));
+    Ok(())
+}
+
+#[test]
+fn reads_no_sample_of_a_damaged_tile(rt: HostRuntime) -> Result<(), Fail> {
+    let alloc = rt.alloc();
+    let mut file = f3(alloc)?;
+    match file.get_mut(1454) {
+        Some(byte) => *byte = 0xf2,
+        None => return Err(Fail::new("short")),
+    }
+    assert_eq!(rt; sample(alloc, &file, 1, 0, 0, 0)?, None);
+    assert_eq!(rt; sample(alloc, &file, 0, 0, 0, 0)?, Some(16));
+    let mut short = f1(alloc)?;
+    short.truncate(377);
+    assert_eq!(rt; sample(alloc, &short, 0, 0, 0, 0)?, None);
+    let want = [(0, 8), (8, 2), (10, 112), (102, 4), (114, 4), (122, 256)];
+    expect_needs(&rt, alloc, &short, window(0, 0, 1, 1, 0), &want, 5)
+}
+
+#[test]
+fn describes_each_level(rt: HostRuntime) -> Result<(), Fail> {
+    let alloc = rt.alloc();
+    let one = level(16, Compression::Plain, at(102, 4, 1), at(114, 4, 1));
+    let many = level(
+        256,
+        Compression::Plain,
+        at(122, 1024, 256),
+        at(1146, 1024, 256),
+    );
+    let first = level(32, Compression::Plain, at(296, 16, 4), at(312, 16, 4));
+    let second = level(16, Compression::PackBits, at(276, 4, 1), at(288, 4, 1));
+    let rows = [
+        (f1(alloc)?, one, None),
+        (f1m(alloc)?, one, None),
+        (f2(alloc)?, many, None),
+        (f2b(alloc)?, many, None),
+        (f3(alloc)?, first, Some(second)),
+    ];
+    for (file, level_0, level_1) in rows {
+        assert_eq!(rt; level_of(alloc, &file, 0)?, Some(level_0));
+        assert_eq!(rt; level_of(alloc, &file, 1)?, level_1);
+        assert_eq!(rt; level_of(alloc, &file, 2)?, None);
+    }
+    Ok(())
+}
+
+#[test]
+fn reads_numbers_and_values(rt: HostRuntime) -> Result<(), Fail> {
+    let alloc = rt.alloc();
+    let file = f3(alloc)?;
+    assert_eq!(rt; order_of(&file), Some(Order::Little));
+    assert_eq!(rt; order_of(&f1m(alloc)?), Some(Order::Big));
+    assert_eq!(rt; order_of(b"IM"), None);
+    assert_eq!(rt; number(&file, 384, 8), Some(0x0102_0304_0506_0708));
+    assert_eq!(rt; number(&file, 1449, 8), None);
+    let rows = [
+        (0, 324, 0, Some(400)),
+        (0, 324, 3, Some(1168)),
+        (0, 324, 4, None),
+        (0, 325, 3, Some(256)),
+        (0, 254, 0, Some(0)),
+        (0, 277, 0, Some(1)),
+        (0, 33550, 2, Some(0x3ff0_0000_0000_0000)),
+        (0, 34735, 4, Some(1024)),
+        (0, 34735, 15, Some(0)),
+        (0, 34737, 6, Some(0x7c)),
+        (1, 254, 0, Some(1)),
+        (1, 259, 0, Some(32773)),
+        (1, 324, 0, Some(1424)),
+        (1, 325, 0, Some(32)),
+        (1, 33550, 0, None),
+    ];
+    for (k, tag, i, want) in rows {
+        assert_eq!(rt; value(&file, k, tag, i), want, "at {k} {tag} {i}");
+    }
+    Ok(())
+}
+
+#[test]
+fn lists_what_windows_need(rt: HostRuntime) -> Result<(), Fail> {
+    let alloc = rt.alloc();
+    let one = [(0, 8), (8, 2), (10, 112), (102, 4), (114, 4), (122, 256)];
+    expect_needs(&rt, alloc, &f1(alloc)?, window(0, 0, 1, 1, 0), &one, 6)?;
+    expect_needs(&rt, alloc, &f1m(alloc)?, window(15, 15, 1, 1, 0), &one, 6)?;
+    let many = [
+        (0, 8),
+        (8, 2),
+        (10, 112),
+        (122, 1024),
+        (1146, 1024),
+        (67450, 256),
+    ];
+    let last = window(240, 240, 16, 16, 0);
+    expect_needs(&rt, alloc, &f2(alloc)?, last, &many, 6)?;
+    let joined = [
+        (0, 8),
+        (8, 2),
+        (10, 112),
+        (122, 1024),
+        (1146, 1024),
+        (2170, 65536),
+    ];
+    let whole = window(0, 0, 256, 256, 0);
+    expect_needs(&rt, alloc, &f2(alloc)?, whole, &joined, 10)?;
+    let mut compressed = f1(alloc)?;
+    if let Some(byte) = compressed.get_mut(54) {
+        *byte = 5;
+    }
+    expect_needs(&rt, alloc, &compressed, window(0, 0, 1, 1, 0), &one, 6)?;
+    let file = f3(alloc)?;
+    let first = [
+        (0, 8),
+        (8, 2),
+        (10, 160),
+        (170, 2),
+        (172, 124),
+        (296, 16),
+        (312, 16),
+        (400, 1024),
+    ];
+    expect_needs(&rt, alloc, &file, window(15, 15, 2, 2, 0), &first, 8)?;
+    let second = [
+        (0, 8),
+        (8, 2),
+        (10, 160),
+        (170, 2),
+        (172, 124),
+        (276, 4),
+        (288, 4),
+        (1424, 32),
+    ];
+    expect_needs(&rt, alloc, &file, window(0, 0, 1, 1, 1), &second, 8)?;
+    let every = needs_of_directories(alloc, &file)?;
+    expect_ranges(
+        &rt,
+        &every,
+        &[(0, 8), (8, 2), (10, 160), (170, 2), (172, 124)],
+    );
+    Ok(())
+}
+
+#[test]
+fn refuses_windows_outside_or_too_large(rt: HostRuntime) -> Result<(), Fail> {
+    let alloc = rt.alloc();
+    let file = f1(alloc)?;
+    let rows = [
+        window(16, 0, 1, 1, 0),
+        window(0, 0, 0, 1, 0),
+        window(4294967295, 0, 2, 1, 0),
+        window(0, 0, 1, 1, 1),
+    ];
+    for query in rows {
+        assert!(rt; is_outside(alloc, &file, query)? && is_refused(alloc, &file, query)?);
+        expect_tiles(&rt, alloc, &file, query, &[])?;
+        expect_needs(&rt, alloc, &file, query, &[(0, 8), (8, 2), (10, 112)], 3)?;
+    }
+    let whole = window(0, 0, 16, 16, 0);
+    assert!(rt; !is_outside(alloc, &file, whole)? && !is_refused(alloc, &file, whole)?);
+    assert!(rt; !is_too_large(alloc, &file, window(0, 0, 4096, 1024, 0))?);
+    assert!(rt; is_too_large(alloc, &file, window(0, 0, 4096, 1025, 0))?);
+    Ok(())
+}
+
+#[test]
+fn lists_the_tiles_of_windows(rt: HostRuntime) -> Result<(), Fail> {
+    let alloc = rt.alloc();
+    let many = f2(alloc)?;
+    expect_tiles(&rt, alloc, &many, window(240, 240, 16, 16, 0), &[255])?;
+    expect_tiles(&rt, alloc, &many, window(0, 0, 1, 1, 0), &[0])?;
+    expect_tiles(&rt, alloc, &many, window(15, 0, 2, 1, 0), &[0, 1])?;
+    let file = f3(alloc)?;
+    expect_tiles(&rt, alloc, &file, window(15, 15, 2, 2, 0), &[0, 1, 2, 3])?;
+    expect_tiles(&rt, alloc, &file, window(0, 0, 1, 1, 1), &[0])?;
+    Ok(())
+}
+
+#[test]
+fn unpacks_the_example_of_the_standard(rt: HostRuntime) -> Result<(), Fail> {
+    let packed = b"\xfe\xaa\x02\x80\x00\x2a\xfd\xaa\x03\x80\x00\x2a\x22\xf7\xaa";
+    let want =
+        b"\xaa\xaa\xaa\x80\x00\x2a\xaa\xaa\xaa\xaa\x80\x00\x2a\x22\xaa\xaa\xaa\xaa\xaa\xaa\xaa\xaa\xaa\xaa";
+    match unpack(rt.alloc(), packed, 24)? {
+        Some(plain) => assert_eq!(rt; plain.as_slice(), want.as_slice()),
+        None => return Err(Fail::new("no packets")),
+    }
+    assert!(rt; unpack(rt.alloc(), packed, 12)?.is_none());
+    assert!(rt; unpack(rt.alloc(), b"\x80\x80", 0)?.is_some());
+    assert!(rt; unpack(rt.alloc(), b"\x00\x2a", 0)?.is_none());
+    Ok(())
+}
+
+/// Expects the query to ask for this rectangle of a level: left, top, width and height.
+fn expect_rectangle(
+    rt: &impl Abort,
+    alloc: Global,
+    file: &[u8],
+    query: Query,
+    level: usize,
+    want: [u128; 4],
+) -> Result<(), Fail> {
+    match asked_rectangle(alloc, file, query)? {
+        Some(r) => {
+            assert_eq!(rt; r.level, level);
+            assert_eq!(rt; [r.left, r.top, r.width, r.height], want);
+        }
+        None => return Err(Fail::new("no rectangle")),
+    }
+    Ok(())
+}
+
+#[test]
+fn finds_the_rectangle_of_a_query(rt: HostRuntime) -> Result<(), Fail> {
+    let alloc = rt.alloc();
+    let file = f3(alloc)?;
+    let rows = [
+        (window(5, 6, 7, 8, 1), 1, [5, 6, 7, 8]),
+        (columns(0, 0, 32, 32, 16), 1, [0, 0, 16, 16]),
+        (columns(0, 0, 32, 32, 17), 0, [0, 0, 32, 32]),
+        (columns(5, 0, 3, 1, 1), 1, [2, 0, 2, 1]),
+    ];
+    for (query, level, want) in rows {
+        expect_rectangle(&rt, alloc, &file, query, level, want)?;
+        assert!(rt; !is_refused(alloc, &file, query)? || level == 1);
+    }
+    assert_eq!(rt; asked_rectangle(alloc, &file, Query::Info)?, None);
+    let outside = [
+        columns(0, 0, 32, 32, 0),
+        columns(4294967295, 0, 2, 1, 1),
+        columns(31, 31, 2, 1, 1),
+        columns(0, 0, 0, 1, 1),
+    ];
+    for query in outside {
+        assert!(rt; is_outside(alloc, &file, query)?);
+        expect_tiles(&rt, alloc, &file, query, &[])?;
+    }
+    assert!(rt; !is_refused(alloc, &file, Query::Info)?);
+    expect_tiles(&rt, alloc, &file, columns(5, 0, 3, 1, 1), &[0])
+}
+
+#[test]
+fn joins_large_tiles_up_to_the_limit(rt: HostRuntime) -> Result<(), Fail> {
+    let alloc = rt.alloc();
+    let file = f5(alloc)?;
+    let want = [
+        (0, 8),
+        (8, 2),
+        (10, 112),
+        (122, 80),
+        (202, 80),
+        (16384, 1048576),
+        (1064960, 262144),
+    ];
+    expect_needs(&rt, alloc, &file, window(0, 0, 1280, 1024, 0), &want, 85)
+}
+
+#[test]
+fn lists_what_info_needs(rt: HostRuntime) -> Result<(), Fail> {
+    let alloc = rt.alloc();
+    let one = [(0, 8), (8, 2), (10, 112)];
+    expect_needs(&rt, alloc, &f1(alloc)?, Query::Info, &one, 3)?;
+    let keys = [
+        (0, 8),
+        (8, 2),
+        (10, 160),
+        (170, 2),
+        (172, 124),
+        (352, 32),
+        (384, 8),
+        (392, 8),
+        (328, 24),
+    ];
+    expect_needs(&rt, alloc, &f3(alloc)?, Query::Info, &keys, 9)
+}
+
+/// The first `len` bytes, or all.
+fn front(file: &[u8], len: usize) -> &[u8] {
+    file.get(..len).unwrap_or(file)
+}
+
+/// Expects all values of a field of the first directory.
+fn expect_values(
+    rt: &impl Abort,
+    alloc: Global,
+    file: &[u8],
+    tag: u16,
+    want: &[u64],
+) -> Result<(), Fail> {
+    match values(alloc, file, 0, tag)? {
+        Some(found) => assert_eq!(rt; found.as_slice(), want, "of {tag}"),
+        None => return Err(Fail::new("no values")),
+    }
+    Ok(())
+}
+
+#[test]
+fn reads_what_info_tells(rt: HostRuntime) -> Result<(), Fail> {
+    let alloc = rt.alloc();
+    let file = f3(alloc)?;
+    match level_sides(alloc, &file)? {
+        Some(sides) => assert_eq!(rt; sides.as_slice(), [(32, 32), (16, 16)].as_slice()),
+        None => return Err(Fail::new("no sides")),
+    }
+    assert_eq!(rt; value(&file, 0, 34735, 2), Some(0));
+    let keys = [
+        1, 1, 0, 3, 1024, 0, 1, 2, 1026, 34737, 7, 0, 2057, 34736, 1, 0,
+    ];
+    expect_values(&rt, alloc, &file, 34735, &keys)?;
+    expect_values(&rt, alloc, &file, 34736, &[0x0102_0304_0506_0708])?;
+    expect_values(&rt, alloc, &file, 34737, &[87, 71, 83, 32, 56, 52, 124, 0])?;
+    expect_values(&rt, alloc, &file, 33550, &[0x3ff0_0000_0000_0000; 3])?;
+    assert!(rt; values(alloc, &file, 0, 33922)?.is_none());
+    assert!(rt; values(alloc, front(&file, 383), 0, 34735)?.is_none());
+    assert!(rt; level_sides(alloc, front(&file, 190))?.is_none());
+    Ok(())
+}
+
+/// Samples that are equal in cells of so many columns and rows, and rise from `first` on from cell to cell, of which
+/// `across` stand side by side.
+#[derive(Clone, Copy)]
+struct Cells {
+    first: u64,
+    columns: u16,
+    rows: u16,
+    across: u16,
+}
+
+impl Cells {
+    /// The sample in column `x` and row `y`.
+    fn sample(&self, x: u16, y: u16) -> Option<u64> {
+        let (column, row) = (x.checked_div(self.columns)?, y.checked_div(self.rows)?);
+        self.first.checked_add(u64::from(row) * u64::from(self.across) + u64::from(column))
+    }
+}
+
+/// Expects row `y` of the cells, which has so many samples.
+fn expect_row<R: Abort>(
+    rt: &R,
+    row: &[u64],
+    y: u16,
+    width: u16,
+    cells: &Cells,
+) -> Result<(), Fail> {
+    assert_eq!(rt; row.len(), usize::from(width));
+    for x in 0..width {
+        assert_eq!(rt;
+            row.get(usize::from(x)).copied(),
+            cells.sample(x, y),
+            "at {x} {y}"
+        );
+    }
+    Ok(())
+}
+
+/// Expects level `n`, of these sides, to have the samples of the cells.
+fn expect_level<R: Abort + AllocGlobal>(
+    rt: &R,
+    file: &[u8],
+    n: u32,
+    sides: (u16, u16),
+    cells: Cells,
+) -> Result<(), Fail> {
+    let rows = level_samples(rt.alloc(), file, n)?.ok_or("no samples")?;
+    assert_eq!(rt; rows.len(), usize::from(sides.1));
+    for y in 0..sides.1 {
+        let row = rows.get(usize::from(y)).ok_or("no row")?;
+        expect_row(rt, row, y, sides.0, &cells)?;
+    }
+    Ok(())
+}
+
+fn cells_of(first: u64, columns: u16, rows: u16, across: u16) -> Cells {
+    Cells {
+        first,
+        columns,
+        rows,
+        across,
+    }
+}
+
+#[test]
+fn reads_all_samples_of_one_tile(rt: HostRuntime) -> Result<(), Fail> {
+    let alloc = rt.alloc();
+    for file in [f1(alloc)?, f1m(alloc)?] {
+        expect_level(&rt, &file, 0, (16, 16), cells_of(0, 1, 1, 16))?;
+    }
+    for file in [f6(alloc)?, f6m(alloc)?] {
+        expect_level(&rt, &file, 0, (16, 16), cells_of(32768, 1, 1, 16))?;
+    }
+    Ok(())
+}
+
+#[test]
+fn reads_all_samples_of_even_tiles(rt: HostRuntime) -> Result<(), Fail> {
+    let alloc = rt.alloc();
+    expect_level(&rt, &f2(alloc)?, 0, (256, 256), cells_of(0, 16, 16, 16))?;
+    expect_level(&rt, &f3(alloc)?, 0, (32, 32), cells_of(16, 16, 16, 2))?;
+    expect_level(&rt, &f3(alloc)?, 1, (16, 16), cells_of(0, 16, 1, 1))?;
+    expect_level(&rt, &f5(alloc)?, 0, (1280, 1024), cells_of(0, 256, 256, 5))
+}
+
+#[test]
+fn reads_three_samples_of_a_pixel(rt: HostRuntime) -> Result<(), Fail> {
+    let rows = level_samples(rt.alloc(), &f4(rt.alloc())?, 0)?.ok_or("no samples")?;
+    assert_eq!(rt; rows.len(), 18);
+    for y in 0..18u16 {
+        let row = rows.get(usize::from(y)).ok_or("no row")?;
+        assert_eq!(rt; row.len(), 60);
+        for x in 0..20u16 {
+            let first = 3 * usize::from(x);
+            let pixel = row.get(first..first + 3).ok_or("no pixel")?;
+            let want = if x % 16 == 0 {
+                [u64::from(y % 16), u64::from(y / 16 * 2 + x / 16), 255]
+            } else {
+                [128; 3]
+            };
+            assert_eq!(rt; pixel, want.as_slice(), "at {x} {y}");
+        }
+    }
+    Ok(())
+}
+
+#[test]
+fn reads_no_samples_of_a_cut_level(rt: HostRuntime) -> Result<(), Fail> {
+    let alloc = rt.alloc();
+    let mut file = f3(alloc)?;
+    file.truncate(1455);
+    assert!(rt; level_samples(alloc, &file, 1)?.is_none());
+    assert!(rt; level_samples(alloc, &file, 0)?.is_some());
+    assert!(rt; level_samples(alloc, &file, 2)?.is_none());
+    Ok(())
+}

@@ -1,0 +1,112 @@
+//! Tests of scripts and logs.
+mod larger_files;
+mod log_lines;
+mod script_lines;
+mod scripts_and_logs;
+mod windows;
+
+use fixtures_support::{f1, f1m, f2, f2b, f3, f4, f6, f6m};
+use scripts::{Loaded, log_text, script};
+use std::alloc::Global;
+use std::process::Abort;
+use std::test::Fail;
+use world::{Event, Log, run};
+
+/// The file f1, with one byte changed.
+fn damaged(alloc: Global, at: usize, byte: u8) -> Result<Vec<u8>, Fail> {
+    let mut file = f1(alloc)?;
+    if let Some(place) = file.get_mut(at) {
+        *place = byte;
+    }
+    Ok(file)
+}
+
+/// The file f1 with a tile of 255 bytes.
+fn damaged_twice(alloc: Global) -> Result<Vec<u8>, Fail> {
+    let mut file = damaged(alloc, 114, 255)?;
+    if let Some(place) = file.get_mut(115) {
+        *place = 0;
+    }
+    Ok(file)
+}
+
+/// The file f1 without its last byte.
+fn shortened(alloc: Global) -> Result<Vec<u8>, Fail> {
+    let mut file = f1(alloc)?;
+    file.pop();
+    Ok(file)
+}
+
+/// The files of the scripts: the fixtures, an empty one, and f1 with a loop of directories, with compression 5, with a
+/// tile of 255 bytes and without its last byte.
+fn files(alloc: Global) -> Result<Loaded, Fail> {
+    let mut files = Loaded::new(alloc);
+    files.add(b"f1.tif", f1(alloc)?)?;
+    files.add(b"f1m.tif", f1m(alloc)?)?;
+    files.add(b"f2.tif", f2(alloc)?)?;
+    files.add(b"f2b.tif", f2b(alloc)?)?;
+    files.add(b"f3.tif", f3(alloc)?)?;
+    files.add(b"f4.tif", f4(alloc)?)?;
+    files.add(b"f6.tif", f6(alloc)?)?;
+    files.add(b"f6m.tif", f6m(alloc)?)?;
+    files.add(b"empty", Vec::new(alloc))?;
+    files.add(b"loop.tif", damaged(alloc, 118, 8)?)?;
+    files.add(b"coded.tif", damaged(alloc, 54, 5)?)?;
+    files.add(b"tile.tif", damaged_twice(alloc)?)?;
+    files.add(b"short.tif", shortened(alloc)?)?;
+    Ok(files)
+}
+
+/// The events of a script of these files.
+fn events(alloc: Global, text: &str) -> Result<Vec<Event>, Fail> {
+    let mut files = files(alloc)?;
+    Ok(script(alloc, text.as_bytes(), &mut files)?)
+}
+
+/// Expects a script's log.
+fn expect(rt: &(impl Abort + AllocGlobal), text: &str, want: &str) -> Result<(), Fail> {
+    let events = events(rt.alloc(), text)?;
+    let mut log = Log::new(rt.alloc());
+    run(rt.alloc(), &events, &mut log)?;
+    let found = log_text(rt.alloc(), &log)?;
+    assert_eq!(rt; str::from_utf8(&found), Ok(want), "of the script {text:?}");
+    Ok(())
+}
+
+/// The events of a script, and the lines that the log has of each.
+type Steps = &'static [(&'static str, &'static str)];
+
+/// The text of a script, and of its log.
+fn texts_of(alloc: Global, steps: Steps) -> Result<(String, String), Fail> {
+    let mut script = String::new(alloc);
+    let mut log = String::new(alloc);
+    for step in steps {
+        let (event, lines) = *step;
+        script.push_str(format!(in alloc; "{event}\n")?.as_str())?;
+        log.push_str(format!(in alloc; "{lines}\n")?.as_str())?;
+    }
+    Ok((script, log))
+}
+
+/// Expects the log of a script step by step.
+fn expect_steps(rt: &(impl Abort + AllocGlobal), steps: Steps) -> Result<(), Fail> {
+    let (script, log) = texts_of(rt.alloc(), steps)?;
+    expect(rt, script.as_str(), log.as_str())
+}
+
+/// The texts where this file is published as `a` in epoch 1 before, and client 0 of 66 blocks is made.
+fn texts_after(alloc: Global, file: &str, steps: Steps) -> Result<(String, String), Fail> {
+    let (script, log) = texts_of(alloc, steps)?;
+    let script = format!(in alloc;
+        "epoch 1\npublish a {file}\nclient a 66\n{}",
+        script.as_str()
+    )?;
+    let log = format!(in alloc; "epoch 1\npublished \"1-1\"\nclient 0\n{}", log.as_str())?;
+    Ok((script, log))
+}
+
+/// Expects the log of a script where this file is published and a client made before.
+fn expect_after(rt: &(impl Abort + AllocGlobal), file: &str, steps: Steps) -> Result<(), Fail> {
+    let (script, log) = texts_after(rt.alloc(), file, steps)?;
+    expect(rt, script.as_str(), log.as_str())
+}

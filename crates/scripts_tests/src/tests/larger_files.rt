@@ -1,0 +1,131 @@
+//! Clients of larger files as scripts with their logs: several requests, restarts, and queries of every kind.
+use super::{Steps, expect, expect_after, texts_after};
+use std::process::Abort;
+use std::test::Fail;
+
+/// A tile of f2 by two exchanges. Its report is not in the table.
+#[rattlefmt::skip]
+const TWO_EXCHANGES: Steps = &[
+    ("open 0 level 0 240 240 16 16", "opened 0"),
+    ("exchange 0", "asked 0 0-65535 - answer 0 206 65536 took 4"),
+    ("exchange 0", "asked 0 65536-67705 \"1-1\" answer 1 206 2170 took 1"),
+];
+
+/// The file is replaced between the exchanges.
+#[rattlefmt::skip]
+const REPLACED_BETWEEN: Steps = &[
+    ("open 0 level 0 240 240 16 16", "opened 0"),
+    ("exchange 0", "asked 0 0-65535 - answer 0 206 65536 took 4"),
+    ("publish a f2b.tif", "published \"1-2\""),
+    ("exchange 0", "asked 0 65536-67705 \"1-1\" answer 1 200 67706 restarted"),
+    ("exchange 0", "asked 0 65536-67705 \"1-2\" answer 2 206 2170 took 1"),
+];
+
+/// The server is restarted between the exchanges.
+#[rattlefmt::skip]
+const RESTARTED_BETWEEN: Steps = &[
+    ("open 0 level 0 240 240 16 16", "opened 0"),
+    ("exchange 0", "asked 0 0-65535 - answer 0 206 65536 took 4"),
+    ("epoch 2", "epoch 2"),
+    ("publish a f2.tif", "published \"2-1\""),
+    ("exchange 0", "asked 0 65536-67705 \"1-1\" answer 1 200 67706 restarted"),
+    ("exchange 0", "asked 0 65536-67705 \"2-1\" answer 2 206 2170 took 1"),
+];
+
+/// A client that forgets what it has, and one that is not there.
+#[rattlefmt::skip]
+const FORGETTING: Steps = &[
+    ("open 0 level 0 240 240 16 16", "opened 0"),
+    ("exchange 0", "asked 0 0-65535 - answer 0 206 65536 took 4"),
+    ("forget 0", "forgot 0"),
+    ("exchange 0", "asked 0 0-65535 - answer 1 206 65536 took 4"),
+    ("forget 1", "skipped"),
+];
+
+/// Info of f3: two levels and three keys.
+#[rattlefmt::skip]
+const INFO: Steps = &[
+    ("open 0 info", "opened 0"),
+    ("exchange 0", "asked 0 0-65535 - answer 0 206 1456 took 1\nreport 0 \"1-1\" info 2 3"),
+];
+
+/// Windows of both levels of f3: by the level's number, and by columns.
+#[rattlefmt::skip]
+const LEVELS: Steps = &[
+    ("open 0 level 0 15 15 2 2", "opened 0"),
+    ("exchange 0", "asked 0 0-65535 - answer 0 206 1456 took 1\nreport 0 \"1-1\" window 2 2 1 10111213"),
+    ("open 0 columns 1 5 0 3 1", "opened 0"),
+    ("exchange 0", "asked 0 nothing\nreport 0 \"1-1\" window 2 1 1 0000"),
+];
+
+/// A window of f4, of three samples to a pixel.
+#[rattlefmt::skip]
+const THREE_SAMPLES: Steps = &[
+    ("open 0 level 0 15 15 3 3", "opened 0"),
+    ("exchange 0", "asked 0 0-65535 - answer 0 206 548 took 1\nreport 0 \"1-1\" window 3 3 3 8080800f01ff8080808080800003ff8080808080800103ff808080"),
+];
+
+/// A window of f6, of samples of 16 bits.
+#[rattlefmt::skip]
+const SIXTEEN_BITS: Steps = &[
+    ("open 0 level 0 2 1 3 2", "opened 0"),
+    ("exchange 0", "asked 0 0-65535 - answer 0 206 634 took 1\nreport 0 \"1-1\" window 3 2 1 801280138014802280238024"),
+];
+
+/// Expects the log of a script of f2, and at its end the report of the last tile of f2 or f2b, all of whose bytes have two equal
+/// digits.
+fn expect_tile(
+    rt: &(impl Abort + AllocGlobal),
+    steps: Steps,
+    tag: &str,
+    digit: u8,
+) -> Result<(), Fail> {
+    let (script, log) = texts_after(rt.alloc(), "f2.tif", steps)?;
+    let digits = [digit; 512];
+    let digits = str::from_utf8(&digits)?;
+    let log = format!(in rt.alloc(); "{}report 0 {tag} window 16 16 1 {digits}\n", log.as_str())?;
+    expect(rt, script.as_str(), log.as_str())
+}
+
+#[test]
+fn reports_a_tile_after_two_exchanges(rt: HostRuntime) -> Result<(), Fail> {
+    expect_tile(&rt, TWO_EXCHANGES, "\"1-1\"", b'f')
+}
+
+#[test]
+fn restarts_where_the_file_is_replaced_between_requests(rt: HostRuntime) -> Result<(), Fail> {
+    expect_tile(&rt, REPLACED_BETWEEN, "\"1-2\"", b'0')
+}
+
+#[test]
+fn restarts_where_the_server_is_restarted_between_requests(rt: HostRuntime) -> Result<(), Fail> {
+    expect_tile(&rt, RESTARTED_BETWEEN, "\"2-1\"", b'f')
+}
+
+#[test]
+fn asks_again_for_what_it_forgot(rt: HostRuntime) -> Result<(), Fail> {
+    expect_after(&rt, "f2.tif", FORGETTING)
+}
+
+#[test]
+fn reports_the_numbers_of_levels_and_keys(rt: HostRuntime) -> Result<(), Fail> {
+    expect_after(&rt, "f3.tif", INFO)
+}
+
+#[test]
+fn reports_windows_of_each_level(rt: HostRuntime) -> Result<(), Fail> {
+    expect_after(&rt, "f3.tif", LEVELS)
+}
+
+#[test]
+fn reports_three_samples_to_a_pixel(rt: HostRuntime) -> Result<(), Fail> {
+    expect_after(&rt, "f4.tif", THREE_SAMPLES)
+}
+
+#[test]
+fn reports_samples_of_16_bits_of_both_orders_of_bytes(rt: HostRuntime) -> Result<(), Fail> {
+    for file in ["f6.tif", "f6m.tif"] {
+        expect_after(&rt, file, SIXTEEN_BITS)?;
+    }
+    Ok(())
+}

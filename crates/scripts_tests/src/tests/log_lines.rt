@@ -1,0 +1,231 @@
+//! The lines of each kind of entry of a log.
+use http_range::{Span, Tag, Why, publication_tag};
+use scripts::log_text;
+use std::alloc::Global;
+use std::process::Abort;
+use std::test::Fail;
+use tiff_dir::{FileFault, Pick, Query};
+use world::{
+    Answer, AnsweredCheck, AnsweredRequest, Current, Delivered, Effect, Entry, Ignored, Log,
+    Outcome, PublishError, Report, Unknown, Window,
+};
+
+const QUERY: Query = Query::Window {
+    x: 3,
+    y: 4,
+    w: 5,
+    h: 6,
+    pick: Pick::Level(2),
+};
+
+/// An entry without a report.
+fn quiet(effect: Effect) -> Entry {
+    Entry {
+        effect,
+        report: None,
+    }
+}
+
+/// An entry of an opening, with the report of this outcome.
+fn opened(client: u32, outcome: Outcome) -> Entry {
+    Entry {
+        effect: Effect::Opened(client),
+        report: Some(Report {
+            query: QUERY,
+            tag: publication_tag(1, 2),
+            outcome,
+        }),
+    }
+}
+
+/// An answer without a text, of this status and so many bytes of body.
+fn answer(alloc: Global, status: u16, body: u64) -> Answer {
+    Answer {
+        text: Vec::new(alloc),
+        close: true,
+        name: None,
+        status,
+        body,
+    }
+}
+
+/// A request of client 4, whose answer has number 5, status 206 and two bytes of body.
+fn asked(alloc: Global, tag: Option<Tag>) -> AnsweredRequest {
+    AnsweredRequest {
+        client: 4,
+        span: Span {
+            first: 16384,
+            last: 65535,
+        },
+        tag,
+        request: Vec::new(alloc),
+        number: 5,
+        answer: answer(alloc, 206, 2),
+    }
+}
+
+/// A check of client 6, whose answer has number 8 and status 304.
+fn checked(alloc: Global, current: Current) -> Effect {
+    Effect::Checked(AnsweredCheck {
+        client: 6,
+        tag: publication_tag(1, 2),
+        request: Vec::new(alloc),
+        number: 8,
+        answer: answer(alloc, 304, 0),
+        current,
+    })
+}
+
+/// The text of a log of one entry.
+fn text_of(alloc: Global, entry: Entry) -> Result<Vec<u8>, Fail> {
+    let mut log = Log::new(alloc);
+    log.entries.push(entry)?;
+    Ok(log_text(alloc, &log)?)
+}
+
+/// Expects the line of an entry without a report.
+fn expect_line(rt: &(impl Abort + AllocGlobal), effect: Effect, want: &str) -> Result<(), Fail> {
+    let text = text_of(rt.alloc(), quiet(effect))?;
+    assert_eq!(rt; str::from_utf8(&text), Ok(want));
+    Ok(())
+}
+
+#[test]
+fn writes_a_line_for_each_effect(rt: HostRuntime) -> Result<(), Fail> {
+    let table = [
+        (Effect::Skipped, "skipped\n"),
+        (
+            Effect::Published(publication_tag(4294967295, 4294967295)),
+            "published \"4294967295-4294967295\"\n",
+        ),
+        (Effect::Refused(PublishError::Name), "refused 1\n"),
+        (Effect::Refused(PublishError::Empty), "refused 2\n"),
+        (Effect::Refused(PublishError::TooLarge), "refused 3\n"),
+        (Effect::Refused(PublishError::TooManyNames), "refused 4\n"),
+        (Effect::Refused(PublishError::Exhausted), "refused 5\n"),
+        (Effect::Epoch(0), "epoch 0\n"),
+        (Effect::Made(10), "client 10\n"),
+        (Effect::Opened(0), "opened 0\n"),
+        (Effect::Forgot(2), "forgot 2\n"),
+        (Effect::Nothing(3), "asked 3 nothing\n"),
+        (Effect::Unchecked(9), "checked 9 nothing\n"),
+    ];
+    for (effect, want) in table {
+        expect_line(&rt, effect, want)?;
+    }
+    Ok(())
+}
+
+#[test]
+fn writes_the_number_and_status_of_an_answer(rt: HostRuntime) -> Result<(), Fail> {
+    let alloc = rt.alloc();
+    let table = [
+        (
+            Effect::Answered {
+                number: 7,
+                answer: answer(alloc, 416, 0),
+            },
+            "answer 7 416 0\n",
+        ),
+        (
+            Effect::Asked(asked(alloc, None)),
+            "asked 4 16384-65535 - answer 5 206 2\n",
+        ),
+        (
+            Effect::Asked(asked(alloc, Some(publication_tag(1, 2)))),
+            "asked 4 16384-65535 \"1-2\" answer 5 206 2\n",
+        ),
+        (
+            checked(alloc, Current::Same),
+            "checked 6 \"1-2\" answer 8 304 0 same\n",
+        ),
+        (
+            checked(alloc, Current::Other),
+            "checked 6 \"1-2\" answer 8 304 0 other\n",
+        ),
+        (
+            checked(alloc, Current::Unknown(Unknown::NoRevision)),
+            "checked 6 \"1-2\" answer 8 304 0 unknown 12\n",
+        ),
+        (
+            checked(alloc, Current::Unknown(Unknown::NotUsed(Why::Status(404)))),
+            "checked 6 \"1-2\" answer 8 304 0 unknown 3\n",
+        ),
+    ];
+    for (effect, want) in table {
+        expect_line(&rt, effect, want)?;
+    }
+    Ok(())
+}
+
+/// What is told of a delivery.
+const DELIVERED: [(Delivered, &str); 8] = [
+    (Delivered::Took(4), "took 4"),
+    (Delivered::Restarted, "restarted"),
+    (Delivered::Ignored(Ignored::OtherRevision), "ignored 10"),
+    (Delivered::Ignored(Ignored::OtherLength), "ignored 11"),
+    (Delivered::Ignored(Ignored::NotAsked), "ignored 12"),
+    (Delivered::Ignored(Ignored::NotUsed(Why::Cut)), "ignored 1"),
+    (
+        Delivered::Ignored(Ignored::NotUsed(Why::Coding)),
+        "ignored 9",
+    ),
+    (
+        Delivered::Ignored(Ignored::NotUsed(Why::Status(404))),
+        "ignored 3 404",
+    ),
+];
+
+#[test]
+fn writes_what_came_of_a_delivery(rt: HostRuntime) -> Result<(), Fail> {
+    let alloc = rt.alloc();
+    for (delivered, want) in DELIVERED {
+        let whole = Effect::Exchanged {
+            asked: asked(alloc, None),
+            delivered,
+        };
+        let text = text_of(alloc, quiet(whole))?;
+        let line = format!(in alloc; "asked 4 16384-65535 - answer 5 206 2 {want}\n")?;
+        assert_eq!(rt; str::from_utf8(&text), Ok(line.as_str()));
+        let front = Effect::Delivered {
+            client: 3,
+            delivered,
+        };
+        let text = text_of(alloc, quiet(front))?;
+        let line = format!(in alloc; "delivered 3 {want}\n")?;
+        assert_eq!(rt; str::from_utf8(&text), Ok(line.as_str()));
+    }
+    Ok(())
+}
+
+#[test]
+fn writes_a_report_below_its_entry(rt: HostRuntime) -> Result<(), Fail> {
+    let alloc = rt.alloc();
+    let window = Outcome::Window(Window {
+        w: 2,
+        h: 1,
+        samples: 3,
+        bits: 8,
+        pixels: Vec::from_slice(alloc, &[0, 9, 0x10, 0xab, 0xff, 0x0f])?,
+    });
+    let text = text_of(alloc, opened(7, window))?;
+    assert_eq!(rt;
+        text.as_slice(),
+        b"opened 7\nreport 7 \"1-2\" window 2 1 3 000910abff0f\n".as_slice()
+    );
+    let table = [
+        (FileFault::Header, "fault 1\n"),
+        (FileFault::PastEnd, "fault 2\n"),
+        (FileFault::Missing(256), "fault 7 256\n"),
+        (FileFault::FieldType(325), "fault 8 325\n"),
+        (FileFault::Unsupported(65535), "fault 9 65535\n"),
+        (FileFault::TileSize, "fault 12\n"),
+        (FileFault::TooLarge, "fault 15\n"),
+        (FileFault::KeyPlace, "fault 18\n"),
+    ];
+    for (fault, want) in table {
+        let text = text_of(alloc, opened(0, Outcome::Fault(fault)))?;
+        assert_eq!(rt; text.get(24..), Some(want.as_bytes()), "{want:?}");
+    }
+    Ok(())
+}

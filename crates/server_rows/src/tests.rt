@@ -1,6 +1,0 @@
-mod answers;
-mod failures;
-mod memory;
-mod publications;
-mod refusals;
-mod streams;

@@ -1,0 +1,3 @@
+//! Tests over sockets of one process.
+mod loopback;
+mod serving;

@@ -1,0 +1,18 @@
+//! The limits of this profile, each once: what is past one is refused.
+
+/// The most directories of a file.
+pub const MAX_DIRECTORIES: u32 = 16;
+/// The most entries of a directory.
+pub const MAX_ENTRIES: u16 = 256;
+/// The most tiles of a level.
+pub const MAX_TILES: u64 = 65_536;
+/// The most bytes of a tile, in the file and when it is unpacked.
+pub const MAX_TILE_BYTES: u64 = 1_048_576;
+/// The most bytes of a range that is asked for, so of a group of tiles.
+pub const MAX_RANGE_BYTES: u64 = 1_048_576;
+/// The most bytes of a field that georeferences an image.
+pub const MAX_GEO_BYTES: u64 = 65_536;
+/// The most samples of a window.
+pub const MAX_WINDOW_SAMPLES: u64 = 4_194_304;
+/// The bytes of a block of a file, in which it is kept.
+pub const BLOCK_SIZE: u64 = 16_384;

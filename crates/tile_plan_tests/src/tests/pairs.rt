@@ -1,0 +1,21 @@
+//! Exchanged pairs.
+use std::test::Fail;
+use tile_plan::swap_pairs;
+
+#[test]
+fn exchanges_each_pair(rt: HostRuntime) -> Result<(), Fail> {
+    for len in [0u8, 2, 30, 32, 34, 66, 33] {
+        let mut bytes = Vec::new(rt.alloc());
+        let mut want = Vec::new(rt.alloc());
+        for i in 0..len {
+            bytes.push(i)?;
+            want.push(if i == len - 1 && i % 2 == 0 { i } else { i ^ 1 })?;
+        }
+        swap_pairs(&mut bytes);
+        assert_eq!(rt; bytes.as_slice(), want.as_slice(), "{len}");
+    }
+    let mut bytes = *b"\x12\x80\x13\x80\x14\x80";
+    swap_pairs(&mut bytes);
+    assert_eq!(rt; bytes.as_slice(), b"\x80\x12\x80\x13\x80\x14".as_slice());
+    Ok(())
+}

@@ -1,0 +1,65 @@
+//! Worked values.
+use packbits::{pack_row, unpack};
+use std::test::Fail;
+use tiff_dir::FileFault;
+
+/// Packed bytes, bytes of the output, and whether they stand for so many 00, in rows of 16 bytes.
+const ZEROS: [(&[u8], usize, bool); 9] = [
+    (&[0x80, 0x80, 0xf1, 0x00], 16, true),
+    (&[0xf1, 0x00, 0x80], 16, true),
+    (&[0xf1, 0x00, 0x00], 16, false),
+    (&[0xf1, 0x00, 0x00, 0x05], 16, false),
+    (&[0xf2, 0x00], 16, false),
+    (&[], 16, false),
+    (&[], 0, true),
+    (&[0xf1, 0x00, 0xf1, 0x00], 32, true),
+    (&[0xe1, 0x00], 32, false),
+];
+
+#[test]
+fn takes_packets_that_fill_their_rows_alone(rt: HostRuntime) -> Result<(), Fail> {
+    for (seg, len, good) in ZEROS {
+        let mut out = vec![in rt.alloc(); 9u8; len]?;
+        let answer = unpack(seg, 16, &mut out);
+        let want = if good { Ok(()) } else { Err(FileFault::Packet) };
+        assert_eq!(rt; answer, want, "{seg:?}");
+        assert!(rt; !good || out.iter().all(|b| *b == 0), "{seg:?}");
+    }
+    Ok(())
+}
+
+/// The example of TIFF 6.0, section 9.
+const EXAMPLE: [u8; 15] = [
+    0xfe, 0xaa, 0x02, 0x80, 0x00, 0x2a, 0xfd, 0xaa, 0x03, 0x80, 0x00, 0x2a, 0x22, 0xf7, 0xaa,
+];
+
+const TEXT: [u8; 24] = [
+    0xaa, 0xaa, 0xaa, 0x80, 0x00, 0x2a, 0xaa, 0xaa, 0xaa, 0xaa, 0x80, 0x00, 0x2a, 0x22, 0xaa, 0xaa,
+    0xaa, 0xaa, 0xaa, 0xaa, 0xaa, 0xaa, 0xaa, 0xaa,
+];
+
+#[test]
+fn unpacks_the_example_of_the_standard(rt: HostRuntime) {
+    let mut out = [0u8; 24];
+    assert_eq!(rt; unpack(&EXAMPLE, 24, &mut out), Ok(()));
+    assert_eq!(rt; out.as_slice(), TEXT.as_slice());
+    assert_eq!(rt; unpack(&EXAMPLE, 12, &mut out), Err(FileFault::Packet));
+}
+
+#[test]
+fn unpacks_what_it_packed(rt: HostRuntime) -> Result<(), Fail> {
+    for row in [
+        [0u8; 16].as_slice(),
+        &TEXT,
+        &EXAMPLE,
+        &[7],
+        &[7, 7],
+        &[7, 8],
+    ] {
+        let seg = pack_row(rt.alloc(), row).ok().ok_or("no memory")?;
+        let mut out = vec![in rt.alloc(); 9u8; row.len()]?;
+        assert_eq!(rt; unpack(&seg, row.len(), &mut out), Ok(()));
+        assert_eq!(rt; out.as_slice(), row);
+    }
+    Ok(())
+}
