@@ -7,3 +7,4 @@ pub mod DecimalLemmas
 pub mod TagLemmas
 pub mod MatchLemmas
 pub mod LineLemmas
+pub mod ListLemmas

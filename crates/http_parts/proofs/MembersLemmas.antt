@@ -4,7 +4,8 @@ use Rattle.std.proofs.Math.Dec.{eqb}
 use Rattle.std.proofs.lemmas.Bool.{cases_lt}
 use Rattle.std.proofs.lemmas.List.{drop_more}
 use Rattle.httparse.specs.Grammar.{trim_ows}
-use Rattle.http_parts.specs.Members.{before_parts, is_open, parts_from, first_part, members}
+use Rattle.http_parts.specs.Members.{before_parts, is_open, parts_from, members}
+use Rattle.http_parts.specs.MemberWalk.{first_part}
 
 -- where the first part ends
 abbrev pub part_end : Bool → Bool → List ℕ → ℕ

@@ -1,12 +1,13 @@
 -- Laws of these definitions, each in the contract of a function of `laws`.
-use Rattle.std.specs.Prelude.{◌≡◌, ◌<◌, ◌^◌, ◌+◌, ◌↔◌, ℕ, false, IsTrue, List, [], ◌∷◌, ◌++◌, length, reverse, codes, decimal, Some}
+use Rattle.std.specs.Prelude.{◌≡◌, ◌<◌, ◌^◌, ◌+◌, ◌↔◌, ℕ, ◌⊎◌, Bool, false, IsTrue, List, [], ◌∷◌, ◌++◌, length, reverse, codes, decimal, Some}
 use Rattle.std.specs.Str.{all_ascii_digits, bytes_eq}
-use Rattle.httparse.specs.Grammar.{AllPass, is_uri_byte, is_value_byte, skip_ows, IsField, print_field}
+use Rattle.httparse.specs.Grammar.{AllPass, is_uri_byte, is_value_byte, skip_ows, trim_ows, IsField, print_field}
 use Rattle.httparse.specs.Spans.{name_and_value}
 use Rattle.http_parts.specs.declared.limits.TheConstants.{FIELD_LIMIT, TAG_LIMIT, HEAD_LIMIT, MESSAGE_LIMIT, ANSWERS_LIMIT}
 use Rattle.http_parts.specs.Tag.{is_tag_byte, is_opaque_tag, is_weak_tag, is_kept_tag}
 use Rattle.http_parts.specs.Digits.{number, number_64}
 use Rattle.http_parts.specs.Conditional.{any_match}
+use Rattle.http_parts.specs.Lists.{Element, HasMatch, IsTagList}
 use Rattle.http_parts.specs.Text.{FieldLine, line}
 use Rattle.http_parts.specs.Plain.{field_of, IsPlain}
 
@@ -36,6 +37,13 @@ abbrev pub TagsMatchThemselves : Type 0
 TagsMatchThemselves =
     (tag current : List ℕ) → IsTrue (is_kept_tag tag) → any_match tag current false ≡ bytes_eq tag current
 
+-- a value matches a tag exactly where it is `*`, or a list of entity tags of which one matches (RFC 9110, sections 13.1.1
+-- and 13.1.2)
+abbrev pub ListsAreMatched : Type 0
+ListsAreMatched =
+    (value tag : List ℕ) (strong : Bool) → IsTrue (any_match value tag strong)
+    ↔ ((trim_ows value ≡ codes "*") ⊎ ((elements : List Element) × IsTagList value elements × HasMatch strong tag elements))
+
 -- a number of 64 bits in decimal is digits, which are visible, and is read as itself
 pub record DecimalsAreRead : Type 0 where
   pub digits : (n : ℕ) → n < 2 ^ 64 → IsTrue (all_ascii_digits (decimal n))
@@ -61,6 +69,7 @@ pub record PartsAreRead : Type 0 where
   pub quoted : TagsAreQuoted
   pub tags : TagsAreVisible
   pub alone : TagsMatchThemselves
+  pub lists : ListsAreMatched
   pub decimals : DecimalsAreRead
   pub lines : LinesAreFields
   pub values : VisibleValues

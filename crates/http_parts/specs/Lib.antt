@@ -5,6 +5,8 @@ pub mod Digits
 pub mod Fields
 pub mod FieldLines
 pub mod Members
+pub mod MemberWalk
 pub mod Conditional
 pub mod Plain
 pub mod Laws
+pub mod Lists

@@ -1,10 +1,9 @@
--- Lists in the value of a field (RFC 9110, sections 5.6.1 and 5.6.4).
-use Rattle.std.specs.Prelude.{ℕ, Bool, false, ◌&&◌, ◌==◌, not, if◌then◌else◌, List, [], ◌∷◌, map, slice_get, unwrap_or, Option, Some, None}
+-- Lists in the value of a field (RFC 9110, sections 5.6.1 and 5.6.4), as they are computed. Which lists of entity tags these
+-- are is a law, by the grammar (`ListsAreMatched`).
+use Rattle.std.specs.Prelude.{ℕ, Bool, false, ◌&&◌, ◌==◌, not, if◌then◌else◌, List, [], ◌∷◌, map}
 use Rattle.std.specs.List.{list_any}
 use Rattle.std.specs.Str.{bytes_eq, str_to_ascii_lowercase}
-use Rattle.std.specs.Borrow.{Bor}
 use Rattle.httparse.specs.Grammar.{trim_ows}
-use Rattle.http_parts.specs.declared.members.Members.{Members}
 
 -- the parts, with a byte before the first
 abbrev pub before_parts : ℕ → List (List ℕ) → List (List ℕ)
@@ -31,17 +30,3 @@ members quotes value = map trim_ows (parts_from quotes false value)
 abbrev pub has_member : List ℕ → List ℕ → Bool
 has_member word value =
     list_any (λ member. bytes_eq (str_to_ascii_lowercase member) (str_to_ascii_lowercase word)) (members false value)
-
--- the bytes before the first comma that cuts, or all
-abbrev pub first_part : Bool → List ℕ → List ℕ
-first_part quotes value = unwrap_or (slice_get (parts_from quotes false value) 0) []
-
--- ---- how the code walks through them
-
-abbrev pub members_of_rest : Bool → Option (Bor (List ℕ)) → List (List ℕ)
-members_of_rest quotes None = []
-members_of_rest quotes (Some rest) = members quotes rest.now
-
--- the members that are still to come
-abbrev pub members_left : Members → List (List ℕ)
-members_left m = members_of_rest m.quotes m.rest

@@ -2,7 +2,8 @@
 ghost use Rattle.std.specs.Prelude.{◌≡◌, false, length, reverse};
 ghost use Rattle.std.specs.Iterator.{YieldsFirstRef, item_count};
 ghost use Rattle.httparse.specs.Grammar.{skip_ows, trim_ows};
-ghost use Rattle.http_parts.specs.Members.{members, members_left, has_member, first_part};
+ghost use Rattle.http_parts.specs.Members.{members, has_member};
+ghost use Rattle.http_parts.specs.MemberWalk.{first_part, members_left};
 
 use crate::bytes::after;
 use httparse::is_space_or_tab;

@@ -2,7 +2,7 @@ use Rattle.std.proofs.Common.{rules, tests}
 use Rattle.std.proofs.lemmas.Iterator.Consumers.{YieldsList-from_first}
 use Rattle.std.proofs.lemmas.Iterator.Search.{all_from_yields_List}
 use Rattle.http_parts.specs.Conditional.{may_be_listed}
-use Rattle.http_parts.specs.Members.{members_left}
+use Rattle.http_parts.specs.MemberWalk.{members_left}
 use Rattle.http_parts.proofs.conditional.are_tags.Goals as goal
 
 pub returns : goal.returns

@@ -2,7 +2,7 @@ use Rattle.std.proofs.Common.{rules, tests}
 use Rattle.std.proofs.lemmas.Iterator.Consumers.{YieldsList-from_first}
 use Rattle.std.proofs.lemmas.Iterator.Search.{any_from_yields_List}
 use Rattle.http_parts.specs.Conditional.{is_match}
-use Rattle.http_parts.specs.Members.{members_left}
+use Rattle.http_parts.specs.MemberWalk.{members_left}
 use Rattle.http_parts.proofs.conditional.names.Goals as goal
 
 pub returns : goal.returns

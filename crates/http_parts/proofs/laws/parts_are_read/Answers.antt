@@ -1,5 +1,6 @@
 use Rattle.http_parts.proofs.TagLemmas.{tags_are_quoted, tags_are_visible}
 use Rattle.http_parts.proofs.MatchLemmas.{matches_itself}
+use Rattle.http_parts.proofs.ListLemmas.{lists_are_matched}
 use Rattle.http_parts.proofs.DecimalLemmas.{decimals_are_read}
 use Rattle.http_parts.proofs.LineLemmas.{lines_are_fields}
 use Rattle.http_parts.proofs.VisibleLemmas.{visible_values}
@@ -10,6 +11,7 @@ returns c = record {
   quoted = tags_are_quoted;
   tags = tags_are_visible;
   alone = matches_itself;
+  lists = lists_are_matched;
   decimals = decimals_are_read;
   lines = lines_are_fields;
   values = visible_values;

@@ -2,7 +2,7 @@ use Rattle.std.proofs.Common.{rules, tests}
 use Rattle.std.specs.Str.{bytes_eq, str_to_ascii_lowercase}
 use Rattle.std.proofs.lemmas.Iterator.Consumers.{YieldsList-from_first}
 use Rattle.std.proofs.lemmas.Iterator.Search.{any_from_yields_List}
-use Rattle.http_parts.specs.Members.{members_left}
+use Rattle.http_parts.specs.MemberWalk.{members_left}
 use Rattle.http_parts.proofs.members.has_member.Goals as goal
 
 pub returns : goal.returns

@@ -1,5 +1,6 @@
 use Rattle.std.proofs.Common.{◌≡◌, [], ◌∷◌, length, false, ap, ◌∙◌, arith}
-use Rattle.http_parts.specs.Members.{members, members_of_rest, members_left}
+use Rattle.http_parts.specs.Members.{members}
+use Rattle.http_parts.specs.MemberWalk.{members_of_rest, members_left}
 use Rattle.http_parts.proofs.MembersLemmas.{part_end, members_at, members_whole, length-first_part}
 use Rattle.http_parts.proofs.members.MembersIterator.next.Goals.{After-trim, After-trim-else-end-list}
 use Rattle.http_parts.proofs.members.MembersIterator.next.Goals as goal
