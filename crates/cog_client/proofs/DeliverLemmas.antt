@@ -123,7 +123,7 @@ module _ (law : FrontsAreRead) (p : SeenPiece) (text : List ℕ) (reads : ReadsA
     where
       at : IsPieceOfBook (name_of old) book p → KnowsOne old book (revision_of_piece p) → IfSome (revision_of new) (KnowsOne new book)
       at (source, published, named, of) k =
-          let same : k.source ≡ source = distinct k.source source k.published published (k.of_tag ∙ of.tag) in
+          let same : k.source ≡ source = law.one book distinct k.source source k.published published (k.of_tag ∙ of.tag) in
           let knows : Knows source.file old = subst (λ (s : Publication). Knows s.file old) same k.knows in
           subst (λ v. IfSome v (KnowsOne new book)) (sym after) (record {
             source = source;

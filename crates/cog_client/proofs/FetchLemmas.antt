@@ -1,5 +1,5 @@
 -- What an answer leaves of a client that reads one publication.
-use Rattle.std.proofs.Common.{ℕ, List, [], ◌∷◌, refl, sym, ◌∙◌, inl, inr}
+use Rattle.std.proofs.Common.{ℕ, List, [], ◌∷◌, refl, sym, inl, arith}
 use Rattle.http_range.specs.Book.{Publication, Book, HasDistinctTags}
 use Rattle.http_range.specs.Honest.{IsHonest}
 use Rattle.cog_client.specs.Client.{ClientState, ClientAgrees, name_of}
@@ -8,10 +8,7 @@ use Rattle.cog_client.specs.Transport.{IsHonestToAll, KeepsReading, SpeaksOn}
 
 -- one publication has one tag
 distinct : (p : Publication) → HasDistinctTags (p ∷ [])
-distinct p q r i j tags = elim i [
-  | inl x ↦ elim j [ inl y ↦ x ∙ sym y | inr y ↦ absurd y ]
-  | inr x ↦ absurd x
-]
+distinct p i j d before inside = absurd (omega arith)
 
 -- what came of an answer is delivered, whatever becomes of it
 pub keeps_taking : (before after : Publication → Type 0) (old new : ClientState) (text : List ℕ) → SpeaksOn before after

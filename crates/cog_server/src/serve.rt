@@ -1,5 +1,5 @@
 //! Answers on a stream.
-ghost use Rattle.std.specs.Prelude.{◌≡◌, ◌≤◌, ◌<◌, ◌++◌, false, true, ℕ, List, IfOk, IfErr, OnOk, length, map, max, take};
+ghost use Rattle.std.specs.Prelude.{◌≡◌, ◌≤◌, ◌<◌, ◌++◌, false, true, ℕ, List, [], IfOk, IfErr, OnOk, length, map, max, take};
 ghost use Rattle.std.specs.Io.KnownBytes.{append_known};
 ghost use Rattle.http_range.specs.Reply.{head_text};
 ghost use Rattle.cog_server.specs.Catalogue.{publication};
@@ -11,7 +11,7 @@ use crate::pending::Pending;
 use crate::prepared::prepare;
 use crate::published::Published;
 use crate::served::{Ended, ServeError, Served};
-use http_range::{ANSWERS_LIMIT, Memory, Reply, messages_stay, write_head};
+use http_range::{ANSWERS_LIMIT, Memory, Reply, append_head, messages_stay};
 use std::alloc::Global;
 
 /// The most bytes of the write that has the head of an answer.
@@ -38,36 +38,45 @@ fn send<W: Outlet>(w: &mut W, bytes: &[u8]) -> Result<(), ServeError>
     Ok(())
 }
 
-/// The head of an answer with as much of its body as fits into the first write, and the rest of the body.
+/// Room for the first write of each answer.
+fn room(alloc: Global) -> Result<Vec<u8>, Memory>
+    ensures { IfOk result (λ text. text.items ≡ []) }
+{
+    Ok(Vec::with_capacity(alloc, FIRST_WRITE)?)
+}
+
+/// Puts the head of an answer, with as much of its body as fits into the first write, in the place of what the text held, and
+/// gives the rest of the body.
 fn first_write<'f>(
-    alloc: Global,
+    text: &mut Vec<u8>,
     reply: &Reply,
     close: bool,
     body: &'f [u8],
-) -> Result<(Vec<u8>, &'f [u8]), Memory>
-    ensures whole { IfOk result (λ text. text.0.items ++ text.1.now ≡ head_text reply.now close ++ body.now) }
-    ensures few { IfOk result (λ text. length text.0.items ≤ max FIRST_WRITE (length (head_text reply.now close))) }
-    ensures full { IfOk result (λ text. 0 < length text.1.now → FIRST_WRITE ≤ length text.0.items) }
+) -> Result<&'f [u8], Memory>
+    ensures whole { IfOk result (λ rest. text.new.items ++ rest.now ≡ head_text reply.now close ++ body.now) }
+    ensures few { OnOk result (length text.new.items ≤ max FIRST_WRITE (length (head_text reply.now close))) }
+    ensures full { IfOk result (λ rest. 0 < length rest.now → FIRST_WRITE ≤ length text.new.items) }
 {
-    let mut text = write_head(alloc, reply, close)?;
+    text.clear();
+    append_head(text, reply, close)?;
     let (front, rest) = body.split_at(FIRST_WRITE.saturating_sub(text.len()).min(body.len()));
     text.extend_from_slice(front)?;
-    Ok((text, rest))
+    Ok(rest)
 }
 
-/// Writes the answer to a message, and says whether the connection ends with it.
+/// Writes the answer to a message, by way of a text that is used for each, and says whether the connection ends with it.
 fn send_answer<W: Outlet>(
-    alloc: Global,
     files: &[Published],
     message: &[u8],
+    text: &mut Vec<u8>,
     w: &mut W,
 ) -> Result<bool, ServeError>
     requires { W.has_failed w.old ≡ false }
     ensures { Sends (map publication files.now) message.now (W.taken w.old) (W.taken w.new) (W.has_failed w.new) result }
 {
     let answer = prepare(files, message);
-    let (text, rest) = first_write(alloc, &answer.reply, answer.close, answer.body)?;
-    send(w, &text)?;
+    let rest = first_write(text, &answer.reply, answer.close, answer.body)?;
+    send(w, text)?;
     send(w, rest)?;
     Ok(answer.close)
 }
@@ -89,12 +98,13 @@ pub fn serve_files<R: Inlet, W: Outlet>(
 {
     messages_stay();
     let mut pending = Pending::new(alloc)?;
+    let mut text = room(alloc)?;
     for answers in 0..ANSWERS_LIMIT {
         let Some(n) = pending.next_message(r)? else {
             let ended = Ended::EndOfInput;
             return Ok(Served { answers, ended });
         };
-        let close = send_answer(alloc, files, &pending.held()[..n], w)?;
+        let close = send_answer(files, &pending.held()[..n], &mut text, w)?;
         if close {
             let ended = Ended::Closed;
             return Ok(Served {

@@ -1,11 +1,11 @@
 -- Publications under their names, and the tags that tell them apart.
-use Rattle.std.proofs.Common.{◌≡◌, ◌≢◌, ℕ, ◌^◌, ◌<◌, ◌≤◌, Bool, true, false, cond, ◌&&◌, List, [], ◌∷◌, ◌++◌, length, drop, refl, sym, ap, ◌∙◌, subst, arith, append_assoc, length-append, codes, Option, Some}
+use Rattle.std.proofs.Common.{◌≡◌, ◌≢◌, ℕ, suc, ◌^◌, ◌<◌, ◌≤◌, Bool, true, false, cond, ◌&&◌, List, [], ◌∷◌, ◌++◌, length, drop, get_or, inl, inr, refl, sym, ap, ◌∙◌, subst, arith, append_assoc, length-append, codes, Option, Some}
 use Rattle.std.specs.Prelude.{decimal}
 use Rattle.std.specs.Char.{is_ascii_digit}
 use Rattle.std.specs.List.{list_all, before_first, after_first}
 use Rattle.std.specs.Str.{bytes_eq, all_ascii_digits}
 use Rattle.std.proofs.Math.Dec.{eqb}
-use Rattle.std.proofs.lemmas.Bool.{and_parts, le-leb}
+use Rattle.std.proofs.lemmas.Bool.{and_parts, cases_lt, le-leb}
 use Rattle.std.proofs.lemmas.Bool.Decides.{nat_tests}
 use Rattle.std.proofs.lemmas.Fmt.{decimal_injective}
 use Rattle.std.proofs.lemmas.List.Folds.{list_all-append}
@@ -13,11 +13,38 @@ use Rattle.std.proofs.lemmas.Slice.Eq.{bytes_eq-Decides}
 use Rattle.std.proofs.lemmas.List.Sums.{AllPass-from_list_all}
 use Rattle.httparse.proofs.GrammarLemmas.{cons-append}
 use Rattle.http_parts.specs.Tag.{is_tag_byte, is_opaque_tag, is_kept_tag}
-use Rattle.http_range.specs.Book.{Publication, IsPublication, Catalogue, IsCatalogue, published, publish, publication_tag}
-use Rattle.http_range.specs.Laws.{TagsTellPublications, PublicationTagsAreKept, PublishReplaces, PublishedIsNamed}
+use Rattle.http_range.specs.Book.{Publication, IsPublication, Book, In, Catalogue, IsCatalogue, published, publish, publication_tag}
+use Rattle.http_range.specs.Laws.{TagsTellOne, TagsTellPublications, PublicationTagsAreKept, PublishReplaces, PublishedIsNamed}
 use Rattle.http_parts.specs.Laws.{PartsAreRead}
 use Rattle.http_range.proofs.PlaceLemmas.{digit_range, digits_miss, before_at, after_at}
 use Rattle.http_range.proofs.ReplyLemmas.{length_20}
+
+-- ---- places in a book
+
+-- a publication of a book has a place there
+place_in : (p : Publication) (book : Book) → In p book → (k : ℕ) × (k < length book) × ((d : Publication) → get_or book k d ≡ p)
+place_in p [] i = absurd i
+place_in p (q ∷ book) (inl same) = (0, omega arith, λ d. sym same)
+place_in p (q ∷ book) (inr later) = let at = place_in p book later in (suc at.0, omega (arith, at.1), at.2)
+
+-- where tags are distinct, one tag has one place
+pub tags_tell_one : TagsTellOne
+tags_tell_one book distinct p q i j tags =
+    let a = place_in p book i in
+    let b = place_in q book j in
+    let same : (get_or book a.0 p).tag ≡ (get_or book b.0 p).tag = ap tag_of (a.2 p) ∙ tags ∙ ap tag_of (sym (b.2 p)) in
+    elim (cases_lt a.0 b.0) [
+      | inl before ↦ absurd (distinct a.0 b.0 p before b.1 same)
+      | inr after ↦ elim (cases_lt b.0 a.0) [
+        | inl before ↦ absurd (distinct b.0 a.0 p before a.1 (sym same))
+        | inr here ↦
+            (let e : a.0 ≡ b.0 = omega (arith, after, here) in
+            sym (a.2 p) ∙ ap (λ (k : ℕ). get_or book k p) e ∙ b.2 p)
+      ]
+    ]
+  where
+    tag_of : Publication → List ℕ
+    tag_of p = p.tag
 
 -- ---- names
 

@@ -1,5 +1,5 @@
 -- What prints as a request's head is the first message of a stream that begins with it.
-use Rattle.std.proofs.Common.{◌≡◌, ◌≢◌, ℕ, zero, suc, ◌+◌, ◌-◌, ◌<◌, ◌≤◌, Bool, true, false, not, ◌==◌, List, [], ◌∷◌, ◌++◌, length, take, drop, refl, sym, ap, ◌∙◌, subst, arith, append_assoc, append-nil, length-append, length-take, codes, IsTrue, inl, inr, ◌⊎◌, flat_map}
+use Rattle.std.proofs.Common.{◌≡◌, ℕ, suc, ◌+◌, ◌≤◌, Bool, true, false, not, ◌==◌, List, [], ◌∷◌, ◌++◌, length, take, drop, refl, sym, ap, ◌∙◌, subst, arith, append_assoc, append-nil, length-append, length-take, codes, IsTrue, inl, inr, ◌⊎◌, flat_map}
 use Rattle.std.specs.Prelude.{All}
 use Rattle.std.proofs.lemmas.Bool.{cases_Bool, eqb-true}
 use Rattle.std.proofs.lemmas.Bool.Decides.{nat_tests}
@@ -8,9 +8,8 @@ use Rattle.std.proofs.lemmas.List.Elements.{All-append, All-nil, All-cons, All-h
 use Rattle.std.proofs.Math.Seq.{take-append_seam}
 use Rattle.httparse.specs.Grammar.{AllPass, Field, IsField, IsToken, LineEnd, RequestHead, IsRequestHead, crlf, lf, is_token_byte, is_uri_byte, is_value_byte, print_blank, print_end, print_field, print_request, print_section, print_version}
 use Rattle.httparse.proofs.GrammarLemmas.{cons-append, print_request-append}
-use Rattle.http_parts.specs.declared.limits.TheConstants.{MESSAGE_LIMIT}
 use Rattle.http_range.specs.Laws.{HeadsAreMessages}
-use Rattle.http_range.specs.Stream.{is_line_byte, AreLines, EndsHead, IsEmptyLine, IsFilledLine, IsFirstMessage, IsMessage}
+use Rattle.http_range.specs.Stream.{is_line_byte, AreLines, EndsHead, IsEmptyLine, IsFilledLine, IsMessage}
 use Rattle.http_range.proofs.ReplyLemmas.{value_literal}
 
 -- ---- bytes

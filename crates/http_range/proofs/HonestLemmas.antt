@@ -13,7 +13,7 @@ use Rattle.http_range.specs.Response.{Response, text_of, IsAnswer}
 use Rattle.http_range.specs.Honest.{IsFront, IsHonestFor, IsNamelessFront, IsHonest, IsPieceOf, IsPieceOfBook}
 use Rattle.http_range.specs.Laws.{FrontsAreRead, ChecksAreRead, HonestyIsKept}
 use Rattle.http_parts.specs.Laws.{PartsAreRead}
-use Rattle.http_range.proofs.BookLemmas.{published_lawful}
+use Rattle.http_range.proofs.BookLemmas.{published_lawful, tags_tell_one}
 use Rattle.http_range.proofs.RoundTrip.{front_read, front_checked}
 use Rattle.http_range.proofs.ResponseLemmas.{Kind, IsRefusal, IsFileAnswer, kind_of, front_same, front_trans}
 
@@ -233,6 +233,7 @@ module _ (laws : PartsAreRead) where
     honest = λ text p r honest reads. honest_read text p honest r reads;
     book = λ text name book r honest reads. book_read text name book honest r reads;
     nameless = λ text r front reads. nameless_read text front r reads;
+    one = tags_tell_one;
   }
 
   -- ---- checks

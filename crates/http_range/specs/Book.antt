@@ -1,5 +1,6 @@
 -- Files that were published, and what a server has of them.
-use Rattle.std.specs.Prelude.{◌≡◌, ◌≤◌, ◌⊎◌, ℕ, IsTrue, if◌then◌else◌, List, [], ◌∷◌, ◌++◌, length, codes, decimal, Option, Some, None, ⊤}
+use Rattle.std.specs.Prelude.{◌≡◌, ◌≢◌, ◌≤◌, ◌⊎◌, ℕ, IsTrue, if◌then◌else◌, List, [], ◌∷◌, ◌++◌, length, codes, decimal, Option, Some, None, ⊤}
+use Rattle.std.specs.List.{AllPairs}
 use Rattle.std.specs.Str.{bytes_eq}
 use Rattle.http_parts.specs.Names.{is_name}
 use Rattle.http_parts.specs.Tag.{is_kept_tag}
@@ -32,9 +33,9 @@ In p (q ∷ book) = (p ≡ q) ⊎ In p book
 abbrev pub Includes : Book → Book → Type 0
 Includes later book = (p : Publication) → In p book → In p later
 
--- a tag tells one publication from all others, of whatever name
+-- each publication has another tag than each later one in the book, of whatever name
 abbrev pub HasDistinctTags : Book → Type 0
-HasDistinctTags book = (p q : Publication) → In p book → In q book → p.tag ≡ q.tag → p ≡ q
+HasDistinctTags book = AllPairs (λ p q. p.tag ≢ q.tag) book
 
 -- ---- catalogues: the last publication of each name
 

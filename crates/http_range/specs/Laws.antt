@@ -2,7 +2,7 @@
 use Rattle.std.specs.Prelude.{◌≡◌, ◌≢◌, ◌<◌, ◌≤◌, ◌^◌, ◌↔◌, ◌⊎◌, ℕ, Bool, true, IsTrue, IsErr, IfOk, List, [], ◌∷◌, ◌++◌, length, take, drop, Option, Some, None, Result}
 use Rattle.httparse.specs.Grammar.{RequestHead, IsRequestHead, print_request}
 use Rattle.http_range.specs.Ask.{CanAsk, request_text, CanCheck, check_text}
-use Rattle.http_range.specs.Book.{Publication, IsPublication, Book, Includes, Covers, Catalogue, IsCatalogue, published, publish, publication_tag}
+use Rattle.http_range.specs.Book.{Publication, IsPublication, Book, In, HasDistinctTags, Includes, Covers, Catalogue, IsCatalogue, published, publish, publication_tag}
 use Rattle.http_range.specs.Response.{Response, text_of, IsAnswer, response_to_client, response_to_check}
 use Rattle.http_parts.specs.declared.limits.TheConstants.{MESSAGE_LIMIT}
 use Rattle.http_range.specs.Seen.{SeenRequest, HasRequest}
@@ -28,6 +28,10 @@ TagsTellPublications =
 -- such a tag is kept
 abbrev pub PublicationTagsAreKept : Type 0
 PublicationTagsAreKept = (e n : ℕ) → e < 2 ^ 64 → n < 2 ^ 64 → IsTrue (is_kept_tag (publication_tag e n))
+
+-- where tags are distinct, a tag tells one publication
+abbrev pub TagsTellOne : Type 0
+TagsTellOne = (book : Book) → HasDistinctTags book → (p q : Publication) → In p book → In q book → p.tag ≡ q.tag → p ≡ q
 
 -- a message has one answer
 abbrev pub AnswersAreUnique : Type 0
@@ -148,6 +152,8 @@ pub record FrontsAreRead : Type 0 where
       → IfOk r (IsPieceOfBook name book)
   -- an answer without a tag gives no piece
   pub nameless : (text : List ℕ) (r : Result SeenPiece Why) → IsNamelessFront text → ReadsAnswer text r → IsErr r
+  -- and the tag of a piece tells one publication
+  pub one : TagsTellOne
 
 -- what a client's check reads of an answer, or of a front of it
 pub record ChecksAreRead : Type 0 where

@@ -1,7 +1,7 @@
 //! Byte ranges, entity tags and heads of HTTP/1.1 (RFC 9110, RFC 9112), for files that are read by single ranges.
 //!
-//! Only `write_request`, `write_check` and `write_head` take memory. Positions and lengths are in bytes, and positions count
-//! from 0.
+//! Only `write_request`, `write_check`, `write_head` and `append_head` take memory. Positions and lengths are in bytes, and
+//! positions count from 0.
 #![tactic(auto)]
 
 mod answer_head;
@@ -29,7 +29,7 @@ pub use laws::{
 pub use publication::{FILE_LIMIT, NAMES_LIMIT, publication_tag};
 pub use range::{RangeSpec, Resolved, read_range, resolve};
 pub use reading::{Piece, Reading, Why, read_answer};
-pub use reply::{Reply, write_head};
+pub use reply::{Reply, append_head, write_head};
 pub use request::{Request, read_request};
 pub use stream::message_length;
 pub use tiff_dir::{Memory, Span};

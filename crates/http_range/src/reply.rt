@@ -31,12 +31,21 @@ pub enum Reply {
 pub fn write_head(alloc: Global, reply: &Reply, close: bool) -> Result<Vec<u8>, Memory>
     ensures { IfOk result (λ text. text.items ≡ head_text reply.now close) }
 {
-    let mut text = Vec::from_slice(alloc, status_line(reply))?;
-    text.extend_from_slice(b"\r\n")?;
-    push_fields(&mut text, reply)?;
-    push_closing(&mut text, close)?;
-    text.extend_from_slice(b"\r\n")?;
+    let mut text = Vec::new(alloc);
+    append_head(&mut text, reply, close)?;
     Ok(text)
+}
+
+/// Adds the head of an answer to a text, with the empty line at its end. Where memory is refused, a part of it may be there.
+pub fn append_head(text: &mut Vec<u8>, reply: &Reply, close: bool) -> Result<(), Memory>
+    ensures { OnOk result (text.new.items ≡ text.old.items ++ head_text reply.now close) }
+{
+    text.extend_from_slice(status_line(reply))?;
+    text.extend_from_slice(b"\r\n")?;
+    push_fields(text, reply)?;
+    push_closing(text, close)?;
+    text.extend_from_slice(b"\r\n")?;
+    Ok(())
 }
 
 fn status_line(reply: &Reply) -> &'static [u8]

@@ -1,10 +1,11 @@
 -- The world's invariant, and that publications, restarts and clients keep it.
-use Rattle.std.proofs.Common.{◌≡◌, ℕ, suc, zero, List, [], ◌∷◌, ◌++◌, length, map, Option, Some, None, Bool, true, false, refl, sym, ap, ◌∙◌, subst, arith, ◌⊎◌, inl, inr, ◌<◌, ◌≤◌, ◌+◌, ◌^◌}
+use Rattle.std.proofs.Common.{◌≡◌, ◌≢◌, ℕ, get_or, suc, zero, List, [], ◌∷◌, ◌++◌, length, map, Option, Some, None, Bool, true, false, refl, sym, ap, ◌∙◌, subst, arith, ◌⊎◌, inl, inr, ◌<◌, ◌≤◌, ◌+◌, ◌^◌}
 use Rattle.std.specs.Prelude.{slice_get, slice_set, IfSome, nat_lt, not, ◌==◌, if◌then◌else◌}
 use Rattle.std.specs.Option.{option_map}
 use Rattle.std.specs.Str.{bytes_eq}
 use Rattle.std.proofs.lemmas.Bool.{cases_Bool}
 use Rattle.std.proofs.lemmas.Bool.Decides.{nat_tests}
+use Rattle.std.proofs.lemmas.List.Kept.{AllPairs-cons}
 use Rattle.std.proofs.lemmas.Option.{none-some, same_Some}
 use Rattle.std.proofs.lemmas.Slice.Eq.{bytes_eq-Decides}
 use Rattle.tiff_dir.specs.declared.query.Query.{Query}
@@ -64,7 +65,7 @@ good_start = record {
   epoch_small = omega arith;
   count_small = omega arith;
   older = λ p i. absurd i;
-  distinct = λ p q i j e. absurd i;
+  distinct = λ i j d before inside. absurd (omega arith);
   lawful = tt;
   covers = λ name p e. absurd (none-some p e);
   seen_are = refl;
@@ -73,6 +74,12 @@ good_start = record {
 }
 
 -- ---- publications
+
+-- what stands at a place of a book is in it
+in_at : (book : Book) (k : ℕ) (d : Publication) → k < length book → In (get_or book k d) book
+in_at [] k d inside = absurd (omega arith)
+in_at (p ∷ book) zero d inside = inl refl
+in_at (p ∷ book) (suc k) d inside = inr (in_at book k d (omega arith))
 
 -- what is accepted is lawful
 record IsAccepted (count : ℕ) (name file : List ℕ) : Type 0 where
@@ -143,10 +150,9 @@ module _ (laws : LowerLaws) where
           | inl e ↦ record { epoch = w.epoch; number = w.count + 1; epoch_small = epoch; number_small = room; tag = ap (λ (x : Publication). x.tag) e; used = inr (refl, omega arith) }
           | inr j ↦ older_in w _ q (g.older q j) (elim (g.older q j).used [ inl h ↦ inl h | inr h ↦ inr (h.0, omega (arith, h.1)) ])
         ];
-        distinct = λ q r i j e. elim i [
-          | inl x ↦ elim j [ inl y ↦ x ∙ sym y | inr y ↦ absurd (unused w cs r g room y (sym e ∙ ap (λ (z : Publication). z.tag) x)) ]
-          | inr x ↦ elim j [ inl y ↦ absurd (unused w cs q g room x (e ∙ ap (λ (z : Publication). z.tag) y)) | inr y ↦ g.distinct q r x y e ]
-        ];
+        distinct =
+            AllPairs-cons (λ q r. q.tag ≢ r.tag) p w.book
+            (λ k d inside e. unused w cs (get_or w.book k d) g room (in_at w.book k d inside) (sym e)) g.distinct;
         lawful = laws.replaces.lawful p w.catalogue lawful g.lawful;
         covers = covers_next w.book w.catalogue p g.covers;
         seen_are = g.seen_are;

@@ -88,15 +88,15 @@ hosted_step w cs (Check i) n new h all = hosted_check (slice_get cs i) w.catalog
 -- ---- what a client knows
 
 -- a client that agrees with the book knows the file of each publication whose tag it has
-pub knows_of : (c : ClientState) (book : Book) (p : Publication) → HasDistinctTags book → ClientAgrees c book → In p book → tag_of c ≡ Some p.tag → Knows p.file c
+pub knows_of : (laws : LowerLaws) (c : ClientState) (book : Book) (p : Publication) → HasDistinctTags book → ClientAgrees c book → In p book → tag_of c ≡ Some p.tag → Knows p.file c
 unfolding ClientAgrees
-knows_of c book p distinct agrees among tag = at (revision_of c) refl agrees
+knows_of laws c book p distinct agrees among tag = at (revision_of c) refl agrees
   where
     at : (o : Option Revision) → revision_of c ≡ o → IfSome o (KnowsOne c book) → Knows p.file c
     at None is k = absurd (none-some p.tag (sym (ap (λ x. option_map (λ (v : Revision). v.tag) x) is) ∙ tag))
     at (Some v) is k =
         let same_tag : v.tag ≡ p.tag = same_Some _ _ (sym (ap (λ x. option_map (λ (v : Revision). v.tag) x) is) ∙ tag) in
-        let same : k.source ≡ p = distinct k.source p k.published among (k.of_tag ∙ same_tag) in
+        let same : k.source ≡ p = laws.one book distinct k.source p k.published among (k.of_tag ∙ same_tag) in
         subst (λ (s : Publication). Knows s.file c) same k.knows
 
 pub tag_is : (c : ClientState) (v : Revision) → revision_of c ≡ Some v → tag_of c ≡ Some v.tag

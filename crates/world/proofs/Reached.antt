@@ -106,9 +106,9 @@ module _ (laws : LowerLaws) (w : World) (cs : List ClientState) (i : ℕ) (c : C
       let among = in_book (name_of c) has in
       let mid_agrees : ClientAgrees mid w.book = r.goes.agrees w.book agrees_now in
       let brings : BringsOn p mid next what =
-      laws.brings mid next p a.span a.answer.text.items what (own mid a asks has) (knows_of mid w.book p g.distinct mid_agrees among) d in
+      laws.brings mid next p a.span a.answer.text.items what (own mid a asks has) (knows_of laws mid w.book p g.distinct mid_agrees among) d in
       let tag : tag_of next ≡ Some p.tag = tag_is next (record { tag = p.tag; complete = length f }) brings.revision in
-      let knows : Knows f next = knows_of next w.book p g.distinct agrees among tag in
+      let knows : Knows f next = knows_of laws next w.book p g.distinct agrees among tag in
       let query : query_of next ≡ Some q = d.same.query ∙ r.goes.same.query ∙ reading.query in
       let work : IsAtWork f next = record { revision = ap is_some brings.revision; knows = knows; query = ap is_some query } in
       let more : 1 ≤ left f next = some_left (left f next) (λ e. (let stands = laws.delivery mid next a.answer.text.items what f d brings.used work e in
@@ -121,10 +121,10 @@ module _ (laws : LowerLaws) (w : World) (cs : List ClientState) (i : ℕ) (c : C
       few (inr had) tag more most =
           let mid_tag : tag_of mid ≡ Some p.tag = ap (λ x. option_map (λ (v : Revision). v.tag) x) asks.requests.goes.revision ∙ had.0 in
           let among = in_book (name_of c) has in
-          let knows = knows_of c w.book p g.distinct agrees_now among had.0 in
+          let knows = knows_of laws c w.book p g.distinct agrees_now among had.0 in
           let mid_agrees : ClientAgrees mid w.book = asks.requests.goes.agrees w.book agrees_now in
           let brings : BringsOn p mid next what =
-          laws.brings mid next p a.span a.answer.text.items what (own mid a asks has) (knows_of mid w.book p g.distinct mid_agrees among) d in
+          laws.brings mid next p a.span a.answer.text.items what (own mid a asks has) (knows_of laws mid w.book p g.distinct mid_agrees among) d in
           omega (arith, had.1, brings.less mid_tag, laws.goes c mid p.file asks.requests.goes knows)
 
   -- what one exchange comes to: the report is told, or the query is still read

@@ -143,7 +143,7 @@ alike : (laws : LowerLaws) (book : Book) (ns : List Entry) → HasDistinctTags b
 alike laws book ns distinct sources r s i j tag query =
     let a = sources r i in
     let b = sources s j in
-    let same : a.source ≡ b.source = distinct a.source b.source a.published b.published (a.of_tag ∙ (tag ∙ sym b.of_tag)) in
+    let same : a.source ≡ b.source = laws.one book distinct a.source b.source a.published b.published (a.of_tag ∙ (tag ∙ sym b.of_tag)) in
     let P : Publication → Type 0 = λ p. IsTrueSaid p.file r.query r.said in
     let Q : Query → Type 0 = λ q. IsTrueSaid b.source.file q r.said in
     same_said laws b.source.file s.query r.said s.said (subst Q query (subst P same a.outcome)) b.outcome

@@ -2,11 +2,12 @@
 use Rattle.std.specs.Prelude.{◌≡◌, ℕ, List}
 use Rattle.tiff_dir.specs.declared.query.Query.{Query}
 use Rattle.tiff_dir.specs.Faulty.{IsWindow}
-use Rattle.http_range.specs.Laws.{TagsTellPublications, PublicationTagsAreKept, ClientsAreAnswered, ChecksAreAnswered, ChecksAreRead, PublishReplaces, PublishedIsNamed, HonestyIsKept}
+use Rattle.http_range.specs.Laws.{TagsTellOne, TagsTellPublications, PublicationTagsAreKept, ClientsAreAnswered, ChecksAreAnswered, ChecksAreRead, PublishReplaces, PublishedIsNamed, HonestyIsKept}
 use Rattle.cog_client.specs.Progress.{CostIsMost, DeliveryReports, GoingOnLeavesNoMore, NeededAreAsked, OwnAnswersBringOn, RequestReports}
 
 pub record LowerLaws : Type 0 where
   pub apart : TagsTellPublications
+  pub one : TagsTellOne
   pub kept : PublicationTagsAreKept
   pub answered : ClientsAreAnswered
   pub checks : ChecksAreAnswered

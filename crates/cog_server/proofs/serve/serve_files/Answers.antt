@@ -10,6 +10,11 @@ returns-in_err-pending-clause-served g c =
     let none = begins (map publication c.args.files.now) (g.R.Inlet.given c.args.r.now) (g.W.Outlet.taken c.args.w.now) in
     ends_with _ _ _ _ _ _ _ _ _ c.from_residual.ensures.1 refl (ends_memory (g.R.Inlet.is_over c.args.r.now) none (omega arith))
 
+pub returns-in_err-text-clause-served : goal.returns-in_err-text-clause-served
+returns-in_err-text-clause-served g c =
+    let none = begins (map publication c.args.files.now) (g.R.Inlet.given c.args.r.now) (g.W.Outlet.taken c.args.w.now) in
+    ends_with _ _ _ _ _ _ _ _ _ c.from_residual-in_err-text.ensures.1 refl (ends_memory (g.R.Inlet.is_over c.args.r.now) none (omega arith))
+
 pub loop-answers-init : goal.loop-answers-init
 loop-answers-init g c =
     let cat = map publication c.args.files.now in
