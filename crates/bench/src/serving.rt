@@ -118,7 +118,7 @@ pub fn check_serving(rt: &impl Print, alloc: Global) -> Result<()> {
 pub fn measure_serving(rt: &(impl Print + Clock), alloc: Global) -> Result<()> {
     let server = server_of_mebibyte(alloc)?;
     let mut meter = Meter::new(alloc)?;
-    for (name, last) in [("64 KiB", 65535), ("1 MiB", MEBIBYTE - 1)] {
+    for (name, last) in [("1 KiB", 1023), ("64 KiB", 65535), ("1 MiB", MEBIBYTE - 1)] {
         let stream = requests(alloc, last)?;
         let start = Instant::now(rt)?;
         serve_often(&server, &stream, &mut meter, REPEATS)?;

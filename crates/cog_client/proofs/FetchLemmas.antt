@@ -1,5 +1,5 @@
 -- What an answer leaves of a client that reads one publication.
-use Rattle.std.proofs.Common.{ℕ, List, [], ◌∷◌, refl, sym, inl, arith}
+use Rattle.std.proofs.Common.{ℕ, List, [], ◌∷◌, refl, sym, ◌∙◌, inl, arith}
 use Rattle.http_range.specs.Book.{Publication, Book, HasDistinctTags}
 use Rattle.http_range.specs.Honest.{IsHonest}
 use Rattle.cog_client.specs.Client.{ClientState, ClientAgrees, name_of}
