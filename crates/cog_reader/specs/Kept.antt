@@ -1,4 +1,5 @@
 -- The tile arrays that a reader keeps: those of the level last read, as far as they were read.
+use Rattle.tiff_dir.specs.declared.tags.TheConstants.{TILE_OFFSETS}
 use Rattle.std.specs.Prelude.{◌≡◌, ℕ, ⊤, ◌==◌, if◌then◌else◌, List, length, slice_get, Option, Some, None, IsSomeAnd}
 use Rattle.tiff_dir.specs.declared.level.Level.{Level}
 use Rattle.tiff_dir.specs.declared.level.Place.{Place}
@@ -43,5 +44,5 @@ IsKeptOf w (Both n arrays) = HasEnded w × (slice_get (levels_of w) n ≡ Some a
 -- they are the file's
 abbrev pub KeptAgrees : List ℕ → Kept → Type 0
 KeptAgrees f Nothing = ⊤
-KeptAgrees f (Offsets n offsets) = IsSomeAnd (array_range f n 324) (λ r. offsets.items ≡ bytes_in f r)
+KeptAgrees f (Offsets n offsets) = IsSomeAnd (array_range f n TILE_OFFSETS) (λ r. offsets.items ≡ bytes_in f r)
 KeptAgrees f (Both n arrays) = AreArraysOf f n arrays

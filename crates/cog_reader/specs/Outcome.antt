@@ -1,4 +1,5 @@
 -- When the answer to a query is true of a file.
+use Rattle.tiff_dir.specs.declared.tags.TheConstants.{BITS_PER_SAMPLE, GEO_ASCII_PARAMS, GEO_DOUBLE_PARAMS, MODEL_PIXEL_SCALE, MODEL_TIEPOINT, MODEL_TRANSFORMATION, SAMPLES_PER_PIXEL}
 use Rattle.std.specs.Prelude.{◌≡◌, ℕ, ◌*◌, List, length, map, Option, Some}
 use Rattle.std.specs.Option.{option_map}
 use Rattle.tiff_dir.specs.declared.level.Level.{Level}
@@ -35,8 +36,8 @@ pub record IsWindowOf (f : List ℕ) (q : Query) (v : Window) : Type 0 where
   pub asked_is : rectangle f q ≡ Some asked
   pub width : v.w ≡ asked.width
   pub height : v.h ≡ asked.height
-  pub samples : level_value f asked.level 277 0 ≡ Some v.samples
-  pub bits : level_value f asked.level 258 0 ≡ Some v.bits
+  pub samples : level_value f asked.level SAMPLES_PER_PIXEL 0 ≡ Some v.samples
+  pub bits : level_value f asked.level BITS_PER_SAMPLE 0 ≡ Some v.bits
   pub size : length v.pixels.items ≡ v.w * v.h * (v.samples * sample_bytes v.bits)
 
 -- the items of eight bytes of a geo field, if it is there, each with its most significant byte first
@@ -49,10 +50,10 @@ pub record IsInfoOf (f : List ℕ) (i : Info) : Type 0 where
   pub order : Order
   pub order_is : order_of f ≡ Some order
   pub sides_are : map Some i.sides.items ≡ map (sides f) (level_directories f)
-  pub keys : AreKeys (key_source f) order (geo_bytes f 34736) (geo_bytes f 34737) i.geo
-  pub scale : option_map (λ v. v.items) i.scale ≡ items_of order f 33550
-  pub tiepoints : option_map (λ v. v.items) i.tiepoints ≡ items_of order f 33922
-  pub transformation : option_map (λ v. v.items) i.transformation ≡ items_of order f 34264
+  pub keys : AreKeys (key_source f) order (geo_bytes f GEO_DOUBLE_PARAMS) (geo_bytes f GEO_ASCII_PARAMS) i.geo
+  pub scale : option_map (λ v. v.items) i.scale ≡ items_of order f MODEL_PIXEL_SCALE
+  pub tiepoints : option_map (λ v. v.items) i.tiepoints ≡ items_of order f MODEL_TIEPOINT
+  pub transformation : option_map (λ v. v.items) i.transformation ≡ items_of order f MODEL_TRANSFORMATION
 
 -- The answer to the query is true of the file.
 abbrev pub IsTrueOf : List ℕ → Query → Outcome → Type 0

@@ -1,4 +1,5 @@
 -- The keys in the bytes of the key directory and of the two fields that it points into (OGC 19-008, section 7.1.1).
+use Rattle.tiff_dir.specs.declared.tags.TheConstants.{GEO_ASCII_PARAMS, GEO_DOUBLE_PARAMS}
 use Rattle.std.specs.Prelude.{◌≡◌, ℕ, ◌+◌, ◌*◌, ◌/◌, ⊤, nat_le, ◌==◌, if◌then◌else◌, List, length, slice_get, Option, Some, None, IfSome, unwrap_or}
 use Rattle.std.specs.List.{slice_range}
 use Rattle.tiff_dir.specs.declared.order.Order.{Order}
@@ -20,7 +21,7 @@ number_at order directory i =
 -- how many items the fields have that a key may point into
 abbrev pub item_count : List ℕ → List ℕ → ℕ → Option ℕ
 item_count doubles ascii location =
-    if location == 34736 then Some (length doubles / 8) else if location == 34737 then Some (length ascii) else None
+    if location == GEO_DOUBLE_PARAMS then Some (length doubles / 8) else if location == GEO_ASCII_PARAMS then Some (length ascii) else None
 
 -- What keys are read from. An empty directory is an absent field, of which nothing can be told.
 abbrev pub key_source : Order → List ℕ → List ℕ → List ℕ → KeySource
@@ -34,9 +35,9 @@ key_source order directory doubles ascii = record {
 abbrev pub IsValue : Order → List ℕ → List ℕ → ℕ → ℕ → ℕ → KeyValue → Type 0
 IsValue order doubles ascii location count first (Short number) = (location ≡ 0) × (number ≡ first)
 IsValue order doubles ascii location count first (Doubles items) =
-    (location ≡ 34736) × (items.items ≡ doubles_in order (slice_range doubles (8 * first) (8 * (first + count))))
+    (location ≡ GEO_DOUBLE_PARAMS) × (items.items ≡ doubles_in order (slice_range doubles (8 * first) (8 * (first + count))))
 IsValue order doubles ascii location count first (Ascii bytes) =
-    (location ≡ 34737) × (bytes.items ≡ slice_range ascii first (first + count))
+    (location ≡ GEO_ASCII_PARAMS) × (bytes.items ≡ slice_range ascii first (first + count))
 
 -- The key is what the four numbers of key i say.
 pub record IsKey (s : KeySource) (order : Order) (doubles ascii : List ℕ) (i : ℕ) (key : Key) : Type 0 where

@@ -1,4 +1,5 @@
 -- The groups of a window's tiles, by the bytes of the two arrays of its level.
+use Rattle.tiff_dir.specs.declared.tags.TheConstants.{TILE_BYTE_COUNTS, TILE_OFFSETS}
 use Rattle.std.specs.Prelude.{◌≡◌, ℕ, ◌+◌, ◌*◌, ◌<◌, ◌≤◌, ◌⊎◌, true, false, ⊤, nat_lt, ◌==◌, List, [], ◌∷◌, length, map, Some}
 use Rattle.std.specs.List.{flat_map, list_any, All, IsAmong}
 use Rattle.tiff_dir.specs.declared.order.Order.{Order}
@@ -43,8 +44,8 @@ IsWrongSize l n = (is_byte_count n ≡ false) ⊎ ((l.compression ≡ Plain) × 
 
 -- the range is what the arrays of level n of a file say of a tile
 pub record IsRangeOf (f : List ℕ) (n t : ℕ) (r : Extent) : Type 0 where
-  pub first : level_value f n 324 t ≡ Some r.first
-  pub len : level_value f n 325 t ≡ Some r.len
+  pub first : level_value f n TILE_OFFSETS t ≡ Some r.first
+  pub len : level_value f n TILE_BYTE_COUNTS t ≡ Some r.len
 
 -- what may be wrong with the range of a tile, in a file of so many bytes
 abbrev pub IsTileFault : Level → ℕ → Extent → FileFault → Type 0
