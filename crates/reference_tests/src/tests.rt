@@ -4,4 +4,5 @@ mod bytes;
 mod changes;
 mod faults;
 mod fronts;
-mod plain;
+mod queries;
+mod values;

@@ -1,4 +1,4 @@
-//! Answers to requests that aren't served, to HEAD, and to conditions.
+//! Answers to requests that aren't served, and to HEAD.
 use super::answers::{Row, WHOLE, Want, expect_answer, expect_called, server_of_f1};
 use super::streams::expect_served;
 use cog_server::{Ended, Served};
@@ -6,7 +6,7 @@ use std::process::Abort;
 use std::test::Fail;
 
 /// An answer without a body and without a tag, that leaves the connection open.
-const BARE: Want = Want {
+pub const BARE: Want = Want {
     head: b"",
     status: 0,
     close: false,
@@ -28,7 +28,7 @@ const OTHER_METHOD: Want = Want {
     ..BARE
 };
 
-const UNKNOWN: Want = Want {
+pub const UNKNOWN: Want = Want {
     head: b"HTTP/1.1 404 Not Found\r\nContent-Length: 0\r\n\r\n",
     status: 404,
     ..BARE
@@ -38,19 +38,6 @@ const UNKNOWN_AND_CLOSED: Want = Want {
     head: b"HTTP/1.1 404 Not Found\r\nContent-Length: 0\r\nConnection: close\r\n\r\n",
     close: true,
     ..UNKNOWN
-};
-
-const FAILED: Want = Want {
-    head: b"HTTP/1.1 412 Precondition Failed\r\nContent-Length: 0\r\n\r\n",
-    status: 412,
-    ..BARE
-};
-
-const UNMODIFIED: Want = Want {
-    head: b"HTTP/1.1 304 Not Modified\r\nETag: \"1-1\"\r\n\r\n",
-    status: 304,
-    named: true,
-    ..BARE
 };
 
 /// The head of the whole file, and no body.
@@ -90,19 +77,8 @@ const HEADS: [Row<'static>; 1] = [
     ("HEAD /a HTTP/1.1\r\nHost: h\r\nRange: bytes=0-0\r\n\r\n", HEAD_OF_THE_FILE),
 ];
 
-/// Requests on conditions.
-#[rattlefmt::skip]
-const CONDITIONS: [Row<'static>; 6] = [
-    ("GET /a HTTP/1.1\r\nHost: h\r\nIf-Match: \"1-2\"\r\n\r\n", FAILED),
-    ("GET /a HTTP/1.1\r\nHost: h\r\nIf-Match: W/\"1-1\"\r\n\r\n", FAILED),
-    ("GET /a HTTP/1.1\r\nHost: h\r\nIf-Match: \"1-2\", \"1-1\"\r\n\r\n", WHOLE),
-    ("HEAD /a HTTP/1.1\r\nHost: h\r\nIf-None-Match: W/\"1-1\"\r\n\r\n", UNMODIFIED),
-    ("GET /a HTTP/1.1\r\nHost: h\r\nIf-None-Match: *\r\n\r\n", UNMODIFIED),
-    ("GET /a HTTP/1.1\r\nHost: h\r\nIf-None-Match: \"1-2\"\r\n\r\n", WHOLE),
-];
-
 /// Expects these answers of a server that has f1.
-fn expect_answers(rt: &(impl Abort + AllocGlobal), rows: &[Row<'_>]) -> Result<(), Fail> {
+pub fn expect_answers(rt: &(impl Abort + AllocGlobal), rows: &[Row<'_>]) -> Result<(), Fail> {
     let f1_alone = server_of_f1(rt.alloc())?;
     for row in rows {
         expect_answer(rt, &f1_alone, *row)?;
@@ -128,11 +104,6 @@ fn finds_no_file_of_another_name(rt: HostRuntime) -> Result<(), Fail> {
 #[test]
 fn answers_head_without_a_body(rt: HostRuntime) -> Result<(), Fail> {
     expect_answers(&rt, &HEADS)
-}
-
-#[test]
-fn evaluates_if_match_strongly_and_if_none_match_weakly(rt: HostRuntime) -> Result<(), Fail> {
-    expect_answers(&rt, &CONDITIONS)
 }
 
 /// Empty lines are no message of a stream, and no head.

@@ -86,9 +86,55 @@ const OF_F3: [Row; 16] = [
     ("a second level of another type", 172, &[0xfe, 0x00, 0x03], PIXEL, &[FieldType(254)]),
 ];
 
+/// What a row says, bytes that are put at places of the file, a query, and all faults that stand, in any order.
+type Changed = (
+    &'static str,
+    &'static [(usize, &'static [u8])],
+    Asked,
+    &'static [FileFault],
+);
+
+#[rattlefmt::skip]
+const SIDE_BY_SIDE_IN_F3: [Changed; 5] = [
+    ("a scale past the end, and key version 2", &[(126, &[0xff; 4]), (352, &[2])], INFO, &[PastEnd, KeyHead]),
+    ("a scale past the end, and location 5", &[(126, &[0xff; 4]), (362, &[5])], INFO, &[PastEnd, KeyPlace]),
+    ("a scale past the end, and a window", &[(126, &[0xff; 4])], PIXEL, &[]),
+    ("offsets of tiles past the end", &[(102, &[0xff; 4])], PIXEL, &[PastEnd]),
+    ("byte counts of tiles past the end", &[(114, &[0xff; 4])], PIXEL, &[PastEnd]),
+];
+
+/// All samples of f4, whose first tile is at 164.
+const ALL_OF_F4: Asked = Some((0, 0, 20, 18, 0));
+
+#[rattlefmt::skip]
+const SIDE_BY_SIDE_IN_F4: [Changed; 4] = [
+    ("packets of a tile, and byte count 0 of the next", &[(164, &[3]), (158, &[0, 0])], ALL_OF_F4, &[TileSize, Packet]),
+    ("packets of a tile, and the last past the end", &[(164, &[3]), (155, &[1])], ALL_OF_F4, &[PastEnd, Packet]),
+    ("packets alone", &[(164, &[3])], ALL_OF_F4, &[Packet]),
+    ("byte count 0 of a tile that the window has not", &[(158, &[0, 0])], PIXEL, &[]),
+];
+
 /// Whether the faults that were found are these.
 fn are_faults(found: &[FileFault], want: &[FileFault]) -> bool {
     found.len() == want.len() && want.iter().all(|fault| found.contains(fault))
+}
+
+/// Expects all faults of a query of a file in which bytes are changed.
+fn expect_faults<R: Abort + AllocGlobal>(
+    rt: &R,
+    fixture: &[u8],
+    (name, changes, asked, want): Changed,
+) -> Result<(), Fail> {
+    let mut file = Vec::from_slice(rt.alloc(), fixture)?;
+    for (place, bytes) in changes {
+        for (here, byte) in file.iter_mut().skip(*place).zip(*bytes) {
+            *here = *byte;
+        }
+    }
+    let found = faults(rt.alloc(), &file, query_of(asked))?;
+    let found = found.ok_or("a level that the plain program doesn't read")?;
+    assert!(rt; are_faults(&found, want), "{name}: {found:?}");
+    Ok(())
 }
 
 /// Expects the faults of each row, of a file with the row's bytes.
@@ -113,6 +159,19 @@ fn tells_all_faults_of_one_tile(rt: HostRuntime) -> Result<(), Fail> {
 #[test]
 fn tells_all_faults_of_levels_and_keys(rt: HostRuntime) -> Result<(), Fail> {
     expect_rows(&rt, &f3(rt.alloc())?, &OF_F3)
+}
+
+#[test]
+fn tells_faults_of_several_changes_side_by_side(rt: HostRuntime) -> Result<(), Fail> {
+    let alloc = rt.alloc();
+    let (third, fourth) = (f3(alloc)?, f4(alloc)?);
+    for row in SIDE_BY_SIDE_IN_F3 {
+        expect_faults(&rt, &third, row)?;
+    }
+    for row in SIDE_BY_SIDE_IN_F4 {
+        expect_faults(&rt, &fourth, row)?;
+    }
+    Ok(())
 }
 
 #[test]
