@@ -23,9 +23,10 @@ returns-clause-asked c =
     let first = c.in_ok-first.first.now in
     let l = c.index-levels-n.result in
     let there = c.in_ok-first.ensures.there in
+    let some = ne_eqb c.args.columns 0 c.if-columns-eq0.false in
     let here = slice_get_read ls (length ls) c.smallest-n.result l refl c.smallest-n.ensures.within c.index-levels-n.is in
-    asked_by ls q c.scaled.result l c.limited.result (rw c.scaled.ensures.number here) c.scaled.ensures.inside (columns_within ls c.args.columns c.args.x c.args.y c.args.w c.args.h first (ne_eqb c.args.columns 0 c.if-columns-eq0.false) there.0 there.1)
-    (columns_rectangle ls c.args.columns c.smallest-n.result c.args.x c.args.y c.args.w c.args.h first l c.scaled.result there.0 c.smallest-n.ensures.value here c.scaled.ensures.rectangle) c.limited.ensures.good
+    asked_by ls q c.scaled.result l c.limited.result (rw c.scaled.ensures.number here) c.scaled.ensures.inside (columns_within ls c.args.columns c.args.x c.args.y c.args.w c.args.h first some there.0 there.1)
+    (columns_rectangle ls c.args.columns c.smallest-n.result c.args.x c.args.y c.args.w c.args.h first l c.scaled.result some there.0 c.smallest-n.ensures.value here c.scaled.ensures.rectangle) c.limited.ensures.good
 
 pub returns-clause-refused : goal.returns-clause-refused
 returns-clause-refused c =
@@ -33,6 +34,7 @@ returns-clause-refused c =
     let q : Query = Window c.args.x c.args.y c.args.w c.args.h (pick.Columns c.args.columns) in
     let first = c.in_ok-first.first.now in
     let l = c.index-levels-n.result in
+    let some = ne_eqb c.args.columns 0 c.if-columns-eq0.false in
     let here = slice_get_read ls (length ls) c.smallest-n.result l refl c.smallest-n.ensures.within c.index-levels-n.is in
     refused_by ls q c.scaled.result l c.limited.result (rw c.scaled.ensures.number here)
-    (columns_rectangle ls c.args.columns c.smallest-n.result c.args.x c.args.y c.args.w c.args.h first l c.scaled.result c.in_ok-first.ensures.there.0 c.smallest-n.ensures.value here c.scaled.ensures.rectangle) c.limited.ensures.large
+    (columns_rectangle ls c.args.columns c.smallest-n.result c.args.x c.args.y c.args.w c.args.h first l c.scaled.result some c.in_ok-first.ensures.there.0 c.smallest-n.ensures.value here c.scaled.ensures.rectangle) c.limited.ensures.large
