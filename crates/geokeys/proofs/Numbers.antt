@@ -92,9 +92,9 @@ in_place order d doubles ascii head is placed bad =
       | inl lt ↦
           let e = entry_at order d i in
           placed i lt (misplaced_by s (key_number s i 1) (key_number s i 2) (key_number s i 3) (Some e.location) (Some e.count) (Some e.first)
-              (key_is order d doubles ascii head i 1 (8 * i + 10) is lt (omega arith) (omega arith))
-              (key_is order d doubles ascii head i 2 (8 * i + 12) is lt (omega arith) (omega arith))
-              (key_is order d doubles ascii head i 3 (8 * i + 14) is lt (omega arith) (omega arith)) bad.1)
+          (key_is order d doubles ascii head i 1 (8 * i + 10) is lt (omega arith) (omega arith))
+          (key_is order d doubles ascii head i 2 (8 * i + 12) is lt (omega arith) (omega arith))
+          (key_is order d doubles ascii head i 3 (8 * i + 14) is lt (omega arith) (omega arith)) bad.1)
       | inr le ↦ no_place s (key_number s i 1) (key_number s i 2) (key_number s i 3) (number_past s head.keys i 1 is.keys le) bad.1
     ]
 

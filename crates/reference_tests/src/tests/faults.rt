@@ -184,7 +184,13 @@ fn tells_no_rectangle_of_no_columns(rt: HostRuntime) -> Result<(), Fail> {
         h: 4096,
         pick,
     };
-    expect_faults(&rt, "all columns", &file, whole(Pick::Level(0)), &[TooLarge])?;
+    expect_faults(
+        &rt,
+        "all columns",
+        &file,
+        whole(Pick::Level(0)),
+        &[TooLarge],
+    )?;
     expect_faults(&rt, "no column", &file, whole(Pick::Columns(0)), &[Outside])
 }
 
