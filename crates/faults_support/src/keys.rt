@@ -3,6 +3,9 @@ use crate::fields::{both, count_of};
 use reference_support::{field, value};
 use tiff_dir::tags::{GEO_ASCII_PARAMS, GEO_DOUBLE_PARAMS, GEO_KEY_DIRECTORY};
 
+/// The fields that a key may point into.
+const KEY_FIELDS: [u16; 2] = [GEO_DOUBLE_PARAMS, GEO_ASCII_PARAMS];
+
 /// Value `i` of the key directory.
 fn key_value(file: &[u8], i: u64) -> Option<u64> {
     value(file, 0, GEO_KEY_DIRECTORY, i)
@@ -56,28 +59,20 @@ fn has_no_items(file: &[u8], tag: u16, count: u64, first: u64) -> bool {
     }
 }
 
-/// Whether the value of a key is at no location that the profile has, or past its end.
-fn is_misplaced(file: &[u8], location: u64, count: u64, first: u64) -> bool {
-    if location == 0 {
-        count != 1
-    } else if location == u64::from(GEO_DOUBLE_PARAMS) {
-        has_no_items(file, GEO_DOUBLE_PARAMS, count, first)
-    } else if location == u64::from(GEO_ASCII_PARAMS) {
-        has_no_items(file, GEO_ASCII_PARAMS, count, first)
-    } else {
-        true
-    }
-}
-
-/// Whether the value of key `i` is misplaced, where all its numbers are in the file.
+/// Whether a key's value is at no location that the profile has, or past its end, as far as its numbers are in the file.
 pub fn is_key_misplaced(file: &[u8], i: u64) -> bool {
-    let numbers = (
-        key_number(file, i, 1),
-        key_number(file, i, 2),
-        key_number(file, i, 3),
-    );
-    match numbers {
-        (Some(location), Some(count), Some(first)) => is_misplaced(file, location, count, first),
-        _ => false,
+    let Some(location) = key_number(file, i, 1) else {
+        return false;
+    };
+    let count = key_number(file, i, 2);
+    if location == 0 {
+        return count.is_some() && count != Some(1);
+    }
+    let Some(tag) = KEY_FIELDS.iter().find(|tag| u64::from(**tag) == location) else {
+        return true;
+    };
+    match both(count, key_number(file, i, 3)) {
+        Some((count, first)) => has_no_items(file, *tag, count, first),
+        None => false,
     }
 }

@@ -45,14 +45,28 @@ fn has_no_tile_side(file: &[u8], k: u32, tag: u16) -> bool {
     }
 }
 
-/// The numbers whose product is how many bytes an unpacked tile has.
-fn tile_factors(file: &[u8], k: u32) -> Option<[u64; 4]> {
+/// How many bytes a sample has: a depth other than 8 and 16 bits says nothing.
+fn sample_size(file: &[u8], k: u32) -> Option<u64> {
+    match value(file, k, BITS_PER_SAMPLE, 0)? {
+        8 => Some(1),
+        16 => Some(2),
+        _ => None,
+    }
+}
+
+/// The numbers whose product is how many bytes a row of an unpacked tile has.
+pub fn row_factors(file: &[u8], k: u32) -> Option<[u64; 3]> {
     Some([
         value(file, k, TILE_WIDTH, 0)?,
-        value(file, k, TILE_LENGTH, 0)?,
         value(file, k, SAMPLES_PER_PIXEL, 0)?,
-        value(file, k, BITS_PER_SAMPLE, 0)? / 8,
+        sample_size(file, k)?,
     ])
+}
+
+/// The numbers whose product is how many bytes an unpacked tile has.
+fn tile_factors(file: &[u8], k: u32) -> Option<[u64; 4]> {
+    let [tile_width, samples, size] = row_factors(file, k)?;
+    Some([tile_width, value(file, k, TILE_LENGTH, 0)?, samples, size])
 }
 
 /// How many bytes an unpacked tile of directory `k` has, where the number has 128 bits.

@@ -1,6 +1,6 @@
 //! What is wrong with a window, and with the tiles that it needs.
 use crate::fields::product;
-use crate::levels::plain_size;
+use crate::levels::{plain_size, row_factors};
 use crate::stands::add_if;
 use reference_support::{
     asked_rectangle, is_outside, is_too_large, level_directory, segment, unpack, value,
@@ -8,9 +8,7 @@ use reference_support::{
 };
 use std::alloc::{AllocError, Global};
 use tiff_dir::limits::MAX_TILE_BYTES;
-use tiff_dir::tags::{
-    BITS_PER_SAMPLE, COMPRESSION, SAMPLES_PER_PIXEL, TILE_BYTE_COUNTS, TILE_WIDTH,
-};
+use tiff_dir::tags::{COMPRESSION, TILE_BYTE_COUNTS};
 use tiff_dir::{FileFault, Query};
 
 /// Whether the byte count of tile `t` is 0, too great, or not the size of a plain tile.
@@ -28,12 +26,7 @@ fn has_wrong_count(file: &[u8], k: u32, t: u64) -> bool {
 
 /// How many bytes a row of an unpacked tile has; a row that is longer than memory is one that no packet crosses.
 fn plain_row(file: &[u8], k: u32) -> Option<usize> {
-    let factors = [
-        value(file, k, TILE_WIDTH, 0)?,
-        value(file, k, SAMPLES_PER_PIXEL, 0)?,
-        value(file, k, BITS_PER_SAMPLE, 0)? / 8,
-    ];
-    let row = product(&factors).unwrap_or(u128::MAX);
+    let row = product(&row_factors(file, k)?).unwrap_or(u128::MAX);
     Some(usize::try_from(row).unwrap_or(usize::MAX))
 }
 

@@ -76,19 +76,26 @@ in_order order d doubles ascii head is ascend bad =
           (elim (key_number s i 0) as (λ (o : Option ℕ). IsSomeAnd o Next → ⊥) [ Some a ↦ λ next. some_none (key_number s (i + 1) 0) (λ b. nat_lt a b ≡ false) none next | None ↦ λ h. h ]) bad.1
     ]
 
+misplaced_by : (s : KeySource) (a b c d e f : Option ℕ) → a ≡ d → b ≡ e → c ≡ f → IsMisplaced s a b c → IsMisplaced s d e f
+misplaced_by s a b c d e f x y z bad =
+    subst (λ (o : Option ℕ). IsMisplaced s o e f) x (subst (λ (o : Option ℕ). IsMisplaced s a o f) y (subst (λ (o : Option ℕ). IsMisplaced s a b o) z bad))
+
+-- a key that isn't there is nowhere misplaced
+no_place : (s : KeySource) (a b c : Option ℕ) → a ≡ None → IsMisplaced s a b c → ⊥
+no_place s a b c none bad = elim (subst (λ (o : Option ℕ). IsMisplaced s o b c) none bad) [ inl one ↦ one | inr more ↦ elim more [ inl items ↦ items | inr other ↦ other ] ]
+
 in_place : (order : Order) (d doubles ascii : List ℕ) (head : Head) → IsHead order d head → ArePlaced order d doubles ascii head.keys → IsKeyMisplaced (key_source order d doubles ascii) → ⊥
 in_place order d doubles ascii head is placed bad =
     let s = key_source order d doubles ascii in
     let i = bad.0 in
-    let First : ℕ → ℕ → Type 0 = λ location count. IsSomeAnd (key_number s i 3) (λ first. IsMisplaced s location count first) in
-    let Count : ℕ → Type 0 = λ location. IsSomeAnd (key_number s i 2) (λ count. First location count) in
     elim (cases_lt i head.keys) [
       | inl lt ↦
           let e = entry_at order d i in
-          let count : Count e.location = and_some (key_number s i 1) e.location Count (key_is order d doubles ascii head i 1 (8 * i + 10) is lt (omega arith) (omega arith)) bad.1 in
-          let first : First e.location e.count = and_some (key_number s i 2) e.count (First e.location) (key_is order d doubles ascii head i 2 (8 * i + 12) is lt (omega arith) (omega arith)) count in
-          placed i lt (and_some (key_number s i 3) e.first (λ f. IsMisplaced s e.location e.count f) (key_is order d doubles ascii head i 3 (8 * i + 14) is lt (omega arith) (omega arith)) first)
-      | inr le ↦ some_none (key_number s i 1) Count (number_past s head.keys i 1 is.keys le) bad.1
+          placed i lt (misplaced_by s (key_number s i 1) (key_number s i 2) (key_number s i 3) (Some e.location) (Some e.count) (Some e.first)
+          (key_is order d doubles ascii head i 1 (8 * i + 10) is lt (omega arith) (omega arith))
+          (key_is order d doubles ascii head i 2 (8 * i + 12) is lt (omega arith) (omega arith))
+          (key_is order d doubles ascii head i 3 (8 * i + 14) is lt (omega arith) (omega arith)) bad.1)
+      | inr le ↦ no_place s (key_number s i 1) (key_number s i 2) (key_number s i 3) (number_past s head.keys i 1 is.keys le) bad.1
     ]
 
 pub no_fault : (order : Order) (d doubles ascii : List ℕ) (head : Head) → IsHead order d head → Ascend order d head.keys → ArePlaced order d doubles ascii head.keys →
@@ -131,8 +138,7 @@ no_fault_of_none order d doubles ascii none KeyOrder bad =
     some_none (key_number s bad.0 0) (λ a. IsSomeAnd (key_number s (bad.0 + 1) 0) (λ b. nat_lt a b ≡ false)) (no_number s bad.0 0 (none_there order d 3 none)) bad.1
 no_fault_of_none order d doubles ascii none KeyPlace bad =
     let s = key_source order d doubles ascii in
-    some_none (key_number s bad.0 1) (λ location. IsSomeAnd (key_number s bad.0 2) (λ count. IsSomeAnd (key_number s bad.0 3) (λ first. IsMisplaced s location count first)))
-    (no_number s bad.0 1 (none_there order d 3 none)) bad.1
+    no_place s (key_number s bad.0 1) (key_number s bad.0 2) (key_number s bad.0 3) (no_number s bad.0 1 (none_there order d 3 none)) bad.1
 no_fault_of_none order d doubles ascii none _ bad = bad
 
 pub no_keys : (order : Order) (d doubles ascii : List ℕ) (geo : Geo) → length d ≡ 0 → geo.minor ≡ 0 → geo.keys.items ≡ [] → AreKeys (key_source order d doubles ascii) order doubles ascii geo
@@ -192,16 +198,15 @@ bad_order order d doubles ascii head k is lt le =
     )
 
 pub bad_place : (order : Order) (d doubles ascii : List ℕ) (head : Head) (k : ℕ) → IsHead order d head → k < head.keys →
-    IsMisplaced (only_items doubles ascii) (entry_at order d k).location (entry_at order d k).count (entry_at order d k).first → IsKeyMisplaced (key_source order d doubles ascii)
+    IsMisplaced (only_items doubles ascii) (Some (entry_at order d k).location) (Some (entry_at order d k).count) (Some (entry_at order d k).first) → IsKeyMisplaced (key_source order d doubles ascii)
 bad_place order d doubles ascii head k is lt bad =
     let s = key_source order d doubles ascii in
     let e = entry_at order d k in (
       k,
-      some_and (key_number s k 1) e.location (λ location. IsSomeAnd (key_number s k 2) (λ count. IsSomeAnd (key_number s k 3) (λ first. IsMisplaced s location count first)))
-          (key_is order d doubles ascii head k 1 (8 * k + 10) is lt (omega arith) (omega arith))
-          (some_and (key_number s k 2) e.count (λ count. IsSomeAnd (key_number s k 3) (λ first. IsMisplaced s e.location count first))
-          (key_is order d doubles ascii head k 2 (8 * k + 12) is lt (omega arith) (omega arith))
-          (some_and (key_number s k 3) e.first (λ first. IsMisplaced s e.location e.count first) (key_is order d doubles ascii head k 3 (8 * k + 14) is lt (omega arith) (omega arith)) bad)),
+      misplaced_by s (Some e.location) (Some e.count) (Some e.first) (key_number s k 1) (key_number s k 2) (key_number s k 3)
+          (sym (key_is order d doubles ascii head k 1 (8 * k + 10) is lt (omega arith) (omega arith)))
+          (sym (key_is order d doubles ascii head k 2 (8 * k + 12) is lt (omega arith) (omega arith)))
+          (sym (key_is order d doubles ascii head k 3 (8 * k + 14) is lt (omega arith) (omega arith))) bad,
     )
 
 -- the value of key k is refused
@@ -210,7 +215,7 @@ pub value_refused : (order : Order) (d doubles ascii : List ℕ) (head : Head) (
 value_refused order d doubles ascii head k entry (File fault) is lt same bad =
     let s = key_source order d doubles ascii in
     let misplaced = bad_place order d doubles ascii head k is lt
-    (subst (λ (e : Entry). IsMisplaced (only_items doubles ascii) e.location e.count e.first) same bad.1) in
+    (subst (λ (e : Entry). IsMisplaced (only_items doubles ascii) (Some e.location) (Some e.count) (Some e.first)) same bad.1) in
     subst (λ (f : FileFault). IsFaultOfKeys s f) (sym bad.0) misplaced
 value_refused order d doubles ascii head k entry Memory is lt same bad = tt
 

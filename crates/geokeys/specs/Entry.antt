@@ -33,9 +33,9 @@ only_items doubles ascii = record { value = λ _. None; count = None; items = it
 
 -- the key's items are in a field
 abbrev pub IsPlaced : List ℕ → List ℕ → Entry → Type 0
-IsPlaced doubles ascii e = IsMisplaced (only_items doubles ascii) e.location e.count e.first → ⊥
+IsPlaced doubles ascii e = IsMisplaced (only_items doubles ascii) (Some e.location) (Some e.count) (Some e.first) → ⊥
 
 -- the key has no value: it is misplaced, or no memory was left
 abbrev pub IsRefusal : List ℕ → List ℕ → Entry → GeoError → Type 0
-IsRefusal doubles ascii e (File fault) = (fault ≡ KeyPlace) × IsMisplaced (only_items doubles ascii) e.location e.count e.first
+IsRefusal doubles ascii e (File fault) = (fault ≡ KeyPlace) × IsMisplaced (only_items doubles ascii) (Some e.location) (Some e.count) (Some e.first)
 IsRefusal doubles ascii e Memory = ⊤

@@ -128,6 +128,7 @@ pub fn asked_rectangle(
                 width: u128::from(w),
                 height: u128::from(h),
             })),
+            Pick::Columns(0) => Ok(None),
             Pick::Columns(columns) => {
                 let n = smallest_level(alloc, file, columns, w)?;
                 scaled(alloc, file, n, x, y, w, h)

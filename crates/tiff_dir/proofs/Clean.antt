@@ -26,7 +26,7 @@ use Rattle.tiff_dir.proofs.Chain.{some_and_from}
 use Rattle.tiff_dir.proofs.Fields.{has_table}
 use Rattle.tiff_dir.proofs.Levels.{fits_cases, profile_fault, value_fault, count_fault, drafted}
 use Rattle.tiff_dir.proofs.Outside.{level_fault, bits_there, bits_outside, bits_value}
-use Rattle.tiff_dir.proofs.Ends.{no_width, tiles_fault, arrays_fault, layout_told}
+use Rattle.tiff_dir.proofs.Ends.{no_width, depth_told, tiles_fault, arrays_fault, layout_told}
 use Rattle.tiff_dir.proofs.Told.{there_below}
 
 abbrev pub IsClean : List ℕ → Type 0
@@ -269,14 +269,15 @@ laid f o k clean order few there level =
     let d = draft_in es in
     let (bits, told) = some_bits f o k es clean order few there level has met right counts in
     let is = drafted f k es has met right in
-    let tiles = not_false (has_tiles d bits) (λ bad. sound TileSize (tiles_fault f k d bits is told bad)) in
+    let depth = not_false (is_depth bits) (λ bad. sound (Unsupported BITS_PER_SAMPLE) (inl (0, some_and_from (value f k BITS_PER_SAMPLE 0) (λ v. accepts BITS_PER_SAMPLE v ≡ false) bits told bad))) in
+    let tiles = not_false (has_tiles d bits) (λ bad. sound TileSize (tiles_fault f k d bits is (depth_told f k bits told depth) bad)) in
     record {
       draft = d;
       bits = bits;
       layout = layout_told f k d bits is told;
       drafted = is;
       told = told;
-      depth = not_false (is_depth bits) (λ bad. sound (Unsupported BITS_PER_SAMPLE) (inl (0, some_and_from (value f k BITS_PER_SAMPLE 0) (λ v. accepts BITS_PER_SAMPLE v ≡ false) bits told bad)));
+      depth = depth;
       samples = count_fits (short_or es SAMPLES_PER_PIXEL 1) (short_or es PHOTOMETRIC_INTERPRETATION 0) right.samples;
       sides = not_false (has_sides d) (λ bad. sound LevelShape (no_width f k d is bad));
       tiles = tiles;

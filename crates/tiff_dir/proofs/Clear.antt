@@ -175,10 +175,15 @@ scaled_is : (f : List ℕ) (n first_width first_length width length x y w h : �
 unfolding scaled
 scaled_is f n first_width first_length width length x y w h a b c d = rw (a, b, c, d) refl
 
+by_columns : (f : List ℕ) (x y w h columns : ℕ) (r : Rectangle) → (columns == 0) ≡ false → scaled f (smallest_level f columns w) x y w h ≡ Some r → rectangle f (Window x y w h (pick.Columns columns)) ≡ Some r
+unfolding rectangle
+by_columns f x y w h columns r some is = rw some is
+
 asked_by_columns : (f : List ℕ) (x y w h columns : ℕ) → IsClean f → is_outside f (Window x y w h (pick.Columns columns)) ≡ false → IsAsked f (Window x y w h (pick.Columns columns))
-unfolding is_outside rectangle
+unfolding is_outside
 asked_by_columns f x y w h columns clean inside =
-    let at = in_level f 0 x y w h clean (or_parts (columns == 0) (is_outside_level f 0 x y w h) inside).1 in
+    let (some, within) = or_parts (columns == 0) (is_outside_level f 0 x y w h) inside in
+    let at = in_level f 0 x y w h clean within in
     let first = at.level.laid.draft in
     let n = smallest_level f columns w in
     let (k, there) = directory_of_level f n (smallest_there f columns w (level_there f 0 at.level.directory at.level.there)) in
@@ -191,7 +196,7 @@ asked_by_columns f x y w h columns clean inside =
     let bottom = up_to here.length first.length (y + h) (ltb-true 0 first.length sides.1) at.bottom in
     record {
       asked = outwards n first.width first.length here.width here.length x y w h;
-      asked_is = scaled_is f n first.width first.length here.width here.length x y w h at.width at.length width long;
+      asked_is = by_columns f x y w h columns (outwards n first.width first.length here.width here.length x y w h) some (scaled_is f n first.width first.length here.width here.length x y w h at.width at.length width long);
       placed = record { level = l; columns = λ i less. omega (arith, less, right); rows = λ j less. omega (arith, less, bottom) };
     }
 

@@ -12,11 +12,11 @@ use Rattle.tiff_dir.specs.declared.query.Pick.TheVariants as pick
 use Rattle.tiff_dir.specs.declared.order.Order.TheVariants.{Little}
 use Rattle.tiff_dir.specs.Number.{number_in}
 use Rattle.tiff_dir.specs.File.{order_of, number, directory, has_directory, directories, entry_count, field_at, fields_from, fields, has_all_tags, field, values_at, field_value, value}
-use Rattle.tiff_dir.specs.Level.{is_level, level_directories, place_of, grid_at, layout_at, level_directory, level_grid, level_value}
+use Rattle.tiff_dir.specs.Level.{is_level, level_directories, place_of, grid_at, layout_at, level_directory, level_grid, level_value, depth_at, plain_size_at}
 use Rattle.tiff_dir.specs.Profile.{accepts, is_tile_side, max_tile_bytes}
 use Rattle.tiff_dir.specs.Needs.{count_range, table_range, field_range, outside_range, ranges_of_directory, needs_of_directories, ends_past, outside_ranges}
 use Rattle.tiff_dir.specs.Query.{Rectangle, rectangle, is_outside, is_too_large, tiles_in, window_tiles, array_range, tile_range, grouped_after, grouped, groups, array_ranges, needs_of_query}
-use Rattle.tiff_dir.specs.Fault.{plain_bytes, IsUnsupported, IsFaultOfLevel, IsFaultOfDirectories}
+use Rattle.tiff_dir.specs.Fault.{IsUnsupported, IsFaultOfLevel, IsFaultOfDirectories}
 use Rattle.tiff_dir.specs.Faulty.{is_byte_count, level_plain_size, IsNotPlainSize, HasBadTile, IsFaulty}
 use Rattle.tiff_dir.proofs.Fixtures.{header, one_directory, one_tile}
 
@@ -48,7 +48,7 @@ abbrev with_count : ℕ → ℕ → List ℕ
 with_count compression count = header Little ++ one_directory Little 8 compression count ++ range_with_len 0 256
 
 count-too-small : IsFaulty (with_count 1 255) first_sample TileSize
-unfolding IsFaulty level_plain_size plain_bytes number_in order_of number directory has_directory directories entry_count field_at fields_from fields has_all_tags field values_at field_value value is_level level_directories place_of grid_at layout_at level_directory level_grid level_value count_range table_range field_range outside_range ranges_of_directory outside_ranges needs_of_directories rectangle is_outside is_too_large tiles_in window_tiles array_range tile_range grouped_after grouped groups array_ranges needs_of_query
+unfolding IsFaulty level_plain_size depth_at plain_size_at number_in order_of number directory has_directory directories entry_count field_at fields_from fields has_all_tags field values_at field_value value is_level level_directories place_of grid_at layout_at level_directory level_grid level_value count_range table_range field_range outside_range ranges_of_directory outside_ranges needs_of_directories rectangle is_outside is_too_large tiles_in window_tiles array_range tile_range grouped_after grouped groups array_ranges needs_of_query
 count-too-small = inr (record {
   level = 0;
   tile = 0;
@@ -144,21 +144,21 @@ tile-length : value good 0 TILE_LENGTH 0 ≡ Some 16
 unfolding number_in order_of number directory has_directory directories entry_count field_at fields_from fields has_all_tags field values_at field_value value is_level level_directories place_of grid_at layout_at level_directory level_grid level_value count_range table_range field_range outside_range ranges_of_directory outside_ranges needs_of_directories rectangle is_outside is_too_large tiles_in window_tiles array_range tile_range grouped_after grouped groups array_ranges needs_of_query
 tile-length = refl
 
-plain-bytes : plain_bytes good 0 ≡ Some 256
-unfolding plain_bytes number_in order_of number directory has_directory directories entry_count field_at fields_from fields has_all_tags field values_at field_value value is_level level_directories place_of grid_at layout_at level_directory level_grid level_value count_range table_range field_range outside_range ranges_of_directory outside_ranges needs_of_directories rectangle is_outside is_too_large tiles_in window_tiles array_range tile_range grouped_after grouped groups array_ranges needs_of_query
-plain-bytes = refl
+plain-size : plain_size_at good 0 ≡ Some 256
+unfolding depth_at plain_size_at number_in order_of number directory has_directory directories entry_count field_at fields_from fields has_all_tags field values_at field_value value is_level level_directories place_of grid_at layout_at level_directory level_grid level_value count_range table_range field_range outside_range ranges_of_directory outside_ranges needs_of_directories rectangle is_outside is_too_large tiles_in window_tiles array_range tile_range grouped_after grouped groups array_ranges needs_of_query
+plain-size = refl
 
 good-sides : IsFaultOfLevel good 0 TileSize → ⊥
 good-sides (inl bad) = let wrong : is_tile_side 16 ≡ false = subst (λ o. IsSomeAnd o (λ side. is_tile_side side ≡ false)) tile-width bad in cc
 good-sides (inr (inl bad)) = let wrong : is_tile_side 16 ≡ false = subst (λ o. IsSomeAnd o (λ side. is_tile_side side ≡ false)) tile-length bad in cc
-good-sides (inr (inr bad)) = let wrong : nat_le 256 max_tile_bytes ≡ false = subst (λ o. IsSomeAnd o (λ n. nat_le n max_tile_bytes ≡ false)) plain-bytes bad in cc
+good-sides (inr (inr bad)) = let wrong : nat_le 256 max_tile_bytes ≡ false = subst (λ o. IsSomeAnd o (λ n. nat_le n max_tile_bytes ≡ false)) plain-size bad in cc
 
 only-tile : window_tiles good first_sample ≡ 0 ∷ []
 unfolding number_in order_of number directory has_directory directories entry_count field_at fields_from fields has_all_tags field values_at field_value value is_level level_directories place_of grid_at layout_at level_directory level_grid level_value count_range table_range field_range outside_range ranges_of_directory outside_ranges needs_of_directories rectangle is_outside is_too_large tiles_in window_tiles array_range tile_range grouped_after grouped groups array_ranges needs_of_query
 only-tile = refl
 
 size-is : level_plain_size good 0 ≡ Some 256
-unfolding level_plain_size plain_bytes number_in order_of number directory has_directory directories entry_count field_at fields_from fields has_all_tags field values_at field_value value is_level level_directories place_of grid_at layout_at level_directory level_grid level_value count_range table_range field_range outside_range ranges_of_directory outside_ranges needs_of_directories rectangle is_outside is_too_large tiles_in window_tiles array_range tile_range grouped_after grouped groups array_ranges needs_of_query
+unfolding level_plain_size depth_at plain_size_at number_in order_of number directory has_directory directories entry_count field_at fields_from fields has_all_tags field values_at field_value value is_level level_directories place_of grid_at layout_at level_directory level_grid level_value count_range table_range field_range outside_range ranges_of_directory outside_ranges needs_of_directories rectangle is_outside is_too_large tiles_in window_tiles array_range tile_range grouped_after grouped groups array_ranges needs_of_query
 size-is = refl
 
 count-is : level_value good 0 TILE_BYTE_COUNTS 0 ≡ Some 256

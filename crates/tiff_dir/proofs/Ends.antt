@@ -20,10 +20,10 @@ use Rattle.tiff_dir.specs.declared.stage.Stage.{Stage}
 use Rattle.tiff_dir.specs.declared.fault.FileFault.{FileFault}
 use Rattle.tiff_dir.specs.declared.fault.FileFault.TheVariants.{Missing, FieldType, Unsupported, LevelShape, TileSize, TileArray}
 use Rattle.tiff_dir.specs.File.{◌>>=◌, Field, kind_of, size_of, values_at, field, value}
-use Rattle.tiff_dir.specs.Profile.{subfile_rule, profile, samples_fit, is_sample_count, is_long, is_short_or_long, is_tile_side, tile_bytes, max_tile_bytes, max_tiles}
+use Rattle.tiff_dir.specs.Profile.{subfile_rule, profile, samples_fit, is_depth, is_sample_count, is_long, is_short_or_long, is_tile_side, tile_bytes, max_tile_bytes, max_tiles}
 use Rattle.tiff_dir.specs.Described.{described, layout_of}
-use Rattle.tiff_dir.specs.Level.{Grid, Layout, grid_at, previous_level, place_of, compression_of, layout_at}
-use Rattle.tiff_dir.specs.Fault.{is_smaller, sides, plain_bytes, directory_tiles, IsUnsupported, IsNotSmaller, IsNoTileArray, IsFaultOfLevel, IsFaultAt}
+use Rattle.tiff_dir.specs.Level.{Grid, Layout, grid_at, previous_level, place_of, compression_of, layout_at, depth_at, plain_size_at}
+use Rattle.tiff_dir.specs.Fault.{is_smaller, sides, directory_tiles, IsUnsupported, IsNotSmaller, IsNoTileArray, IsFaultOfLevel, IsFaultAt}
 use Rattle.tiff_dir.specs.Shape.{has_sides, fits_under, has_tiles, draft_tiles, has_arrays, layout_from, IsShaped, IsShapeFault}
 use Rattle.tiff_dir.specs.Stage.{index_of, Follows, IsAt, IsBefore, IsBounded, IsDraft, IsDrafted, IsPending, IsSupported, EndsDirectory}
 use Rattle.tiff_dir.proofs.Chain.{some_and_at, some_and_from, goes_on}
@@ -137,8 +137,12 @@ no_sides_fault f k d previous is before good (inr (inr bad)) = not_smaller f k d
 
 -- The tiles
 
-plain_drafted : (f : List ℕ) (k : ℕ) (d : Draft) (bits : ℕ) → IsDrafted f k d → value f k BITS_PER_SAMPLE 0 ≡ Some bits → plain_bytes f k ≡ Some (tile_bytes d.tile_width d.tile_length d.samples bits)
-unfolding plain_bytes
+pub depth_told : (f : List ℕ) (k bits : ℕ) → value f k BITS_PER_SAMPLE 0 ≡ Some bits → is_depth bits ≡ true → depth_at f k ≡ Some bits
+unfolding depth_at
+depth_told f k bits told depth = rw told (rw depth refl)
+
+plain_drafted : (f : List ℕ) (k : ℕ) (d : Draft) (bits : ℕ) → IsDrafted f k d → depth_at f k ≡ Some bits → plain_size_at f k ≡ Some (tile_bytes d.tile_width d.tile_length d.samples bits)
+unfolding plain_size_at
 plain_drafted f k d bits is told = rw (is.tile_width, is.tile_length, is.samples, told) refl
 
 pub tiles_parts : (d : Draft) (bits : ℕ) → has_tiles d bits ≡ true → (is_tile_side d.tile_width ≡ true) × (is_tile_side d.tile_length ≡ true) × (nat_le (tile_bytes d.tile_width d.tile_length d.samples bits) max_tile_bytes ≡ true)
@@ -147,19 +151,19 @@ tiles_parts d bits good =
     let two = and_parts (is_tile_side d.tile_length) (nat_le (tile_bytes d.tile_width d.tile_length d.samples bits) max_tile_bytes) one.1 in
     (one.0, two.0, two.1)
 
-pub tiles_fault : (f : List ℕ) (k : ℕ) (d : Draft) (bits : ℕ) → IsDrafted f k d → value f k BITS_PER_SAMPLE 0 ≡ Some bits → has_tiles d bits ≡ false → IsFaultOfLevel f k TileSize
+pub tiles_fault : (f : List ℕ) (k : ℕ) (d : Draft) (bits : ℕ) → IsDrafted f k d → depth_at f k ≡ Some bits → has_tiles d bits ≡ false → IsFaultOfLevel f k TileSize
 tiles_fault f k d bits is told bad = elim (and_cases (is_tile_side d.tile_width) (is_tile_side d.tile_length && nat_le (tile_bytes d.tile_width d.tile_length d.samples bits) max_tile_bytes) bad) [
   | inl h ↦ inl (some_and_from (value f k TILE_WIDTH 0) (λ s. is_tile_side s ≡ false) d.tile_width is.tile_width h)
   | inr h ↦ elim (and_cases (is_tile_side d.tile_length) (nat_le (tile_bytes d.tile_width d.tile_length d.samples bits) max_tile_bytes) h) [
     | inl g ↦ inr (inl (some_and_from (value f k TILE_LENGTH 0) (λ s. is_tile_side s ≡ false) d.tile_length is.tile_length g))
-    | inr g ↦ inr (inr (some_and_from (plain_bytes f k) (λ n. nat_le n max_tile_bytes ≡ false) _ (plain_drafted f k d bits is told) g))
+    | inr g ↦ inr (inr (some_and_from (plain_size_at f k) (λ n. nat_le n max_tile_bytes ≡ false) _ (plain_drafted f k d bits is told) g))
   ]
 ]
 
-no_tiles_fault : (f : List ℕ) (k : ℕ) (d : Draft) (bits : ℕ) → IsDrafted f k d → value f k BITS_PER_SAMPLE 0 ≡ Some bits → has_tiles d bits ≡ true → IsFaultOfLevel f k TileSize → ⊥
+no_tiles_fault : (f : List ℕ) (k : ℕ) (d : Draft) (bits : ℕ) → IsDrafted f k d → depth_at f k ≡ Some bits → has_tiles d bits ≡ true → IsFaultOfLevel f k TileSize → ⊥
 no_tiles_fault f k d bits is told good (inl bad) = false≢true (sym (some_and_at (value f k TILE_WIDTH 0) (λ s. is_tile_side s ≡ false) d.tile_width is.tile_width bad) ∙ (tiles_parts d bits good).0)
 no_tiles_fault f k d bits is told good (inr (inl bad)) = false≢true (sym (some_and_at (value f k TILE_LENGTH 0) (λ s. is_tile_side s ≡ false) d.tile_length is.tile_length bad) ∙ (tiles_parts d bits good).1)
-no_tiles_fault f k d bits is told good (inr (inr bad)) = false≢true (sym (some_and_at (plain_bytes f k) (λ n. nat_le n max_tile_bytes ≡ false) _ (plain_drafted f k d bits is told) bad) ∙ (tiles_parts d bits good).2)
+no_tiles_fault f k d bits is told good (inr (inr bad)) = false≢true (sym (some_and_at (plain_size_at f k) (λ n. nat_le n max_tile_bytes ≡ false) _ (plain_drafted f k d bits is told) bad) ∙ (tiles_parts d bits good).2)
 
 side_some : (side : ℕ) → is_tile_side side ≡ true → nat_lt 0 side ≡ true
 side_some side good = (and_parts (nat_lt 0 side) (side % 16 == 0) good).0
@@ -219,7 +223,7 @@ no_arrays_fault f k d bits is tiles good (inr (inr bad)) = no_array_fault f k TI
 
 -- The level as a whole
 
-pub shape_fault : (f : List ℕ) (k : ℕ) (d : Draft) (bits : ℕ) (previous : Option Level) (fault : FileFault) → IsDrafted f k d → value f k BITS_PER_SAMPLE 0 ≡ Some bits → IsBefore f k previous → IsShapeFault previous d bits fault → IsFaultOfLevel f k fault
+pub shape_fault : (f : List ℕ) (k : ℕ) (d : Draft) (bits : ℕ) (previous : Option Level) (fault : FileFault) → IsDrafted f k d → depth_at f k ≡ Some bits → IsBefore f k previous → IsShapeFault previous d bits fault → IsFaultOfLevel f k fault
 shape_fault f k d bits previous LevelShape is told before bad = sides_fault f k d previous is before bad
 shape_fault f k d bits previous TileSize is told before bad = tiles_fault f k d bits is told bad
 shape_fault f k d bits previous TileArray is told before bad = arrays_fault f k d bits is bad.0 bad.1
@@ -237,7 +241,7 @@ unsupported_clean f p tag is bits formats bad = elim (cases_eq tag BITS_PER_SAMP
 -- a level whose values are all read
 pub record IsRead (f : List ℕ) (p : Pending) (bits : ℕ) (previous : Option Level) : Type 0 where
   pub pending : IsPending f p
-  pub told : value f p.index BITS_PER_SAMPLE 0 ≡ Some bits
+  pub told : depth_at f p.index ≡ Some bits
   pub depths : IsSupported f p.index BITS_PER_SAMPLE
   pub formats : IsSupported f p.index SAMPLE_FORMAT
   pub before : IsBefore f p.index previous

@@ -21,18 +21,18 @@ use Rattle.tiff_dir.specs.declared.fault.FileFault.TheVariants.{TileSize, Packet
 use Rattle.tiff_dir.specs.Number.{number_in}
 use Rattle.tiff_dir.specs.File.{◌>>=◌, Field, kind_of, size_of, values_at, field, value}
 use Rattle.tiff_dir.specs.Profile.{sample_bytes, is_sample_count, max_tiles}
-use Rattle.tiff_dir.specs.Level.{Layout, place_of, level_value, segment, plain_size, plain_row, tile_total}
+use Rattle.tiff_dir.specs.Level.{Layout, place_of, level_value, segment, plain_size, plain_row, plain_row_at, plain_size_at, tile_total}
 use Rattle.tiff_dir.specs.Needs.{Extent, extent_of_place}
 use Rattle.tiff_dir.specs.Walk.{bytes_in}
 use Rattle.tiff_dir.specs.Query.{Rectangle, Group, groups, tile_range, array_range, window_tiles}
 use Rattle.tiff_dir.specs.Window.{IsUnpackedBy, IsUnpacked, tile_at, place_in_tile, sample_in, IsSample}
-use Rattle.tiff_dir.specs.Fault.{plain_bytes}
 use Rattle.tiff_dir.specs.Faulty.{IsTileOfWindow, level_compression, level_plain_size, level_plain_row, is_byte_count, IsNotPlainSize, IsFaulty, IsWindow}
 use Rattle.tiff_dir.specs.Shape.{draft_tiles, has_arrays}
 use Rattle.tiff_dir.proofs.Chain.{some_and_from}
 use Rattle.tiff_dir.proofs.Clean.{In, in_left, in_right, in_option, named, not_false}
 use Rattle.tiff_dir.proofs.Covered.{IsPixelOf, tile_inside, pixel_tile, among_in, covered}
 use Rattle.tiff_dir.proofs.Clear.{IsLaidLevel, layout_of_level, layout_there, IsAsked, asked, IsClear, clear, not_outside, tiles_are, groups_are, arrays_inside, group_inside}
+use Rattle.tiff_dir.proofs.Ends.{depth_told}
 use Rattle.tiff_dir.proofs.Told.{offsets_at, counts_at}
 use Rattle.tiff_dir.proofs.TileValues.{offset_told, count_told}
 
@@ -123,12 +123,12 @@ unfolding level_value
 compression_there f n l = rw l.there l.laid.drafted.compression
 
 size_there : (f : List ℕ) (n : ℕ) (l : IsLaidLevel f n) → level_plain_size f n ≡ Some (plain_size (layout_of_level f n l))
-unfolding level_plain_size plain_bytes
-size_there f n l = rw l.there (rw (l.laid.drafted.tile_width, l.laid.drafted.tile_length, l.laid.drafted.samples, l.laid.told) refl)
+unfolding level_plain_size plain_size_at
+size_there f n l = rw l.there (rw (l.laid.drafted.tile_width, l.laid.drafted.tile_length, l.laid.drafted.samples, depth_told f l.directory l.laid.bits l.laid.told l.laid.depth) refl)
 
 row_there : (f : List ℕ) (n : ℕ) (l : IsLaidLevel f n) → level_plain_row f n ≡ Some (plain_row (layout_of_level f n l))
-unfolding level_plain_row level_value
-row_there f n l = rw l.there (rw (l.laid.drafted.tile_width, l.laid.drafted.samples, l.laid.told) refl)
+unfolding level_plain_row plain_row_at
+row_there f n l = rw l.there (rw (l.laid.drafted.tile_width, l.laid.drafted.samples, depth_told f l.directory l.laid.bits l.laid.told l.laid.depth) refl)
 
 tile_of_window : (f : List ℕ) (q : Query) (t : ℕ) (a : IsAsked f q) → In t (window_tiles f q) → IsTileOfWindow f q a.asked.level t
 tile_of_window f q t a there = record { asked = a.asked; asked_is = a.asked_is; level_is = refl; among = among_in t (window_tiles f q) there }

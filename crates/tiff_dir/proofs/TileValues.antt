@@ -15,10 +15,10 @@ use Rattle.tiff_dir.specs.declared.level.Kind.TheVariants as kind
 use Rattle.tiff_dir.specs.Number.{number_in}
 use Rattle.tiff_dir.specs.File.{◌>>=◌, Field, order_of, number, kind_of, size_of, values_at, field, field_value, value, absent_value}
 use Rattle.tiff_dir.specs.Described.{grid_of, layout_of}
-use Rattle.tiff_dir.specs.Fault.{plain_bytes}
 use Rattle.tiff_dir.specs.Faulty.{level_compression, level_plain_size, level_plain_row}
-use Rattle.tiff_dir.specs.Level.{Layout, place_of, compression_of, grid_at, level_directory, level_grid, level_layout, level_value, plain_row, plain_size}
+use Rattle.tiff_dir.specs.Level.{Layout, place_of, compression_of, grid_at, level_directory, level_grid, level_layout, level_value, plain_row, plain_size, plain_row_at, plain_size_at}
 use Rattle.tiff_dir.specs.Walk.{IsArrayOf, IsDescribed}
+use Rattle.tiff_dir.proofs.Ends.{depth_told}
 use Rattle.tiff_dir.proofs.Parts.{number_part}
 use Rattle.tiff_dir.proofs.Ends.{grid_told, layout_parts}
 use Rattle.tiff_dir.proofs.Told.{layout_found}
@@ -116,12 +116,12 @@ compression_of_level f n k l there told = rw there told
 
 size_of_level : (f : List ℕ) (n k : ℕ) (l : Level) → level_directory f n ≡ Some k → value f k TILE_WIDTH 0 ≡ Some l.tile_width → value f k TILE_LENGTH 0 ≡ Some l.tile_length → value f k SAMPLES_PER_PIXEL 0 ≡ Some l.samples → value f k BITS_PER_SAMPLE 0 ≡ Some l.bits
     → level_plain_size f n ≡ Some (plain_size (layout_of l))
-unfolding level_plain_size plain_bytes
-size_of_level f n k l there width length samples bits = rw there (rw (width, length, samples, bits) refl)
+unfolding level_plain_size plain_size_at
+size_of_level f n k l there width length samples bits = rw there (rw (width, length, samples, depth_told f k l.bits bits (l.depth)) refl)
 
-row_of_level : (f : List ℕ) (n : ℕ) (l : Level) → level_value f n TILE_WIDTH 0 ≡ Some l.tile_width → level_value f n SAMPLES_PER_PIXEL 0 ≡ Some l.samples → level_value f n BITS_PER_SAMPLE 0 ≡ Some l.bits → level_plain_row f n ≡ Some (plain_row (layout_of l))
-unfolding level_plain_row
-row_of_level f n l width samples bits = rw (width, samples, bits) refl
+row_of_level : (f : List ℕ) (n k : ℕ) (l : Level) → level_directory f n ≡ Some k → value f k TILE_WIDTH 0 ≡ Some l.tile_width → value f k SAMPLES_PER_PIXEL 0 ≡ Some l.samples → value f k BITS_PER_SAMPLE 0 ≡ Some l.bits → level_plain_row f n ≡ Some (plain_row (layout_of l))
+unfolding level_plain_row plain_row_at
+row_of_level f n k l there width samples bits = rw there (rw (width, samples, depth_told f k l.bits bits (l.depth)) refl)
 
 pub described_by : (f : List ℕ) (n : ℕ) (l : Level) → level_layout f n ≡ Some (layout_of l) → IsDescribed f n l
 described_by f n l level =
@@ -138,5 +138,5 @@ described_by f n l level =
       grid = grid_of_level f n k l there is.0;
       compression = compression_of_level f n k l there is.3;
       plain_size = size_of_level f n k l there grid.2 grid.3 is.1 is.2;
-      plain_row = row_of_level f n l (level_value_at f n k TILE_WIDTH 0 l.tile_width there grid.2) (level_value_at f n k SAMPLES_PER_PIXEL 0 l.samples there is.1) (level_value_at f n k BITS_PER_SAMPLE 0 l.bits there is.2);
+      plain_row = row_of_level f n k l there grid.2 is.1 is.2;
     }

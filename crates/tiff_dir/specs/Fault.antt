@@ -10,8 +10,8 @@ use Rattle.tiff_dir.specs.declared.rule.Count.TheVariants.{One, Samples, Tiles, 
 use Rattle.tiff_dir.specs.declared.fault.FileFault.{FileFault}
 use Rattle.tiff_dir.specs.declared.fault.FileFault.TheVariants.{Header, PastEnd, DirPlace, DirCount, TagOrder, TooManyDirs, Missing, FieldType, Unsupported, LevelShape, TileArray, TileSize}
 use Rattle.tiff_dir.specs.File.{max_directories, ◌>>=◌, order_of, number, directory, has_directory, entry_count, Field, fields, has_all_tags, field, value}
-use Rattle.tiff_dir.specs.Profile.{subfile_rule, profile, has_typing, is_multiple, accepts, samples_fit, planes_fit, is_tile_side, tile_bytes, max_tile_bytes, max_tiles}
-use Rattle.tiff_dir.specs.Level.{is_level, previous_level, grid_at, tile_total}
+use Rattle.tiff_dir.specs.Profile.{subfile_rule, profile, has_typing, is_multiple, accepts, samples_fit, planes_fit, is_tile_side, max_tile_bytes, max_tiles}
+use Rattle.tiff_dir.specs.Level.{is_level, previous_level, grid_at, plain_size_at, tile_total}
 use Rattle.tiff_dir.specs.Needs.{is_entry_count, ends_past, needs_of_directories}
 
 -- the bytes that name the order are there and are neither pair, or the number after them isn't 42
@@ -84,15 +84,6 @@ IsNotSmaller f k =
     IsSomeAnd (previous_level f k) (λ before.
     IsSomeAnd (sides f k) (λ here. IsSomeAnd (sides f before) (λ there. is_smaller here there ≡ false)))
 
--- how many bytes a tile of the directory has when it is unpacked
-unfoldable pub plain_bytes : List ℕ → ℕ → Option ℕ
-plain_bytes f k = do
-  tile_width ← value f k TILE_WIDTH 0
-  tile_length ← value f k TILE_LENGTH 0
-  samples ← value f k SAMPLES_PER_PIXEL 0
-  bits ← value f k BITS_PER_SAMPLE 0
-  Some (tile_bytes tile_width tile_length samples bits)
-
 -- how many tiles a directory has, by its grid
 unfoldable pub directory_tiles : List ℕ → ℕ → Option ℕ
 directory_tiles f k = do
@@ -123,7 +114,7 @@ IsFaultOfLevel f k (FieldType tag) = Any (λ rule. IsRuleFault f k rule (FieldTy
 IsFaultOfLevel f k (Unsupported tag) = IsUnsupported f k tag
 IsFaultOfLevel f k LevelShape = HasNoSide f k IMAGE_WIDTH ⊎ (HasNoSide f k IMAGE_LENGTH ⊎ IsNotSmaller f k)
 IsFaultOfLevel f k TileSize =
-    IsNoTileSide f k TILE_WIDTH ⊎ (IsNoTileSide f k TILE_LENGTH ⊎ IsSomeAnd (plain_bytes f k) (λ n. nat_le n max_tile_bytes ≡ false))
+    IsNoTileSide f k TILE_WIDTH ⊎ (IsNoTileSide f k TILE_LENGTH ⊎ IsSomeAnd (plain_size_at f k) (λ n. nat_le n max_tile_bytes ≡ false))
 IsFaultOfLevel f k TileArray =
     IsSomeAnd (directory_tiles f k) (λ n. nat_le n max_tiles ≡ false) ⊎ (IsNoTileArray f k TILE_OFFSETS ⊎ IsNoTileArray f k TILE_BYTE_COUNTS)
 IsFaultOfLevel f k _ = ⊥

@@ -1,6 +1,6 @@
 -- What is wrong with a file for a query, and what its window is.
-use Rattle.tiff_dir.specs.declared.tags.TheConstants.{BITS_PER_SAMPLE, COMPRESSION, SAMPLES_PER_PIXEL, TILE_BYTE_COUNTS, TILE_WIDTH}
-use Rattle.std.specs.Prelude.{◌≡◌, ℕ, ◌⊎◌, Bool, true, false, ◌&&◌, nat_lt, nat_le, ◌*◌, ◌==◌, List, length, Option, Some, IsSomeAnd}
+use Rattle.tiff_dir.specs.declared.tags.TheConstants.{COMPRESSION, TILE_BYTE_COUNTS}
+use Rattle.std.specs.Prelude.{◌≡◌, ℕ, ◌⊎◌, Bool, true, false, ◌&&◌, nat_lt, nat_le, ◌==◌, List, length, Option, Some, IsSomeAnd}
 use Rattle.std.specs.List.{list_any, IsAmong}
 use Rattle.tiff_dir.specs.declared.level.Compression.{Compression}
 use Rattle.tiff_dir.specs.declared.level.Compression.TheVariants.{Plain, PackBits}
@@ -10,11 +10,11 @@ use Rattle.tiff_dir.specs.declared.fault.FileFault.{FileFault}
 use Rattle.tiff_dir.specs.declared.fault.FileFault.TheVariants.{PastEnd, TileSize, Packet, Outside, TooLarge}
 use Rattle.tiff_dir.specs.File.{◌>>=◌}
 use Rattle.tiff_dir.specs.Packets.{Packs}
-use Rattle.tiff_dir.specs.Profile.{max_tile_bytes, sample_bytes}
-use Rattle.tiff_dir.specs.Level.{compression_of, level_directory, level_value, segment}
+use Rattle.tiff_dir.specs.Profile.{max_tile_bytes}
+use Rattle.tiff_dir.specs.Level.{compression_of, level_directory, level_value, plain_row_at, plain_size_at, segment}
 use Rattle.tiff_dir.specs.Needs.{ends_past}
 use Rattle.tiff_dir.specs.Geo.{IsGeoFault, IsKeyFault}
-use Rattle.tiff_dir.specs.Fault.{plain_bytes, IsFaultOfDirectories}
+use Rattle.tiff_dir.specs.Fault.{IsFaultOfDirectories}
 use Rattle.tiff_dir.specs.Query.{Rectangle, rectangle, is_outside, is_too_large, window_tiles, needs_of_query}
 use Rattle.tiff_dir.specs.Window.{HasSamples}
 
@@ -25,20 +25,15 @@ pub record IsTileOfWindow (f : List ℕ) (q : Query) (n t : ℕ) : Type 0 where
   pub level_is : asked.level ≡ n
   pub among : IsAmong (window_tiles f q) t
 
--- how the tiles of level n are packed, and how many bytes one has when it is unpacked
+-- how the tiles of level n are packed, and how many bytes a row of one has when it is unpacked, and the tile
 abbrev pub level_compression : List ℕ → ℕ → Option Compression
 level_compression f n = level_value f n COMPRESSION 0 >>= compression_of
 
-unfoldable pub level_plain_size : List ℕ → ℕ → Option ℕ
-level_plain_size f n = level_directory f n >>= plain_bytes f
-
--- how many bytes a row of a tile has, when it is unpacked
 unfoldable pub level_plain_row : List ℕ → ℕ → Option ℕ
-level_plain_row f n = do
-  tile_width ← level_value f n TILE_WIDTH 0
-  samples ← level_value f n SAMPLES_PER_PIXEL 0
-  bits ← level_value f n BITS_PER_SAMPLE 0
-  Some (tile_width * samples * sample_bytes bits)
+level_plain_row f n = level_directory f n >>= plain_row_at f
+
+unfoldable pub level_plain_size : List ℕ → ℕ → Option ℕ
+level_plain_size f n = level_directory f n >>= plain_size_at f
 
 -- a tile may have so many bytes
 abbrev pub is_byte_count : ℕ → Bool

@@ -39,21 +39,29 @@ IsBadKeyHead s =
 abbrev pub IsKeyDisorder : KeySource → Type 0
 IsKeyDisorder s = (i : ℕ) × IsMisfit nat_lt (key_number s i 0) (key_number s (i + 1) 0)
 
--- the items from an index on end past those of the field
-abbrev pub HasNoItems : KeySource → ℕ → ℕ → ℕ → Type 0
-HasNoItems s location count first = (0 < count) × IsSomeAnd (s.items location) (λ items. items < first + count)
+-- location 0 is the value itself, and has one
+abbrev pub HasNotOne : ℕ → Option ℕ → Type 0
+HasNotOne location count = (location ≡ 0) × IsSomeAnd count (λ n. n ≢ 1)
 
--- Location 0 has one value, the offset itself; the other two fields have the items that the key counts.
-abbrev pub IsMisplaced : KeySource → ℕ → ℕ → ℕ → Type 0
+-- the items of a field that the key counts, from an index on, end past those that the field has
+abbrev pub HasNoItems : KeySource → ℕ → (count first : Option ℕ) → Type 0
+HasNoItems s location count first =
+    ((location ≡ GEO_DOUBLE_PARAMS) ⊎ (location ≡ GEO_ASCII_PARAMS))
+    × IsSomeAnd count (λ n. (0 < n) × IsSomeAnd first (λ at. IsSomeAnd (s.items location) (λ items. items < at + n)))
+
+-- there are no other locations
+abbrev pub IsElsewhere : ℕ → Type 0
+IsElsewhere location = (location ≢ 0) × (location ≢ GEO_DOUBLE_PARAMS) × (location ≢ GEO_ASCII_PARAMS)
+
+-- a key's value is in no field, or past its end, as far as the numbers say that are there
+abbrev pub IsMisplaced : KeySource → (location count first : Option ℕ) → Type 0
 IsMisplaced s location count first =
-    ((location ≡ 0) × (count ≢ 1))
-    ⊎ ((((location ≡ GEO_DOUBLE_PARAMS) ⊎ (location ≡ GEO_ASCII_PARAMS)) × HasNoItems s location count first)
-    ⊎ ((location ≢ 0) × (location ≢ GEO_DOUBLE_PARAMS) × (location ≢ GEO_ASCII_PARAMS)))
+    IsSomeAnd location (λ l. HasNotOne l count)
+    ⊎ (IsSomeAnd location (λ l. HasNoItems s l count first)
+    ⊎ IsSomeAnd location IsElsewhere)
 
--- a key's value is in no field, or past its end
 abbrev pub IsKeyMisplaced : KeySource → Type 0
-IsKeyMisplaced s = (i : ℕ) × IsSomeAnd (key_number s i 1) (λ location. IsSomeAnd (key_number s i 2) (λ count.
-    IsSomeAnd (key_number s i 3) (λ first. IsMisplaced s location count first)))
+IsKeyMisplaced s = (i : ℕ) × IsMisplaced s (key_number s i 1) (key_number s i 2) (key_number s i 3)
 
 -- What is wrong with the keys.
 abbrev pub IsFaultOfKeys : KeySource → FileFault → Type 0

@@ -7,7 +7,7 @@ use Rattle.tiff_dir.specs.declared.level.Place.{Place}
 use Rattle.tiff_dir.specs.declared.level.Compression.{Compression}
 use Rattle.tiff_dir.specs.declared.level.Compression.TheVariants.{Plain, PackBits}
 use Rattle.tiff_dir.specs.File.{◌>>=◌, Field, field, kind_of, size_of, values_at, value, directories}
-use Rattle.tiff_dir.specs.Profile.{sample_bytes, tile_bytes, tile_count, tiles_along}
+use Rattle.tiff_dir.specs.Profile.{is_depth, sample_bytes, row_bytes, tile_bytes, tile_count, tiles_along}
 
 -- directory 0, and each later one whose NewSubfileType is 1
 unfoldable pub is_level : List ℕ → ℕ → Bool
@@ -105,7 +105,29 @@ abbrev pub pixel_size : Layout → ℕ
 pixel_size l = l.samples * sample_bytes l.bits
 
 abbrev pub plain_row : Layout → ℕ
-plain_row l = l.grid.tile_width * l.samples * sample_bytes l.bits
+plain_row l = row_bytes l.grid.tile_width l.samples l.bits
 
 abbrev pub plain_size : Layout → ℕ
 plain_size l = tile_bytes l.grid.tile_width l.grid.tile_length l.samples l.bits
+
+-- the depth of the samples of directory k, where it is 8 or 16 bits
+unfoldable pub depth_at : List ℕ → ℕ → Option ℕ
+depth_at f k = do
+  bits ← value f k BITS_PER_SAMPLE 0
+  if is_depth bits then Some bits else None
+
+-- how many bytes a row of a tile of directory k has when it is unpacked, and the tile
+unfoldable pub plain_row_at : List ℕ → ℕ → Option ℕ
+plain_row_at f k = do
+  tile_width ← value f k TILE_WIDTH 0
+  samples ← value f k SAMPLES_PER_PIXEL 0
+  bits ← depth_at f k
+  Some (row_bytes tile_width samples bits)
+
+unfoldable pub plain_size_at : List ℕ → ℕ → Option ℕ
+plain_size_at f k = do
+  tile_width ← value f k TILE_WIDTH 0
+  tile_length ← value f k TILE_LENGTH 0
+  samples ← value f k SAMPLES_PER_PIXEL 0
+  bits ← depth_at f k
+  Some (tile_bytes tile_width tile_length samples bits)

@@ -54,10 +54,11 @@ scaled f n x y w h = do
         height = scaled_up length first_length (y + h) - top;
       })
 
--- The rectangle that is asked for.
+-- The rectangle that is asked for; 0 columns ask for none.
 unfoldable pub rectangle : List ℕ → Query → Option Rectangle
 rectangle f (Window x y w h (pick.Level n)) = Some (record { level = n; left = x; top = y; width = w; height = h })
-rectangle f (Window x y w h (pick.Columns columns)) = scaled f (smallest_level f columns w) x y w h
+rectangle f (Window x y w h (pick.Columns columns)) =
+    if columns == 0 then None else scaled f (smallest_level f columns w) x y w h
 rectangle f Info = None
 
 -- the side is there and ends before this place

@@ -34,15 +34,15 @@ pub enum FileFault {
     TileSize,
     /// The packed bytes of a tile are no packets that fill it.
     Packet,
-    /// The window is empty, in no level, or passes a side of its level.
+    /// The window is empty, by 0 columns, in no level, or passes a side of the level that its numbers are given in.
     Outside,
-    /// The window has more than 4,194,304 samples.
+    /// The window has more than 4,194,304 samples, or a field that georeferences the image more than 65,536 bytes.
     TooLarge,
     /// The key directory's version, revision or length is wrong.
     KeyHead,
     /// A key is not greater than the one before.
     KeyOrder,
-    /// A key's values are in no field, or past its end.
+    /// A key's values are in no field, or past its end, or the key is its value and has another Count than 1.
     KeyPlace,
 }
 

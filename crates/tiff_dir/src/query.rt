@@ -4,8 +4,8 @@
 pub enum Pick {
     /// The level of this number; the window's numbers are in its pixels.
     Level(u32),
-    /// The smallest level in which the window has at least so many columns; the window's numbers are in the pixels of
-    /// level 0.
+    /// The smallest level in which the window has at least so many columns, level 0 if there is none; the window's numbers
+    /// are in the pixels of level 0.
     Columns(u32),
 }
 

@@ -205,11 +205,11 @@ scaled_is f ls n x y w h first l has is there =
     let b = has.each n l there in
     rw (a.width, a.length, b.width, b.length) refl
 
-pub columns_rectangle : (ls : List Level) (columns n x y w h : ℕ) (first l : Level) (r : Rectangle) → slice_get ls 0 ≡ Some first → n ≡ last_with_columns ls columns w first.width (length ls) → slice_get ls n ≡ Some l
+pub columns_rectangle : (ls : List Level) (columns n x y w h : ℕ) (first l : Level) (r : Rectangle) → (columns == 0) ≡ false → slice_get ls 0 ≡ Some first → n ≡ last_with_columns ls columns w first.width (length ls) → slice_get ls n ≡ Some l
     → rectangle_of r ≡ outwards n first l x y w h → (f : List ℕ) → HasLevels f ls → rectangle f (Window x y w h (pick.Columns columns)) ≡ Some (rectangle_of r)
 unfolding rectangle
-columns_rectangle ls columns n x y w h first l r is smallest there same f has =
-    ap (λ k. scaled f k x y w h) (smallest_is f ls columns w first has is ∙ sym smallest) ∙ scaled_is f ls n x y w h first l has is there ∙ ap Some (sym same)
+columns_rectangle ls columns n x y w h first l r some is smallest there same f has =
+    rw some (ap (λ k. scaled f k x y w h) (smallest_is f ls columns w first has is ∙ sym smallest) ∙ scaled_is f ls n x y w h first l has is there ∙ ap Some (sym same))
 
 pub columns_within : (ls : List Level) (columns x y w h : ℕ) (l : Level) → (columns == 0) ≡ false → slice_get ls 0 ≡ Some l → IsTrue (is_inside l x y w h) → (f : List ℕ) → HasLevels f ls → is_outside f (Window x y w h (pick.Columns columns)) ≡ false
 unfolding is_outside

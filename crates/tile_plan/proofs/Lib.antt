@@ -1,6 +1,7 @@
 pub mod PairLemmas
 pub mod RectLemmas
 pub mod AskedLemmas
+pub mod DrawnLemmas
 pub mod BlockLemmas
 pub mod GroupLemmas
 pub mod PlanLemmas

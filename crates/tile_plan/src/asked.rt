@@ -4,6 +4,7 @@ ghost use Rattle.tiff_dir.specs.declared.query.Query.TheVariants.{Window, Info};
 ghost use Rattle.tiff_dir.specs.declared.query.Pick.TheVariants as pick;
 ghost use Rattle.tiff_dir.specs.Query.{max_window_samples, scaled_down, scaled_up};
 ghost use Rattle.tile_plan.specs.Levels.{rectangle_of, is_inside, has_columns, last_with_columns, outwards, IsAsked, IsRefusedBy};
+ghost use Rattle.tile_plan.specs.Drawn.{IsDrawn, IsRefusal};
 
 use tiff_dir::limits::MAX_WINDOW_SAMPLES;
 use tiff_dir::{FileFault, Level, Pick, Query};
@@ -140,6 +141,8 @@ fn rect_of_level(
 ) -> Result<Rectangle, FileFault>
     ensures asked { IfOk result (IsAsked levels.now (Window x y w h (pick.Level n))) }
     ensures refused { IfErr result (IsRefusedBy levels.now (Window x y w h (pick.Level n))) }
+    ensures drawn { IfOk result (IsDrawn levels.now (Window x y w h (pick.Level n))) }
+    ensures refusal { IfErr result (IsRefusal levels.now (Window x y w h (pick.Level n))) }
 {
     let n = n as usize;
     let level = level_of(levels, n, x, y, w, h)?;
@@ -165,6 +168,8 @@ fn rect_by_columns(
 ) -> Result<Rectangle, FileFault>
     ensures asked { IfOk result (IsAsked levels.now (Window x y w h (pick.Columns columns))) }
     ensures refused { IfErr result (IsRefusedBy levels.now (Window x y w h (pick.Columns columns))) }
+    ensures drawn { IfOk result (IsDrawn levels.now (Window x y w h (pick.Columns columns))) }
+    ensures refusal { IfErr result (IsRefusal levels.now (Window x y w h (pick.Columns columns))) }
 {
     if columns == 0 {
         return Err(FileFault::Outside);
@@ -188,6 +193,8 @@ fn rect_by_columns(
 pub fn rect(levels: &[Level], query: Query) -> Result<Rectangle, FileFault>
     ensures asked { IfOk result (IsAsked levels.now query) }
     ensures refused { IfErr result (λ fault. (query ≡ Info) ⊎ IsRefusedBy levels.now query fault) }
+    ensures drawn { IfOk result (IsDrawn levels.now query) }
+    ensures refusal { IfErr result (IsRefusal levels.now query) }
 {
     match query {
         Query::Window { x, y, w, h, pick } => match pick {

@@ -1,6 +1,7 @@
 //! The plain program's faults: of the fixtures none, of fixtures in which bytes are changed all that stand by the definitions.
 use faults_support::faults;
 use fixtures_support::{f1, f1m, f2, f2b, f3, f4, f5, f6, f6m};
+use std::alloc::{AllocError, Global};
 use std::process::Abort;
 use std::test::Fail;
 use tiff_dir::FileFault::{
@@ -39,7 +40,7 @@ type Row = (
 );
 
 #[rattlefmt::skip]
-const OF_F1: [Row; 24] = [
+const OF_F1: [Row; 25] = [
     ("two byte orders", 0, b"IM", INFO, &[Header]),
     ("number 43", 2, &[43], PIXEL, &[Header]),
     ("an odd place", 4, &[9], INFO, &[PastEnd, DirPlace, DirCount, Missing(256), Missing(257), Missing(258), Missing(259), Missing(262), Missing(322), Missing(323), Missing(324), Missing(325)]),
@@ -48,6 +49,7 @@ const OF_F1: [Row; 24] = [
     ("a second 256", 22, &[0x00], INFO, &[TagOrder, Missing(257)]),
     ("depth as LONG", 36, &[4], PIXEL, &[FieldType(258)]),
     ("two depths, of which one stands in the entry", 38, &[2], PIXEL, &[FieldType(258), Unsupported(258)]),
+    ("4 bits a sample", 42, &[4], PIXEL, &[Unsupported(258)]),
     ("compression 5", 54, &[5], PIXEL, &[Unsupported(259)]),
     ("photometric interpretation 2", 66, &[2], PIXEL, &[Unsupported(277)]),
     ("photometric interpretation 3", 66, &[3], PIXEL, &[Unsupported(262), Unsupported(277)]),
@@ -119,19 +121,30 @@ fn are_faults(found: &[FileFault], want: &[FileFault]) -> bool {
     found.len() == want.len() && want.iter().all(|fault| found.contains(fault))
 }
 
-/// Expects all faults of a query of a file in which bytes are changed.
-fn expect_faults<R: Abort + AllocGlobal>(
-    rt: &R,
+/// A file with other bytes at some places.
+fn changed(
+    alloc: Global,
     fixture: &[u8],
-    (name, changes, asked, want): Changed,
-) -> Result<(), Fail> {
-    let mut file = Vec::from_slice(rt.alloc(), fixture)?;
+    changes: &[(usize, &[u8])],
+) -> Result<Vec<u8>, AllocError> {
+    let mut file = Vec::from_slice(alloc, fixture)?;
     for (place, bytes) in changes {
         for (here, byte) in file.iter_mut().skip(*place).zip(*bytes) {
             *here = *byte;
         }
     }
-    let found = faults(rt.alloc(), &file, query_of(asked))?;
+    Ok(file)
+}
+
+/// Expects that these faults stand, and no others.
+fn expect_faults<R: Abort + AllocGlobal>(
+    rt: &R,
+    name: &str,
+    file: &[u8],
+    query: Query,
+    want: &[FileFault],
+) -> Result<(), Fail> {
+    let found = faults(rt.alloc(), file, query)?;
     let found = found.ok_or("a level that the plain program doesn't read")?;
     assert!(rt; are_faults(&found, want), "{name}: {found:?}");
     Ok(())
@@ -140,13 +153,8 @@ fn expect_faults<R: Abort + AllocGlobal>(
 /// Expects the faults of each row, of a file with the row's bytes.
 fn expect_rows<R: Abort + AllocGlobal>(rt: &R, fixture: &[u8], rows: &[Row]) -> Result<(), Fail> {
     for (name, place, bytes, asked, want) in rows {
-        let mut file = Vec::from_slice(rt.alloc(), fixture)?;
-        for (here, byte) in file.iter_mut().skip(*place).zip(*bytes) {
-            *here = *byte;
-        }
-        let found = faults(rt.alloc(), &file, query_of(*asked))?;
-        let found = found.ok_or("a level that the plain program doesn't read")?;
-        assert!(rt; are_faults(&found, want), "{name}: {found:?}");
+        let file = changed(rt.alloc(), fixture, &[(*place, *bytes)])?;
+        expect_faults(rt, name, &file, query_of(*asked), want)?;
     }
     Ok(())
 }
@@ -161,17 +169,76 @@ fn tells_all_faults_of_levels_and_keys(rt: HostRuntime) -> Result<(), Fail> {
     expect_rows(&rt, &f3(rt.alloc())?, &OF_F3)
 }
 
-#[test]
-fn tells_faults_of_several_changes_side_by_side(rt: HostRuntime) -> Result<(), Fail> {
-    let alloc = rt.alloc();
-    let (third, fourth) = (f3(alloc)?, f4(alloc)?);
-    for row in SIDE_BY_SIDE_IN_F3 {
-        expect_faults(&rt, &third, row)?;
-    }
-    for row in SIDE_BY_SIDE_IN_F4 {
-        expect_faults(&rt, &fourth, row)?;
+/// Expects the faults of each row, of a file in which bytes are changed.
+fn expect_changed<R: Abort + AllocGlobal>(
+    rt: &R,
+    fixture: &[u8],
+    rows: &[Changed],
+) -> Result<(), Fail> {
+    for (name, changes, asked, want) in rows {
+        let file = changed(rt.alloc(), fixture, changes)?;
+        expect_faults(rt, name, &file, query_of(*asked), want)?;
     }
     Ok(())
+}
+
+#[test]
+fn tells_faults_of_several_changes_side_by_side(rt: HostRuntime) -> Result<(), Fail> {
+    expect_changed(&rt, &f3(rt.alloc())?, &SIDE_BY_SIDE_IN_F3)?;
+    expect_changed(&rt, &f4(rt.alloc())?, &SIDE_BY_SIDE_IN_F4)
+}
+
+#[test]
+fn tells_no_size_of_another_depth(rt: HostRuntime) -> Result<(), Fail> {
+    let fixture = f1(rt.alloc())?;
+    let file = changed(
+        rt.alloc(),
+        &fixture,
+        &[(42, &[4][..]), (114, &[128, 0][..])],
+    )?;
+    let name = "4 bits a sample, and a tile of as many bytes";
+    expect_faults(&rt, name, &file, query_of(PIXEL), &[Unsupported(258)])
+}
+
+/// The count and the offset of its only key are past the end of the field.
+#[test]
+fn tells_the_place_of_a_key_by_its_location(rt: HostRuntime) -> Result<(), Fail> {
+    let fixture = f3(rt.alloc())?;
+    let file = changed(
+        rt.alloc(),
+        &fixture,
+        &[(134, &[6][..]), (358, &[1][..]), (362, &[5][..])],
+    )?;
+    let name = "six numbers, the last of which is location 5";
+    expect_faults(&rt, name, &file, Query::Info, &[KeyHead, KeyPlace])
+}
+
+/// Where a sample of each column and row of a large level is asked for, and where no column is.
+#[test]
+fn tells_no_rectangle_of_no_columns(rt: HostRuntime) -> Result<(), Fail> {
+    let fixture = f5(rt.alloc())?;
+    // 4096 by 4096 samples in 16 tiles of 1024 by 1024.
+    let sides = [(18, &[0, 16][..]), (30, &[0, 16][..])];
+    let tiles = [(78, &[0, 4][..]), (90, &[0, 4][..])];
+    let arrays = [(98, &[16][..]), (110, &[16][..])];
+    let wide = changed(rt.alloc(), &fixture, &sides)?;
+    let cut = changed(rt.alloc(), &wide, &tiles)?;
+    let file = changed(rt.alloc(), &cut, &arrays)?;
+    let whole = |pick| Query::Window {
+        x: 0,
+        y: 0,
+        w: 4096,
+        h: 4096,
+        pick,
+    };
+    expect_faults(
+        &rt,
+        "all columns",
+        &file,
+        whole(Pick::Level(0)),
+        &[TooLarge],
+    )?;
+    expect_faults(&rt, "no column", &file, whole(Pick::Columns(0)), &[Outside])
 }
 
 #[test]

@@ -1,4 +1,4 @@
-use Rattle.std.proofs.Common.{◌≡◌, ◌+◌, ◌-◌, ◌∙◌, Some, refl, ap, sym, arith}
+use Rattle.std.proofs.Common.{◌≡◌, ◌∙◌, Some, refl, ap, sym, arith}
 use Rattle.tiff_dir.specs.Needs.{Extent}
 use Rattle.tiff_dir.specs.Stage.{range_of}
 use Rattle.tiff_dir.specs.WalkState.{WalkState}
