@@ -195,13 +195,25 @@ const TAKEN_OUT: [Step<'static>; 8] = [
     Step::Answers(CORNER, &[&ALL_TILES], CORNER_SAMPLES),
 ];
 
+/// What a course shows, and its steps on a new reader of f3.
+type Course = (&'static str, &'static [Step<'static>]);
+
+const COURSES: [Course; 3] = [
+    ("levels in turn", &LEVELS_IN_TURN),
+    ("Info between two windows", &INFO_BETWEEN),
+    ("an outcome that is taken out", &TAKEN_OUT),
+];
+
 #[test]
 fn wants_only_what_it_has_not_kept(rt: HostRuntime) -> Result<(), Fail> {
-    let courses: [&[Step<'_>]; 3] = [&LEVELS_IN_TURN, &INFO_BETWEEN, &TAKEN_OUT];
-    for steps in courses {
+    for (name, steps) in COURSES {
         let file = Fixture::F3.file(rt.alloc())?;
         let found = otherwise(rt.alloc(), file, steps);
-        assert_eq!(rt; found.ok().ok_or("no memory")?, None);
+        assert_eq!(rt;
+            found.ok().ok_or("no memory")?,
+            None,
+            "{name}, by its first other step"
+        );
     }
     Ok(())
 }
