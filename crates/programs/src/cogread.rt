@@ -6,6 +6,7 @@ use crate::fault::Fault;
 use crate::number::number;
 use crate::socket::Socket;
 use cog_client::{Client, ClientError, Outcome, Query, Report, Transport, fetch};
+use range_cache::{MAX_CAPACITY, MIN_CAPACITY};
 use report_text::{info_text, picture};
 use std::io;
 use std::io::Write;
@@ -58,7 +59,7 @@ fn numbers_of<R: AllocGlobal>(rt: &R, line: &ReadLine<'_>) -> Result<Numbers, Fa
     Ok(Numbers {
         query: query(rt, line.asked)?,
         requests: number_or(rt, line.requests, (1, 65_536), 64)?,
-        blocks: number_or(rt, line.blocks, (66, 4096), 256)?,
+        blocks: number_or(rt, line.blocks, (MIN_CAPACITY, MAX_CAPACITY), 256)?,
     })
 }
 

@@ -53,23 +53,17 @@ returns-in_err-first-clause-refusal c =
 pub returns-clause-drawn : goal.returns-clause-drawn
 returns-clause-drawn c =
     let ls = c.args.levels.now in
-    let q : Query = Window c.args.x c.args.y c.args.w c.args.h (pick.Columns c.args.columns) in
-    let first = c.in_ok-first.first.now in
-    let l = c.index-levels-n.result in
     let there = c.in_ok-first.ensures.there in
-    let some = ne_eqb c.args.columns 0 c.if-columns-eq0.false in
-    let here = slice_get_read ls (length ls) c.smallest-n.result l refl c.smallest-n.ensures.within c.index-levels-n.is in
-    drawn_by ls q c.scaled.result l c.limited.result (rw c.scaled.ensures.number here) (columns_lie ls c.args.columns c.args.x c.args.y c.args.w c.args.h first some there.0 there.1)
-    (columns_drawn ls c.args.columns c.smallest-n.result c.args.x c.args.y c.args.w c.args.h first l c.scaled.result there.0 c.smallest-n.ensures.value here c.scaled.ensures.rectangle) c.limited.ensures.good
+    let here = slice_get_read ls (length ls) c.smallest-n.result c.index-levels-n.result refl c.smallest-n.ensures.within c.index-levels-n.is in
+    drawn_by ls (Window c.args.x c.args.y c.args.w c.args.h (pick.Columns c.args.columns)) c.scaled.result c.index-levels-n.result c.limited.result (rw c.scaled.ensures.number here)
+    (columns_lie ls c.args.columns c.args.x c.args.y c.args.w c.args.h c.in_ok-first.first.now (ne_eqb c.args.columns 0 c.if-columns-eq0.false) there.0 there.1)
+    (columns_drawn ls c.args.columns c.smallest-n.result c.args.x c.args.y c.args.w c.args.h c.in_ok-first.first.now c.index-levels-n.result c.scaled.result there.0 c.smallest-n.ensures.value here c.scaled.ensures.rectangle) c.limited.ensures.good
 
 pub returns-clause-refusal : goal.returns-clause-refusal
 returns-clause-refusal c =
     let ls = c.args.levels.now in
-    let q : Query = Window c.args.x c.args.y c.args.w c.args.h (pick.Columns c.args.columns) in
-    let first = c.in_ok-first.first.now in
-    let l = c.index-levels-n.result in
     let there = c.in_ok-first.ensures.there in
-    let some = ne_eqb c.args.columns 0 c.if-columns-eq0.false in
-    let here = slice_get_read ls (length ls) c.smallest-n.result l refl c.smallest-n.ensures.within c.index-levels-n.is in
-    refusal_by ls q c.scaled.result l c.limited.result (rw c.scaled.ensures.number here) (columns_lie ls c.args.columns c.args.x c.args.y c.args.w c.args.h first some there.0 there.1)
-    (columns_drawn ls c.args.columns c.smallest-n.result c.args.x c.args.y c.args.w c.args.h first l c.scaled.result there.0 c.smallest-n.ensures.value here c.scaled.ensures.rectangle) c.limited.ensures.large
+    let here = slice_get_read ls (length ls) c.smallest-n.result c.index-levels-n.result refl c.smallest-n.ensures.within c.index-levels-n.is in
+    refusal_by ls (Window c.args.x c.args.y c.args.w c.args.h (pick.Columns c.args.columns)) c.scaled.result c.index-levels-n.result c.limited.result (rw c.scaled.ensures.number here)
+    (columns_lie ls c.args.columns c.args.x c.args.y c.args.w c.args.h c.in_ok-first.first.now (ne_eqb c.args.columns 0 c.if-columns-eq0.false) there.0 there.1)
+    (columns_drawn ls c.args.columns c.smallest-n.result c.args.x c.args.y c.args.w c.args.h c.in_ok-first.first.now c.index-levels-n.result c.scaled.result there.0 c.smallest-n.ensures.value here c.scaled.ensures.rectangle) c.limited.ensures.large

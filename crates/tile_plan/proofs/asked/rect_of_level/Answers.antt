@@ -36,16 +36,10 @@ returns-in_err-level-clause-refusal c =
 
 pub returns-clause-drawn : goal.returns-clause-drawn
 returns-clause-drawn c =
-    let q : Query = Window c.args.x c.args.y c.args.w c.args.h (pick.Level c.args.n) in
-    let r : Rectangle = record { level = c.args.n; x = c.args.x; y = c.args.y; w = c.args.w; h = c.args.h } in
-    let l = c.in_ok-level.level.now in
-    let there = c.in_ok-level.ensures.there in
-    drawn_by c.args.levels.now q r l c.limited.result there.0 (level_lies c.args.levels.now c.args.n c.args.x c.args.y c.args.w c.args.h l there.0 there.1) refl c.limited.ensures.good
+    drawn_by c.args.levels.now (Window c.args.x c.args.y c.args.w c.args.h (pick.Level c.args.n)) (record { level = c.args.n; x = c.args.x; y = c.args.y; w = c.args.w; h = c.args.h }) c.in_ok-level.level.now c.limited.result c.in_ok-level.ensures.there.0
+    (level_lies c.args.levels.now c.args.n c.args.x c.args.y c.args.w c.args.h c.in_ok-level.level.now c.in_ok-level.ensures.there.0 c.in_ok-level.ensures.there.1) refl c.limited.ensures.good
 
 pub returns-clause-refusal : goal.returns-clause-refusal
 returns-clause-refusal c =
-    let q : Query = Window c.args.x c.args.y c.args.w c.args.h (pick.Level c.args.n) in
-    let r : Rectangle = record { level = c.args.n; x = c.args.x; y = c.args.y; w = c.args.w; h = c.args.h } in
-    let l = c.in_ok-level.level.now in
-    let there = c.in_ok-level.ensures.there in
-    refusal_by c.args.levels.now q r l c.limited.result there.0 (level_lies c.args.levels.now c.args.n c.args.x c.args.y c.args.w c.args.h l there.0 there.1) refl c.limited.ensures.large
+    refusal_by c.args.levels.now (Window c.args.x c.args.y c.args.w c.args.h (pick.Level c.args.n)) (record { level = c.args.n; x = c.args.x; y = c.args.y; w = c.args.w; h = c.args.h }) c.in_ok-level.level.now c.limited.result c.in_ok-level.ensures.there.0
+    (level_lies c.args.levels.now c.args.n c.args.x c.args.y c.args.w c.args.h c.in_ok-level.level.now c.in_ok-level.ensures.there.0 c.in_ok-level.ensures.there.1) refl c.limited.ensures.large
