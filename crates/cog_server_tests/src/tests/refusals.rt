@@ -15,30 +15,17 @@ pub const BARE: Want = Want {
     to: 0,
 };
 
-pub const BAD: Want = Want {
-    head: b"HTTP/1.1 400 Bad Request\r\nContent-Length: 0\r\nConnection: close\r\n\r\n",
-    status: 400,
-    close: true,
-    ..BARE
-};
+#[rattlefmt::skip]
+pub const BAD: Want = Want { head: b"HTTP/1.1 400 Bad Request\r\nContent-Length: 0\r\nConnection: close\r\n\r\n", status: 400, close: true, ..BARE };
 
-const OTHER_METHOD: Want = Want {
-    head: b"HTTP/1.1 405 Method Not Allowed\r\nAllow: GET, HEAD\r\nContent-Length: 0\r\n\r\n",
-    status: 405,
-    ..BARE
-};
+#[rattlefmt::skip]
+const OTHER_METHOD: Want = Want { head: b"HTTP/1.1 405 Method Not Allowed\r\nAllow: GET, HEAD\r\nContent-Length: 0\r\n\r\n", status: 405, ..BARE };
 
-pub const UNKNOWN: Want = Want {
-    head: b"HTTP/1.1 404 Not Found\r\nContent-Length: 0\r\n\r\n",
-    status: 404,
-    ..BARE
-};
+#[rattlefmt::skip]
+pub const UNKNOWN: Want = Want { head: b"HTTP/1.1 404 Not Found\r\nContent-Length: 0\r\n\r\n", status: 404, ..BARE };
 
-const UNKNOWN_AND_CLOSED: Want = Want {
-    head: b"HTTP/1.1 404 Not Found\r\nContent-Length: 0\r\nConnection: close\r\n\r\n",
-    close: true,
-    ..UNKNOWN
-};
+#[rattlefmt::skip]
+const UNKNOWN_AND_CLOSED: Want = Want { head: b"HTTP/1.1 404 Not Found\r\nContent-Length: 0\r\nConnection: close\r\n\r\n", close: true, ..UNKNOWN };
 
 /// The head of the whole file, and no body.
 const HEAD_OF_THE_FILE: Want = Want { to: 0, ..WHOLE };
