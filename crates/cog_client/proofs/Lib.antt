@@ -6,4 +6,5 @@ pub mod DeliverLemmas
 pub mod FetchLemmas
 pub mod ProgressLemmas
 pub mod OwnLemmas
+pub mod TruthLemmas
 pub mod Worked

@@ -16,7 +16,7 @@ use Rattle.cog_client.specs.declared.delivered.Delivered.{Delivered}
 use Rattle.cog_client.specs.declared.report.Report.{Report}
 use Rattle.cog_client.specs.Case.{Revision, case_of}
 use Rattle.cog_client.specs.Take.{IsIgnored, asked_or_first, base_of, emptied, first_span, stored_front, take}
-use Rattle.cog_client.specs.Report.{IsTrueReport, told}
+use Rattle.cog_client.specs.Report.{IsTrueReport}
 use Rattle.cog_client.specs.Client.{ClientState, Knows, ClientAgrees, asked_of, blocks_of, holding, host_of, name_of, query_of, report_of, revision_of, tag_of, to_come, unread}
 use Rattle.cog_client.specs.Going.{AreSame, IsMissing}
 
@@ -168,4 +168,4 @@ pub record StopsDelivery (old : ClientState) (text : List ℕ) (new : ClientStat
 -- The report that stands is true for each book that the client agrees with.
 pub record Stands (c : ClientState) (report : Option Report) : Type 0 where
   pub standing : report ≡ report_of c
-  pub holds : (book : Book) → ClientAgrees c book → IfSome report (λ r. IsTrueReport (told r) (name_of c) (query_of c) book)
+  pub holds : (book : Book) → ClientAgrees c book → IfSome report (λ r. IsTrueReport r (name_of c) (query_of c) book)

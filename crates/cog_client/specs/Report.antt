@@ -68,17 +68,16 @@ told r = record { query = r.query; tag = r.tag; said = said_of r.outcome }
 
 -- ---- when it is true
 
--- an outcome that says this is true of the file
-pub record IsTrueSaid (f : List ℕ) (q : Query) (said : Said) : Type 0 where
-  pub outcome : Outcome
-  pub says : said_of outcome ≡ said
-  pub holds : IsTrueOf f q outcome
-
 -- The report answers the query, and is true of one file that was published under the name: of the one whose tag it has.
-pub record IsTrueReport (r : Told) (name : List ℕ) (query : Option Query) (book : Book) : Type 0 where
+pub record IsTrueReport (r : Report) (name : List ℕ) (query : Option Query) (book : Book) : Type 0 where
   pub asked : query ≡ Some r.query
   pub source : Publication
   pub published : In source book
   pub of_name : source.name ≡ name
   pub of_tag : source.tag ≡ r.tag
-  pub outcome : IsTrueSaid source.file r.query r.said
+  pub holds : IsTrueOf source.file r.query r.outcome
+
+-- A report that tells the same as a true one is true.
+abbrev pub TruthIsTold : Type 0
+TruthIsTold = (r s : Report) (name : List ℕ) (query : Option Query) (book : Book) →
+    told r ≡ told s → IsTrueReport r name query book → IsTrueReport s name query book

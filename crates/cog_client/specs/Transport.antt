@@ -4,7 +4,7 @@ use Rattle.tiff_dir.specs.declared.query.Query.{Query}
 use Rattle.http_range.specs.Book.{Publication}
 use Rattle.http_range.specs.Honest.{IsHonestFor}
 use Rattle.cog_client.specs.declared.report.Report.{Report}
-use Rattle.cog_client.specs.Report.{IsTrueReport, told}
+use Rattle.cog_client.specs.Report.{IsTrueReport}
 use Rattle.cog_client.specs.Client.{ClientState, ClientAgrees, name_of, query_of}
 use Rattle.cog_client.specs.Calls.{SameClient}
 
@@ -32,7 +32,7 @@ pub record KeepsReading (before after : Publication → Type 0) (old new : Clien
 -- The report is true of the one publication that the client reads.
 abbrev pub IsTrueOfOne : (Publication → Type 0) → ClientState → Report → Type 0
 IsTrueOfOne speaks c r =
-    (p : Publication) → ReadsPublication speaks c p → IsTrueReport (told r) (name_of c) (query_of c) (p ∷ [])
+    (p : Publication) → ReadsPublication speaks c p → IsTrueReport r (name_of c) (query_of c) (p ∷ [])
 
 -- there is no report: so many exchanges more are used up, or there is no query
 abbrev pub IsInVain : Option Query → ℕ → ℕ → ℕ → Type 0

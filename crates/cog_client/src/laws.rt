@@ -3,6 +3,7 @@ ghost use Rattle.std.specs.Prelude.{ℕ, List, IfSome};
 ghost use Rattle.tiff_dir.specs.Needs.{IsEndOf};
 ghost use Rattle.tiff_dir.specs.Query.{needs};
 ghost use Rattle.cog_client.specs.Client.{query_of, to_come, ClientState, Knows};
+ghost use Rattle.cog_client.specs.Report.{TruthIsTold};
 ghost use Rattle.cog_client.specs.Progress.{CostIsMost, DeliveryReports, GoingOnLeavesNoMore, NeededAreAsked, OpeningLeavesCost, OwnAnswersBringOn, RequestReports};
 
 use cog_reader::{end_is_wanted, lengths_are_known, nothing_comes};
@@ -57,3 +58,8 @@ pub fn own_answers_bring_on()
     stores_are_counted();
     stored_stay();
 }
+
+/// A report that tells the same as a true one, as a copy does, is true.
+pub fn equal_reports_are_true()
+    ensures { TruthIsTold }
+{}

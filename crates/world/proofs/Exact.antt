@@ -1,5 +1,5 @@
 -- A check says "same" exactly where the catalogue has the client's tag under its name.
-use Rattle.std.proofs.Common.{◌≡◌, ℕ, List, [], ◌∷◌, ◌++◌, length, Option, Some, None, Bool, true, false, refl, sym, ap, ◌∙◌, subst, arith, append-nil, take, Ok, Err}
+use Rattle.std.proofs.Common.{◌≡◌, ℕ, List, [], ◌++◌, length, Option, Some, None, Bool, true, false, refl, sym, ap, ◌∙◌, subst, arith, append-nil, take, Ok, Err}
 use Rattle.std.specs.Prelude.{slice_get, IfSome, nat_le, if◌then◌else◌, ◌↔◌}
 use Rattle.std.specs.Option.{option_map}
 use Rattle.std.specs.Str.{bytes_eq}
@@ -22,12 +22,11 @@ use Rattle.world.specs.declared.event.Event.TheVariants.{Publish, Epoch, NewClie
 use Rattle.world.specs.declared.event.AnsweredCheck.{AnsweredCheck}
 use Rattle.world.specs.declared.event.Effect.{Effect}
 use Rattle.world.specs.declared.event.Entry.{Entry}
-use Rattle.world.specs.World.{World, Seen, after, check_in, IsExact, IsExactAt, AllExact}
-use Rattle.world.specs.Run.{seen, IsCheckOf, IsChecked, IsCheckBy, Step, Runs}
+use Rattle.world.specs.World.{World, Seen, check_in, IsExact, IsExactEntry}
+use Rattle.world.specs.Run.{seen, IsCheckOf, IsChecked, IsCheckBy, Step}
 use Rattle.world.specs.LowerLaws.{LowerLaws}
 use Rattle.world.proofs.Lists.{get-map}
 use Rattle.world.proofs.Good.{Good}
-use Rattle.world.proofs.Truth.{sound_step}
 
 -- both answers about a file tell its tag
 tag_told : (b : Bool) (p : Publication) → tag_seen (if b then serve_tag p true else serve_head p true).reply ≡ Ok p.tag
@@ -81,7 +80,7 @@ module _ (laws : LowerLaws) where
   exact_at None w cs new i n at g h = let P : Effect → Type 0 = λ e. IfSome (check_in e) (IsExact w i) in subst P (sym h.done) tt
   exact_at (Some c) w cs new i n at g h = exact_checked w cs i c h.check n.effect g at h.checked
 
-  exact_step : (w : World) (cs : List ClientState) (e : Event) (n : Entry) (new : List ClientState) → Good w cs → Step w cs e n new → IsExactAt w e n.effect
+  pub exact_step : (w : World) (cs : List ClientState) (e : Event) (n : Entry) (new : List ClientState) → Good w cs → Step w cs e n new → IsExactEntry w e n
   exact_step w cs (Publish name file) n new g h = tt
   exact_step w cs (Epoch e) n new g h = tt
   exact_step w cs (NewClient name blocks) n new g h = tt
@@ -92,11 +91,3 @@ module _ (laws : LowerLaws) where
   exact_step w cs (Deliver i a cut) n new g h = tt
   exact_step w cs (Exchange i) n new g h = tt
   exact_step w cs (Check i) n new g h = exact_at (slice_get cs i) w cs new i n refl g h
-
-  -- a whole run
-  pub exact_run : (w : World) (cs : List ClientState) (es : List Event) (ns : List Entry) (new : List ClientState) → Good w cs → Runs w cs es ns new → AllExact w es ns
-  exact_run w cs [] [] new g h = tt
-  exact_run w cs [] (n ∷ ns) new g h = absurd h
-  exact_run w cs (e ∷ es) [] new g h = absurd h
-  exact_run w cs (e ∷ es) (n ∷ ns) new g (mid, step, rest) =
-      (exact_step w cs e n mid g step, exact_run (after w e n.effect) mid es ns new (sound_step laws w cs e n mid g step).good rest)

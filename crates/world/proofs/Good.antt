@@ -1,7 +1,7 @@
 -- The world's invariant, and that publications, restarts and clients keep it.
-use Rattle.std.proofs.Common.{◌≡◌, ◌≢◌, ℕ, get_or, suc, zero, List, [], ◌∷◌, ◌++◌, length, map, Option, Some, None, Bool, true, false, refl, sym, ap, ◌∙◌, subst, arith, ◌⊎◌, inl, inr, ◌<◌, ◌≤◌, ◌+◌, ◌^◌}
+use Rattle.std.proofs.Common.{◌≡◌, ◌≢◌, ℕ, get_or, suc, zero, List, [], ◌∷◌, ◌++◌, length, map, Option, Some, None, Bool, true, false, refl, sym, ap, ◌∙◌, subst, arith, ◌⊎◌, inl, inr, ◌<◌, ◌≤◌, ◌+◌, ◌^◌, append-nil}
 use Rattle.std.specs.Prelude.{slice_get, slice_set, IfSome, nat_lt, not, ◌==◌, if◌then◌else◌}
-use Rattle.std.specs.Option.{option_map}
+use Rattle.std.specs.Option.{option_map, option_to_list}
 use Rattle.std.specs.Str.{bytes_eq}
 use Rattle.std.proofs.lemmas.Bool.{cases_Bool}
 use Rattle.std.proofs.lemmas.Bool.Decides.{nat_tests}
@@ -15,9 +15,12 @@ use Rattle.http_range.specs.Book.{Publication, IsPublication, Book, In, Includes
 use Rattle.cog_server.specs.declared.error.PublishError.{PublishError}
 use Rattle.cog_server.specs.declared.server.Answer.{Answer}
 use Rattle.cog_server.specs.Server.{ServerState, refusal_of}
-use Rattle.cog_client.specs.Client.{ClientState, ClientAgrees, name_of, query_of}
+use Rattle.cog_client.specs.declared.error.ClientError.{ClientError}
+use Rattle.cog_client.specs.Client.{ClientState, ClientAgrees, client_refusal, name_of, query_of}
+use Rattle.world.specs.declared.event.Event.{Event}
+use Rattle.world.specs.declared.event.Event.TheVariants.{Publish, Epoch, NewClient, Open, Forget, Ask, AskFrom, Deliver, Exchange, Check}
 use Rattle.world.specs.declared.event.Effect.{Effect}
-use Rattle.world.specs.World.{World, Seen, start, added, answer_in, next_of, publish_by, refused_at, server_of, restart_by, with_clients, sending, opened, AllHonest, StaysHonest}
+use Rattle.world.specs.World.{World, Seen, start, answer_in, next_of, publish_by, refused_at, server_of, restart_by, made_by, scheduled, after, host, opened, StaysHonest}
 use Rattle.world.specs.Run.{seen}
 use Rattle.world.specs.LowerLaws.{LowerLaws}
 use Rattle.world.proofs.Lists.{get-map, get-set, get-push, map-set, set_there}
@@ -49,6 +52,10 @@ older_in w later p old used = record {
   used = used;
 }
 
+-- each answer that was sent is honest
+abbrev pub SentHonest : List Answer → Book → Type 0
+SentHonest sent book = (k : ℕ) (a : Answer) → slice_get sent k ≡ Some a → StaysHonest a book
+
 pub record Good (w : World) (cs : List ClientState) : Type 0 where
   pub epoch_small : w.epoch < 2 ^ 32
   pub count_small : w.count < 2 ^ 32
@@ -58,7 +65,7 @@ pub record Good (w : World) (cs : List ClientState) : Type 0 where
   pub covers : Covers w.book w.catalogue
   pub seen_are : map seen cs ≡ w.clients
   pub agree : AllAgree cs w.book
-  pub honest : AllHonest w
+  pub honest : SentHonest w.sent w.book
 
 pub good_start : Good start []
 good_start = record {
@@ -182,7 +189,7 @@ good_epoch true w cs e t small g =
 
 -- ---- clients
 
-pub good_clients : (w : World) (cs new : List ClientState) (clients : List Seen) → Good w cs → map seen new ≡ clients → AllAgree new w.book → Good (with_clients w clients) new
+pub good_clients : (w : World) (cs new : List ClientState) (clients : List Seen) → Good w cs → map seen new ≡ clients → AllAgree new w.book → Good (record w { clients = clients }) new
 good_clients w cs new clients g same agree =
     record {
       epoch_small = g.epoch_small;
@@ -196,27 +203,54 @@ good_clients w cs new clients g same agree =
       honest = g.honest;
     }
 
+-- ---- answers
+
 -- one more answer, if any, that is honest in every later book
-honest_added : (o : Option Answer) (sent : List Answer) (book : Book) → ((k : ℕ) (a : Answer) → slice_get sent k ≡ Some a → StaysHonest a book)
-    → IfSome o (λ a. StaysHonest a book) → (k : ℕ) (a : Answer) → slice_get (added o sent) k ≡ Some a → StaysHonest a book
-honest_added None sent book all new = all
+honest_added : (o : Option Answer) (sent : List Answer) (book : Book) → SentHonest sent book → IfSome o (λ a. StaysHonest a book) → SentHonest (sent ++ option_to_list o) book
+honest_added None sent book all new = subst (λ xs. SentHonest xs book) (sym (append-nil sent)) all
 honest_added (Some b) sent book all new = λ k a e. elim (get-push sent k b a e) [
   | inl is ↦ (let P : Answer → Type 0 = λ x. StaysHonest x book in subst P (sym is) new)
   | inr old ↦ all k a old
 ]
 
-pub good_sending : (w : World) (cs : List ClientState) (effect : Effect) → Good w cs → IfSome (answer_in effect) (λ a. StaysHonest a w.book) → Good (sending w effect) cs
-good_sending w cs effect g new =
+-- what an event makes of the world leaves the answers
+published_sent : (w : World) (p : Publication) (o : Option PublishError) → (publish_by w p o).sent ≡ w.sent
+published_sent w p None = refl
+published_sent w p (Some refusal) = refl
+
+restarted_sent : (b : Bool) (w : World) (e : ℕ) → (restart_by w e b).sent ≡ w.sent
+restarted_sent true w e = refl
+restarted_sent false w e = refl
+
+made_sent : (o : Option ClientError) (w : World) (name : List ℕ) → (made_by w name o).sent ≡ w.sent
+made_sent None w name = refl
+made_sent (Some refusal) w name = refl
+
+sent_stays : (w : World) (e : Event) → (scheduled w e).sent ≡ w.sent
+sent_stays w (Publish name file) = published_sent w (next_of w name.items file.items) (refused_at w name.items file.items)
+sent_stays w (Epoch e) = restarted_sent (nat_lt w.epoch e) w e
+sent_stays w (NewClient name blocks) = made_sent (client_refusal host name.items blocks) w name.items
+sent_stays w (Open i q) = refl
+sent_stays w (Forget i) = refl
+sent_stays w (Ask message) = refl
+sent_stays w (AskFrom i) = refl
+sent_stays w (Deliver i a cut) = refl
+sent_stays w (Exchange i) = refl
+sent_stays w (Check i) = refl
+
+-- an event, and the answer that it sends, if any
+pub good_after : (w : World) (cs : List ClientState) (e : Event) (effect : Effect) → Good (scheduled w e) cs → IfSome (answer_in effect) (λ a. StaysHonest a (scheduled w e).book) → Good (after w e effect) cs
+good_after w cs e effect g new =
     record {
       epoch_small = g.epoch_small;
       count_small = g.count_small;
-      older = λ p i. older_in w _ p (g.older p i) (g.older p i).used;
+      older = λ p i. older_in (scheduled w e) _ p (g.older p i) (g.older p i).used;
       distinct = g.distinct;
       lawful = g.lawful;
       covers = g.covers;
       seen_are = g.seen_are;
       agree = g.agree;
-      honest = honest_added (answer_in effect) w.sent w.book g.honest new;
+      honest = honest_added (answer_in effect) w.sent (scheduled w e).book (subst (λ xs. SentHonest xs (scheduled w e).book) (sent_stays w e) g.honest) new;
     }
 
 pub agree_set : (cs : List ClientState) (i : ℕ) (c next : ClientState) (book : Book) → slice_get cs i ≡ Some c → AllAgree cs book → AgreesLater next book → AllAgree (slice_set cs i next) book

@@ -8,8 +8,8 @@ use Rattle.cog_client.specs.Client.{ClientState, report_of}
 use Rattle.cog_client.specs.Client.{name_of}
 use Rattle.cog_server.specs.declared.server.Answer.{Answer}
 use Rattle.world.specs.declared.event.Effect.TheVariants as effects
-use Rattle.world.specs.World.{name_in}
-use Rattle.world.specs.Run.{Acts, AtClient, Changes, DeliversWith, IsDelivery, NewReport, Quiet, Tells, cut_at, is_for}
+use Rattle.world.specs.World.{is_for}
+use Rattle.world.specs.Run.{Acts, AtClient, Changes, DeliversWith, IsDelivery, NewReport, Quiet, Tells, cut_at}
 
 pub get_there : {A : Type 0} (xs : List A) (i : ℕ) (x : A) → i < length xs → x ≡ get_or xs i x → slice_get xs i ≡ Some x
 get_there [] i x inside is = absurd (omega arith)
@@ -63,7 +63,7 @@ tells_of had old new report is h =
 -- ---- deliveries
 
 -- an answer for another name isn't delivered
-pub not_received : (a : Answer) (o : Option ClientState) (cut : Option ℕ) (i : ℕ) (n : Entry) (old new : List ClientState) (c : ClientState) → o ≡ Some c → false ≡ is_for (name_of c) (name_in a) → Quiet n effects.Skipped old new
+pub not_received : (a : Answer) (o : Option ClientState) (cut : Option ℕ) (i : ℕ) (n : Entry) (old new : List ClientState) (c : ClientState) → o ≡ Some c → false ≡ is_for a (name_of c) → Quiet n effects.Skipped old new
     → IsDelivery (Some a) o cut i n old new
 not_received a o cut i n old new c at other quiet =
     let P : Option ClientState → Type 0 = λ o. IsDelivery (Some a) o cut i n old new in
@@ -71,7 +71,7 @@ not_received a o cut i n old new c at other quiet =
     subst P (sym at) (subst Q other quiet)
 
 -- one for its name is
-pub received : (a : Answer) (o : Option ClientState) (cut : Option ℕ) (i : ℕ) (n : Entry) (old new : List ClientState) (c : ClientState) → o ≡ Some c → true ≡ is_for (name_of c) (name_in a)
+pub received : (a : Answer) (o : Option ClientState) (cut : Option ℕ) (i : ℕ) (n : Entry) (old new : List ClientState) (c : ClientState) → o ≡ Some c → true ≡ is_for a (name_of c)
     → Changes (DeliversWith (cut_at cut a.text.items) i n.effect) i c n old new → IsDelivery (Some a) o cut i n old new
 received a o cut i n old new c at own changes =
     let P : Option ClientState → Type 0 = λ o. IsDelivery (Some a) o cut i n old new in

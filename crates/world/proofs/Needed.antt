@@ -18,13 +18,12 @@ use Rattle.world.specs.declared.event.Event.TheVariants.{Publish, Epoch, NewClie
 use Rattle.world.specs.declared.event.AnsweredRequest.{AnsweredRequest}
 use Rattle.world.specs.declared.event.Effect.{Effect}
 use Rattle.world.specs.declared.event.Entry.{Entry}
-use Rattle.world.specs.World.{World, Seen, host, after, name_in}
-use Rattle.world.specs.Progress.{AllNeeded, IsNeededAt, IsNeededBy, IsNeededIn, IsOfPublished, asked_in}
-use Rattle.world.specs.Run.{Asks, AsksWith, AtClient, DeliversWith, ExchangesWith, ForgetsAll, IsCheckBy, IsDelivery, IsExchanged, MakesBy, OpensWith, Runs, Step, asked_effect, cut_at, is_for, seen}
+use Rattle.world.specs.World.{World, Seen, host, is_for}
+use Rattle.world.specs.Progress.{IsNeededEntry, IsNeededBy, IsNeededIn, IsOfPublished, asked_in}
+use Rattle.world.specs.Run.{Asks, AsksWith, AtClient, DeliversWith, ExchangesWith, ForgetsAll, IsCheckBy, IsDelivery, IsExchanged, MakesBy, OpensWith, Step, asked_effect, cut_at, seen}
 use Rattle.world.specs.LowerLaws.{LowerLaws}
 use Rattle.world.proofs.Lists.{get-map, get-push, get-set}
 use Rattle.world.proofs.Good.{Good}
-use Rattle.world.proofs.Truth.{sound_step}
 
 -- ---- every client asks the one host
 
@@ -62,7 +61,7 @@ hosted_exchange catalogue sent i effect c next h = at h.asked h.exchanged
 hosted_delivery : (o : Option Answer) (client : Option ClientState) (cut : Option ℕ) (i : ℕ) (n : Entry) (old new : List ClientState) → slice_get old i ≡ client → IsDelivery o client cut i n old new → AllHosted old → AllHosted new
 hosted_delivery None client cut i n old new at h all = hosted_same old new h.same all
 hosted_delivery (Some a) None cut i n old new at h all = hosted_same old new h.same all
-hosted_delivery (Some a) (Some c) cut i n old new at h all = by (is_for (name_of c) (name_in a)) h
+hosted_delivery (Some a) (Some c) cut i n old new at h all = by (is_for a (name_of c)) h
   where
     by : (b : Bool) → AtClient (cond b (Some c) None) (DeliversWith (cut_at cut a.text.items) i n.effect) i n old new → AllHosted new
     by true k = hosted_at (DeliversWith (cut_at cut a.text.items) i n.effect) (λ c next d. d.delivers.same.host) (Some c) i n old new at k all
@@ -184,7 +183,7 @@ module _ (laws : LowerLaws) where
       by None is k = subst (InEffect w) (sym is.0) tt
       by (Some a) is k = subst (InEffect w) (sym is.1) k
 
-  needed_step : (w : World) (cs : List ClientState) (e : Event) (n : Entry) (new : List ClientState) → Good w cs → AllHosted cs → Step w cs e n new → IsNeededAt w e n.effect
+  pub needed_step : (w : World) (cs : List ClientState) (e : Event) (n : Entry) (new : List ClientState) → Good w cs → AllHosted cs → Step w cs e n new → IsNeededEntry w e n
   needed_step w cs (Publish name file) n new g hosts h = tt
   needed_step w cs (Epoch e) n new g hosts h = tt
   needed_step w cs (NewClient name blocks) n new g hosts h = tt
@@ -195,14 +194,6 @@ module _ (laws : LowerLaws) where
   needed_step w cs (Deliver i a cut) n new g hosts h = tt
   needed_step w cs (Exchange i) n new g hosts h = needed_exchange (slice_get cs i) w cs new i n refl g hosts h
   needed_step w cs (Check i) n new g hosts h = tt
-
-  -- a whole run
-  pub needed_run : (w : World) (cs : List ClientState) (es : List Event) (ns : List Entry) (new : List ClientState) → Good w cs → AllHosted cs → Runs w cs es ns new → AllNeeded w es ns
-  needed_run w cs [] [] new g hosts h = tt
-  needed_run w cs [] (n ∷ ns) new g hosts h = absurd h
-  needed_run w cs (e ∷ es) [] new g hosts h = absurd h
-  needed_run w cs (e ∷ es) (n ∷ ns) new g hosts (mid, step, rest) =
-      (needed_step w cs e n mid g hosts step, needed_run (after w e n.effect) mid es ns new (sound_step laws w cs e n mid g step).good (hosted_step w cs e n mid step hosts) rest)
 
 -- no client is there at the start
 pub hosted_start : AllHosted []

@@ -1,6 +1,6 @@
 -- In a faithful stretch a report comes by the exchange after as many as the query costs.
 use Rattle.std.proofs.Common.{◌≡◌, ℕ, zero, suc, ◌<◌, ◌≤◌, ◌⊎◌, List, [], ◌∷◌, ◌++◌, length, take, drop, replicate, Option, Some, None, refl, sym, ap, ◌∙◌, subst, arith, inl, inr}
-use Rattle.std.specs.Prelude.{slice_get, IfSome, is_some, if◌then◌else◌}
+use Rattle.std.specs.Prelude.{slice_get, IfSome, IsSomeAnd, is_some, if◌then◌else◌}
 use Rattle.std.specs.Option.{option_map}
 use Rattle.std.proofs.lemmas.Bool.{false≢true}
 use Rattle.std.proofs.lemmas.Option.{none-some, same_Some}
@@ -12,7 +12,7 @@ use Rattle.http_range.specs.Book.{Publication, In, published}
 use Rattle.http_range.specs.Response.{IsAnswer}
 use Rattle.cog_client.specs.declared.delivered.Delivered.{Delivered}
 use Rattle.cog_client.specs.declared.report.Report.{Report}
-use Rattle.cog_client.specs.Report.{Told, told}
+use Rattle.cog_client.specs.Report.{IsTrueReport, Told, told}
 use Rattle.cog_client.specs.Case.{Revision}
 use Rattle.cog_client.specs.Client.{ClientState, Knows, ClientAgrees, asked_of, host_of, name_of, query_of, report_of, tag_of}
 use Rattle.cog_client.specs.Calls.{Delivers, request_for}
@@ -21,9 +21,9 @@ use Rattle.world.specs.declared.event.Event.{Event}
 use Rattle.world.specs.declared.event.Event.TheVariants.{Open, Exchange}
 use Rattle.world.specs.declared.event.AnsweredRequest.{AnsweredRequest}
 use Rattle.world.specs.declared.event.Entry.{Entry}
-use Rattle.world.specs.World.{World, Seen, after, after_all, told_of, start}
+use Rattle.world.specs.World.{World, Seen, after, after_all, start}
 use Rattle.world.specs.Progress.{AllReport, HasReport, stretch}
-use Rattle.world.specs.Run.{Asks, AtClient, Changes, ExchangesWith, IsExchanged, OpensWith, Runs, Tells, seen}
+use Rattle.world.specs.Run.{Asks, AtClient, Changes, ExchangesWith, IsExchanged, OpensWith, Runs, Tells, seen, told_of}
 use Rattle.world.specs.LowerLaws.{LowerLaws}
 use Rattle.world.proofs.Lists.{get-map, get-set_same}
 use Rattle.world.proofs.Good.{Good, good_start}
@@ -42,6 +42,11 @@ told_now old new report t none =
 -- at most m exchanges are left for the client: none of its file was read yet, or so many blocks are left
 abbrev IsWithin : Publication → Query → ℕ → ClientState → Type 0
 IsWithin p q m c = (cost p.file q < m) ⊎ ((tag_of c ≡ Some p.tag) × (left p.file c ≤ m) × (1 ≤ m))
+
+-- a report that tells the same answers the same query
+report_for : (o : Option Report) (t : Report) (q : Query) → option_map told o ≡ Some (told t) → t.query ≡ q → IsSomeAnd o (λ r. r.query ≡ q)
+report_for None t q tells is = absurd (none-some _ tells)
+report_for (Some r) t q tells is = ap (λ (x : Told). x.query) (same_Some _ _ tells) ∙ is
 
 -- the client reads the query, which isn't answered yet
 record IsReading (q : Query) (name : List ℕ) (c : ClientState) : Type 0 where
@@ -128,11 +133,11 @@ module _ (laws : LowerLaws) (w : World) (cs : List ClientState) (i : ℕ) (c : C
           omega (arith, had.1, brings.less mid_tag, laws.goes c mid p.file asks.requests.goes knows)
 
   -- what one exchange comes to: the report is told, or the query is still read
-  abbrev Outcome : ℕ → ClientState → Option Told → Type 0
-  Outcome m next report = ((r : Told) × (report ≡ Some r)) ⊎ IsReading q (name_of c) next × IsWithin p q m next
+  abbrev Outcome : ℕ → ClientState → Option Report → Type 0
+  Outcome m next report = IsSomeAnd report (λ r. r.query ≡ q) ⊎ IsReading q (name_of c) next × IsWithin p q m next
 
   exchanged : (m : ℕ) (n : Entry) (next : ClientState) → IsReading q (name_of c) c → published (name_of c) w.catalogue ≡ Some p → IsWithin p q (suc m) c
-      → ExchangesWith w.catalogue (length w.sent) i n.effect c next → Tells c next (told_of n) → Outcome m next (told_of n)
+      → ExchangesWith w.catalogue (length w.sent) i n.effect c next → Tells c next (told_of n) → Outcome m next n.report
   exchanged m n next reading has within h tells = by (report_of next) refl
     where
       kept : IsKept c next w.book
@@ -154,16 +159,21 @@ module _ (laws : LowerLaws) (w : World) (cs : List ClientState) (i : ℕ) (c : C
           ])
       silently (Some a) asks e none = fewer m h.mid next a e.0 (name_of c) reading has asks e.2 agrees none within
 
-      by : (o : Option Report) → report_of next ≡ o → Outcome m next (told_of n)
+      asked : (r : Report) → report_of next ≡ Some r → r.query ≡ q
+      asked r stands =
+          let true_now = some_of tells.standing r (λ (t : Report). IsTrueReport t (name_of next) (query_of next) w.book) (tells.stands.standing ∙ stands) (tells.stands.holds w.book agrees) in
+          same_Some _ _ (sym true_now.asked ∙ query)
+
+      by : (o : Option Report) → report_of next ≡ o → Outcome m next n.report
       by None none = inr (record { query = query; name_is = ap (λ (s : Seen). s.name) kept.same; silent = none }, silently h.asked h.asks h.exchanged none)
-      by (Some r) stands = inl (told r, told_now c next (told_of n) tells reading.silent ∙ ap (option_map told) stands)
+      by (Some r) stands = inl (report_for n.report r q (told_now c next (told_of n) tells reading.silent ∙ ap (option_map told) stands) (asked r stands))
 
 -- ---- a stretch
 
 module _ (laws : LowerLaws) (i : ℕ) (q : Query) (p : Publication) where
   -- so many exchanges have a report
   reach : (m : ℕ) (name : List ℕ) (w : World) (cs : List ClientState) (c : ClientState) (n : ℕ) (later : List Event) (ns : List Entry) (new : List ClientState) → Good w cs → slice_get cs i ≡ Some c → IsReading q name c
-      → published name w.catalogue ≡ Some p → IsWithin p q m c → m ≤ n → Runs w cs (replicate n (Exchange i) ++ later) ns new → HasReport (take m ns)
+      → published name w.catalogue ≡ Some p → IsWithin p q m c → m ≤ n → Runs w cs (replicate n (Exchange i) ++ later) ns new → HasReport i q (take m (replicate n (Exchange i) ++ later)) (take m ns)
   reach zero name w cs c n later ns new g at reading has within enough h = absurd (elim within [ inl low ↦ omega arith | inr had ↦ omega (arith, had.2) ])
   reach (suc m) name w cs c zero later ns new g at reading has within enough h = absurd (omega arith)
   reach (suc m) name w cs c (suc n) later [] new g at reading has within enough h = absurd h
@@ -174,11 +184,10 @@ module _ (laws : LowerLaws) (i : ℕ) (q : Query) (p : Publication) where
       let mine : IsReading q (name_of c) c = record { query = reading.query; name_is = refl; silent = reading.silent } in
       let there : slice_get mid i ≡ Some changes.next = ap (λ (xs : List ClientState). slice_get xs i) changes.changed ∙ get-set_same cs i changes.next c at in
       elim (exchanged laws w cs i c g at p q m x changes.next mine (ap (λ n. published n w.catalogue) own_name ∙ has) within changes.acts.does changes.acts.tells) [
-        | inl told ↦ (told.0, inl told.1)
+        | inl told ↦ inl (refl, told)
         | inr on ↦
             let next : IsReading q name changes.next = record { query = on.0.query; name_is = on.0.name_is ∙ own_name; silent = on.0.silent } in
-            let later_report = reach m name (after w (Exchange i) x.effect) mid changes.next n later ns new (sound_step laws w cs (Exchange i) x mid g step).good there next has on.1 (omega arith) rest in
-            (later_report.0, inr later_report.1)
+            inr (reach m name (after w (Exchange i) x.effect) mid changes.next n later ns new (sound_step laws w cs (Exchange i) x mid g step).good there next has on.1 (omega arith) rest)
       ]
 
   -- the client that is seen
@@ -187,7 +196,7 @@ module _ (laws : LowerLaws) (i : ℕ) (q : Query) (p : Publication) where
   client_at cs s (Some c) at is = (c, at, ap (λ (x : Seen). x.name) (same_Some _ _ is))
 
   from_opening : (w : World) (cs : List ClientState) (n : ℕ) (later : List Event) (ns : List Entry) (new : List ClientState) (s : Seen) → Good w cs → slice_get w.clients i ≡ Some s → published s.name w.catalogue ≡ Some p
-      → suc (cost p.file q) ≤ n → Runs w cs (stretch i q n ++ later) ns new → HasReport (take (suc (cost p.file q)) (drop 1 ns))
+      → suc (cost p.file q) ≤ n → Runs w cs (stretch i q n ++ later) ns new → HasReport i q (take (suc (cost p.file q)) (drop 1 (stretch i q n ++ later))) (take (suc (cost p.file q)) (drop 1 ns))
   from_opening w cs n later [] new s g there has enough h = absurd h
   from_opening w cs n later (x ∷ ns) new s g there has enough (mid, step, rest) =
       let found = client_at cs s (slice_get cs i) refl (sym (get-map seen cs i) ∙ ap (λ (ss : List Seen). slice_get ss i) g.seen_are ∙ there) in
@@ -202,7 +211,8 @@ module _ (laws : LowerLaws) (i : ℕ) (q : Query) (p : Publication) where
 
   -- whatever was before it
   after_others : (w : World) (cs : List ClientState) (before later : List Event) (n : ℕ) (ns : List Entry) (new : List ClientState) (s : Seen) → Good w cs → slice_get (after_all w before ns).clients i ≡ Some s
-      → published s.name (after_all w before ns).catalogue ≡ Some p → suc (cost p.file q) ≤ n → Runs w cs (before ++ stretch i q n ++ later) ns new → HasReport (take (suc (cost p.file q)) (drop (suc (length before)) ns))
+      → published s.name (after_all w before ns).catalogue ≡ Some p → suc (cost p.file q) ≤ n → Runs w cs (before ++ stretch i q n ++ later) ns new
+      → HasReport i q (take (suc (cost p.file q)) (drop (suc (length before)) (before ++ stretch i q n ++ later))) (take (suc (cost p.file q)) (drop (suc (length before)) ns))
   after_others w cs [] later n ns new s g there has enough h = from_opening w cs n later ns new s g there has enough h
   after_others w cs (e ∷ before) later n [] new s g there has enough h = absurd h
   after_others w cs (e ∷ before) later n (x ∷ ns) new s g there has enough (mid, step, rest) =
@@ -210,4 +220,5 @@ module _ (laws : LowerLaws) (i : ℕ) (q : Query) (p : Publication) where
 
 pub reached : (laws : LowerLaws) (events : List Event) (entries : List Entry) (new : List ClientState) → Runs start [] events entries new → AllReport events entries
 reached laws events entries new runs i q n p s enough =
-    after_others laws i q p start [] s.before s.later n entries new s.seen good_start s.there s.has enough (subst (λ es. Runs start [] es entries new) s.are runs)
+    let found = after_others laws i q p start [] s.before s.later n entries new s.seen good_start s.there s.has enough (subst (λ es. Runs start [] es entries new) s.are runs) in
+    subst (λ es. HasReport i q (take (suc (cost p.file q)) (drop (suc (length s.before)) es)) (take (suc (cost p.file q)) (drop (suc (length s.before)) entries))) (sym s.are) found

@@ -1,23 +1,26 @@
 -- Each event keeps the world's invariant, and each report of a run is true.
 use Rattle.std.proofs.Common.{◌≡◌, ℕ, List, [], ◌∷◌, ◌++◌, length, map, Option, Some, None, Bool, true, false, cond, refl, sym, ap, ◌∙◌, subst, ◌⊎◌, inl, inr, ◌-◌, min, append-nil, drop}
 use Rattle.std.specs.Prelude.{slice_get, slice_set, IfSome, nat_lt, is_some, if◌then◌else◌}
-use Rattle.std.specs.Option.{option_map}
+use Rattle.std.specs.Option.{option_map, option_map_or}
+use Rattle.std.specs.Str.{bytes_eq}
+use Rattle.std.specs.Global.{Vec}
 use Rattle.std.proofs.lemmas.List.{map_push, take-append-drop}
 use Rattle.std.proofs.lemmas.Option.{none-some, same_Some}
 use Rattle.std.proofs.lemmas.Slice.Eq.{bytes_eq-Decides}
 use Rattle.tiff_dir.specs.declared.query.Query.{Query}
 use Rattle.tiff_dir.specs.declared.span.Span.{Span}
 use Rattle.http_range.specs.Ask.{CanAsk, request_text}
-use Rattle.http_range.specs.Book.{Publication, Book, Catalogue, published}
+use Rattle.http_range.specs.Book.{Publication, Book, Catalogue, Includes, published}
 use Rattle.http_range.specs.declared.range.Resolved.TheVariants.{Part, Whole}
 use Rattle.http_range.specs.declared.reply.Reply.TheVariants.{R416}
 use Rattle.http_range.specs.Response.{Response, IsAnswer, is_current, response_to_client, serve_part, refused}
 use Rattle.http_range.specs.Honest.{IsFront, IsHonest}
+use Rattle.cog_server.specs.declared.error.PublishError.{PublishError}
 use Rattle.cog_server.specs.declared.server.Answer.{Answer}
 use Rattle.cog_server.specs.Server.{IsAnswered}
 use Rattle.cog_client.specs.declared.error.ClientError.{ClientError}
 use Rattle.cog_client.specs.declared.report.Report.{Report}
-use Rattle.cog_client.specs.Report.{Told, told, IsTrueReport}
+use Rattle.cog_client.specs.Report.{told, IsTrueReport}
 use Rattle.cog_client.specs.Client.{ClientState, asked_of, client_refusal, host_of, name_of, query_of, report_of, tag_of}
 use Rattle.cog_client.specs.Calls.{request_for}
 use Rattle.world.specs.declared.event.Event.{Event}
@@ -27,88 +30,149 @@ use Rattle.world.specs.declared.event.AnsweredCheck.{AnsweredCheck}
 use Rattle.world.specs.declared.event.Effect.{Effect}
 use Rattle.world.specs.declared.event.Effect.TheVariants as effects
 use Rattle.world.specs.declared.event.Entry.{Entry}
-use Rattle.world.specs.World.{World, Seen, host, name_in, answer_in, next_of, publish_by, refused_at, restart_by, with_clients, sending, made_by, opened, after, after_all, told_of, client_of, IsTrueAt, AllTrue, IsFor, StaysHonest}
-use Rattle.world.specs.Run.{seen, Tells, AtClient, MakesBy, OpensWith, ForgetsAll, Quiet, Asks, asked_effect, AsksWith, IsExchanged, ExchangesWith, is_for, cut_at, DeliversWith, IsDelivery, IsChecked, IsCheckBy, Step, Runs}
+use Rattle.world.specs.World.{World, Seen, host, is_for, answer_in, next_of, publish_by, refused_at, restart_by, scheduled, made_by, opened, after, client_of, IsTrueAt, StaysHonest}
+use Rattle.world.specs.Run.{seen, Tells, AtClient, MakesBy, OpensWith, ForgetsAll, Asks, asked_effect, AsksWith, IsExchanged, ExchangesWith, cut_at, publish_effect, receiver, told_of, DeliversWith, IsDelivery, IsChecked, IsCheckBy, Step}
 use Rattle.world.specs.LowerLaws.{LowerLaws}
 use Rattle.world.proofs.Lists.{get-map, get-set_same}
-use Rattle.world.proofs.Good.{Good, AgreesLater, see, seen_same, kept_seen, opened_there, opened_none, agree_set, agree_push, good_publish, good_epoch, good_clients, good_sending}
+use Rattle.world.proofs.Good.{Good, AgreesLater, see, seen_same, kept_seen, opened_there, opened_none, agree_set, agree_push, good_publish, good_epoch, good_clients, good_after}
+
+-- ---- nothing that was published is lost
+
+grows_publish : (w : World) (p : Publication) (o : Option PublishError) → Includes (publish_by w p o).book w.book
+grows_publish w p None = λ q i. inr i
+grows_publish w p (Some refusal) = λ q i. i
+
+grows_epoch : (b : Bool) (w : World) (e : ℕ) → Includes (restart_by w e b).book w.book
+grows_epoch true w e = λ q i. i
+grows_epoch false w e = λ q i. i
+
+grows_made : (w : World) (name : List ℕ) (o : Option ClientError) → Includes (made_by w name o).book w.book
+grows_made w name None = λ q i. i
+grows_made w name (Some refusal) = λ q i. i
+
+pub grows : (w : World) (e : Event) → Includes (scheduled w e).book w.book
+grows w (Publish name file) = grows_publish w (next_of w name.items file.items) (refused_at w name.items file.items)
+grows w (Epoch e) = grows_epoch (nat_lt w.epoch e) w e
+grows w (NewClient name blocks) = grows_made w name.items (client_refusal host name.items blocks)
+grows w (Open i q) = λ q i. i
+grows w (Forget i) = λ q i. i
+grows w (Ask message) = λ q i. i
+grows w (AskFrom i) = λ q i. i
+grows w (Deliver i a cut) = λ q i. i
+grows w (Exchange i) = λ q i. i
+grows w (Check i) = λ q i. i
+
+-- ---- what is told
+
+-- what is told is what stands, so it is true as this is
+told_true : (laws : LowerLaws) (name : List ℕ) (query : Option Query) (book : Book) (had : Bool) (o standing : Option Report) → option_map told o ≡ cond had None (option_map told standing)
+    → IfSome standing (λ r. IsTrueReport r name query book) → IfSome o (λ r. IsTrueReport r name query book)
+told_true laws name query book had None standing is h = tt
+told_true laws name query book true (Some r) standing is h = absurd (none-some (told r) (sym is))
+told_true laws name query book false (Some r) None is h = absurd (none-some (told r) (sym is))
+told_true laws name query book false (Some r) (Some s) is h = laws.told s r name query book (sym (same_Some _ _ is)) h
+
+told_at : (o : Option Report) (w : World) (i : ℕ) (s : Seen) → slice_get w.clients i ≡ Some s → IfSome o (λ r. IsTrueReport r s.name s.query w.book) → IfSome o (IsTrueAt w (Some i))
+told_at None w i s there h = tt
+told_at (Some r) w i s there h = record { at = i; by = refl; seen = s; there = there; holds = h }
+
+silent : (o : Option Report) (P : Report → Type 0) → option_map told o ≡ None → IfSome o P
+silent None P none = tt
+silent (Some r) P none = absurd (none-some (told r) (sym none))
 
 -- ---- the world after an event, with what is told
 
-pub record IsSound (w : World) (cs : List ClientState) (client : Option ℕ) (report : Option Told) : Type 0 where
+pub record IsSound (w : World) (cs : List ClientState) (client : Option ℕ) (report : Option Report) : Type 0 where
   pub good : Good w cs
   pub told : IfSome report (IsTrueAt w client)
 
-told_by : (o : Option Told) (w : World) (i : ℕ) (c : ClientState) → slice_get w.clients i ≡ Some (seen c) → IfSome o (λ r. IsTrueReport r (name_of c) (query_of c) w.book) → IfSome o (IsTrueAt w (Some i))
-told_by None w i c there h = tt
-told_by (Some r) w i c there h = record { at = i; by = refl; seen = seen c; there = there; holds = h }
+-- an answer is sent, if any
+sound_after : (w : World) (cs : List ClientState) (e : Event) (n : Entry) → IsSound (scheduled w e) cs (client_of e) n.report → IfSome (answer_in n.effect) (λ a. StaysHonest a w.book) → IsSound (after w e n.effect) cs (client_of e) n.report
+sound_after w cs e n s honest = record { good = good_after w cs e n.effect s.good (later (answer_in n.effect) honest); told = again n.report s.told }
+  where
+    later : (o : Option Answer) → IfSome o (λ a. StaysHonest a w.book) → IfSome o (λ a. StaysHonest a (scheduled w e).book)
+    later None h = tt
+    later (Some a) h = λ name book for inc. h name book for (λ p j. inc p (grows w e p j))
 
-told_all : (o : Option Report) (P : Told → Type 0) → IfSome o (λ r. P (told r)) → IfSome (option_map told o) P
-told_all None P h = tt
-told_all (Some r) P h = h
-
-newly_told : (b : Bool) (o : Option Told) (P : Told → Type 0) → IfSome o P → IfSome (cond b None o) P
-newly_told true o P h = tt
-newly_told false o P h = h
+    again : (o : Option Report) → IfSome o (IsTrueAt (scheduled w e) (client_of e)) → IfSome o (IsTrueAt (after w e n.effect) (client_of e))
+    again None h = tt
+    again (Some r) h = record { at = h.at; by = h.by; seen = h.seen; there = h.there; holds = h.holds }
 
 -- a call of client i: the world is good and what is told is true
-sound_call : (w : World) (cs new : List ClientState) (i : ℕ) (c next : ClientState) (n : Entry) → Good w new → slice_get cs i ≡ Some c → new ≡ slice_set cs i next → AgreesLater next w.book → Tells c next (told_of n) → IsSound w new (Some i) (told_of n)
-sound_call w cs new i c next n g there changed agrees tells =
+sound_call : (laws : LowerLaws) (w : World) (cs new : List ClientState) (i : ℕ) (c next : ClientState) (n : Entry) → Good w new → slice_get cs i ≡ Some c → new ≡ slice_set cs i next → AgreesLater next w.book → Tells c next (told_of n) → IsSound w new (Some i) n.report
+sound_call laws w cs new i c next n g there changed agrees tells =
     let at : slice_get w.clients i ≡ Some (seen next) =
     ap (λ (ss : List Seen). slice_get ss i) (sym g.seen_are) ∙ (ap (λ (xs : List ClientState). slice_get (map seen xs) i) changed
     ∙ (get-map seen (slice_set cs i next) i ∙ ap (λ (o : Option ClientState). option_map seen o) (get-set_same cs i next c there))) in
-    let standing : Option Told = option_map told tells.standing in
-    let true_for : IfSome standing (λ r. IsTrueReport r (name_of next) (query_of next) w.book) =
-    told_all tells.standing (λ r. IsTrueReport r (name_of next) (query_of next) w.book) (tells.stands.holds w.book (agrees w.book (λ p j. j) g.distinct)) in
-    let holds = told_by standing w i next at true_for in
-    let P : Option Told → Type 0 = λ o. IfSome o (IsTrueAt w (Some i)) in
-    record { good = g; told = subst P (sym tells.newly) (newly_told (is_some (report_of c)) standing (IsTrueAt w (Some i)) holds) }
+    let standing = tells.stands.holds w.book (agrees w.book (λ p j. j) g.distinct) in
+    let true_now = told_true laws (name_of next) (query_of next) w.book (is_some (report_of c)) n.report tells.standing tells.newly standing in
+    record { good = g; told = told_at n.report w i (seen next) at true_now }
 
 -- an event that tells nothing
-sound_quiet : (w : World) (cs new : List ClientState) (client : Option ℕ) (report : Option Told) → Good w cs → new ≡ cs → report ≡ None → IsSound w new client report
-sound_quiet w cs new client report g same none =
-    let P : List ClientState → Type 0 = λ xs. Good w xs in
-    let Q : Option Told → Type 0 = λ o. IfSome o (IsTrueAt w client) in
-    record { good = subst P (sym same) g; told = subst Q (sym none) tt }
+sound_quiet : (w : World) (cs new : List ClientState) (client : Option ℕ) (n : Entry) → Good w cs → new ≡ cs → told_of n ≡ None → IsSound w new client n.report
+sound_quiet w cs new client n g same none = record { good = subst (Good w) (sym same) g; told = silent n.report (IsTrueAt w client) none }
 
-sound_made : (o : Option ClientError) (w : World) (cs new : List ClientState) (name : List ℕ) (blocks : ℕ) (n : Entry) → Good w cs → MakesBy o name blocks n cs new → IsSound (made_by w name o) new None (told_of n)
-sound_made (Some refusal) w cs new name blocks n g h = sound_quiet w cs new None (told_of n) g h.same h.report
+sound_made : (o : Option ClientError) (w : World) (cs new : List ClientState) (name : List ℕ) (blocks : ℕ) (n : Entry) → Good w cs → MakesBy o name blocks n cs new → IsSound (made_by w name o) new None n.report
+sound_made (Some refusal) w cs new name blocks n g h = sound_quiet w cs new None n g h.same h.report
 sound_made None w cs new name blocks n g h =
     let seen_made : seen h.made ≡ see name None = ap (λ (m : List ℕ). see m (query_of h.made)) h.starts.named ∙ ap (λ (o : Option Query). see name o) h.starts.query in
     let all : map seen (cs ++ h.made ∷ []) ≡ w.clients ++ see name None ∷ [] = map_push seen cs h.made ∙ (ap (λ (ss : List Seen). ss ++ seen h.made ∷ []) g.seen_are ∙ ap (λ (s : Seen). w.clients ++ s ∷ []) seen_made) in
-    let w' = with_clients w (w.clients ++ see name None ∷ []) in
-    let good : Good w' (cs ++ h.made ∷ []) = good_clients w cs (cs ++ h.made ∷ []) (w.clients ++ see name None ∷ []) g all (agree_push cs h.made w.book g.agree (λ b inc d. h.starts.empty.agrees b)) in
-    sound_quiet w' (cs ++ h.made ∷ []) new None (told_of n) good h.added h.report
+    let good = good_clients w cs (cs ++ h.made ∷ []) (w.clients ++ see name None ∷ []) g all (agree_push cs h.made w.book g.agree (λ b inc d. h.starts.empty.agrees b)) in
+    sound_quiet (made_by w name None) (cs ++ h.made ∷ []) new None n good h.added h.report
 
-sound_open : (o : Option ClientState) (w : World) (cs new : List ClientState) (i : ℕ) (q : Query) (n : Entry) → slice_get cs i ≡ o → Good w cs → AtClient o (OpensWith q i n.effect) i n cs new → IsSound (with_clients w (opened w.clients i q)) new (Some i) (told_of n)
-sound_open None w cs new i q n at g h =
-    let same : opened w.clients i q ≡ w.clients = ap (λ (ss : List Seen). opened ss i q) (sym g.seen_are) ∙ (opened_none cs i q at ∙ g.seen_are) in
-    let P : List Seen → Type 0 = λ ss. Good (with_clients w ss) cs in
-    sound_quiet (with_clients w (opened w.clients i q)) cs new (Some i) (told_of n) (subst P (sym same) (good_clients w cs cs w.clients g g.seen_are g.agree)) h.same h.report
-sound_open (Some c) w cs new i q n at g h =
+sound_open : (laws : LowerLaws) (o : Option ClientState) (w : World) (cs new : List ClientState) (i : ℕ) (q : Query) (n : Entry) → slice_get cs i ≡ o → Good w cs → AtClient o (OpensWith q i n.effect) i n cs new → IsSound (scheduled w (Open i q)) new (Some i) n.report
+sound_open laws None w cs new i q n at g h =
+    let same : w.clients ≡ opened w.clients i q = sym (ap (λ (ss : List Seen). opened ss i q) (sym g.seen_are) ∙ (opened_none cs i q at ∙ g.seen_are)) in
+    sound_quiet (scheduled w (Open i q)) cs new (Some i) n (good_clients w cs cs (opened w.clients i q) g (g.seen_are ∙ same) g.agree) h.same h.report
+sound_open laws (Some c) w cs new i q n at g h =
     let opens = h.acts.does.opens in
     let later : AgreesLater h.next w.book = (λ b inc d. opens.agrees b (g.agree i c at b inc d)) in
     let seen_new : map seen (slice_set cs i h.next) ≡ opened w.clients i q = opened_there cs i c h.next q at opens.name opens.asks ∙ ap (λ (ss : List Seen). opened ss i q) g.seen_are in
-    let good : Good (with_clients w (opened w.clients i q)) (slice_set cs i h.next) = good_clients w cs (slice_set cs i h.next) (opened w.clients i q) g seen_new (agree_set cs i c h.next w.book at g.agree later) in
-    let P : List ClientState → Type 0 = λ xs. Good (with_clients w (opened w.clients i q)) xs in
-    sound_call (with_clients w (opened w.clients i q)) cs new i c h.next n (subst P (sym h.changed) good) at h.changed later h.acts.tells
-
--- ---- forgetting
-
-sound_forget : (o : Option ClientState) (w : World) (cs new : List ClientState) (i : ℕ) (n : Entry) → slice_get cs i ≡ o → Good w cs → AtClient o (ForgetsAll i n.effect) i n cs new → IsSound w new (Some i) (told_of n)
-sound_forget None w cs new i n at g h = sound_quiet w cs new (Some i) (told_of n) g h.same h.report
-sound_forget (Some c) w cs new i n at g h =
-    let forgets = h.acts.does.forgets in
-    let later : AgreesLater h.next w.book = (λ b inc d. forgets.empty.agrees b) in
-    let kept : map seen (slice_set cs i h.next) ≡ w.clients = kept_seen cs i c h.next at (seen_same c h.next forgets.same.name forgets.same.query) ∙ g.seen_are in
-    let good : Good w (slice_set cs i h.next) = good_clients w cs (slice_set cs i h.next) w.clients g kept (agree_set cs i c h.next w.book at g.agree later) in
-    let P : List ClientState → Type 0 = λ xs. Good w xs in
-    sound_call w cs new i c h.next n (subst P (sym h.changed) good) at h.changed later h.acts.tells
+    let good = good_clients w cs (slice_set cs i h.next) (opened w.clients i q) g seen_new (agree_set cs i c h.next w.book at g.agree later) in
+    sound_call laws (scheduled w (Open i q)) cs new i c h.next n (subst (Good (scheduled w (Open i q))) (sym h.changed) good) at h.changed later h.acts.tells
 
 -- what a client is after its calls
 pub record IsKept (c next : ClientState) (book : Book) : Type 0 where
   pub same : seen next ≡ seen c
   pub agrees : AgreesLater next book
+
+-- a call of client i, after which it is kept
+sound_kept : (laws : LowerLaws) (w : World) (cs new : List ClientState) (i : ℕ) (c next : ClientState) (n : Entry) → Good w cs → slice_get cs i ≡ Some c → new ≡ slice_set cs i next → IsKept c next w.book → Tells c next (told_of n) → IsSound w new (Some i) n.report
+sound_kept laws w cs new i c next n g at changed kept tells =
+    let mid = good_clients w cs (slice_set cs i next) w.clients g (kept_seen cs i c next at kept.same ∙ g.seen_are) (agree_set cs i c next w.book at g.agree kept.agrees) in
+    sound_call laws w cs new i c next n (subst (Good w) (sym changed) mid) at changed kept.agrees tells
+
+sound_forget : (laws : LowerLaws) (o : Option ClientState) (w : World) (cs new : List ClientState) (i : ℕ) (n : Entry) → slice_get cs i ≡ o → Good w cs → AtClient o (ForgetsAll i n.effect) i n cs new → IsSound w new (Some i) n.report
+sound_forget laws None w cs new i n at g h = sound_quiet w cs new (Some i) n g h.same h.report
+sound_forget laws (Some c) w cs new i n at g h =
+    let forgets = h.acts.does.forgets in
+    sound_kept laws w cs new i c h.next n g at h.changed (record { same = seen_same c h.next forgets.same.name forgets.same.query; agrees = λ b inc d. forgets.empty.agrees b }) h.acts.tells
+
+-- ---- what is sent
+
+-- an event with such an effect sends nothing
+nothing_sent : (effect done : Effect) (book : Book) → effect ≡ done → answer_in done ≡ None → IfSome (answer_in effect) (λ a. StaysHonest a book)
+nothing_sent effect done book is none =
+    let P : Option Answer → Type 0 = λ o. IfSome o (λ a. StaysHonest a book) in
+    subst P (sym (ap (λ (e : Effect). answer_in e) is ∙ none)) tt
+
+none_published : (tag : List ℕ) (o : Option PublishError) → answer_in (publish_effect tag o) ≡ None
+none_published tag None = refl
+none_published tag (Some refusal) = refl
+
+none_restarted : (b : Bool) (e : ℕ) → answer_in (if b then effects.Epoch e else effects.Skipped) ≡ None
+none_restarted true e = refl
+none_restarted false e = refl
+
+made_honest : (o : Option ClientError) (book : Book) (name : List ℕ) (blocks : ℕ) (n : Entry) (cs new : List ClientState) → MakesBy o name blocks n cs new → IfSome (answer_in n.effect) (λ a. StaysHonest a book)
+made_honest None book name blocks n cs new h = nothing_sent n.effect _ book h.done refl
+made_honest (Some refusal) book name blocks n cs new h = nothing_sent n.effect _ book h.done refl
+
+-- where there is no such client, nothing is sent
+client_honest : (o : Option ClientState) (R : ClientState → ClientState → Type 0) (book : Book) (i : ℕ) (n : Entry) (cs new : List ClientState) → ((c next : ClientState) → o ≡ Some c → R c next → IfSome (answer_in n.effect) (λ a. StaysHonest a book))
+    → AtClient o R i n cs new → IfSome (answer_in n.effect) (λ a. StaysHonest a book)
+client_honest None R book i n cs new each h = nothing_sent n.effect _ book h.done refl
+client_honest (Some c) R book i n cs new each h = each c h.next refl h.acts.does
 
 served_name : (laws : LowerLaws) (name : List ℕ) (catalogue : Catalogue) (first last : ℕ) (tag : Option (List ℕ)) (o : Option Publication) → published name catalogue ≡ o
     → ((response_to_client o first last tag).name ≡ Some name) ⊎ ((response_to_client o first last tag).name ≡ None)
@@ -129,54 +193,39 @@ asked_for : (c : ClientState) (o : Option Span) (request : List ℕ) → Some re
 asked_for c None request e can = absurd (none-some request (sym e))
 asked_for c (Some s) request e can = (s, same_Some _ _ e, can)
 
--- the answer is for this name, where the test says so
-for_name : (name : List ℕ) (o : Option (List ℕ)) → is_for name o ≡ true → (o ≡ Some name) ⊎ (o ≡ None)
-for_name name None e = inr refl
-for_name name (Some other) e = inl (ap Some ((bytes_eq-Decides other name).0 e))
+-- the answer is for this name, where it carries the tag of the file of this name, or none
+named_for : (name : List ℕ) (o : Option (Vec ℕ)) → option_map_or (λ (other : Vec ℕ). bytes_eq other.items name) o true ≡ true → (option_map (λ (n : Vec ℕ). n.items) o ≡ Some name) ⊎ (option_map (λ (n : Vec ℕ). n.items) o ≡ None)
+named_for name None e = inr refl
+named_for name (Some other) e = inl (ap Some ((bytes_eq-Decides other.items name).0 e))
+
+for_named : (name : List ℕ) (o : Option (Vec ℕ)) → (option_map (λ (n : Vec ℕ). n.items) o ≡ Some name) ⊎ (option_map (λ (n : Vec ℕ). n.items) o ≡ None) → option_map_or (λ (other : Vec ℕ). bytes_eq other.items name) o true ≡ true
+for_named name None h = refl
+for_named name (Some other) (inl is) = (bytes_eq-Decides other.items name).1 (same_Some _ _ is)
+for_named name (Some other) (inr none) = absurd (none-some _ (sym none))
 
 front_is : (cut : Option ℕ) (text : List ℕ) → IsFront (cut_at cut text) text
 front_is None text = ([], append-nil text)
 front_is (Some n) text = (drop n text, take-append-drop n text)
-
--- an event that sends nothing, at no client
-sound_skipped : (w : World) (cs new : List ClientState) (i : ℕ) (n : Entry) → Good w cs → Quiet n effects.Skipped cs new → IsSound (sending w n.effect) new (Some i) (told_of n)
-sound_skipped w cs new i n g h =
-    let P : Effect → Type 0 = λ e. IfSome (answer_in e) (λ a. StaysHonest a w.book) in
-    sound_quiet (sending w n.effect) cs new (Some i) (told_of n) (good_sending w cs n.effect g (subst P (sym h.done) tt)) h.same h.report
-
--- a call of client i, after which it is kept
-sound_kept : (w v : World) (cs new : List ClientState) (i : ℕ) (c next : ClientState) (n : Entry) → Good w cs → slice_get cs i ≡ Some c → new ≡ slice_set cs i next → IsKept c next w.book → Tells c next (told_of n)
-    → v.book ≡ w.book → ((xs : List ClientState) → Good w xs → Good v xs) → IsSound v new (Some i) (told_of n)
-sound_kept w v cs new i c next n g at changed kept tells same good =
-    let mid : Good w (slice_set cs i next) = good_clients w cs (slice_set cs i next) w.clients g (kept_seen cs i c next at kept.same ∙ g.seen_are) (agree_set cs i c next w.book at g.agree kept.agrees) in
-    let P : List ClientState → Type 0 = λ xs. Good v xs in
-    let Q : Book → Type 0 = λ b. AgreesLater next b in
-    sound_call v cs new i c next n (subst P (sym changed) (good (slice_set cs i next) mid)) at changed (subst Q (sym same) kept.agrees) tells
-
--- a call of client i that sends an answer, if any
-sound_sending : (w : World) (cs new : List ClientState) (i : ℕ) (c next : ClientState) (n : Entry) → Good w cs → slice_get cs i ≡ Some c → new ≡ slice_set cs i next → IsKept c next w.book
-    → IfSome (answer_in n.effect) (λ a. StaysHonest a w.book) → Tells c next (told_of n) → IsSound (sending w n.effect) new (Some i) (told_of n)
-sound_sending w cs new i c next n g at changed kept honest tells =
-    sound_kept w (sending w n.effect) cs new i c next n g at changed kept tells refl (λ xs h. good_sending w xs n.effect h honest)
 
 module _ (laws : LowerLaws) where
   -- what the server of the world answers is honest in every later book
   answer_honest : (w : World) (cs : List ClientState) (message : List ℕ) (a : Answer) → Good w cs → IsAnswered w.catalogue message a → StaysHonest a w.book
   answer_honest w cs message a g h = λ name later for inc.
       let Q : List ℕ → Type 0 = λ t. IsHonest t name later in
-      let named : (h.response.name ≡ Some name) ⊎ (h.response.name ≡ None) = elim for [ inl is ↦ inl (sym h.shows.name ∙ is) | inr none ↦ inr (sym h.shows.name ∙ none) ] in
+      let for_it = named_for name a.name for in
+      let named : (h.response.name ≡ Some name) ⊎ (h.response.name ≡ None) = elim for_it [ inl is ↦ inl (sym h.shows.name ∙ is) | inr none ↦ inr (sym h.shows.name ∙ none) ] in
       subst Q (sym h.shows.text) (laws.honest.answered w.catalogue later message h.response name g.lawful (λ m p found. inc p (g.covers m p found)) h.answers named)
 
   -- the answer to a client's own request is for its name
   answer_for : (catalogue : Catalogue) (host name : List ℕ) (tag : Option (List ℕ)) (s : Span) (request : List ℕ) (a : Answer)
-      → request ≡ request_text host name s.first s.last tag → CanAsk host name s.first s.last tag → IsAnswered catalogue request a → IsFor a name
+      → request ≡ request_text host name s.first s.last tag → CanAsk host name s.first s.last tag → IsAnswered catalogue request a → is_for a name ≡ true
   answer_for catalogue host name tag s request a is can h =
       let text : request ≡ request_text host name s.first s.last tag ++ [] = is ∙ sym (append-nil _) in
       let P : List ℕ → Type 0 = λ m. IsAnswer catalogue m h.response in
       let same = (laws.answered catalogue host name [] s.first s.last tag h.response can s.ascending).0 (subst P text h.answers) in
       let Q : Response → Type 0 = λ r. (r.name ≡ Some name) ⊎ (r.name ≡ None) in
       let served = subst Q (sym same) (served_name laws name catalogue s.first s.last tag (published name catalogue) refl) in
-      elim served [ inl is ↦ inl (h.shows.name ∙ is) | inr none ↦ inr (h.shows.name ∙ none) ]
+      for_named name a.name (elim served [ inl is ↦ inl (h.shows.name ∙ is) | inr none ↦ inr (h.shows.name ∙ none) ])
 
   -- ---- requests
 
@@ -194,11 +243,14 @@ module _ (laws : LowerLaws) where
   asked_honest w i None effect is h = let P : Effect → Type 0 = λ e. IfSome (answer_in e) (λ a. StaysHonest a w.book) in subst P (sym is) tt
   asked_honest w i (Some a) effect is h = let P : Effect → Type 0 = λ e. IfSome (answer_in e) (λ a. StaysHonest a w.book) in subst P (sym is) h
 
-  sound_ask_from : (o : Option ClientState) (w : World) (cs new : List ClientState) (i : ℕ) (n : Entry) → slice_get cs i ≡ o → Good w cs → AtClient o (AsksWith w.catalogue (length w.sent) i n.effect) i n cs new → IsSound (sending w n.effect) new (Some i) (told_of n)
-  sound_ask_from None w cs new i n at g h = sound_skipped w cs new i n g h
+  sound_ask_from : (o : Option ClientState) (w : World) (cs new : List ClientState) (i : ℕ) (n : Entry) → slice_get cs i ≡ o → Good w cs → AtClient o (AsksWith w.catalogue (length w.sent) i n.effect) i n cs new → IsSound w new (Some i) n.report
+  sound_ask_from None w cs new i n at g h = sound_quiet w cs new (Some i) n g h.same h.report
   sound_ask_from (Some c) w cs new i n at g h =
       let d = h.acts.does in
-      sound_sending w cs new i c h.next n g at h.changed (asks_kept w i d.asked c h.next d.asks (g.agree i c at)) (asked_honest w i d.asked n.effect d.done (asks_honest w cs i d.asked c h.next g d.asks)) h.acts.tells
+      sound_kept laws w cs new i c h.next n g at h.changed (asks_kept w i d.asked c h.next d.asks (g.agree i c at)) h.acts.tells
+
+  ask_from_honest : (w : World) (cs : List ClientState) (i : ℕ) (effect : Effect) (c next : ClientState) → Good w cs → AsksWith w.catalogue (length w.sent) i effect c next → IfSome (answer_in effect) (λ a. StaysHonest a w.book)
+  ask_from_honest w cs i effect c next g h = asked_honest w i h.asked effect h.done (asks_honest w cs i h.asked c next g h.asks)
 
   -- ---- exchanges
 
@@ -209,7 +261,7 @@ module _ (laws : LowerLaws) where
       let r = asks.requests in
       let delivers = h.2 in
       let asked = asked_for c (asked_of mid) a.request.items r.text r.lawful in
-      let for : IsFor a.answer (name_of c) = answer_for w.catalogue (host_of c) (name_of c) (tag_of c) asked.0 a.request.items a.answer asked.1 asked.2 asks.answered.answered in
+      let for : is_for a.answer (name_of c) ≡ true = answer_for w.catalogue (host_of c) (name_of c) (tag_of c) asked.0 a.request.items a.answer asked.1 asked.2 asks.answered.answered in
       let honest = answer_honest w cs a.request.items a.answer g asks.answered.answered in
       let P : Book → List ℕ → Type 0 = λ later name. IsHonest a.answer.text.items name later in
       record {
@@ -221,31 +273,37 @@ module _ (laws : LowerLaws) where
   exchanged_honest w i None effect mid next h honest = let P : Effect → Type 0 = λ e. IfSome (answer_in e) (λ a. StaysHonest a w.book) in subst P (sym h.0) tt
   exchanged_honest w i (Some a) effect mid next h honest = let P : Effect → Type 0 = λ e. IfSome (answer_in e) (λ a. StaysHonest a w.book) in subst P (sym h.1) honest
 
-  sound_exchange : (o : Option ClientState) (w : World) (cs new : List ClientState) (i : ℕ) (n : Entry) → slice_get cs i ≡ o → Good w cs → AtClient o (ExchangesWith w.catalogue (length w.sent) i n.effect) i n cs new → IsSound (sending w n.effect) new (Some i) (told_of n)
-  sound_exchange None w cs new i n at g h = sound_skipped w cs new i n g h
+  sound_exchange : (o : Option ClientState) (w : World) (cs new : List ClientState) (i : ℕ) (n : Entry) → slice_get cs i ≡ o → Good w cs → AtClient o (ExchangesWith w.catalogue (length w.sent) i n.effect) i n cs new → IsSound w new (Some i) n.report
+  sound_exchange None w cs new i n at g h = sound_quiet w cs new (Some i) n g h.same h.report
   sound_exchange (Some c) w cs new i n at g h =
       let d = h.acts.does in
-      sound_sending w cs new i c h.next n g at h.changed (exchanged_kept w cs i d.asked n.effect c d.mid h.next g d.asks d.exchanged (g.agree i c at))
-      (exchanged_honest w i d.asked n.effect d.mid h.next d.exchanged (asks_honest w cs i d.asked c d.mid g d.asks)) h.acts.tells
+      sound_kept laws w cs new i c h.next n g at h.changed (exchanged_kept w cs i d.asked n.effect c d.mid h.next g d.asks d.exchanged (g.agree i c at)) h.acts.tells
+
+  exchange_honest : (w : World) (cs : List ClientState) (i : ℕ) (effect : Effect) (c next : ClientState) → Good w cs → ExchangesWith w.catalogue (length w.sent) i effect c next → IfSome (answer_in effect) (λ a. StaysHonest a w.book)
+  exchange_honest w cs i effect c next g h = exchanged_honest w i h.asked effect h.mid next h.exchanged (asks_honest w cs i h.asked c h.mid g h.asks)
 
   -- ---- deliveries
 
-  sound_delivery : (b : Bool) (w : World) (cs new : List ClientState) (i k : ℕ) (a : Answer) (c : ClientState) (cut : Option ℕ) (n : Entry) → is_for (name_of c) (name_in a) ≡ b → slice_get w.sent k ≡ Some a → slice_get cs i ≡ Some c → Good w cs
-      → AtClient (if b then Some c else None) (DeliversWith (cut_at cut a.text.items) i n.effect) i n cs new → IsSound w new (Some i) (told_of n)
-  sound_delivery false w cs new i k a c cut n for sent at g h = sound_quiet w cs new (Some i) (told_of n) g h.same h.report
+  sound_delivery : (b : Bool) (w : World) (cs new : List ClientState) (i k : ℕ) (a : Answer) (c : ClientState) (cut : Option ℕ) (n : Entry) → is_for a (name_of c) ≡ b → slice_get w.sent k ≡ Some a → slice_get cs i ≡ Some c → Good w cs
+      → AtClient (if b then Some c else None) (DeliversWith (cut_at cut a.text.items) i n.effect) i n cs new → IsSound w new (Some i) n.report
+  sound_delivery false w cs new i k a c cut n for sent at g h = sound_quiet w cs new (Some i) n g h.same h.report
   sound_delivery true w cs new i k a c cut n for sent at g h =
       let d = h.acts.does.delivers in
       let kept : IsKept c h.next w.book = record {
         same = seen_same c h.next d.same.name d.same.query;
         agrees = λ later inc x. d.agrees later x (g.agree i c at later inc x)
-            (laws.honest.cut (cut_at cut a.text.items) a.text.items (name_of c) later (front_is cut a.text.items) (g.honest k a sent (name_of c) later (for_name (name_of c) (name_in a) for) inc));
+            (laws.honest.cut (cut_at cut a.text.items) a.text.items (name_of c) later (front_is cut a.text.items) (g.honest k a sent (name_of c) later for inc));
       } in
-      sound_kept w w cs new i c h.next n g at h.changed kept h.acts.tells refl (λ xs x. x)
+      sound_kept laws w cs new i c h.next n g at h.changed kept h.acts.tells
 
-  sound_deliver : (o : Option Answer) (oc : Option ClientState) (w : World) (cs new : List ClientState) (i k : ℕ) (cut : Option ℕ) (n : Entry) → slice_get w.sent k ≡ o → slice_get cs i ≡ oc → Good w cs → IsDelivery o oc cut i n cs new → IsSound w new (Some i) (told_of n)
-  sound_deliver None oc w cs new i k cut n sent at g h = sound_quiet w cs new (Some i) (told_of n) g h.same h.report
-  sound_deliver (Some a) None w cs new i k cut n sent at g h = sound_quiet w cs new (Some i) (told_of n) g h.same h.report
-  sound_deliver (Some a) (Some c) w cs new i k cut n sent at g h = sound_delivery (is_for (name_of c) (name_in a)) w cs new i k a c cut n refl sent at g h
+  sound_deliver : (o : Option Answer) (oc : Option ClientState) (w : World) (cs new : List ClientState) (i k : ℕ) (cut : Option ℕ) (n : Entry) → slice_get w.sent k ≡ o → slice_get cs i ≡ oc → Good w cs → IsDelivery o oc cut i n cs new → IsSound w new (Some i) n.report
+  sound_deliver None oc w cs new i k cut n sent at g h = sound_quiet w cs new (Some i) n g h.same h.report
+  sound_deliver (Some a) None w cs new i k cut n sent at g h = sound_quiet w cs new (Some i) n g h.same h.report
+  sound_deliver (Some a) (Some c) w cs new i k cut n sent at g h = sound_delivery (is_for a (name_of c)) w cs new i k a c cut n refl sent at g h
+
+  deliver_honest : (o : Option Answer) (oc : Option ClientState) (book : Book) (i : ℕ) (cut : Option ℕ) (n : Entry) (cs new : List ClientState) → IsDelivery o oc cut i n cs new → IfSome (answer_in n.effect) (λ a. StaysHonest a book)
+  deliver_honest None oc book i cut n cs new h = nothing_sent n.effect _ book h.done refl
+  deliver_honest (Some a) oc book i cut n cs new h = client_honest (receiver a oc) (DeliversWith (cut_at cut a.text.items) i n.effect) book i n cs new (λ c next is d. nothing_sent n.effect _ book d.done refl) h
 
   -- ---- checks
 
@@ -255,32 +313,42 @@ module _ (laws : LowerLaws) where
       let P : Effect → Type 0 = λ e. IfSome (answer_in e) (λ a. StaysHonest a w.book) in
       subst P (sym h.0) (answer_honest w cs k.request.items k.answer g h.1.answered)
 
-  sound_check : (o : Option ClientState) (w : World) (cs new : List ClientState) (i : ℕ) (n : Entry) → Good w cs → IsCheckBy o w.catalogue (length w.sent) i n cs new → IsSound (sending w n.effect) new (Some i) (told_of n)
-  sound_check None w cs new i n g h = sound_skipped w cs new i n g h
-  sound_check (Some c) w cs new i n g h = sound_quiet (sending w n.effect) cs new (Some i) (told_of n) (good_sending w cs n.effect g (check_honest w cs i c h.check n.effect g h.checked)) h.same h.report
+  check_sent : (o : Option ClientState) (w : World) (cs new : List ClientState) (i : ℕ) (n : Entry) → Good w cs → IsCheckBy o w.catalogue (length w.sent) i n cs new → IfSome (answer_in n.effect) (λ a. StaysHonest a w.book)
+  check_sent None w cs new i n g h = nothing_sent n.effect _ w.book h.done refl
+  check_sent (Some c) w cs new i n g h = check_honest w cs i c h.check n.effect g h.checked
 
-  -- one event
-  pub sound_step : (w : World) (cs : List ClientState) (e : Event) (n : Entry) (new : List ClientState) → Good w cs → Step w cs e n new → IsSound (after w e n.effect) new (client_of e) (told_of n)
-  sound_step w cs (Publish name file) n new g h =
-      sound_quiet (publish_by w (next_of w name.items file.items) (refused_at w name.items file.items)) cs new None (told_of n) (good_publish laws w cs name.items file.items (refused_at w name.items file.items) refl g) h.same h.report
-  sound_step w cs (Epoch e) n new g h = sound_quiet (restart_by w e (nat_lt w.epoch e)) cs new None (told_of n) (good_epoch (nat_lt w.epoch e) w cs e refl h.0 g) h.1.same h.1.report
-  sound_step w cs (NewClient name blocks) n new g h = sound_made (client_refusal host name.items blocks) w cs new name.items blocks n g h
-  sound_step w cs (Open i q) n new g h = sound_open (slice_get cs i) w cs new i q n refl g h
-  sound_step w cs (Forget i) n new g h = sound_forget (slice_get cs i) w cs new i n refl g h
-  sound_step w cs (Ask message) n new g h =
-      let P : Effect → Type 0 = λ e. IfSome (answer_in e) (λ a. StaysHonest a w.book) in
-      sound_quiet (sending w n.effect) cs new None (told_of n) (good_sending w cs n.effect g (subst P (sym h.0.done) (answer_honest w cs message.items h.0.answer g h.0.answered))) h.1 h.0.report
-  sound_step w cs (AskFrom i) n new g h = sound_ask_from (slice_get cs i) w cs new i n refl g h
-  sound_step w cs (Deliver i a cut) n new g h = sound_deliver (slice_get w.sent a) (slice_get cs i) w cs new i a cut n refl refl g h
-  sound_step w cs (Exchange i) n new g h = sound_exchange (slice_get cs i) w cs new i n refl g h
-  sound_step w cs (Check i) n new g h = sound_check (slice_get cs i) w cs new i n g h
+  sound_check : (o : Option ClientState) (w : World) (cs new : List ClientState) (i : ℕ) (n : Entry) → Good w cs → IsCheckBy o w.catalogue (length w.sent) i n cs new → IsSound w new (Some i) n.report
+  sound_check None w cs new i n g h = sound_quiet w cs new (Some i) n g h.same h.report
+  sound_check (Some c) w cs new i n g h = sound_quiet w cs new (Some i) n g h.same h.report
 
-  -- a whole run
-  pub true_run : (w : World) (cs : List ClientState) (es : List Event) (ns : List Entry) (new : List ClientState) → Good w cs → Runs w cs es ns new → Good (after_all w es ns) new × AllTrue w es ns
-  true_run w cs [] [] new g h = let P : List ClientState → Type 0 = λ xs. Good w xs in (subst P (sym h) g, tt)
-  true_run w cs [] (n ∷ ns) new g h = absurd h
-  true_run w cs (e ∷ es) [] new g h = absurd h
-  true_run w cs (e ∷ es) (n ∷ ns) new g (mid, step, rest) =
-      let s = sound_step w cs e n mid g step in
-      let r = true_run (after w e n.effect) mid es ns new s.good rest in
-      (r.0, (s.told, r.1))
+  -- ---- one event
+
+  -- what it sends is honest
+  pub honest_step : (w : World) (cs : List ClientState) (e : Event) (n : Entry) (new : List ClientState) → Good w cs → Step w cs e n new → IfSome (answer_in n.effect) (λ a. StaysHonest a w.book)
+  honest_step w cs (Publish name file) n new g h = nothing_sent n.effect _ w.book h.done (none_published (next_of w name.items file.items).tag (refused_at w name.items file.items))
+  honest_step w cs (Epoch e) n new g h = nothing_sent n.effect _ w.book h.1.done (none_restarted (nat_lt w.epoch e) e)
+  honest_step w cs (NewClient name blocks) n new g h = made_honest (client_refusal host name.items blocks) w.book name.items blocks n cs new h
+  honest_step w cs (Open i q) n new g h = client_honest (slice_get cs i) (OpensWith q i n.effect) w.book i n cs new (λ c next is d. nothing_sent n.effect _ w.book d.done refl) h
+  honest_step w cs (Forget i) n new g h = client_honest (slice_get cs i) (ForgetsAll i n.effect) w.book i n cs new (λ c next is d. nothing_sent n.effect _ w.book d.done refl) h
+  honest_step w cs (Ask message) n new g h = subst (λ e. IfSome (answer_in e) (λ a. StaysHonest a w.book)) (sym h.0.done) (answer_honest w cs message.items h.0.answer g h.0.answered)
+  honest_step w cs (AskFrom i) n new g h = client_honest (slice_get cs i) (AsksWith w.catalogue (length w.sent) i n.effect) w.book i n cs new (λ c next is d. ask_from_honest w cs i n.effect c next g d) h
+  honest_step w cs (Deliver i a cut) n new g h = deliver_honest (slice_get w.sent a) (slice_get cs i) w.book i cut n cs new h
+  honest_step w cs (Exchange i) n new g h = client_honest (slice_get cs i) (ExchangesWith w.catalogue (length w.sent) i n.effect) w.book i n cs new (λ c next is d. exchange_honest w cs i n.effect c next g d) h
+  honest_step w cs (Check i) n new g h = check_sent (slice_get cs i) w cs new i n g h
+
+  -- what it makes of the world is good, and what it tells is true
+  told_step : (w : World) (cs : List ClientState) (e : Event) (n : Entry) (new : List ClientState) → Good w cs → Step w cs e n new → IsSound (scheduled w e) new (client_of e) n.report
+  told_step w cs (Publish name file) n new g h =
+      sound_quiet (scheduled w (Publish name file)) cs new None n (good_publish laws w cs name.items file.items (refused_at w name.items file.items) refl g) h.same h.report
+  told_step w cs (Epoch e) n new g h = sound_quiet (scheduled w (Epoch e)) cs new None n (good_epoch (nat_lt w.epoch e) w cs e refl h.0 g) h.1.same h.1.report
+  told_step w cs (NewClient name blocks) n new g h = sound_made (client_refusal host name.items blocks) w cs new name.items blocks n g h
+  told_step w cs (Open i q) n new g h = sound_open laws (slice_get cs i) w cs new i q n refl g h
+  told_step w cs (Forget i) n new g h = sound_forget laws (slice_get cs i) w cs new i n refl g h
+  told_step w cs (Ask message) n new g h = sound_quiet w cs new None n g h.1 h.0.report
+  told_step w cs (AskFrom i) n new g h = sound_ask_from (slice_get cs i) w cs new i n refl g h
+  told_step w cs (Deliver i a cut) n new g h = sound_deliver (slice_get w.sent a) (slice_get cs i) w cs new i a cut n refl refl g h
+  told_step w cs (Exchange i) n new g h = sound_exchange (slice_get cs i) w cs new i n refl g h
+  told_step w cs (Check i) n new g h = sound_check (slice_get cs i) w cs new i n g h
+
+  pub sound_step : (w : World) (cs : List ClientState) (e : Event) (n : Entry) (new : List ClientState) → Good w cs → Step w cs e n new → IsSound (after w e n.effect) new (client_of e) n.report
+  sound_step w cs e n new g h = sound_after w new e n (told_step w cs e n new g h) (honest_step w cs e n new g h)

@@ -1,38 +1,44 @@
 -- A run goes on by one event, and a whole run is a log.
-use Rattle.std.proofs.Common.{◌≡◌, ℕ, List, [], ◌∷◌, ◌++◌, length, take, Option, Some, None, Bool, true, false, refl, sym, ap, ◌∙◌, subst, inl, inr, ◌<◌, ◌≤◌, ◌+◌, get_or, Result, Ok, Err}
-use Rattle.std.specs.Prelude.{IfOk, IfSome, OnErr, nat_lt, option_and_then, slice_get}
+use Rattle.tiff_dir.specs.declared.tags.TheConstants.{BITS_PER_SAMPLE, GEO_ASCII_PARAMS, GEO_DOUBLE_PARAMS, MODEL_PIXEL_SCALE, MODEL_TIEPOINT, MODEL_TRANSFORMATION, SAMPLES_PER_PIXEL}
+use Rattle.std.proofs.Common.{◌≡◌, ℕ, suc, List, [], ◌∷◌, ◌++◌, length, map, take, Option, Some, None, refl, sym, ap, ◌∙◌, subst, inl, inr, ◌<◌, ◌≤◌, ◌+◌, get_or, Result, Ok, Err}
+use Rattle.std.specs.Prelude.{IfOk, IfSome, OnErr, option_and_then, slice_get}
 use Rattle.std.proofs.Common.{Vec, Global}
 use Rattle.std.proofs.lemmas.List.{take_more, take_all}
 use Rattle.std.proofs.lemmas.Option.{none-some, same_Some}
+use Rattle.tiff_dir.specs.declared.memory.Memory.{Memory}
 use Rattle.tiff_dir.specs.declared.query.Query.{Query}
+use Rattle.tiff_dir.specs.declared.query.Query.TheVariants as queries
+use Rattle.tiff_dir.specs.Faulty.{IsFaulty}
+use Rattle.tiff_dir.specs.Geo.{key_source}
 use Rattle.tiff_dir.specs.Level.{level_value}
 use Rattle.tiff_dir.specs.Query.{Rectangle, rectangle}
+use Rattle.geokeys.specs.Keys.{AreKeys}
 use Rattle.http_range.specs.Book.{Publication, Book, Catalogue, In, Includes, HasDistinctTags}
-use Rattle.tiff_dir.specs.declared.memory.Memory.{Memory}
-use Rattle.cog_server.specs.declared.error.PublishError.{PublishError}
-use Rattle.cog_client.specs.declared.error.ClientError.{ClientError}
-use Rattle.world.specs.declared.event.Event.{Event}
-use Rattle.world.specs.declared.event.Event.TheVariants.{Publish, Epoch, NewClient, Open, Forget, Ask, AskFrom, Deliver, Exchange, Check}
-use Rattle.world.specs.declared.event.Entry.{Entry}
-use Rattle.cog_client.specs.Report.{Said, Told, IsTrueSaid, said_of, samples_of}
+use Rattle.cog_reader.specs.declared.outcome.Info.{Info}
 use Rattle.cog_reader.specs.declared.outcome.Outcome.{Outcome}
 use Rattle.cog_reader.specs.declared.outcome.Outcome.TheVariants as outcomes
 use Rattle.cog_reader.specs.declared.outcome.Window.{Window}
-use Rattle.cog_reader.specs.Outcome.{IsTrueOf, IsWindowOf}
+use Rattle.cog_reader.specs.Fields.{geo_bytes}
+use Rattle.cog_reader.specs.Outcome.{IsInfoOf, IsTrueOf, IsWindowOf, items_of}
 use Rattle.cog_reader.specs.Samples.{samples_in}
-use Rattle.tiff_dir.specs.declared.query.Query.TheVariants as queries
-use Rattle.tiff_dir.specs.Faulty.{IsFaulty}
-use Rattle.cog_client.specs.Client.{ClientState, client_refusal}
+use Rattle.cog_server.specs.declared.error.PublishError.{PublishError}
 use Rattle.cog_server.specs.declared.server.Answer.{Answer}
 use Rattle.cog_server.specs.Server.{ServerState}
-use Rattle.world.specs.World.{World, host, start, answer_in, next_of, publish_by, refused_at, server_of, restart_by, made_by, after, after_all, told_of, client_of, IsTrueAt, AllTrue, IsToldIn, AreEqual, SaysTheSame, AreAlike}
+use Rattle.cog_client.specs.declared.report.Report.{Report}
+use Rattle.cog_client.specs.Report.{Facts, facts_of}
+use Rattle.cog_client.specs.Client.{ClientState}
+use Rattle.world.specs.declared.event.Event.{Event}
+use Rattle.world.specs.declared.event.Event.TheVariants.{Publish, Ask, Deliver}
+use Rattle.world.specs.declared.event.Entry.{Entry}
+use Rattle.world.specs.Progress.{IsNeededEntry}
+use Rattle.world.specs.World.{World, start, answer_in, next_of, publish_by, refused_at, server_of, after, after_all, client_of, AtEach, IsTrueAt, IsTrueEntry, AllTrue, IsToldIn, AreEqual, SayTheSame, AreAlike, IsHonestEntry, IsExactEntry}
 use Rattle.world.specs.Run.{Answers, IsAtAfter, IsDelivery, Publishes, Step, Runs, IsBeginning, IsTrueLog, IsState, AreKept, Does, answer_at, noted}
 use Rattle.world.specs.LowerLaws.{LowerLaws}
-use Rattle.world.proofs.Good.{good_start}
-use Rattle.world.proofs.Truth.{true_run}
-use Rattle.world.proofs.Exact.{exact_run}
-use Rattle.world.proofs.Needed.{hosted_start, needed_run}
-use Rattle.world.proofs.Kept.{kept_after, kept_at, kept_length, sent_by}
+use Rattle.world.proofs.Good.{Good, good_start}
+use Rattle.world.proofs.Truth.{grows, honest_step, sound_step}
+use Rattle.world.proofs.Exact.{exact_step}
+use Rattle.world.proofs.Needed.{AllHosted, hosted_start, hosted_step, needed_step}
+use Rattle.world.proofs.Kept.{kept_after, kept_at, kept_length}
 
 pub runs_more : (w : World) (cs : List ClientState) (es : List Event) (ns : List Entry) (mid : List ClientState) (e : Event) (n : Entry) (new : List ClientState) → Runs w cs es ns mid → Step (after_all w es ns) mid e n new → Runs w cs (es ++ e ∷ []) (ns ++ n ∷ []) new
 runs_more w cs [] [] mid e n new h s = (new, (let P : List ClientState → Type 0 = λ xs. Step w xs e n new in subst P h s), refl)
@@ -46,74 +52,100 @@ after_more w cs [] (m ∷ ns) mid e n h = absurd h
 after_more w cs (d ∷ es) [] mid e n h = absurd h
 after_more w cs (d ∷ es) (m ∷ ns) mid e n h = after_more (after w d m.effect) h.0 es ns mid e n h.2
 
--- ---- nothing that was published is lost
+-- ---- what holds at each event of a run
 
-grows_publish : (w : World) (p : Publication) (o : Option PublishError) → Includes (publish_by w p o).book w.book
-grows_publish w p None = λ q i. inr i
-grows_publish w p (Some refusal) = λ q i. i
+pub each_run : (P : World → Event → Entry → Type 0) (laws : LowerLaws)
+    → ((w : World) (cs : List ClientState) (e : Event) (n : Entry) (new : List ClientState) → Good w cs → AllHosted cs → Step w cs e n new → P w e n)
+    → (w : World) (cs : List ClientState) (es : List Event) (ns : List Entry) (new : List ClientState) → Good w cs → AllHosted cs → Runs w cs es ns new → AtEach P w es ns
+each_run P laws each w cs [] [] new g hosts h = tt
+each_run P laws each w cs [] (n ∷ ns) new g hosts h = h
+each_run P laws each w cs (e ∷ es) [] new g hosts h = h
+each_run P laws each w cs (e ∷ es) (n ∷ ns) new g hosts (mid, step, rest) =
+    (each w cs e n mid g hosts step, each_run P laws each (after w e n.effect) mid es ns new (sound_step laws w cs e n mid g step).good (hosted_step w cs e n mid step hosts) rest)
 
-grows_epoch : (b : Bool) (w : World) (e : ℕ) → Includes (restart_by w e b).book w.book
-grows_epoch true w e = λ q i. i
-grows_epoch false w e = λ q i. i
+good_run : (laws : LowerLaws) (w : World) (cs : List ClientState) (es : List Event) (ns : List Entry) (new : List ClientState) → Good w cs → Runs w cs es ns new → Good (after_all w es ns) new
+good_run laws w cs [] [] new g h = subst (Good w) (sym h) g
+good_run laws w cs [] (n ∷ ns) new g h = absurd h
+good_run laws w cs (e ∷ es) [] new g h = absurd h
+good_run laws w cs (e ∷ es) (n ∷ ns) new g (mid, step, rest) = good_run laws (after w e n.effect) mid es ns new (sound_step laws w cs e n mid g step).good rest
 
-grows_made : (w : World) (name : List ℕ) (o : Option ClientError) → Includes (made_by w name o).book w.book
-grows_made w name None = λ q i. i
-grows_made w name (Some refusal) = λ q i. i
+whole_run : (w : World) (cs : List ClientState) (es : List Event) (ns : List Entry) (new : List ClientState) → Runs w cs es ns new → length ns ≡ length es
+whole_run w cs [] [] new h = refl
+whole_run w cs [] (n ∷ ns) new h = absurd h
+whole_run w cs (e ∷ es) [] new h = absurd h
+whole_run w cs (e ∷ es) (n ∷ ns) new (mid, step, rest) = ap suc (whole_run (after w e n.effect) mid es ns new rest)
 
-grows : (w : World) (e : Event) (n : Entry) → Includes (after w e n.effect).book w.book
-grows w (Publish name file) n = grows_publish w (next_of w name.items file.items) (refused_at w name.items file.items)
-grows w (Epoch e) n = grows_epoch (nat_lt w.epoch e) w e
-grows w (NewClient name blocks) n = grows_made w name.items (client_refusal host name.items blocks)
-grows w (Open i q) n = λ q i. i
-grows w (Forget i) n = λ q i. i
-grows w (Ask message) n = λ q i. i
-grows w (AskFrom i) n = λ q i. i
-grows w (Deliver i a cut) n = λ q i. i
-grows w (Exchange i) n = λ q i. i
-grows w (Check i) n = λ q i. i
+-- ---- reports of one tag and one query
 
 grows_all : (w : World) (es : List Event) (ns : List Entry) → Includes (after_all w es ns).book w.book
 grows_all w [] ns = λ q i. i
 grows_all w (e ∷ es) [] = λ q i. i
-grows_all w (e ∷ es) (n ∷ ns) = λ q i. grows_all (after w e n.effect) es ns q (grows w e n q i)
-
--- ---- reports of one tag and one query
+grows_all w (e ∷ es) (n ∷ ns) = λ q i. grows_all (after w e n.effect) es ns q (grows w e q i)
 
 -- where a report comes from
-record IsSource (r : Told) (book : Book) : Type 0 where
+record IsSource (r : Report) (book : Book) : Type 0 where
   source : Publication
   published : In source book
   of_tag : source.tag ≡ r.tag
-  outcome : IsTrueSaid source.file r.query r.said
+  holds : IsTrueOf source.file r.query r.outcome
 
-source_at : (o : Option Told) (w : World) (client : Option ℕ) (later : Book) (r : Told) → Includes later w.book → IfSome o (IsTrueAt w client) → o ≡ Some r → IsSource r later
-source_at None w client later r inc h e = absurd (cc)
+source_at : (o : Option Report) (w : World) (client : Option ℕ) (later : Book) (r : Report) → Includes later w.book → IfSome o (IsTrueAt w client) → o ≡ Some r → IsSource r later
+source_at None w client later r inc h e = absurd (none-some r e)
 source_at (Some s) w client later r inc h e =
-    let same : s ≡ r = cc in
-    let P : Told → Type 0 = λ t. IsSource t later in
-    subst P same (record { source = h.holds.source; published = inc h.holds.source h.holds.published; of_tag = h.holds.of_tag; outcome = h.holds.outcome })
+    subst (λ t. IsSource t later) (same_Some _ _ e)
+    (record { source = h.holds.source; published = inc h.holds.source h.holds.published; of_tag = h.holds.of_tag; holds = h.holds.holds })
 
-source_of : (w : World) (cs : List ClientState) (es : List Event) (ns : List Entry) (new : List ClientState) (r : Told) → Runs w cs es ns new → AllTrue w es ns → IsToldIn r ns → IsSource r (after_all w es ns).book
-source_of w cs [] [] new r h t i = absurd i
-source_of w cs [] (n ∷ ns) new r h t i = absurd h
-source_of w cs (e ∷ es) [] new r h t i = absurd h
-source_of w cs (e ∷ es) (n ∷ ns) new r h t i =
+source_of : (w : World) (es : List Event) (ns : List Entry) (r : Report) → AllTrue w es ns → IsToldIn r ns → IsSource r (after_all w es ns).book
+source_of w [] [] r t i = absurd i
+source_of w [] (n ∷ ns) r t i = absurd t
+source_of w (e ∷ es) [] r t i = absurd t
+source_of w (e ∷ es) (n ∷ ns) r t i =
     let v = after w e n.effect in
     elim i [
-      | inl is ↦ source_at (told_of n) v (client_of e) (after_all v es ns).book r (grows_all v es ns) t.0 is
-      | inr old ↦ source_of v h.0 es ns new r h.2 t.1 old
+      | inl is ↦ source_at n.report v (client_of e) (after_all v es ns).book r (grows_all v es ns) t.0 is
+      | inr old ↦ source_of v es ns r t.1 old
     ]
 
+-- lists of sides are equal where each side is
+sides_same : (xs ys : List (ℕ × ℕ)) → map Some xs ≡ map Some ys → xs ≡ ys
+sides_same [] [] e = refl
+sides_same [] (y ∷ ys) e = absurd (cc)
+sides_same (x ∷ xs) [] e = absurd (cc)
+sides_same (x ∷ xs) (y ∷ ys) e =
+    let head : Some x ≡ Some y = cc in
+    let tail : map Some xs ≡ map Some ys = cc in
+    ap (λ z. z ∷ xs) (same_Some _ _ head) ∙ ap (λ zs. y ∷ zs) (sides_same xs ys tail)
+
+facts_same : (a b : Facts) → a.sides ≡ b.sides → a.minor ≡ b.minor → a.keys ≡ b.keys → a.scale ≡ b.scale → a.tiepoints ≡ b.tiepoints → a.transformation ≡ b.transformation → a ≡ b
+facts_same a b sides minor keys scale tiepoints transformation =
+    ap (λ x. record a { sides = x }) sides
+    ∙ ap (λ x. record a { sides = b.sides; minor = x }) minor
+    ∙ ap (λ x. record b { keys = x; scale = a.scale; tiepoints = a.tiepoints; transformation = a.transformation }) keys
+    ∙ ap (λ x. record b { scale = x; tiepoints = a.tiepoints; transformation = a.transformation }) scale
+    ∙ ap (λ x. record b { tiepoints = x; transformation = a.transformation }) tiepoints
+    ∙ ap (λ x. record b { transformation = x }) transformation
+
+-- what two answers to Info tell of one file is the same
+same_info : (laws : LowerLaws) (f : List ℕ) (i j : Info) → IsInfoOf f i → IsInfoOf f j → facts_of i ≡ facts_of j
+same_info laws f i j a b =
+    let order : b.order ≡ a.order = same_Some _ _ (sym b.order_is ∙ a.order_is) in
+    let keys = laws.geo (key_source f) a.order (geo_bytes f GEO_DOUBLE_PARAMS) (geo_bytes f GEO_ASCII_PARAMS) i.geo j.geo a.keys
+    (subst (λ o. AreKeys (key_source f) o (geo_bytes f GEO_DOUBLE_PARAMS) (geo_bytes f GEO_ASCII_PARAMS) j.geo) order b.keys) in
+    facts_same (facts_of i) (facts_of j) (sides_same i.sides.items j.sides.items (a.sides_are ∙ sym b.sides_are)) keys.0 keys.1
+    (a.scale ∙ sym (b.scale ∙ ap (λ o. items_of o f MODEL_PIXEL_SCALE) order))
+    (a.tiepoints ∙ sym (b.tiepoints ∙ ap (λ o. items_of o f MODEL_TIEPOINT) order))
+    (a.transformation ∙ sym (b.transformation ∙ ap (λ o. items_of o f MODEL_TRANSFORMATION) order))
+
 -- two windows of one file for one query are equal
-same_windows : (laws : LowerLaws) (f : List ℕ) (q : Query) (v u : Window) → IsWindowOf f q v → IsWindowOf f q u → AreEqual (samples_of v) (samples_of u)
+same_windows : (laws : LowerLaws) (f : List ℕ) (q : Query) (v u : Window) → IsWindowOf f q v → IsWindowOf f q u → AreEqual v u
 same_windows laws f q v u a b =
     let asked : a.asked ≡ b.asked = same_Some _ _ (sym a.asked_is ∙ b.asked_is) in
     let level : a.asked.level ≡ b.asked.level = ap (λ (r : Rectangle). r.level) asked in
     record {
       width = a.width ∙ ap (λ (r : Rectangle). r.width) asked ∙ sym b.width;
       height = a.height ∙ ap (λ (r : Rectangle). r.height) asked ∙ sym b.height;
-      samples = same_Some _ _ (sym a.samples ∙ ap (λ n. level_value f n 277 0) level ∙ b.samples);
-      bits = same_Some _ _ (sym a.bits ∙ ap (λ n. level_value f n 258 0) level ∙ b.bits);
+      samples = same_Some _ _ (sym a.samples ∙ ap (λ n. level_value f n SAMPLES_PER_PIXEL 0) level ∙ b.samples);
+      bits = same_Some _ _ (sym a.bits ∙ ap (λ n. level_value f n BITS_PER_SAMPLE 0) level ∙ b.bits);
       pixels = laws.window f q (samples_in v.bits v.pixels.items) (samples_in u.bits u.pixels.items) a.window b.window;
     }
 
@@ -124,46 +156,44 @@ no_window f q v is a =
     let asked : rectangle f queries.Info ≡ Some a.asked = ap (rectangle f) (sym is) ∙ a.asked_is in
     none-some a.asked asked
 
-same_outcome : (laws : LowerLaws) (f : List ℕ) (q : Query) (x y : Outcome) → IsTrueOf f q x → IsTrueOf f q y → SaysTheSame (said_of x) (said_of y)
+same_outcome : (laws : LowerLaws) (f : List ℕ) (q : Query) (x y : Outcome) → IsTrueOf f q x → IsTrueOf f q y → SayTheSame x y
 same_outcome laws f q (outcomes.Window v) (outcomes.Window u) x y = same_windows laws f q v u x y
 same_outcome laws f q (outcomes.Window v) (outcomes.Info i) x y = no_window f q v y.0 x
 same_outcome laws f q (outcomes.Window v) (outcomes.Fault k) x y = x.window.sound k y
 same_outcome laws f q (outcomes.Info i) (outcomes.Window u) x y = no_window f q u x.0 y
-same_outcome laws f q (outcomes.Info i) (outcomes.Info j) x y = tt
+same_outcome laws f q (outcomes.Info i) (outcomes.Info j) x y = same_info laws f i j x.1 y.1
 same_outcome laws f q (outcomes.Info i) (outcomes.Fault k) x y = x.1.sound k (subst (λ a. IsFaulty f a k) x.0 y)
 same_outcome laws f q (outcomes.Fault k) (outcomes.Window u) x y = y.window.sound k x
 same_outcome laws f q (outcomes.Fault k) (outcomes.Info j) x y = y.1.sound k (subst (λ a. IsFaulty f a k) y.0 x)
 same_outcome laws f q (outcomes.Fault k) (outcomes.Fault l) x y = tt
 
-same_said : (laws : LowerLaws) (f : List ℕ) (q : Query) (x y : Said) → IsTrueSaid f q x → IsTrueSaid f q y → SaysTheSame x y
-same_said laws f q x y a b =
-    subst (λ s. SaysTheSame s y) a.says (subst (λ s. SaysTheSame (said_of a.outcome) s) b.says (same_outcome laws f q a.outcome b.outcome a.holds b.holds))
-
-alike : (laws : LowerLaws) (book : Book) (ns : List Entry) → HasDistinctTags book → ((r : Told) → IsToldIn r ns → IsSource r book) → AreAlike ns
+alike : (laws : LowerLaws) (book : Book) (ns : List Entry) → HasDistinctTags book → ((r : Report) → IsToldIn r ns → IsSource r book) → AreAlike ns
 alike laws book ns distinct sources r s i j tag query =
     let a = sources r i in
     let b = sources s j in
     let same : a.source ≡ b.source = laws.one book distinct a.source b.source a.published b.published (a.of_tag ∙ (tag ∙ sym b.of_tag)) in
-    let P : Publication → Type 0 = λ p. IsTrueSaid p.file r.query r.said in
-    let Q : Query → Type 0 = λ q. IsTrueSaid b.source.file q r.said in
-    same_said laws b.source.file s.query r.said s.said (subst Q query (subst P same a.outcome)) b.outcome
+    let P : Publication → Type 0 = λ p. IsTrueOf p.file r.query r.outcome in
+    let Q : Query → Type 0 = λ q. IsTrueOf b.source.file q r.outcome in
+    same_outcome laws b.source.file s.query r.outcome s.outcome (subst Q query (subst P same a.holds)) b.holds
 
 -- ---- the log
 
 pub run_truth : (laws : LowerLaws) (es : List Event) (ns : List Entry) (cs : List ClientState) → Runs start [] es ns cs → IsTrueLog es ns
 run_truth laws es ns cs runs =
-    let t = true_run laws start [] es ns cs good_start runs in
+    let good = good_run laws start [] es ns cs good_start runs in
+    let reports = each_run IsTrueEntry laws (λ w cs e n new g hosts step. (sound_step laws w cs e n new g step).told) start [] es ns cs good_start hosted_start runs in
     record {
-      true_reports = t.1;
-      alike = alike laws (after_all start es ns).book ns t.0.distinct (λ r i. source_of start [] es ns cs r runs t.1 i);
-      checked = exact_run laws start [] es ns cs good_start runs;
-      distinct = t.0.distinct;
-      honest = t.0.honest;
-      needed = needed_run laws start [] es ns cs good_start hosted_start runs;
+      whole = whole_run start [] es ns cs runs;
+      true_reports = reports;
+      alike = alike laws (after_all start es ns).book ns good.distinct (λ r i. source_of start es ns r reports i);
+      needed = each_run IsNeededEntry laws (needed_step laws) start [] es ns cs good_start hosted_start runs;
+      checked = each_run IsExactEntry laws (λ w cs e n new g hosts step. exact_step laws w cs e n new g step) start [] es ns cs good_start hosted_start runs;
+      distinct = good.distinct;
+      honest = each_run IsHonestEntry laws (λ w cs e n new g hosts step. honest_step laws w cs e n new g step) start [] es ns cs good_start hosted_start runs;
     }
 
-pub beginning : (laws : LowerLaws) (events : List Event) (k : ℕ) (ns : List Entry) (cs : List ClientState) → k ≤ length events → Runs start [] (take k events) ns cs → IsBeginning events ns
-beginning laws events k ns cs le runs = record { count = k; some = le; clients = cs; logged = runs; truth = run_truth laws (take k events) ns cs runs }
+pub beginning : (laws : LowerLaws) (events : List Event) (k : ℕ) (ns : List Entry) (cs : List ClientState) → k < length events → Runs start [] (take k events) ns cs → IsBeginning events ns
+beginning laws events k ns cs fewer runs = record { count = k; fewer = fewer; clients = cs; logged = runs; truth = run_truth laws (take k events) ns cs runs }
 
 pub whole : (events : List Event) (i : ℕ) (ns : List Entry) (cs : List ClientState) → length events ≤ i → Runs start [] (take i events) ns cs → Runs start [] events ns cs
 whole events i ns cs le runs = subst (λ xs. Runs start [] xs ns cs) (take_all i events le) runs
@@ -201,11 +231,10 @@ more events i ns cs new e n entries old server ps places inside is added_one not
     let same : after_all start (take (i + 1) events) entries ≡ after w e n.effect =
     ap (λ (ms : List Entry). after_all start (take (i + 1) events) ms) added_one
     ∙ (ap (λ (xs : List Event). after_all start xs (ns ++ n ∷ [])) es ∙ after_more start [] (take i events) ns cs e n runs) in
-    let S : List Answer → Type 0 = λ sent. AreKept (ns ++ n ∷ []) (noted (answer_in n.effect) (length ns) ps) sent in
     let K : List ℕ → Type 0 = λ qs. AreKept (ns ++ n ∷ []) qs (after w e n.effect).sent in
     let Q : World → Type 0 = λ v. IsState v server (ns ++ n ∷ []) places in
     let Q' : List Entry → Type 0 = λ ms. IsState (after_all start (take (i + 1) events) entries) server ms places in
-    let kept = subst K (sym noted_one) (subst S (sym (sent_by w cs e n new does.step)) (kept_after ns n ps w.sent state.kept)) in
+    let kept = subst K (sym noted_one) (kept_after ns n ps w.sent state.kept) in
     let state' : IsState (after w e n.effect) server (ns ++ n ∷ []) places = record { server_at = does.server_at; kept = kept } in
     (subst P' (sym added_one) (subst P (sym es) (runs_more start [] (take i events) ns cs e n new runs does.step)), subst Q' (sym added_one) (subst Q (sym same) state'))
 

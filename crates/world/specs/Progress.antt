@@ -1,11 +1,10 @@
 -- What clients ask for in a schedule, and when a report comes at the latest.
-use Rattle.std.specs.Prelude.{◌≡◌, ℕ, suc, ◌≤◌, List, [], ◌∷◌, ◌++◌, length, replicate, take, drop, Option, Some, None, IfSome, slice_get}
+use Rattle.std.specs.Prelude.{◌≡◌, ◌⊎◌, ℕ, suc, ◌≤◌, List, ◌∷◌, ◌++◌, length, replicate, take, drop, Option, Some, None, IfSome, IsSomeAnd, slice_get}
 use Rattle.tiff_dir.specs.declared.query.Query.{Query}
 use Rattle.tiff_dir.specs.declared.span.Span.{Span}
 use Rattle.tiff_dir.specs.Query.{cost}
 use Rattle.http_range.specs.Ask.{request_text}
 use Rattle.http_range.specs.Book.{Publication, In, published}
-use Rattle.cog_client.specs.Report.{Told}
 use Rattle.cog_client.specs.Take.{first_span}
 use Rattle.cog_client.specs.Progress.{IsOfNeeded}
 use Rattle.world.specs.declared.event.Event.{Event}
@@ -14,7 +13,7 @@ use Rattle.world.specs.declared.event.AnsweredRequest.{AnsweredRequest}
 use Rattle.world.specs.declared.event.Effect.{Effect}
 use Rattle.world.specs.declared.event.Effect.TheVariants as effects
 use Rattle.world.specs.declared.event.Entry.{Entry}
-use Rattle.world.specs.World.{World, Seen, host, start, after, after_all, IsToldIn}
+use Rattle.world.specs.World.{World, Seen, AtEach, after_all, client_of, host, start}
 
 -- ---- what is asked
 
@@ -46,16 +45,14 @@ pub record IsNeededIn (w : World) (a : AnsweredRequest) : Type 0 where
   pub text : a.request.items ≡ request_text host seen.name a.span.first a.span.last a.tag
   pub needed : IsNeededBy w seen a.tag a.span
 
-abbrev pub IsNeededAt : World → Event → Effect → Type 0
-IsNeededAt w (AskFrom i) effect = IfSome (asked_in effect) (IsNeededIn w)
-IsNeededAt w (Exchange i) effect = IfSome (asked_in effect) (IsNeededIn w)
-IsNeededAt w e effect = Unit {0}
+abbrev pub IsNeededEntry : World → Event → Entry → Type 0
+IsNeededEntry w (AskFrom i) n = IfSome (asked_in n.effect) (IsNeededIn w)
+IsNeededEntry w (Exchange i) n = IfSome (asked_in n.effect) (IsNeededIn w)
+IsNeededEntry w e n = Unit {0}
 
 -- Each request is for what is needed when it is made.
 abbrev pub AllNeeded : World → List Event → List Entry → Type 0
-AllNeeded w [] ns = Unit {0}
-AllNeeded w (e ∷ es) [] = Unit {0}
-AllNeeded w (e ∷ es) (n ∷ ns) = IsNeededAt w e n.effect × AllNeeded (after w e n.effect) es ns
+AllNeeded w es ns = AtEach IsNeededEntry w es ns
 
 -- ---- when a report comes
 
@@ -72,12 +69,14 @@ pub record HasStretch (events : List Event) (entries : List Entry) (i : ℕ) (q 
   pub there : slice_get (after_all start before entries).clients i ≡ Some seen
   pub has : published seen.name (after_all start before entries).catalogue ≡ Some p
 
--- a report is told in one of the entries
-abbrev pub HasReport : List Entry → Type 0
-HasReport ns = (r : Told) × IsToldIn r ns
+-- at one of the events, which is this client's, a report for the query is told
+abbrev pub HasReport : ℕ → Query → List Event → List Entry → Type 0
+HasReport i q (e ∷ es) (n ∷ ns) = ((client_of e ≡ Some i) × IsSomeAnd n.report (λ r. r.query ≡ q)) ⊎ HasReport i q es ns
+HasReport i q es ns = ⊥
 
 -- In each stretch of as many exchanges as the query costs of p's file, and one more, the client's report is told by the last
 -- of these at the latest, whatever the client held before.
 abbrev pub AllReport : List Event → List Entry → Type 0
 AllReport events entries = (i : ℕ) (q : Query) (n : ℕ) (p : Publication) (s : HasStretch events entries i q n p) →
-    suc (cost p.file q) ≤ n → HasReport (take (suc (cost p.file q)) (drop (suc (length s.before)) entries))
+    let from = suc (length s.before) in let most = suc (cost p.file q) in
+    most ≤ n → HasReport i q (take most (drop from events)) (take most (drop from entries))

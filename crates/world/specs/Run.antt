@@ -1,8 +1,7 @@
 -- A run: what each event does to the clients, and what is logged of it, by the contracts of the calls.
-use Rattle.std.specs.Prelude.{◌≡◌, ℕ, ◌+◌, ◌^◌, ◌<◌, ◌≤◌, Bool, true, nat_lt, if◌then◌else◌, List, [], ◌∷◌, ◌++◌, length, take, Option, Some, None, IfSome, is_some, slice_get, slice_set, option_and_then}
+use Rattle.std.specs.Prelude.{◌≡◌, ℕ, ◌+◌, ◌^◌, ◌<◌, Bool, nat_lt, if◌then◌else◌, List, [], ◌∷◌, ◌++◌, length, take, Option, Some, None, IfSome, is_some, slice_get, slice_set, option_and_then}
 use Rattle.std.specs.Option.{option_map}
 use Rattle.std.specs.Bool.{MatchBool}
-use Rattle.std.specs.Str.{bytes_eq}
 use Rattle.tiff_dir.specs.declared.query.Query.{Query}
 use Rattle.http_range.specs.Ask.{CanCheck, check_text}
 use Rattle.http_range.specs.Book.{Publication, Catalogue, HasDistinctTags, publish, publication_tag}
@@ -25,11 +24,15 @@ use Rattle.world.specs.declared.event.AnsweredCheck.{AnsweredCheck}
 use Rattle.world.specs.declared.event.Effect.{Effect}
 use Rattle.world.specs.declared.event.Effect.TheVariants as effects
 use Rattle.world.specs.declared.event.Entry.{Entry}
-use Rattle.world.specs.World.{World, Seen, host, start, name_in, answer_in, next_of, publish_effect, refused_at, server_of, after, after_all, told_of, AllTrue, AllExact, AllHonest, AreAlike}
+use Rattle.world.specs.World.{World, Seen, host, start, is_for, answer_in, next_of, refused_at, server_of, after, after_all, AllTrue, AllExact, AllHonest, AreAlike}
 use Rattle.world.specs.Progress.{AllNeeded}
 
 abbrev pub seen : ClientState → Seen
 seen c = record { name = name_of c; query = query_of c }
+
+-- what the report of an entry tells
+abbrev pub told_of : Entry → Option Told
+told_of n = option_map told n.report
 
 -- the event does this, tells no report and leaves the clients
 pub record Quiet (n : Entry) (effect : Effect) (old new : List ClientState) : Type 0 where
@@ -66,6 +69,10 @@ AtClient None R i n old new = Quiet n effects.Skipped old new
 AtClient (Some c) R i n old new = Changes R i c n old new
 
 -- ---- the events
+
+abbrev pub publish_effect : List ℕ → Option PublishError → Effect
+publish_effect tag None = effects.Published tag
+publish_effect tag (Some refusal) = effects.Refused refusal
 
 -- the server has published the file, or has not changed
 abbrev pub IsAtAfter : Option PublishError → Publication → ServerState → ServerState → Type 0
@@ -151,15 +158,10 @@ pub record ExchangesWith (catalogue : Catalogue) (sent i : ℕ) (effect : Effect
 
 -- ---- an answer that was kept
 
--- the answer carries the tag of the file of this name, or none
-abbrev pub is_for : List ℕ → Option (List ℕ) → Bool
-is_for name None = true
-is_for name (Some other) = bytes_eq other name
-
 -- the client, where the answer isn't for another name
 abbrev pub receiver : Answer → Option ClientState → Option ClientState
 receiver a None = None
-receiver a (Some c) = if is_for (name_of c) (name_in a) then Some c else None
+receiver a (Some c) = if is_for a (name_of c) then Some c else None
 
 -- the first bytes of a text, or all
 abbrev pub cut_at : Option ℕ → List ℕ → List ℕ
@@ -236,20 +238,21 @@ Runs w old [] (n ∷ ns) new = ⊥
 Runs w old (e ∷ es) [] new = ⊥
 Runs w old (e ∷ es) (n ∷ ns) new = (mid : List ClientState) × Step w old e n mid × Runs (after w e n.effect) mid es ns new
 
--- What holds of every log: its reports are true, those of one tag and one query are alike, its checks tell of the catalogue,
--- no two publications have one tag, the answers that were kept are honest, and what is asked is needed.
+-- What holds of every log: it has an entry for each event, its reports are true, those of one tag and one query say the same,
+-- what is asked is needed, its checks tell of the catalogue, no two publications have one tag, and the answers are honest.
 pub record IsTrueLog (events : List Event) (entries : List Entry) : Type 0 where
+  pub whole : length entries ≡ length events
   pub true_reports : AllTrue start events entries
   pub alike : AreAlike entries
+  pub needed : AllNeeded start events entries
   pub checked : AllExact start events entries
   pub distinct : HasDistinctTags (after_all start events entries).book
-  pub honest : AllHonest (after_all start events entries)
-  pub needed : AllNeeded start events entries
+  pub honest : AllHonest start events entries
 
--- It is the log of the first events, with all that is said of a whole one.
+-- It is the log of the first events, without the last, with all that is said of a whole one.
 pub record IsBeginning (events : List Event) (entries : List Entry) : Type 0 where
   pub count : ℕ
-  pub some : count ≤ length events
+  pub fewer : count < length events
   pub clients : List ClientState
   pub logged : Runs start [] (take count events) entries clients
   pub truth : IsTrueLog (take count events) entries

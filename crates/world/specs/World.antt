@@ -1,24 +1,30 @@
 -- What a schedule makes of the world. It knows of no client but its name and its last query, and of what was logged
 -- only which answers were sent.
-use Rattle.std.specs.Prelude.{◌≡◌, ℕ, zero, suc, ◌+◌, ◌↔◌, Bool, nat_lt, if◌then◌else◌, List, [], ◌∷◌, ◌++◌, codes, Option, Some, None, IfSome, slice_get, ◌⊎◌}
-use Rattle.std.specs.Option.{option_map}
+use Rattle.std.specs.Prelude.{◌≡◌, ℕ, zero, suc, ◌+◌, ◌↔◌, ◌⊎◌, ⊤, Bool, true, nat_lt, if◌then◌else◌, List, [], ◌∷◌, ◌++◌, codes, Option, Some, None, IfSome, slice_get}
+use Rattle.std.specs.Global.{Vec}
+use Rattle.std.specs.Option.{option_map, option_map_or, option_to_list}
+use Rattle.std.specs.Str.{bytes_eq}
 use Rattle.tiff_dir.specs.declared.query.Query.{Query}
 use Rattle.http_range.specs.Book.{Publication, Book, Includes, Catalogue, published, publish, publication_tag}
 use Rattle.http_range.specs.Honest.{IsHonest}
+use Rattle.cog_reader.specs.declared.outcome.Outcome.{Outcome}
+use Rattle.cog_reader.specs.declared.outcome.Outcome.TheVariants as outcomes
+use Rattle.cog_reader.specs.declared.outcome.Window.{Window}
+use Rattle.cog_reader.specs.Samples.{samples_in}
 use Rattle.cog_server.specs.declared.error.PublishError.{PublishError}
+use Rattle.cog_server.specs.declared.server.Answer.{Answer}
+use Rattle.cog_server.specs.Server.{ServerState, refusal_of}
+use Rattle.cog_client.specs.declared.error.ClientError.{ClientError}
+use Rattle.cog_client.specs.declared.delivered.Current.TheVariants.{Same}
+use Rattle.cog_client.specs.declared.report.Report.{Report}
+use Rattle.cog_client.specs.Report.{IsTrueReport, facts_of}
+use Rattle.cog_client.specs.Client.{client_refusal}
 use Rattle.world.specs.declared.event.Event.{Event}
-use Rattle.world.specs.declared.event.Event.TheVariants.{Publish, Epoch, NewClient, Open, Forget, Ask, AskFrom, Deliver, Exchange, Check}
+use Rattle.world.specs.declared.event.Event.TheVariants.{Publish, Epoch, NewClient, Open, Forget, AskFrom, Deliver, Exchange, Check}
 use Rattle.world.specs.declared.event.AnsweredCheck.{AnsweredCheck}
 use Rattle.world.specs.declared.event.Effect.{Effect}
 use Rattle.world.specs.declared.event.Effect.TheVariants as effects
 use Rattle.world.specs.declared.event.Entry.{Entry}
-use Rattle.cog_server.specs.declared.server.Answer.{Answer}
-use Rattle.cog_client.specs.declared.error.ClientError.{ClientError}
-use Rattle.cog_client.specs.declared.delivered.Current.TheVariants.{Same}
-use Rattle.cog_client.specs.Report.{Said, Samples, Shows, Tells, Refuses, Told, told, IsTrueReport}
-use Rattle.cog_client.specs.Client.{client_refusal}
-use Rattle.cog_reader.specs.Samples.{samples_in}
-use Rattle.cog_server.specs.Server.{ServerState, refusal_of}
 
 -- a client, by the name that it was made with and the query of its last opening
 pub record Seen : Type 0 where
@@ -49,43 +55,34 @@ host = codes "cog.test"
 abbrev pub next_of : World → List ℕ → List ℕ → Publication
 next_of w name file = record { name = name; tag = publication_tag w.epoch (w.count + 1); file = file }
 
-abbrev pub publish_by : World → Publication → Option PublishError → World
-publish_by w p None = record { epoch = w.epoch; count = w.count + 1; catalogue = publish p w.catalogue; book = p ∷ w.book; sent = w.sent; clients = w.clients }
-publish_by w p (Some refusal) = w
-
-abbrev pub publish_effect : List ℕ → Option PublishError → Effect
-publish_effect tag None = effects.Published tag
-publish_effect tag (Some refusal) = effects.Refused refusal
-
 abbrev pub refused_at : World → List ℕ → List ℕ → Option PublishError
 refused_at w name file = refusal_of (server_of w) name file
 
+abbrev pub publish_by : World → Publication → Option PublishError → World
+publish_by w p None = record w { count = w.count + 1; catalogue = publish p w.catalogue; book = p ∷ w.book }
+publish_by w p (Some refusal) = w
+
 -- only a greater epoch changes the epoch; its server has no files
 abbrev pub restart_by : World → ℕ → Bool → World
-restart_by w e greater =
-    if greater then record { epoch = e; count = 0; catalogue = []; book = w.book; sent = w.sent; clients = w.clients } else w
-
-abbrev pub with_clients : World → List Seen → World
-with_clients w clients =
-    record { epoch = w.epoch; count = w.count; catalogue = w.catalogue; book = w.book; sent = w.sent; clients = clients }
-
-abbrev pub with_sent : World → List Answer → World
-with_sent w sent =
-    record { epoch = w.epoch; count = w.count; catalogue = w.catalogue; book = w.book; sent = sent; clients = w.clients }
+restart_by w e greater = if greater then record w { epoch = e; count = 0; catalogue = [] } else w
 
 abbrev pub made_by : World → List ℕ → Option ClientError → World
-made_by w name None = with_clients w (w.clients ++ record { name = name; query = None } ∷ [])
+made_by w name None = record w { clients = w.clients ++ record { name = name; query = None } ∷ [] }
 made_by w name (Some refusal) = w
 
 -- client i is asked a query, if it is there
 abbrev pub opened : List Seen → ℕ → Query → List Seen
 opened [] i q = []
-opened (s ∷ ss) zero q = record { name = s.name; query = Some q } ∷ ss
+opened (s ∷ ss) zero q = record s { query = Some q } ∷ ss
 opened (s ∷ ss) (suc i) q = s ∷ opened ss i q
 
--- the name of the file whose tag an answer carries
-abbrev pub name_in : Answer → Option (List ℕ)
-name_in a = option_map (λ n. n.items) a.name
+-- what an event makes of the world, whatever is answered
+abbrev pub scheduled : World → Event → World
+scheduled w (Publish name file) = publish_by w (next_of w name.items file.items) (refused_at w name.items file.items)
+scheduled w (Epoch e) = restart_by w e (nat_lt w.epoch e)
+scheduled w (NewClient name blocks) = made_by w name.items (client_refusal host name.items blocks)
+scheduled w (Open i q) = record w { clients = opened w.clients i q }
+scheduled w e = w
 
 -- the answer that an event has sent
 abbrev pub answer_in : Effect → Option Answer
@@ -95,102 +92,91 @@ answer_in (effects.Exchanged a what) = Some a.answer
 answer_in (effects.Checked k) = Some k.answer
 answer_in effect = None
 
-abbrev pub added : Option Answer → List Answer → List Answer
-added None sent = sent
-added (Some a) sent = sent ++ a ∷ []
-
--- an answer is kept, whoever asked
-abbrev pub sending : World → Effect → World
-sending w effect = with_sent w (added (answer_in effect) w.sent)
-
--- The world after an event.
+-- The world after an event: an answer that was sent is kept, whoever asked.
 abbrev pub after : World → Event → Effect → World
-after w (Publish name file) effect = publish_by w (next_of w name.items file.items) (refused_at w name.items file.items)
-after w (Epoch e) effect = restart_by w e (nat_lt w.epoch e)
-after w (NewClient name blocks) effect = made_by w name.items (client_refusal host name.items blocks)
-after w (Open i q) effect = with_clients w (opened w.clients i q)
-after w (Forget i) effect = w
-after w (Ask message) effect = sending w effect
-after w (AskFrom i) effect = sending w effect
-after w (Deliver i a cut) effect = w
-after w (Exchange i) effect = sending w effect
-after w (Check i) effect = sending w effect
+after w e effect = record (scheduled w e) { sent = w.sent ++ option_to_list (answer_in effect) }
 
 abbrev pub after_all : World → List Event → List Entry → World
 after_all w [] ns = w
 after_all w (e ∷ es) [] = w
 after_all w (e ∷ es) (n ∷ ns) = after_all (after w e n.effect) es ns
 
--- ---- what is told
+-- This holds at each event, with the world before it and its entry.
+abbrev pub AtEach : (World → Event → Entry → Type 0) → World → List Event → List Entry → Type 0
+AtEach P w [] [] = Unit {0}
+AtEach P w [] (n ∷ ns) = ⊥
+AtEach P w (e ∷ es) [] = ⊥
+AtEach P w (e ∷ es) (n ∷ ns) = P w e n × AtEach P (after w e n.effect) es ns
 
--- the report of an entry
-abbrev pub told_of : Entry → Option Told
-told_of n = option_map told n.report
+-- ---- what is told
 
 -- the client of an event
 abbrev pub client_of : Event → Option ℕ
-client_of (Publish name file) = None
-client_of (Epoch e) = None
-client_of (NewClient name blocks) = None
 client_of (Open i q) = Some i
 client_of (Forget i) = Some i
-client_of (Ask message) = None
 client_of (AskFrom i) = Some i
 client_of (Deliver i a cut) = Some i
 client_of (Exchange i) = Some i
 client_of (Check i) = Some i
+client_of e = None
 
 -- The report is true of what is published, for the client's name and its last query.
-pub record IsTrueAt (w : World) (client : Option ℕ) (r : Told) : Type 0 where
+pub record IsTrueAt (w : World) (client : Option ℕ) (r : Report) : Type 0 where
   pub at : ℕ
   pub by : client ≡ Some at
   pub seen : Seen
   pub there : slice_get w.clients at ≡ Some seen
   pub holds : IsTrueReport r seen.name seen.query w.book
 
--- Each report is true of what is published when it is told.
-abbrev pub AllTrue : World → List Event → List Entry → Type 0
-AllTrue w [] ns = Unit {0}
-AllTrue w (e ∷ es) [] = Unit {0}
-AllTrue w (e ∷ es) (n ∷ ns) = IfSome (told_of n) (IsTrueAt (after w e n.effect) (client_of e)) × AllTrue (after w e n.effect) es ns
+-- the report of an entry, if there is one, is true of what is published when it is told
+abbrev pub IsTrueEntry : World → Event → Entry → Type 0
+IsTrueEntry w e n = IfSome n.report (IsTrueAt (after w e n.effect) (client_of e))
 
-abbrev pub IsToldIn : Told → List Entry → Type 0
+-- Each report is true.
+abbrev pub AllTrue : World → List Event → List Entry → Type 0
+AllTrue w es ns = AtEach IsTrueEntry w es ns
+
+abbrev pub IsToldIn : Report → List Entry → Type 0
 IsToldIn r [] = ⊥
-IsToldIn r (n ∷ ns) = (told_of n ≡ Some r) ⊎ IsToldIn r ns
+IsToldIn r (n ∷ ns) = (n.report ≡ Some r) ⊎ IsToldIn r ns
 
 -- the windows have the same sides, and the same samples of as many bits
-pub record AreEqual (a b : Samples) : Type 0 where
-  pub width : a.width ≡ b.width
-  pub height : a.height ≡ b.height
+pub record AreEqual (a b : Window) : Type 0 where
+  pub width : a.w ≡ b.w
+  pub height : a.h ≡ b.h
   pub samples : a.samples ≡ b.samples
   pub bits : a.bits ≡ b.bits
-  pub pixels : samples_in a.bits a.pixels ≡ samples_in b.bits b.pixels
+  pub pixels : samples_in a.bits a.pixels.items ≡ samples_in b.bits b.pixels.items
 
--- both are equal windows, or both tell of the file's keys, or both are faults
-abbrev pub SaysTheSame : Said → Said → Type 0
-SaysTheSame (Shows a) (Shows b) = AreEqual a b
-SaysTheSame (Tells a) (Tells b) = Unit {0}
-SaysTheSame (Refuses fault) (Refuses fault') = Unit {0}
-SaysTheSame a b = ⊥
+-- both are equal windows, or both tell the same of the file's levels, keys and geo fields, or both are faults
+abbrev pub SayTheSame : Outcome → Outcome → Type 0
+SayTheSame (outcomes.Window a) (outcomes.Window b) = AreEqual a b
+SayTheSame (outcomes.Info a) (outcomes.Info b) = facts_of a ≡ facts_of b
+SayTheSame (outcomes.Fault fault) (outcomes.Fault other) = ⊤
+SayTheSame a b = ⊥
 
--- Reports of one tag for one query are equal windows, or of one kind.
+-- Reports of one tag for one query say the same.
 abbrev pub AreAlike : List Entry → Type 0
-AreAlike ns = (r s : Told) → IsToldIn r ns → IsToldIn s ns → r.tag ≡ s.tag → r.query ≡ s.query → SaysTheSame r.said s.said
+AreAlike ns = (r s : Report) → IsToldIn r ns → IsToldIn s ns → r.tag ≡ s.tag → r.query ≡ s.query → SayTheSame r.outcome s.outcome
 
 -- ---- what is kept and what is checked
 
 -- the answer carries the tag of the file of this name, or none
-abbrev pub IsFor : Answer → List ℕ → Type 0
-IsFor a name = (name_in a ≡ Some name) ⊎ (name_in a ≡ None)
+abbrev pub is_for : Answer → List ℕ → Bool
+is_for a name = option_map_or (λ (other : Vec ℕ). bytes_eq other.items name) a.name true
 
--- the answer is honest for its name in every later book
+-- the answer is honest for each name that it is for, in every later book
 abbrev pub StaysHonest : Answer → Book → Type 0
 StaysHonest a book =
-    (name : List ℕ) (later : Book) → IsFor a name → Includes later book → IsHonest a.text.items name later
+    (name : List ℕ) (later : Book) → is_for a name ≡ true → Includes later book → IsHonest a.text.items name later
 
--- Each answer that was sent is honest for its name, whatever is published later.
-abbrev pub AllHonest : World → Type 0
-AllHonest w = (k : ℕ) (a : Answer) → slice_get w.sent k ≡ Some a → StaysHonest a w.book
+-- what an event has sent is honest, whatever is published later
+abbrev pub IsHonestEntry : World → Event → Entry → Type 0
+IsHonestEntry w e n = IfSome (answer_in n.effect) (λ a. StaysHonest a w.book)
+
+-- Each answer is honest from when it is sent.
+abbrev pub AllHonest : World → List Event → List Entry → Type 0
+AllHonest w es ns = AtEach IsHonestEntry w es ns
 
 -- the check of an entry
 abbrev pub check_in : Effect → Option AnsweredCheck
@@ -207,12 +193,10 @@ pub record IsExact (w : World) (i : ℕ) (k : AnsweredCheck) : Type 0 where
   pub there : slice_get w.clients i ≡ Some seen
   pub exact : (k.current ≡ Same) ↔ HasTag w.catalogue seen.name k.tag
 
-abbrev pub IsExactAt : World → Event → Effect → Type 0
-IsExactAt w (Check i) effect = IfSome (check_in effect) (IsExact w i)
-IsExactAt w e effect = Unit {0}
+abbrev pub IsExactEntry : World → Event → Entry → Type 0
+IsExactEntry w (Check i) n = IfSome (check_in n.effect) (IsExact w i)
+IsExactEntry w e n = Unit {0}
 
 -- Each check tells of the catalogue that answered it.
 abbrev pub AllExact : World → List Event → List Entry → Type 0
-AllExact w [] ns = Unit {0}
-AllExact w (e ∷ es) [] = Unit {0}
-AllExact w (e ∷ es) (n ∷ ns) = IsExactAt w e n.effect × AllExact (after w e n.effect) es ns
+AllExact w es ns = AtEach IsExactEntry w es ns

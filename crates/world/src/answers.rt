@@ -1,8 +1,8 @@
 //! The answers that were sent, which stand in the entries of the log, and their delivery.
 ghost use Rattle.std.specs.Prelude.{◌≡◌, ◌++◌, ◌∷◌, [], IfOk, OnOk, option_and_then, option_copied, slice_get};
 ghost use Rattle.cog_client.specs.Client.{name_of};
-ghost use Rattle.world.specs.World.{answer_in, name_in};
-ghost use Rattle.world.specs.Run.{IsDelivery, answer_at, cut_at, is_for, noted};
+ghost use Rattle.world.specs.World.{answer_in, is_for};
+ghost use Rattle.world.specs.Run.{IsDelivery, answer_at, cut_at, noted};
 
 use crate::calls::{Call, call_at};
 use crate::event::{Effect, Entry};
@@ -33,7 +33,7 @@ fn front(text: &[u8], cut: Option<u32>) -> &[u8]
 
 /// The answer carries the tag of a file of the client's name, or none.
 fn is_for(client: &Client, answer: &Answer) -> bool
-    ensures { result ≡ is_for (name_of client.now) (name_in answer.now) }
+    ensures { result ≡ is_for answer.now (name_of client.now) }
 {
     match &answer.name {
         None => true,

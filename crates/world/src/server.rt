@@ -1,7 +1,6 @@
 //! What happens at the server.
 ghost use Rattle.std.specs.Prelude.{◌≡◌, None, IfOk};
-ghost use Rattle.world.specs.World.{told_of};
-ghost use Rattle.world.specs.Run.{Answers, Publishes, Restarts};
+ghost use Rattle.world.specs.Run.{Answers, Publishes, Restarts, told_of};
 
 use crate::event::{Effect, Entry};
 use cog_server::{PublishError, Server};

@@ -1,5 +1,5 @@
 //! Runs a schedule.
-ghost use Rattle.std.specs.Prelude.{◌≡◌, [], IfOk, OnOk, OnErr};
+ghost use Rattle.std.specs.Prelude.{◌≡◌, [], IfOk, OnOk, OnErr, length};
 ghost use Rattle.world.specs.LowerLaws.{LowerLaws};
 ghost use Rattle.http_range.specs.Book.{HasDistinctTags};
 ghost use Rattle.world.specs.World.{AllExact, AllHonest, AllTrue, AreAlike, World, after_all, start};
@@ -12,9 +12,11 @@ use crate::event::{Entry, Event, Log};
 use crate::exchange::check_at;
 use crate::server::{ask, publish, restart};
 use cog_client::{
-    Client, left_never_grows, needed_are_asked, nothing_left_is_reported, own_answers_bring_on,
+    Client, equal_reports_are_true, left_never_grows, needed_are_asked, nothing_left_is_reported,
+    own_answers_bring_on,
 };
 use cog_server::Server;
+use geokeys::one_geo;
 use http_range::{
     Memory, clients_are_answered, fronts_are_read, honesty_is_kept, publications_replace,
     tags_tell_publications,
@@ -34,24 +36,15 @@ pub fn run(alloc: Global, events: &[Event], log: &mut Log) -> Result<(), Memory>
     requires entries { log.old.entries.items ≡ [] }
     requires clients { log.old.clients.items ≡ [] }
 
-    // The log has an entry for each event, and leaves the clients, as the schedule and the contracts of the clients' calls make
-    // it: an event makes a client, or changes only the one that it names, and a report in an entry is that client's.
-    ensures logged { OnOk result (Runs start [] events.now log.new.entries.items log.new.clients.items) }
+    // The log has an entry for each event.
+    ensures whole { OnOk result (length log.new.entries.items ≡ length events.now) }
 
     // Each report answers the query of its client's last opening, and is true of one file that was published under the
     // client's name: of the one whose tag it has.
     ensures true_reports { OnOk result (AllTrue start events.now log.new.entries.items) }
 
-    // Reports of one tag for one query are equal windows, or both faults, since no two publications have one tag.
+    // Reports of one tag for one query are equal windows, or tell the same levels, keys and geo fields, or are both faults.
     ensures alike { OnOk result (AreAlike log.new.entries.items) }
-
-    // A check says "same" exactly where the catalogue of that moment has the client's tag under its name.
-    ensures checked { OnOk result (AllExact start events.now log.new.entries.items) }
-
-    // No two publications of the whole schedule have one tag, and each answer that was sent is honest for its name in every
-    // later book.
-    ensures distinct { OnOk result (HasDistinctTags (after_all start events.now log.new.entries.items).book) }
-    ensures honest { OnOk result (AllHonest (after_all start events.now log.new.entries.items)) }
 
     // Each request is its client's request, for what its query needs: missing blocks of one range of the file that it reads, or
     // the first 65,536 bytes.
@@ -61,7 +54,19 @@ pub fn run(alloc: Global, events: &[Event], log: &mut Log) -> Result<(), Memory>
     // counts the blocks that the query needs of the file under its name.
     ensures progress { OnOk result (AllReport events.now log.new.entries.items) }
 
-    // After want of memory all but the last holds of the events before.
+    // A check says "same" exactly where the catalogue of that moment has the client's tag under its name.
+    ensures checked { OnOk result (AllExact start events.now log.new.entries.items) }
+
+    // No two publications of the whole schedule have one tag, and each answer is honest for its name from when it is sent,
+    // whatever is published later.
+    ensures distinct { OnOk result (HasDistinctTags (after_all start events.now log.new.entries.items).book) }
+    ensures honest { OnOk result (AllHonest start events.now log.new.entries.items) }
+
+    // The entries, and the clients that the log leaves, are those that the schedule and the contracts of the clients' calls
+    // make: an event makes a client, or changes only the one that it names, and a report in an entry is that client's.
+    ensures logged { OnOk result (Runs start [] events.now log.new.entries.items log.new.clients.items) }
+
+    // After want of memory all but progress holds of the events before the one that met it.
     ensures memory { OnErr result (IsBeginning events.now log.new.entries.items) }
 {
     lower_laws();
@@ -81,6 +86,8 @@ fn lower_laws()
     ensures { LowerLaws }
 {
     tags_tell_publications();
+    equal_reports_are_true();
+    one_geo();
     publications_replace();
     clients_are_answered();
     fronts_are_read();

@@ -21,6 +21,10 @@ pub returns-clause-logged : goal.returns-clause-logged
 returns-clause-logged c =
     whole c.args.events.now c.loop-event.event-index c.loop-event.log.entries.items c.loop-event.log.clients.items c.loop-event-test.false c.loop-event.invariant.runs
 
+pub returns-clause-whole : goal.returns-clause-whole
+returns-clause-whole c =
+    (whole_truth c.lower_laws.ensures c.args.events.now c.loop-event.event-index c.loop-event.log.entries.items c.loop-event.log.clients.items c.loop-event-test.false c.loop-event.invariant.runs).whole
+
 pub returns-clause-true_reports : goal.returns-clause-true_reports
 returns-clause-true_reports c =
     (whole_truth c.lower_laws.ensures c.args.events.now c.loop-event.event-index c.loop-event.log.entries.items c.loop-event.log.clients.items c.loop-event-test.false c.loop-event.invariant.runs).true_reports
@@ -53,12 +57,12 @@ returns-clause-progress c =
 
 pub returns-in_err-entry-clause-memory : goal.returns-in_err-entry-clause-memory
 returns-in_err-entry-clause-memory c =
-    on_err_of c.from_residual.result _ (beginning c.lower_laws.ensures c.args.events.now c.loop-event.event-index c.loop-event.log.entries.items c.loop-event.log.clients.items (omega arith) c.loop-event.invariant.runs)
+    on_err_of c.from_residual.result _ (beginning c.lower_laws.ensures c.args.events.now c.loop-event.event-index c.loop-event.log.entries.items c.loop-event.log.clients.items c.loop-event-test.true c.loop-event.invariant.runs)
 
 pub returns-in_err-keep-clause-memory : goal.returns-in_err-keep-clause-memory
 returns-in_err-keep-clause-memory c =
-    on_err_of c.from_residual-in_err-keep.result _ (beginning c.lower_laws.ensures c.args.events.now c.loop-event.event-index c.loop-event.log.entries.items c.loop-event.log.clients.items (omega arith) c.loop-event.invariant.runs)
+    on_err_of c.from_residual-in_err-keep.result _ (beginning c.lower_laws.ensures c.args.events.now c.loop-event.event-index c.loop-event.log.entries.items c.loop-event.log.clients.items c.loop-event-test.true c.loop-event.invariant.runs)
 
 pub returns-in_err-push-clause-memory : goal.returns-in_err-push-clause-memory
 returns-in_err-push-clause-memory c =
-    on_err_of c.from_residual-in_err-push.result _ (rw c.in_err-push.ensures.items (beginning c.lower_laws.ensures c.args.events.now c.loop-event.event-index c.loop-event.log.entries.items c.loop-event.log.clients.items (omega arith) c.loop-event.invariant.runs))
+    on_err_of c.from_residual-in_err-push.result _ (rw c.in_err-push.ensures.items (beginning c.lower_laws.ensures c.args.events.now c.loop-event.event-index c.loop-event.log.entries.items c.loop-event.log.clients.items c.loop-event-test.true c.loop-event.invariant.runs))
