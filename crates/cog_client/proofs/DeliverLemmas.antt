@@ -157,9 +157,9 @@ module _ (law : FrontsAreRead) (p : SeenPiece) (text : List ℕ) (reads : ReadsA
       }
 
   pub begins_stops : (old mid new : ClientState) (a : Span) (k : Case) → case_of (revision_of old) (asked_of old) p ≡ k → base_of k (blocks_of old) ≡ emptied (blocks_of old)
-      → (taken (holding old) (Ok p)).leaves ≡ keep (revision_of_piece p) a (emptied (blocks_of old)) p
+      → (taken (holding old) (Ok p)).leaves ≡ keep (revision_of_piece p) a (emptied (blocks_of old)) p → (IsIgnored (taken (holding old) (Ok p)).says → ⊥)
       → Adopts p (Some a) old mid → StopsStoring p mid new → StopsDelivery old text new
-  begins_stops old mid new a k is base leaves adopts stops =
+  begins_stops old mid new a k is base leaves used adopts stops =
       let revision : revision_of new ≡ Some (revision_of_piece p) = stops.revision ∙ adopts.revision in
       let asked : asked_of new ≡ Some a = stops.asked ∙ adopts.asks in
       let same = same_trans old mid new adopts.same stops.same in
@@ -167,6 +167,7 @@ module _ (law : FrontsAreRead) (p : SeenPiece) (text : List ℕ) (reads : ReadsA
         same = same;
         reading = Ok p;
         reads = reads;
+        used = used;
         revision = revision ∙ sym (ap (λ (h : Holding). h.revision) leaves);
         asked = asked ∙ sym (ap (λ (h : Holding). h.asked) leaves);
         report = stops.report;
@@ -208,6 +209,7 @@ module _ (law : FrontsAreRead) (p : SeenPiece) (text : List ℕ) (reads : ReadsA
         same = stops.same;
         reading = Ok p;
         reads = reads;
+        used = λ i. subst (λ (x : Taken). IsIgnored x.says) t i;
         revision = stops.revision ∙ ap (λ (x : Taken). x.leaves.revision) (sym t);
         asked = stops.asked ∙ ap (λ (x : Taken). x.leaves.asked) (sym t);
         report = stops.report;
@@ -279,7 +281,7 @@ module _ (law : FrontsAreRead) (p : SeenPiece) (text : List ℕ) (reads : ReadsA
   pub adopted_stops : case_of (revision_of old) (asked_of old) p ≡ cases.Adopted → Adopts p (asked_of old) old mid → StopsStoring p mid new → StopsDelivery old text new
   adopted_stops is adopts stops =
       let t : taken (holding old) (Ok p) ≡ take_by cases.Adopted (holding old) p = ap (λ k. take_by k (holding old) p) is in
-      begins_stops law p text reads old mid new (asked_or_first (asked_of old)) cases.Adopted is refl (ap (λ (x : Taken). x.leaves) t)
+      begins_stops law p text reads old mid new (asked_or_first (asked_of old)) cases.Adopted is refl (ap (λ (x : Taken). x.leaves) t) (λ i. subst (λ (x : Taken). IsIgnored x.says) t i)
       (subst (λ o. Adopts p o old mid) (adopted_asks is) adopts) stops
 
   pub restarted_delivers : (count : ℕ) → case_of (revision_of old) (asked_of old) p ≡ cases.Restarted → Adopts p (Some first_span) old mid → AcceptsPiece p mid new count → Delivers old text Restarted new
@@ -291,7 +293,7 @@ module _ (law : FrontsAreRead) (p : SeenPiece) (text : List ℕ) (reads : ReadsA
   pub restarted_stops : case_of (revision_of old) (asked_of old) p ≡ cases.Restarted → Adopts p (Some first_span) old mid → StopsStoring p mid new → StopsDelivery old text new
   restarted_stops is adopts stops =
       let t : taken (holding old) (Ok p) ≡ take_by cases.Restarted (holding old) p = ap (λ k. take_by k (holding old) p) is in
-      begins_stops law p text reads old mid new first_span cases.Restarted is refl (ap (λ (x : Taken). x.leaves) t) adopts stops
+      begins_stops law p text reads old mid new first_span cases.Restarted is refl (ap (λ (x : Taken). x.leaves) t) (λ i. subst (λ (x : Taken). IsIgnored x.says) t i) adopts stops
 
 module _ (law : FrontsAreRead) (p : SeenPiece) (text : List ℕ) (reads : ReadsAnswer text (Ok p)) (old new : ClientState) where
   pub accepted_delivers : ((r : ReaderState) (f : List ℕ) → reader.ReaderAgrees r f → length f ≡ reader.complete_of r) → (count : ℕ) → case_of (revision_of old) (asked_of old) p ≡ cases.Accepted → AcceptsPiece p old new count → Delivers old text (Took count) new

@@ -151,11 +151,13 @@ pub record Delivers (old : ClientState) (text : List ℕ) (what : Delivered) (ne
       → Knows f old → StaysOf f old new
   pub agrees : (book : Book) → HasDistinctTags book → ClientAgrees old book → IsHonest text (name_of old) book → ClientAgrees new book
 
--- After want of memory the revision and what is asked for are those that the answer leaves, and some of its blocks are stored.
+-- After want of memory, which no answer meets that is ignored, the revision and what is asked for are those that the answer
+-- leaves, and some of its blocks are stored.
 pub record StopsDelivery (old : ClientState) (text : List ℕ) (new : ClientState) : Type 0 where
   pub same : SameClient old new
   pub reading : Result SeenPiece Why
   pub reads : ReadsAnswer text reading
+  pub used : IsIgnored (take (holding old) reading).says → ⊥
   pub revision : revision_of new ≡ (take (holding old) reading).leaves.revision
   pub asked : asked_of new ≡ (take (holding old) reading).leaves.asked
   pub report : report_of new ≡ None
