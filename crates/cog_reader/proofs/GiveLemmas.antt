@@ -1,8 +1,8 @@
 -- A range that is given.
-use Rattle.std.proofs.Common.{◌≡◌, ℕ, suc, ◌+◌, ◌<◌, ◌≤◌, ◌++◌, ◌∷◌, inl, inr, Bool, true, false, if◌then◌else◌, List, length, drop, Option, Some, None, refl, sym, subst, ap, ◌∙◌, arith}
-use Rattle.std.specs.Prelude.{◌⊎◌, ◌==◌, slice_get, IsSomeAnd}
-use Rattle.std.specs.Option.{option_map}
-use Rattle.std.proofs.lemmas.List.{drop_more}
+use Rattle.std.proofs.Common.{◌≡◌, ℕ, suc, ◌+◌, ◌<◌, ◌≤◌, ◌++◌, ◌∷◌, inl, inr, Bool, true, false, if◌then◌else◌, List, [], length, take, drop, Option, Some, None, refl, sym, subst, ap, ◌∙◌, arith}
+use Rattle.std.specs.Prelude.{◌⊎◌, ◌==◌, slice_get, IfSome, IsSomeAnd}
+use Rattle.std.specs.Option.{option_map, option_map_or}
+use Rattle.std.proofs.lemmas.List.{drop_more, drop-drop, take-append-drop}
 use Rattle.std.proofs.lemmas.Option.{none-some, get_or_from_slice_get, slice_get_within, slice_get-map}
 use Rattle.tiff_dir.specs.declared.fault.FileFault.{FileFault}
 use Rattle.tiff_dir.specs.declared.level.Level.{Level}
@@ -15,7 +15,7 @@ use Rattle.tiff_dir.specs.File.{order_of}
 use Rattle.tiff_dir.specs.Geo.{geo_ranges}
 use Rattle.tiff_dir.specs.WalkState.{WalkState}
 use Rattle.tiff_dir.specs.Level.{level_layout}
-use Rattle.tiff_dir.specs.Needs.{Extent, bytes_in, extent_of_place}
+use Rattle.tiff_dir.specs.Needs.{Extent, bytes_in, extent_of_place, IsEndOf}
 use Rattle.tiff_dir.specs.Query as queries
 use Rattle.tiff_dir.specs.Query.{needs_of_query, rectangle}
 use Rattle.tiff_dir.specs.Walk as walk
@@ -35,7 +35,7 @@ use Rattle.cog_reader.specs.declared.state.State.TheVariants.{Directories, Array
 use Rattle.cog_reader.specs.Fields.{present_in, IsReadOf}
 use Rattle.cog_reader.specs.Kept.{arrays_held, next_array, KeptAgrees, IsKeptOf}
 use Rattle.cog_reader.specs.Mosaic.{IsWantedGroup, IsPlan, IsUnderway}
-use Rattle.cog_reader.specs.Reader.{own_given, steps_by, wanted_by, StateAgrees}
+use Rattle.cog_reader.specs.Reader.{own_given, steps_by, unread_by, wanted_by, StateAgrees}
 use Rattle.cog_reader.specs.Give.{Gives, AcceptsDirectoryRange, Snapshot, AcceptsRange, AcceptsDirectories, Advances, TellsFault}
 use Rattle.cog_reader.proofs.FieldLemmas.{geo_ranges_are}
 use Rattle.cog_reader.proofs.KeptLemmas.{some_at, from_some}
@@ -52,6 +52,29 @@ some_more (Some x) P Q h more = more x h
 next_of : (rs : List Extent) (i : ℕ) (r : Extent) → slice_get rs i ≡ Some r → drop i rs ≡ r ∷ drop (i + 1) rs
 next_of rs i r is = drop_more rs i r (slice_get_within rs i r is) ∙ ap (λ x. x ∷ drop (i + 1) rs) (get_or_from_slice_get rs i r r is)
 
+-- ---- what stays of what is held
+
+pub same_end : (rs : List Extent) → IsEndOf rs rs
+same_end rs = record { front = []; joined = refl }
+
+-- one range less, before others
+one_less : (o : Option Extent) (old new rest : List Extent) → IsSomeAnd o (λ r. old ≡ r ∷ new) → IsEndOf (new ++ rest) (old ++ rest)
+one_less None old new rest bad = absurd bad
+one_less (Some r) old new rest is = record { front = r ∷ []; joined = ap (λ l. l ++ rest) is }
+
+-- one array more of a level is held
+array_held : (come needs : List Extent) (k v : Kept) (n : ℕ) (o : Option queries.Rectangle) → come ≡ [] → arrays_held v n ≡ arrays_held k n + 1 → IfSome o (λ s. n ≡ s.level)
+    → IsEndOf (come ++ drop (option_map_or (λ (s : queries.Rectangle). arrays_held v s.level) o 0) needs) (come ++ drop (option_map_or (λ (s : queries.Rectangle). arrays_held k s.level) o 0) needs)
+array_held come needs k v n None over more one = same_end (come ++ drop 0 needs)
+array_held come needs k v n (Some s) over more one =
+    let i = arrays_held k s.level in
+    let rest = drop i needs in
+    let next : arrays_held v s.level ≡ i + 1 = subst (λ m. arrays_held v m ≡ arrays_held k m + 1) one more in
+    let last : drop 1 rest ≡ drop (arrays_held v s.level) needs = drop-drop 1 i needs ∙ ap (λ j. drop j needs) (sym next) in record {
+      front = take 1 rest;
+      joined = ap (λ xs. xs ++ rest) over ∙ sym (take-append-drop 1 rest) ∙ ap (λ xs. take 1 rest ++ xs) (last ∙ ap (λ xs. xs ++ drop (arrays_held v s.level) needs) (sym over));
+    }
+
 -- ---- directories
 
 nothing_kept : (w : WalkState) (k : Kept) (P : Extent → Type 0) → IsKeptOf w k → IsSomeAnd (walk.wanted w) P → (v : WalkState) → IsKeptOf v k
@@ -65,6 +88,7 @@ accepts_directories complete bytes w v k keeps some on = record {
   state = tt;
   same = λ f q base here next. (record { size = base.size; walked = on.agrees f base.walked next; kept = base.kept }, tt);
   come = λ f q base here. some_more (walk.wanted w) (λ r. walk.to_come w f ≡ r ∷ walk.to_come v f) _ (on.come f base.walked) (λ r e. ap (λ l. l ++ drop (own_given f q k Directories) (needs_of_query f q)) e);
+  held = λ f q base here p one. one_less (walk.wanted w) (walk.to_come w f) (walk.to_come v f) (drop (own_given f p k Directories) (needs_of_query f p)) (on.come f base.walked);
   steps = (let given = on.given in let few = on.few in omega (arith, given, few));
 }
 
@@ -92,8 +116,8 @@ wanted_place w k r l P there some = at (next_array k r.level l) refl (rw there a
 pub accepts_array : (complete : ℕ) (bytes : List ℕ) (w : WalkState) (k : Kept) (v : Kept) (r : Rectangle) (l : Level) (o : Order) → HasEnded w → IsSomeAnd (slice_get (levels_of w) r.level) (λ m. IsSmall m r) → IsLevelOf w r.level l
     → IsSomeAnd (wanted_by w k (Reads r)) (λ x. length bytes ≡ x.len) → IsKeptOf w v → arrays_held v r.level ≡ arrays_held k r.level + 1 → ((f : List ℕ) → walk.WalkAgrees w f → order_of f ≡ Some o)
     → ((f : List ℕ) → order_of f ≡ Some o → level_layout f r.level ≡ Some (layout_of l) → KeptAgrees f k → IsSomeAnd (next_array k r.level l) (λ p. IsArrayOf f p bytes) → KeptAgrees f v)
-    → Advances complete bytes (at_state w k (Reads r)) (at_state w v (Reads r))
-accepts_array complete bytes w k v r l o ended small of_level some keeps more order same =
+    → ((f : List ℕ) → walk.WalkAgrees w f → walk.to_come w f ≡ []) → Advances complete bytes (at_state w k (Reads r)) (at_state w v (Reads r))
+accepts_array complete bytes w k v r l o ended small of_level some keeps more order same over =
     let (p, next, wants, len) = wanted_place w k r l (λ x. length bytes ≡ x.len) of_level.there some in record {
       kept = keeps;
       state = (ended, small);
@@ -107,6 +131,9 @@ accepts_array complete bytes w k v r l o ended small of_level some keeps more or
         here,
       );
       come = λ f q base here. from_some (wanted_by w k (Reads r)) (extent_of_place p) _ wants (at f q p next here (of_level.layout f base.walked));
+      held = λ f q base here p one.
+          array_held (walk.to_come w f) (needs_of_query f p) k v r.level (rectangle f p) (over f base.walked) more
+          (subst (λ o. IfSome o (λ a. IfSome (rectangle f p) (λ b. a.level ≡ b.level))) here.0 one);
       steps = elim (which_next k r.level l p next) [ inl h ↦ (let e = h.0 in omega (arith, e, more)) | inr h ↦ (let e = h.0 in omega (arith, e, more)) ];
     } where
       at : (f : List ℕ) (q : Query) (p : Place) → next_array k r.level l ≡ Some p → StateAgrees f q k (Reads r) → level_layout f r.level ≡ Some (layout_of l)
@@ -166,6 +193,7 @@ accepts_group complete bytes w k n a m v ended keeps is plan same more some unde
       (next_of (needs_of_query f q) (2 + m.given) (extent_of_span g.span) (group_needed f q a m g u there)
       ∙ (let e : 2 + m.given + 1 ≡ 2 + v.given = omega (arith, more) in ap (λ i. extent_of_span g.span ∷ drop i (needs_of_query f q)) e))
       );
+  held = λ f q base here p one. same_end (unread_by f w k p);
   steps = (
       let (g, there, len) = the_group (slice_get m.groups m.given) refl some in
       let less = slice_get_within m.groups m.given g there in
@@ -227,6 +255,7 @@ accepts_field complete bytes w k x v ended keeps some places more read = record 
       ap (λ l. slice_get l x.given) (needs ∙ geo_ranges_are f x.places here.1.places) ∙ slice_get-map extent_of_place (present_in x.places) x.given ∙ ap (option_map extent_of_place) there in
       from_some (wanted_by w k (Geo x)) (extent_of_place p) _ wants (next_of (needs_of_query f q) x.given (extent_of_place p) is ∙ ap (λ i. extent_of_place p ∷ drop i (needs_of_query f q)) (sym more))
       );
+  held = λ f q base here p one. same_end (unread_by f w k p);
   steps = (
       let (p, there, wants, len) = wanted_field w k x (λ r. length bytes ≡ r.len) some in
       let less = slice_get_within (present_in x.places) x.given p there in
@@ -267,6 +296,7 @@ gives_on complete bytes q old new on = record {
   state = on.state;
   same = λ f base here next. on.same f q base here next;
   come = λ f base here. inr (on.come f q base here);
+  held = λ f base here. on.held f q base here;
   steps = on.steps;
 }
 
@@ -284,5 +314,8 @@ gives_fault complete bytes q old new fault keeps some told = record {
     told.stands f q base here next,
   );
   come = λ f base here. inl (refl, refl);
+  held = λ f base here p one.
+      let same : unread_by f old.walk old.kept p ≡ unread_by f new.walk new.kept p = ap (λ w. unread_by f w old.kept p) (sym told.walk) ∙ ap (λ k. unread_by f new.walk k p) (sym told.kept) in
+      subst (λ rs. IsEndOf (unread_by f new.walk new.kept p) rs) (sym same) (same_end (unread_by f new.walk new.kept p));
   steps = some_steps old.walk old.kept old.state (λ r. length bytes ≡ r.len) some;
 }

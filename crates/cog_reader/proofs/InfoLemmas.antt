@@ -18,7 +18,7 @@ use Rattle.tiff_dir.specs.declared.level.Place.{Place}
 use Rattle.tiff_dir.specs.declared.order.Order.{Order}
 use Rattle.tiff_dir.specs.declared.query.Query.TheVariants.{Info}
 use Rattle.tiff_dir.specs.File.{◌>>=◌, Field, kind_of, size_of, order_of, number, field, field_value, value, values_at, absent_value, has_all_tags}
-use Rattle.tiff_dir.specs.Level.{Grid, Layout, compression_of, grid_at, layout_at, layouts, level_directories, place_of}
+use Rattle.tiff_dir.specs.Level.{Grid, Layout, compression_of, grid_at, depth_at, layout_at, layouts, level_directories, place_of}
 use Rattle.tiff_dir.specs.Needs.{bytes_in, ends_past, extent_of_place}
 use Rattle.tiff_dir.specs.Number.{number_in}
 use Rattle.tiff_dir.specs.Geo.{geo_place, geo_ranges, item_count}
@@ -318,7 +318,7 @@ two width length = Some (width, length)
 sides_at : (f : List ℕ) (k : ℕ) (l : Layout) → layout_at f k ≡ Some l → sides f k ≡ Some (l.grid.width, l.grid.length)
 unfolding layout_at grid_at sides
 sides_at f k l is =
-    go (value f k 256 0) (value f k 257 0) (value f k 322 0) (value f k 323 0) (value f k 277 0) (value f k 258 0) (value f k 259 0 >>= compression_of) (field f k 324 >>= place_of f) (field f k 325 >>= place_of f) is where
+    go (value f k 256 0) (value f k 257 0) (value f k 322 0) (value f k 323 0) (value f k 277 0) (depth_at f k) (value f k 259 0 >>= compression_of) (field f k 324 >>= place_of f) (field f k 325 >>= place_of f) is where
       go : (w h tw tl s b : Option ℕ) (c : Option Compression) (o n : Option Place)
           → ((w >>= λ width. h >>= λ length. tw >>= λ tile_width. tl >>= λ tile_length. Some (record { width = width; length = length; tile_width = tile_width; tile_length = tile_length }))
           >>= λ grid. s >>= λ samples. b >>= λ bits. c >>= λ compression. o >>= λ offsets. n >>= λ counts.

@@ -11,7 +11,7 @@ use Rattle.tiff_dir.specs.declared.level.Compression.TheVariants.{Plain}
 use Rattle.tiff_dir.specs.declared.query.Query.{Query}
 use Rattle.tiff_dir.specs.declared.fault.FileFault.{FileFault}
 use Rattle.tiff_dir.specs.declared.fault.FileFault.TheVariants.{TileSize}
-use Rattle.tiff_dir.specs.Level.{plain_row, plain_size}
+use Rattle.tiff_dir.specs.Level.{plain_size}
 use Rattle.tiff_dir.specs.Described.{layout_of}
 use Rattle.tiff_dir.specs.Faulty.{HasBadPackets, IsFaultOfWindow}
 use Rattle.tiff_dir.specs.Query.{window_tiles}
@@ -121,11 +121,8 @@ damaged f q a w g ts fault u is same bad =
       level = w.picture.rectangle.level;
       tile = bad.tile;
       of_window = record { asked = rectangle_of w.picture.rectangle; asked_is = p.rectangle_is; level_is = refl; among = among };
-      packed = p.described.compression ∙ ap Some bad.packed;
-      row = plain_row (layout_of a.level);
-      row_is = p.described.plain_row;
-      size = plain_size (layout_of a.level);
-      size_is = p.described.plain_size;
+      layout = layout_of a.level;
+      layout_is = p.layout_is;
       bytes = bad.bytes;
       bytes_are = bad.bytes_are;
       wrong = bad.wrong;

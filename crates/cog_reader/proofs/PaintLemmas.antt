@@ -2,12 +2,13 @@
 use Rattle.std.proofs.Common.{◌≡◌, ◌≢◌, ℕ, ◌+◌, ◌-◌, ◌<◌, ◌≤◌, inl, inr, List, [], ◌∷◌, ◌++◌, length, take, drop, get_or, Some, refl, sym, subst, ap, ◌∙◌, arith}
 use Rattle.std.specs.Prelude.{Result, Ok, Err, IfErr, IsErrAnd}
 use Rattle.std.specs.List.{All, slice_range}
-use Rattle.std.proofs.lemmas.Bool.{cases_eq, le-leb}
+use Rattle.std.proofs.lemmas.Bool.{cases_eq, le-ltb}
 use Rattle.std.proofs.lemmas.List.{drop-take, drop-drop, take-take, drop_more}
 use Rattle.std.proofs.lemmas.Grind.{get_or_default_zero}
 use Rattle.std.proofs.lemmas.List.Elements.{All-push}
 use Rattle.tiff_dir.specs.declared.level.Level.{Level}
-use Rattle.tiff_dir.specs.Level.{level_value, segment}
+use Rattle.tiff_dir.specs.Level.{level_value}
+use Rattle.tiff_dir.specs.Query.{segment, tile_range}
 use Rattle.tiff_dir.specs.Needs.{Extent}
 use Rattle.tile_plan.specs.declared.asked.Rectangle.{Rectangle}
 use Rattle.tile_plan.specs.Plan.{Adjoin}
@@ -46,13 +47,17 @@ part_of f first total at len n m fits is same =
     ap (λ k. take m (drop at (take k (drop first f)))) split ∙ ap (take m) (drop-take at (total - at) (drop first f))
     ∙ take-take m (total - at) (drop at (drop first f)) (omega (arith, same, fits)) ∙ ap (λ k. take k (drop at (drop first f))) same ∙ ap (take len) (drop-drop at first f)
 
+range_there : (f : List ℕ) (n t first len : ℕ) → level_value f n 324 t ≡ Some first → level_value f n 325 t ≡ Some len → tile_range f n t ≡ Some (record { first = first; len = len })
+unfolding tile_range
+range_there f n t first len offset count = rw (offset, count) refl
+
 pub segment_is : (f : List ℕ) (n t at first total len m : ℕ) (bytes : List ℕ) → level_value f n 324 t ≡ Some (first + at) → level_value f n 325 t ≡ Some len → first + total ≤ length f → at + len ≤ total
     → bytes ≡ slice_range f first (first + total) → m ≡ len → segment f n t ≡ Some (take m (drop at bytes))
 unfolding segment
 segment_is f n t at first total len m bytes offset count inside fits is same =
     let room : first + at + len ≤ length f = omega (arith, inside, fits) in
     let size : first + at + len - (first + at) ≡ len = omega arith in
-    rw (offset, count, le-leb (first + at + len) (length f) room)
+    rw (range_there f n t (first + at) len offset count, le-ltb (length f) (first + at + len) room)
     (ap (λ k. Some (take k (drop (first + at) f))) size ∙ ap Some (sym (part_of f first total at len (first + total - first) m fits refl same)) ∙ ap (λ l. Some (take m (drop at l))) (sym is))
 
 -- a refusal that is handed on

@@ -4,7 +4,7 @@ use Rattle.std.specs.Prelude.{IsSomeAnd}
 use Rattle.tiff_dir.specs.WalkState.{WalkState}
 use Rattle.cog_reader.specs.declared.kept.Kept.{Kept}
 use Rattle.cog_reader.specs.declared.state.PendingQuery.{PendingQuery}
-use Rattle.cog_reader.specs.Reader.{come_by, outcome_of, steps_of, to_come, wanted, wanted_by, ReaderAgrees, AcceptsFirstRange, ReaderState, IsReader, StateAgrees, IsWantedOf}
+use Rattle.cog_reader.specs.Reader.{come_by, outcome_of, query_of, steps_of, to_come, unread, wanted, wanted_by, ReaderAgrees, AcceptsFirstRange, KeepsHeld, ReaderState, IsReader, StateAgrees, IsWantedOf}
 use Rattle.cog_reader.specs.Give.{Gives}
 use Rattle.cog_reader.proofs.GiveLemmas.{at_state}
 
@@ -33,6 +33,11 @@ given_come f complete bytes w v k l a b agrees same gives = elim (gives.come f (
   | inl done ↦ inl (done.0, ap (λ q. come_by f v l q b.state) same ∙ done.1)
   | inr on ↦ inr (subst (λ q. IsSomeAnd (wanted_by w k a.state) (λ r. come_by f w k a.query a.state ≡ r ∷ come_by f v l q b.state)) (sym same) on)
 ]
+
+pub given_held : (f : List ℕ) (complete : ℕ) (bytes : List ℕ) (w v : WalkState) (k l : Kept) (a b : PendingQuery) → ReaderAgrees (holding complete w k a) f
+    → Gives complete bytes a.query (at_state w k a.state) (at_state v l b.state) → KeepsHeld f (holding complete w k a) (holding complete v l b)
+unfolding ReaderAgrees query_of unread
+given_held f complete bytes w v k l a b agrees gives = gives.held f (record { size = agrees.size; walked = agrees.walked; kept = agrees.kept }) agrees.state
 
 pub given_steps : (complete : ℕ) (bytes : List ℕ) (w v : WalkState) (k l : Kept) (a b : PendingQuery) → Gives complete bytes a.query (at_state w k a.state) (at_state v l b.state) → steps_of (holding complete v l b) < steps_of (holding complete w k a)
 unfolding steps_of

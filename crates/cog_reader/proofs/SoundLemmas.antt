@@ -13,23 +13,21 @@ use Rattle.tiff_dir.specs.declared.level.Kind.TheVariants as kind
 use Rattle.tiff_dir.specs.declared.level.Level.{Level}
 use Rattle.tiff_dir.specs.declared.level.Place.{Place}
 use Rattle.tiff_dir.specs.declared.level.Compression.{Compression}
-use Rattle.tiff_dir.specs.declared.level.Compression.TheVariants.{PackBits}
 use Rattle.tiff_dir.specs.declared.query.Query.{Query}
 use Rattle.tiff_dir.specs.declared.query.Query.TheVariants.{Window, Info}
 use Rattle.tiff_dir.specs.declared.fault.FileFault.{FileFault}
 use Rattle.tiff_dir.specs.declared.fault.FileFault.TheVariants.{PastEnd, TileSize, Packet, Outside, TooLarge}
 use Rattle.tiff_dir.specs.File.{◌>>=◌, field, value, size_of}
-use Rattle.tiff_dir.specs.Level.{segment, Grid, Layout, level_directory, level_layout, layout_at, grid_at, compression_of, place_of, plain_row, plain_size}
+use Rattle.tiff_dir.specs.Level.{Grid, Layout, level_directory, level_layout, layout_at, depth_at, grid_at, compression_of, place_of}
 use Rattle.tiff_dir.specs.Profile.{tiles_along}
 use Rattle.tiff_dir.specs.Needs.{ends_past, field_range, extent_of_place}
 use Rattle.tiff_dir.specs.Described.{layout_of}
 use Rattle.tiff_dir.specs.Walk.{IsArrayOf}
 use Rattle.tiff_dir.specs.Fault.{IsFaultOfDirectories}
-use Rattle.tiff_dir.specs.Faulty.{level_compression, level_plain_row, level_plain_size, HasBadPackets, IsFaultOfWindow, IsFaulty, IsWindow}
+use Rattle.tiff_dir.specs.Faulty.{HasBadPackets, IsFaultOfWindow, IsFaulty, IsWindow}
 use Rattle.tiff_dir.specs.Query as queries
-use Rattle.tiff_dir.specs.Query.{array_range, array_ranges, needs_of_query, rectangle, is_outside, is_too_large}
-use Rattle.tiff_dir.specs.Window.{HasSamples, IsUnpacked, IsUnpackedBy}
-use Rattle.tiff_dir.specs.Packets.{Packs}
+use Rattle.tiff_dir.specs.Query.{array_range, array_ranges, needs_of_query, rectangle, is_outside, is_too_large, segment}
+use Rattle.tiff_dir.specs.Window.{HasSamples, IsUnpacked}
 use Rattle.tile_plan.specs.Levels.{rectangle_of}
 use Rattle.tile_plan.specs.Plan.{tiles_of}
 use Rattle.cog_reader.specs.declared.arrays.Arrays.{Arrays}
@@ -40,7 +38,7 @@ use Rattle.cog_reader.proofs.MosaicLemmas.{window_is}
 
 at_directory : (f : List ℕ) (k : ℕ) (l : Layout) → layout_at f k ≡ Some l → ((field f k 324 >>= place_of f) ≡ Some l.offsets) × ((field f k 325 >>= place_of f) ≡ Some l.counts)
 unfolding layout_at
-at_directory f k l is = go (grid_at f k) (value f k 277 0) (value f k 258 0) (value f k 259 0 >>= compression_of) (field f k 324 >>= place_of f) (field f k 325 >>= place_of f) is where
+at_directory f k l is = go (grid_at f k) (value f k 277 0) (depth_at f k) (value f k 259 0 >>= compression_of) (field f k 324 >>= place_of f) (field f k 325 >>= place_of f) is where
   go : (g : Option Grid) (s b : Option ℕ) (c : Option Compression) (o n : Option Place)
       → (g >>= λ grid. s >>= λ samples. b >>= λ bits. c >>= λ compression. o >>= λ offsets. n >>= λ counts.
       Some (record { grid = grid; samples = samples; bits = bits; compression = compression; offsets = offsets; counts = counts })) ≡ Some l
@@ -148,12 +146,9 @@ no_damage f q a w u painted h =
     let here = painted h.tile among in
     let bytes_are = subst (λ n. segment f n h.tile ≡ Some h.bytes) level h.bytes_are in
     let bytes : here.bytes ≡ h.bytes = cc (here.bytes_are, bytes_are) in
-    let packed : l.compression ≡ PackBits = cc (u.planned.described.compression, subst (λ n. level_compression f n ≡ Some PackBits) level h.packed) in
-    let row : plain_row (layout_of l) ≡ h.row = cc (u.planned.described.plain_row, subst (λ n. level_plain_row f n ≡ Some h.row) level h.row_is) in
-    let size : plain_size (layout_of l) ≡ h.size = cc (u.planned.described.plain_size, subst (λ n. level_plain_size f n ≡ Some h.size) level h.size_is) in
+    let layout : layout_of l ≡ h.layout = cc (u.planned.layout_is, subst (λ n. level_layout f n ≡ Some h.layout) level h.layout_is) in
     let unpacked = subst (λ m. IsUnpacked (layout_of m) here.bytes here.plain) u.level here.unpacked in
-    let packs = subst (λ c. IsUnpackedBy c (plain_row (layout_of l)) (plain_size (layout_of l)) here.bytes here.plain) packed unpacked in
-    h.wrong here.plain (packs.0 ∙ size) (subst (λ b. Packs h.row b here.plain) bytes (subst (λ n. Packs n here.bytes here.plain) row packs.1))
+    h.wrong here.plain (subst (λ b. IsUnpacked h.layout b here.plain) bytes (subst (λ m. IsUnpacked m here.bytes here.plain) layout unpacked))
 
 no_fault_of_window : (f : List ℕ) (q : Query) (a : Arrays) (w : MosaicState) (fault : FileFault) → IsUnderway f q a w
     → ((t : ℕ) → IsAmong (tiles_of a.level w.picture.rectangle) t → IsPainted f w.picture.rectangle.level w.picture t) → IsFaultOfWindow f q fault → ⊥

@@ -21,7 +21,7 @@ use Rattle.tiff_dir.specs.declared.fault.FileFault.TheVariants.{PastEnd, FieldTy
 use Rattle.tiff_dir.specs.File.{size_of}
 use Rattle.tiff_dir.specs.WalkState.{WalkState}
 use Rattle.tiff_dir.specs.Level.{level_layout, tile_total}
-use Rattle.tiff_dir.specs.Described.{grid_of, layout_of}
+use Rattle.tiff_dir.specs.Described.{AreLevels, grid_of, layout_of}
 use Rattle.tiff_dir.specs.Fault.{IsFaultOfDirectories}
 use Rattle.tiff_dir.specs.Faulty.{IsFaulty, IsFaultOfInfo, IsFaultOfWindow}
 use Rattle.tiff_dir.specs.Geo.{geo_ranges, IsGeoFault}
@@ -105,14 +105,14 @@ there_is ls n l P some is = at (slice_get ls n) refl some where
   at (Some m) same good = same ∙ ap Some (sym (get_or_from_slice_get ls n m l same) ∙ sym is)
 
 pub level_told : (w : WalkState) (ls : List Level) (n : ℕ) (l : Level) (r : Rectangle) → ls ≡ levels_of w → IsSomeAnd (slice_get (levels_of w) n) (λ m. IsSmall m r) → l ≡ get_or ls n l
-    → ((f : List ℕ) → walk.WalkAgrees w f → (n : ℕ) → level_layout f n ≡ option_map layout_of (slice_get ls n))
-    → ((f : List ℕ) → walk.WalkAgrees w f → (n : ℕ) (l : Level) → slice_get ls n ≡ Some l → IsDescribed f n l)
+    → ((f : List ℕ) → walk.WalkAgrees w f → AreLevels f ls)
+    → ((f : List ℕ) (ls : List Level) (n : ℕ) (l : Level) → AreLevels f ls → slice_get ls n ≡ Some l → IsDescribed f n l)
     → ((f : List ℕ) → walk.WalkAgrees w f → IsClean f) → IsLevelOf w n l
-level_told w ls n l r same some is layout described clean =
+level_told w ls n l r same some is levels law clean =
     let here = there_is ls n l (λ m. IsSmall m r) (subst (λ xs. IsSomeAnd (slice_get xs n) (λ m. IsSmall m r)) (sym same) some) is in record {
       there = ap (λ xs. slice_get xs n) (sym same) ∙ here;
-      layout = λ f told. layout f told n ∙ ap (option_map layout_of) here;
-      described = λ f told. described f told n l here;
+      layout = λ f told. (law f ls n l (levels f told) here).layout;
+      described = λ f told. law f ls n l (levels f told) here;
       clean = clean;
     }
 

@@ -14,7 +14,8 @@ use Rattle.tiff_dir.specs.declared.query.Query.{Query}
 use Rattle.tiff_dir.specs.File.{order_of}
 use Rattle.tiff_dir.specs.Number.{number_in}
 use Rattle.tiff_dir.specs.Profile.{sample_bytes}
-use Rattle.tiff_dir.specs.Level.{level_layout, plain_size, segment}
+use Rattle.tiff_dir.specs.Level.{level_layout, plain_size}
+use Rattle.tiff_dir.specs.Query.{segment}
 use Rattle.tiff_dir.specs.Described.{grid_of, layout_of}
 use Rattle.tiff_dir.specs.Window.{HasSamples, sample_in, place_in_tile, tile_at}
 use Rattle.tile_plan.specs.Levels.{rectangle_of}

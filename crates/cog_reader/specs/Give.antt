@@ -5,12 +5,12 @@ use Rattle.tiff_dir.specs.declared.fault.FileFault.{FileFault}
 use Rattle.tiff_dir.specs.Fault.{IsFaultOfDirectories}
 use Rattle.tiff_dir.specs.Faulty.{IsFaulty}
 use Rattle.tiff_dir.specs.WalkState.{WalkState}
-use Rattle.tiff_dir.specs.Needs.{Extent, bytes_in}
+use Rattle.tiff_dir.specs.Needs.{Extent, bytes_in, IsEndOf}
 use Rattle.tiff_dir.specs.Walk as walk
 use Rattle.cog_reader.specs.declared.kept.Kept.{Kept}
 use Rattle.cog_reader.specs.declared.state.State.{State}
 use Rattle.cog_reader.specs.Kept.{IsKeptOf}
-use Rattle.cog_reader.specs.Reader.{come_by, outcome_in, steps_by, wanted_by, IsState, StateAgrees}
+use Rattle.cog_reader.specs.Reader.{come_by, outcome_in, steps_by, unread_by, wanted_by, AreOfOneLevel, IsState, StateAgrees}
 use Rattle.cog_reader.specs.Step.{IsBase}
 
 -- the bytes lead a walk on, after which one range less is to come
@@ -40,6 +40,14 @@ wanted_in s = wanted_by s.walk s.kept s.state
 abbrev pub come_in : List ℕ → Query → Snapshot → List Extent
 come_in f q s = come_by f s.walk s.kept q s.state
 
+-- what a query needs without what is held
+abbrev pub unread_in : List ℕ → Query → Snapshot → List Extent
+unread_in f q s = unread_by f s.walk s.kept q
+
+-- each query of the level that is read needs an end of what it needed before
+abbrev pub KeepsHeld : List ℕ → Query → Snapshot → Snapshot → Type 0
+KeepsHeld f asked old new = (q : Query) → AreOfOneLevel f asked q → IsEndOf (unread_in f q new) (unread_in f q old)
+
 -- the bytes are those of the file that are wanted
 abbrev pub AreWantedBytes : List ℕ → Snapshot → List ℕ → Type 0
 AreWantedBytes f s bytes = IsSomeAnd (wanted_in s) (λ r. bytes ≡ bytes_in f r)
@@ -52,6 +60,7 @@ pub record Advances (complete : ℕ) (bytes : List ℕ) (old new : Snapshot) : T
       → IsBase f complete new.walk new.kept × StateAgrees f q new.kept new.state
   pub come : (f : List ℕ) (q : Query) → IsBase f complete old.walk old.kept → StateAgrees f q old.kept old.state
       → IsSomeAnd (wanted_in old) (λ r. come_in f q old ≡ r ∷ come_in f q new)
+  pub held : (f : List ℕ) (q : Query) → IsBase f complete old.walk old.kept → StateAgrees f q old.kept old.state → KeepsHeld f q old new
   pub steps : steps_by new.walk new.kept new.state < steps_by old.walk old.kept old.state
 
 -- the bytes tell a fault, which stands in the file for the query; the walk and the arrays are as they were
@@ -74,4 +83,5 @@ pub record Gives (complete : ℕ) (bytes : List ℕ) (q : Query) (old new : Snap
   pub come : (f : List ℕ) → IsBase f complete old.walk old.kept → StateAgrees f q old.kept old.state
       → (IsSome (outcome_in new.state) × (come_in f q new ≡ []))
       ⊎ IsSomeAnd (wanted_in old) (λ r. come_in f q old ≡ r ∷ come_in f q new)
+  pub held : (f : List ℕ) → IsBase f complete old.walk old.kept → StateAgrees f q old.kept old.state → KeepsHeld f q old new
   pub steps : steps_by new.walk new.kept new.state < steps_by old.walk old.kept old.state

@@ -2,13 +2,13 @@
 use Rattle.std.specs.Prelude.{◌≡◌, ℕ, ◌+◌, ◌<◌, ◌≤◌, List, length, take, Some, slice_get, IsSomeAnd}
 use Rattle.std.specs.List.{flat_map, All, IsAmong, slice_range}
 use Rattle.tiff_dir.specs.declared.level.Level.{Level}
-use Rattle.tiff_dir.specs.declared.level.Compression.TheVariants.{Plain, PackBits}
+use Rattle.tiff_dir.specs.declared.level.Compression.TheVariants.{Plain}
 use Rattle.tiff_dir.specs.declared.fault.FileFault.{FileFault}
 use Rattle.tiff_dir.specs.declared.fault.FileFault.TheVariants.{Packet}
-use Rattle.tiff_dir.specs.Packets.{Packs}
 use Rattle.tiff_dir.specs.declared.query.Query.{Query}
 use Rattle.tiff_dir.specs.File.{order_of}
-use Rattle.tiff_dir.specs.Level.{level_layout, segment, plain_row, plain_size, tile_total}
+use Rattle.tiff_dir.specs.Level.{level_layout, plain_size, tile_total}
+use Rattle.tiff_dir.specs.Query.{segment}
 use Rattle.tiff_dir.specs.Needs.{Extent}
 use Rattle.tiff_dir.specs.Described.{grid_of, layout_of}
 use Rattle.tiff_dir.specs.Walk.{IsArrayOf, bytes_in, extent_of_span}
@@ -90,12 +90,11 @@ pub record AreBytesOf (f : List ℕ) (first : ℕ) (bytes : List ℕ) : Type 0 w
   pub are : bytes ≡ slice_range f first (first + length bytes)
   pub inside : first + length bytes ≤ length f
 
--- a tile's packets are damaged
+-- no tile is unpacked from the bytes of one of these
 pub record HasDamage (f : List ℕ) (n : ℕ) (l : Level) (ts : List ℕ) (fault : FileFault) : Type 0 where
   pub tile : ℕ
   pub among : IsAmong ts tile
   pub bytes : List ℕ
   pub bytes_are : segment f n tile ≡ Some bytes
   pub packet : fault ≡ Packet
-  pub packed : l.compression ≡ PackBits
-  pub wrong : (plain : List ℕ) → length plain ≡ plain_size (layout_of l) → Packs (plain_row (layout_of l)) bytes plain → ⊥
+  pub wrong : (plain : List ℕ) → IsUnpacked (layout_of l) bytes plain → ⊥

@@ -8,7 +8,7 @@ use Rattle.tiff_dir.specs.declared.fault.FileFault.{FileFault}
 use Rattle.tiff_dir.specs.Fault.{IsFaultOfDirectories}
 use Rattle.tiff_dir.specs.File.{◌>>=◌}
 use Rattle.tiff_dir.specs.WalkState.{WalkState}
-use Rattle.tiff_dir.specs.Needs.{Extent, extent_of_place}
+use Rattle.tiff_dir.specs.Needs.{Extent, extent_of_place, IsEndOf}
 use Rattle.tiff_dir.specs.Query.{needs_of_query, rectangle, is_refused, max_group_bytes}
 use Rattle.tiff_dir.specs.Walk as walk
 use Rattle.tiff_dir.specs.Walk.{HasEnded, bytes_in, given_of, levels_of, extent_of_span}
@@ -79,9 +79,17 @@ come_by f w k q state = drop (own_given f q k state) (needs_of_query f q)
 unfoldable pub to_come : ReaderState → List ℕ → List Extent
 to_come r f = option_map_or (λ (a : PendingQuery). come_by f r.walk r.kept a.query a.state) r.pending []
 
--- What a query needs of the file but for the directories and the arrays that are arrays_held.
+-- what a query needs of the file but for the directories and the arrays that are held
+abbrev pub unread_by : List ℕ → WalkState → Kept → Query → List Extent
+unread_by f w k q = come_by f w k q Directories
+
+-- What a query needs of the file but for the directories and the arrays that are held.
 unfoldable pub unread : ReaderState → List ℕ → Query → List Extent
-unread r f q = come_by f r.walk r.kept q Directories
+unread r f q = unread_by f r.walk r.kept q
+
+-- the rectangles that two queries ask for, where both ask for one, are of one level
+abbrev pub AreOfOneLevel : List ℕ → Query → Query → Type 0
+AreOfOneLevel f a b = IfSome (rectangle f a) (λ r. IfSome (rectangle f b) (λ s. r.level ≡ s.level))
 
 -- A number that falls with each range that is given.
 abbrev pub steps_by : WalkState → Kept → State → ℕ
@@ -153,3 +161,9 @@ abbrev pub AcceptsFirstRange : List ℕ → ReaderState → ReaderState → Type
 AcceptsFirstRange f old new =
     (IsSome (outcome_of new) × (to_come new f ≡ []))
     ⊎ IsSomeAnd (wanted old) (λ r. to_come old f ≡ r ∷ to_come new f)
+
+-- What a query needs without what is held is an end of what it needed before. The arrays of one level alone are held,
+-- so this is said of queries of the level that is read.
+abbrev pub KeepsHeld : List ℕ → ReaderState → ReaderState → Type 0
+KeepsHeld f old new =
+    IfSome (query_of old) (λ asked. (q : Query) → AreOfOneLevel f asked q → IsEndOf (unread new f q) (unread old f q))

@@ -11,7 +11,7 @@ use crate::Info;
 use crate::fields::Fields;
 use geokeys::{Geo, GeoError, doubles};
 use std::alloc::Global;
-use tiff_dir::{Level, Memory, Order, Place, Walk};
+use tiff_dir::{Level, Memory, Order, Place, Walk, what_comes};
 
 /// The sides of the levels.
 fn sides(alloc: Global, levels: &[Level]) -> Result<Vec<(u32, u32)>, Memory>
@@ -48,6 +48,7 @@ pub fn info(alloc: Global, walk: &Walk, fields: &Fields) -> Result<Info, GeoErro
     ensures info { IfOk result (λ i. (f : List ℕ) → WalkAgrees walk.now f → IsReadOf f fields.now → IsInfoOf f i) }
     ensures refused { IfErr result (λ e. (f : List ℕ) → WalkAgrees walk.now f → IsReadOf f fields.now → IsInfoError f e) }
 {
+    what_comes();
     let order = walk.order();
     let parts = fields.parts();
     let geo = Geo::read(alloc, order, parts.directory, parts.doubles, parts.ascii)?;

@@ -1,6 +1,7 @@
 //! A window, put together from its tiles as their groups come.
 ghost use Rattle.std.specs.Prelude.{◌≡◌, ◌+◌, ◌++◌, ℕ, List, IfErr, OnOk, length};
 ghost use Rattle.std.specs.List.{All};
+ghost use Rattle.tiff_dir.specs.declared.level.Compression.TheVariants.{PackBits};
 ghost use Rattle.tiff_dir.specs.Described.{layout_of};
 ghost use Rattle.tiff_dir.specs.Level.{plain_size};
 ghost use Rattle.tile_plan.specs.Plan.{Adjoin};
@@ -12,10 +13,11 @@ use crate::paint::paint;
 use crate::samples::big_first;
 use std::alloc::Global;
 use std::marker::Model;
-use tiff_dir::{FileFault, Span};
+use tiff_dir::{Compression, FileFault, Span};
 use tile_plan::{Canvas, Group, PlanError, Rectangle, groups, tiles_cover};
 
-/// Copies tiles that stand one after the other onto the canvas, by their bytes. `plain` is room for a tile.
+/// Copies tiles that stand one after the other onto the canvas, by their bytes. `plain` is room for a tile where they are
+/// packed.
 fn paint_tiles(
     canvas: &mut Canvas,
     arrays: &Arrays,
@@ -25,7 +27,7 @@ fn paint_tiles(
 ) -> Result<(), FileFault>
     requires level { canvas.old.level ≡ arrays.now.level }
     requires whole { IsWhole arrays.now tiles.now (length bytes.now) }
-    requires room { length plain.old ≡ plain_size (layout_of arrays.now.level) }
+    requires room { arrays.now.level.compression ≡ PackBits → length plain.old ≡ plain_size (layout_of arrays.now.level) }
     ensures level { canvas.new.level ≡ canvas.old.level }
     ensures rectangle { canvas.new.rectangle ≡ canvas.old.rectangle }
     ensures size { length canvas.new.bytes ≡ length canvas.old.bytes }
@@ -57,6 +59,7 @@ pub struct Mosaic {
 
 impl Model for Mosaic {
     ghost use Rattle.std.specs.Prelude.{◌≡◌, ◌≤◌, length};
+    ghost use Rattle.tiff_dir.specs.declared.level.Compression.TheVariants.{PackBits};
     ghost use Rattle.tiff_dir.specs.Described.{layout_of};
     ghost use Rattle.tiff_dir.specs.Level.{plain_size};
     ghost use Rattle.cog_reader.specs.Mosaic.{MosaicState};
@@ -65,7 +68,8 @@ impl Model for Mosaic {
 
     ghost view = { λ m. record { groups = m.groups.items; given = m.given; picture = m.canvas } };
 
-    ghost invariant = { λ m. (m.rect ≡ m.canvas.rectangle) × (m.given ≤ length m.groups.items) × (length m.plain.items ≡ plain_size (layout_of m.canvas.level)) };
+    ghost invariant = { λ m. (m.rect ≡ m.canvas.rectangle) × (m.given ≤ length m.groups.items)
+        × (m.canvas.level.compression ≡ PackBits → length m.plain.items ≡ plain_size (layout_of m.canvas.level)) };
 }
 
 impl Mosaic {
@@ -110,7 +114,11 @@ impl Mosaic {
             &arrays.counts,
         )?;
         let canvas = Canvas::new(alloc, level, rect)?;
-        let plain = vec![in alloc; 0u8; level.plain_size()].map_err(|_| PlanError::Memory)?;
+        let room = match level.compression {
+            Compression::Plain => 0,
+            Compression::PackBits => level.plain_size(),
+        };
+        let plain = vec![in alloc; 0u8; room].map_err(|_| PlanError::Memory)?;
         Ok(Mosaic {
             rect,
             groups,

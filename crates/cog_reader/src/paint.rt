@@ -9,7 +9,7 @@ use packbits::unpack;
 use tiff_dir::{Compression, FileFault, Level};
 use tile_plan::Canvas;
 
-/// Copies the tile that the bytes of a file stand for onto the canvas. `plain` is room for the tile.
+/// Copies the tile that the bytes of a file stand for onto the canvas. `plain` is room for the tile where it is packed.
 pub fn paint(
     canvas: &mut Canvas,
     level: &Level,
@@ -20,7 +20,7 @@ pub fn paint(
     requires level { canvas.old.level ≡ level.now }
     requires tile { tile < tile_total (grid_of level.now) }
     requires size { level.now.compression ≡ compression.Plain → length bytes.now ≡ plain_size (layout_of level.now) }
-    requires room { length plain.old ≡ plain_size (layout_of level.now) }
+    requires room { level.now.compression ≡ compression.PackBits → length plain.old ≡ plain_size (layout_of level.now) }
     ensures paint { OnOk result (IsPaint tile bytes.now canvas.old canvas.new) }
     ensures bad { IfErr result (IsBad bytes.now canvas.old) }
     ensures level { canvas.new.level ≡ level.now }

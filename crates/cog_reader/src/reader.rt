@@ -34,7 +34,7 @@ impl Reader {
     ghost use Rattle.tiff_dir.specs.Walk.{extent_of_span};
     ghost use Rattle.tiff_dir.specs.declared.query.Query.{Query};
     ghost use Rattle.cog_reader.specs.Outcome.{IsTrueOf};
-    ghost use Rattle.cog_reader.specs.Reader.{complete_of, outcome_of, query_of, steps_of, to_come, unread, wanted, ReaderAgrees, IsWanted, IsWantedOf, AcceptsFirstRange, Wants};
+    ghost use Rattle.cog_reader.specs.Reader.{complete_of, outcome_of, query_of, steps_of, to_come, unread, wanted, ReaderAgrees, IsWanted, IsWantedOf, AcceptsFirstRange, KeepsHeld, Wants};
 
     /// A reader of a file of `complete` bytes, of which nothing is known yet, and nothing asked. It takes no memory.
     ///
@@ -106,6 +106,8 @@ impl Reader {
         ensures agrees { OnOk result ((f : List ℕ) → ReaderAgrees self.old f → IsWantedOf f self.old bytes.now → ReaderAgrees self.new f) }
         // One range less is to come, or none, where the bytes tell a fault.
         ensures come { OnOk result ((f : List ℕ) → ReaderAgrees self.old f → IsWantedOf f self.old bytes.now → AcceptsFirstRange f self.old self.new) }
+        // What is held of the file stays, but for the arrays of another level than the query's.
+        ensures held { OnOk result ((f : List ℕ) → ReaderAgrees self.old f → KeepsHeld f self.old self.new) }
         ensures steps { OnOk result (steps_of self.new < steps_of self.old) }
         ensures complete { complete_of self.new ≡ complete_of self.old }
         ensures query { query_of self.new ≡ query_of self.old }

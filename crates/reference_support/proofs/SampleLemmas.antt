@@ -4,7 +4,8 @@ use Rattle.tiff_dir.specs.declared.order.Order.{Order}
 use Rattle.tiff_dir.specs.declared.level.Compression.{Compression}
 use Rattle.tiff_dir.specs.declared.level.Compression.TheVariants.{Plain, PackBits}
 use Rattle.tiff_dir.specs.File.{◌>>=◌, order_of}
-use Rattle.tiff_dir.specs.Level.{Layout, level_layout, plain_row, plain_size, segment}
+use Rattle.tiff_dir.specs.Level.{Layout, level_layout, plain_row, plain_size}
+use Rattle.tiff_dir.specs.Query.{segment}
 use Rattle.tiff_dir.specs.Packets.{Packs}
 use Rattle.tiff_dir.specs.Window.{IsSample, IsUnpacked, IsUnpackedBy, place_in_tile, sample_in, tile_at}
 use Rattle.reference_support.specs.Missing.{HasNoSample, IsNotUnpacked}

@@ -52,4 +52,4 @@ modest_level f n = file.level_layout f n >>= when_modest
 
 -- count bytes from first, where they are in the file
 abbrev pub part : List ℕ → ℕ → ℕ → Option (List ℕ)
-part f first count = if nat_le (first + count) (length f) then Some (slice_range f first (first + count)) else None
+part f first count = if nat_lt (length f) (first + count) then None else Some (slice_range f first (first + count))

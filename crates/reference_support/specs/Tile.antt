@@ -1,7 +1,8 @@
 -- The tiles of a level when they are unpacked, and the rows of its samples.
 use Rattle.std.specs.Prelude.{◌≡◌, ℕ, ◌*◌, ◌/◌, ◌%◌, ◌<◌, List, length, get_or, Option, Some, slice_get, MatchOption}
 use Rattle.std.specs.Global.{Vec}
-use Rattle.tiff_dir.specs.Level.{Layout, level_layout, segment}
+use Rattle.tiff_dir.specs.Level.{Layout, level_layout}
+use Rattle.tiff_dir.specs.Query.{segment}
 use Rattle.tiff_dir.specs.Window.{IsSample, IsUnpacked}
 
 -- tile t of level n has these bytes when it is unpacked

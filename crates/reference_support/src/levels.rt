@@ -1,6 +1,7 @@
 //! The levels of a file and the bytes of their tiles.
 ghost use Rattle.std.specs.Prelude.{◌≡◌, ◌<◌, ◌≤◌, ◌^◌, ◌+◌, ◌*◌, ◌/◌, ℕ, ◌&&◌, nat_lt, IfOk, IfSome, IsTrue, option_copied, length, Some, None, List};
-ghost use Rattle.tiff_dir.specs.Level.{compression_of, is_level, level_directories, level_directory, level_value, segment};
+ghost use Rattle.tiff_dir.specs.Level.{compression_of, depth_at, is_level, level_directories, level_directory, level_value};
+ghost use Rattle.tiff_dir.specs.Query.{segment};
 ghost use Rattle.std.specs.Option.{option_map};
 ghost use Rattle.reference_support.specs.Modest.{grid_of, is_modest, is_modest_grid, layout_of, modest_at, modest_grid, modest_grid_at, modest_level, part};
 
@@ -117,6 +118,19 @@ pub fn grid_at(file: &[u8], k: u32) -> Option<Grid>
     })
 }
 
+/// The depth of directory `k`'s samples, where it is 8 or 16 bits.
+#[tactic(auto, unfolding(tiff_dir::specs::Level::depth_at))]
+fn depth_at(file: &[u8], k: u32) -> Option<u64>
+    ensures { result ≡ depth_at file.now k }
+{
+    let bits = value(file, k, BITS_PER_SAMPLE, 0)?;
+    if bits == 8 || bits == 16 {
+        Some(bits)
+    } else {
+        None
+    }
+}
+
 /// The level that directory `k` describes, where its numbers are modest.
 #[tactic(auto, unfolding(tiff_dir::specs::Level::layout_at))]
 pub fn level_at(file: &[u8], k: u32) -> Option<Level>
@@ -125,7 +139,7 @@ pub fn level_at(file: &[u8], k: u32) -> Option<Level>
 {
     let grid = grid_at(file, k)?;
     let samples = value(file, k, SAMPLES_PER_PIXEL, 0)?;
-    let bits = value(file, k, BITS_PER_SAMPLE, 0)?;
+    let bits = depth_at(file, k)?;
     let compression = compression_of(value(file, k, COMPRESSION, 0)?)?;
     let offsets = place(file, k, TILE_OFFSETS)?;
     let counts = place(file, k, TILE_BYTE_COUNTS)?;
@@ -195,7 +209,7 @@ fn part(file: &[u8], first: u64, count: u64) -> Option<&[u8]>
 }
 
 /// The bytes of tile `t` of level `n`.
-#[tactic(auto, unfolding(tiff_dir::specs::Level::segment))]
+#[tactic(auto, unfolding(tiff_dir::specs::Query::segment, tiff_dir::specs::Query::tile_range))]
 pub fn segment(alloc: Global, file: &[u8], n: usize, t: u64) -> Result<Option<&[u8]>, AllocError>
     ensures { IfOk result (λ bytes. option_copied bytes ≡ segment file.now n t) }
 {

@@ -14,8 +14,8 @@ use Rattle.tiff_dir.specs.declared.fault.FileFault.{FileFault}
 use Rattle.tiff_dir.specs.declared.fault.FileFault.TheVariants.{Header, PastEnd, DirPlace, DirCount, Missing, FieldType, Unsupported, LevelShape, TileSize, TileArray}
 use Rattle.tiff_dir.specs.Number.{number_in}
 use Rattle.tiff_dir.specs.File.{order_of, number, directory, has_directory, is_above_zero, directories, entry_count, value}
-use Rattle.tiff_dir.specs.Profile.{profile, accepts, samples_fit, is_depth, is_sample_count}
-use Rattle.tiff_dir.specs.Level.{is_level, layout_at}
+use Rattle.tiff_dir.specs.Profile.{profile, accepts, samples_fit, is_depth}
+use Rattle.tiff_dir.specs.Level.{is_level, layout_at, depth_at}
 use Rattle.tiff_dir.specs.Needs.{Extent, bytes_in, ends_past, is_entry_count, header_range, count_range, table_range, outside_range, ranges_of_directory, needs_of_directories, outside_ranges}
 use Rattle.tiff_dir.specs.Fault.{is_directory_place, IsFaultOfLevel, IsFaultOfDirectories}
 use Rattle.tiff_dir.specs.Table.{entries_from, entry_with_tag, allows, keeps, short_or, draft_in, long_in, IsEntryFault, HasValues, HasCounts}
@@ -249,9 +249,8 @@ pub record IsLaid (f : List ℕ) (k : ℕ) : Type 0 where
   pub bits : ℕ
   pub layout : layout_at f k ≡ Some (layout_from draft bits)
   pub drafted : IsDrafted f k draft
-  pub told : value f k BITS_PER_SAMPLE 0 ≡ Some bits
-  pub depth : is_depth bits ≡ true
-  pub samples : is_sample_count draft.samples ≡ true
+  pub told : depth_at f k ≡ Some bits
+  pub samples : accepts SAMPLES_PER_PIXEL draft.samples ≡ true
   pub sides : has_sides draft ≡ true
   pub tiles : has_tiles draft bits ≡ true
   pub arrays : has_arrays draft ≡ true
@@ -270,18 +269,18 @@ laid f o k clean order few there level =
     let (bits, told) = some_bits f o k es clean order few there level has met right counts in
     let is = drafted f k es has met right in
     let depth = not_false (is_depth bits) (λ bad. sound (Unsupported BITS_PER_SAMPLE) (inl (0, some_and_from (value f k BITS_PER_SAMPLE 0) (λ v. accepts BITS_PER_SAMPLE v ≡ false) bits told bad))) in
-    let tiles = not_false (has_tiles d bits) (λ bad. sound TileSize (tiles_fault f k d bits is (depth_told f k bits told depth) bad)) in
+    let deep = depth_told f k bits told depth in
+    let tiles = not_false (has_tiles d bits) (λ bad. sound TileSize (tiles_fault f k d bits is deep bad)) in
     record {
       draft = d;
       bits = bits;
-      layout = layout_told f k d bits is told;
+      layout = layout_told f k d bits is deep;
       drafted = is;
-      told = told;
-      depth = depth;
+      told = deep;
       samples = count_fits (short_or es SAMPLES_PER_PIXEL 1) (short_or es PHOTOMETRIC_INTERPRETATION 0) right.samples;
       sides = not_false (has_sides d) (λ bad. sound LevelShape (no_width f k d is bad));
       tiles = tiles;
       arrays = not_false (has_arrays d) (λ bad. sound TileArray (arrays_fault f k d bits is tiles bad));
     } where
-      count_fits : (s p : ℕ) → samples_fit s p ≡ true → is_sample_count s ≡ true
+      count_fits : (s p : ℕ) → samples_fit s p ≡ true → accepts SAMPLES_PER_PIXEL s ≡ true
       count_fits s p ok = elim (fits_cases s p ok) [ inl one ↦ rw one refl | inr three ↦ rw three refl ]

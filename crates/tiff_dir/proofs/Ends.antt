@@ -1,6 +1,6 @@
 -- The end of a level: its shape, and the level itself.
 use Rattle.tiff_dir.specs.declared.tags.TheConstants.{BITS_PER_SAMPLE, COMPRESSION, IMAGE_LENGTH, IMAGE_WIDTH, PHOTOMETRIC_INTERPRETATION, SAMPLES_PER_PIXEL, SAMPLE_FORMAT, TILE_BYTE_COUNTS, TILE_LENGTH, TILE_OFFSETS, TILE_WIDTH}
-use Rattle.std.proofs.Common.{◌≡◌, ℕ, ◌+◌, ◌*◌, ◌%◌, ◌≤◌, inl, inr, true, false, ◌&&◌, ◌==◌, nat_lt, nat_le, List, get_or, Option, Some, None, IsSomeAnd, refl, sym, subst, ap, ◌∙◌, arith, lit<, add-one}
+use Rattle.std.proofs.Common.{◌≡◌, ℕ, ◌+◌, ◌*◌, ◌%◌, ◌≤◌, inl, inr, Bool, true, false, ◌&&◌, ◌==◌, if◌then◌else◌, nat_lt, nat_le, List, get_or, Option, Some, None, IsSomeAnd, refl, sym, subst, ap, ◌∙◌, arith, lit<, add-one}
 use Rattle.std.proofs.lemmas.Option.{same_Some, none-some}
 use Rattle.std.proofs.lemmas.Bool.{and_parts, and_cases, eqb-true, ltb-true, ltb-false, cases_eq, false≢true}
 use Rattle.std.specs.Option.{option_map}
@@ -20,7 +20,7 @@ use Rattle.tiff_dir.specs.declared.stage.Stage.{Stage}
 use Rattle.tiff_dir.specs.declared.fault.FileFault.{FileFault}
 use Rattle.tiff_dir.specs.declared.fault.FileFault.TheVariants.{Missing, FieldType, Unsupported, LevelShape, TileSize, TileArray}
 use Rattle.tiff_dir.specs.File.{◌>>=◌, Field, kind_of, size_of, values_at, field, value}
-use Rattle.tiff_dir.specs.Profile.{subfile_rule, profile, samples_fit, is_depth, is_sample_count, is_long, is_short_or_long, is_tile_side, tile_bytes, max_tile_bytes, max_tiles}
+use Rattle.tiff_dir.specs.Profile.{subfile_rule, profile, samples_fit, is_depth, accepts, is_long, is_short_or_long, is_tile_side, tile_bytes, max_tile_bytes, max_tiles}
 use Rattle.tiff_dir.specs.Described.{described, layout_of}
 use Rattle.tiff_dir.specs.Level.{Grid, Layout, grid_at, previous_level, place_of, compression_of, layout_at, depth_at, plain_size_at}
 use Rattle.tiff_dir.specs.Fault.{is_smaller, sides, directory_tiles, IsUnsupported, IsNotSmaller, IsNoTileArray, IsFaultOfLevel, IsFaultAt}
@@ -65,16 +65,16 @@ unfolding grid_at
 grid_told f k g told = grid_parts (value f k IMAGE_WIDTH 0) (value f k IMAGE_LENGTH 0) (value f k TILE_WIDTH 0) (value f k TILE_LENGTH 0) g told
 
 pub layout_parts : (f : List ℕ) (k : ℕ) (l : Layout) → layout_at f k ≡ Some l
-    → (grid_at f k ≡ Some l.grid) × (value f k SAMPLES_PER_PIXEL 0 ≡ Some l.samples) × (value f k BITS_PER_SAMPLE 0 ≡ Some l.bits)
+    → (grid_at f k ≡ Some l.grid) × (value f k SAMPLES_PER_PIXEL 0 ≡ Some l.samples) × (depth_at f k ≡ Some l.bits)
     × ((value f k COMPRESSION 0 >>= compression_of) ≡ Some l.compression) × ((field f k TILE_OFFSETS >>= place_of f) ≡ Some l.offsets) × ((field f k TILE_BYTE_COUNTS >>= place_of f) ≡ Some l.counts)
 unfolding layout_at
-layout_parts f k l told = parts (grid_at f k) (value f k SAMPLES_PER_PIXEL 0) (value f k BITS_PER_SAMPLE 0) (value f k COMPRESSION 0 >>= compression_of) (field f k TILE_OFFSETS >>= place_of f) (field f k TILE_BYTE_COUNTS >>= place_of f) l told
+layout_parts f k l told = parts (grid_at f k) (value f k SAMPLES_PER_PIXEL 0) (depth_at f k) (value f k COMPRESSION 0 >>= compression_of) (field f k TILE_OFFSETS >>= place_of f) (field f k TILE_BYTE_COUNTS >>= place_of f) l told
 
 grid_drafted : (f : List ℕ) (k : ℕ) (d : Draft) → IsDrafted f k d → grid_at f k ≡ Some (record { width = d.width; length = d.length; tile_width = d.tile_width; tile_length = d.tile_length })
 unfolding grid_at
 grid_drafted f k d is = rw (is.width, is.length, is.tile_width, is.tile_length) refl
 
-pub layout_told : (f : List ℕ) (k : ℕ) (d : Draft) (bits : ℕ) → IsDrafted f k d → value f k BITS_PER_SAMPLE 0 ≡ Some bits → layout_at f k ≡ Some (layout_from d bits)
+pub layout_told : (f : List ℕ) (k : ℕ) (d : Draft) (bits : ℕ) → IsDrafted f k d → depth_at f k ≡ Some bits → layout_at f k ≡ Some (layout_from d bits)
 unfolding layout_at
 layout_told f k d bits is told = rw (grid_drafted f k d is, is.samples, told, is.compression, is.offsets, is.counts) refl
 
@@ -136,6 +136,17 @@ no_sides_fault f k d previous is before good (inr (inl bad)) =
 no_sides_fault f k d previous is before good (inr (inr bad)) = not_smaller f k d previous is before good bad
 
 -- The tiles
+
+pub depth_value : (f : List ℕ) (k bits : ℕ) → depth_at f k ≡ Some bits → value f k BITS_PER_SAMPLE 0 ≡ Some bits
+unfolding depth_at
+depth_value f k bits is = at (value f k BITS_PER_SAMPLE 0) is where
+  tested : (b : ℕ) (good : Bool) → (if good then Some b else None) ≡ Some bits → Some b ≡ Some bits
+  tested b true is = is
+  tested b false is = absurd (none-some bits is)
+
+  at : (o : Option ℕ) → (o >>= λ b. if is_depth b then Some b else None) ≡ Some bits → o ≡ Some bits
+  at None is = absurd (none-some bits is)
+  at (Some b) is = tested b (is_depth b) is
 
 pub depth_told : (f : List ℕ) (k bits : ℕ) → value f k BITS_PER_SAMPLE 0 ≡ Some bits → is_depth bits ≡ true → depth_at f k ≡ Some bits
 unfolding depth_at
@@ -262,7 +273,7 @@ level_follows f p bits previous is =
     let clean : (fault : FileFault) → IsFaultAt f p.index fault → ⊥ = λ fault bad. elim bad [ inl h ↦ w.sound fault h | inr h ↦ level_clean f p bits previous is fault h.1 ] in
     goes_on f p.order p.index p.next w.walked w.few w.there w.next clean
 
-pub level_ends : (f : List ℕ) (p : Pending) (bits : ℕ) (stage : Stage) (l : Level) → IsPending f p → value f p.index BITS_PER_SAMPLE 0 ≡ Some bits → layout_of l ≡ layout_from p.draft bits → index_of stage ≡ p.index + 1 → IsAt f (p.index + 1) stage
+pub level_ends : (f : List ℕ) (p : Pending) (bits : ℕ) (stage : Stage) (l : Level) → IsPending f p → depth_at f p.index ≡ Some bits → layout_of l ≡ layout_from p.draft bits → index_of stage ≡ p.index + 1 → IsAt f (p.index + 1) stage
     → EndsDirectory f p.index (record { stage = stage; level = Some l })
 level_ends f p bits stage l is told same index at = record {
   here = at.0;
@@ -301,9 +312,9 @@ pub draft_bounds : (es : List Entry) (d : Draft) → AllPass (keeps es) profile 
 unfolding draft_in
 draft_bounds es d met right is bounded = record {
   bounded = bounded;
-  samples = (let P : Draft → Type 0 = λ x. is_sample_count x.samples ≡ true in subst P (sym is) (count_fits (short_or es SAMPLES_PER_PIXEL 1) (short_or es PHOTOMETRIC_INTERPRETATION 0) right.samples));
+  samples = (let P : Draft → Type 0 = λ x. accepts SAMPLES_PER_PIXEL x.samples ≡ true in subst P (sym is) (count_fits (short_or es SAMPLES_PER_PIXEL 1) (short_or es PHOTOMETRIC_INTERPRETATION 0) right.samples));
   long = ap (λ (x : Draft). is_long x.offsets.kind) is ∙ long_place es met;
   whole = ap (λ (x : Draft). is_short_or_long x.counts.kind) is ∙ whole_place es met;
 } where
-  count_fits : (s p : ℕ) → samples_fit s p ≡ true → is_sample_count s ≡ true
+  count_fits : (s p : ℕ) → samples_fit s p ≡ true → accepts SAMPLES_PER_PIXEL s ≡ true
   count_fits s p ok = elim (fits_cases s p ok) [ inl one ↦ rw one refl | inr three ↦ rw three refl ]

@@ -1,9 +1,9 @@
 -- Where no fault stands for a window, the file has one.
-use Rattle.tiff_dir.specs.declared.tags.TheConstants.{TILE_BYTE_COUNTS, TILE_OFFSETS}
+use Rattle.tiff_dir.specs.declared.tags.TheConstants.{SAMPLES_PER_PIXEL, TILE_BYTE_COUNTS, TILE_OFFSETS}
 use Rattle.std.proofs.Common.{◌≡◌, ℕ, zero, suc, ◌+◌, ◌-◌, ◌*◌, ◌/◌, ◌%◌, ◌<◌, ◌≤◌, ◌⊎◌, inr, true, false, List, [], ◌∷◌, length, drop, Option, Some, None, refl, sym, subst, ap, ◌∙◌, arith}
 use Rattle.std.specs.Prelude.{◌==◌, ◌&&◌, nat_le, slice_range, slice_index}
 use Rattle.std.specs.Option.{option_to_list}
-use Rattle.std.proofs.lemmas.Bool.{and_parts, eqb-true, ltb-true, le-leb, false≢true}
+use Rattle.std.proofs.lemmas.Bool.{and_parts, eqb-true, ltb-true, le-leb, le-ltb, false≢true}
 use Rattle.std.proofs.lemmas.List.{length-take, length-drop}
 use Rattle.std.proofs.lemmas.Nat.{div_below, mod_below, div-mul-add, mod-mul-add, mul-add-lt, row_fits}
 use Rattle.std.proofs.lemmas.Option.{none-some, same_Some}
@@ -20,19 +20,18 @@ use Rattle.tiff_dir.specs.declared.fault.FileFault.{FileFault}
 use Rattle.tiff_dir.specs.declared.fault.FileFault.TheVariants.{TileSize, Packet}
 use Rattle.tiff_dir.specs.Number.{number_in}
 use Rattle.tiff_dir.specs.File.{◌>>=◌, Field, kind_of, size_of, values_at, field, value}
-use Rattle.tiff_dir.specs.Profile.{sample_bytes, is_sample_count, max_tiles}
-use Rattle.tiff_dir.specs.Level.{Layout, place_of, level_value, segment, plain_size, plain_row, plain_row_at, plain_size_at, tile_total}
+use Rattle.tiff_dir.specs.Profile.{sample_bytes, accepts, max_tiles}
+use Rattle.tiff_dir.specs.Level.{Layout, place_of, level_value, plain_size, plain_row, plain_size_at, tile_total}
 use Rattle.tiff_dir.specs.Needs.{Extent, extent_of_place}
 use Rattle.tiff_dir.specs.Walk.{bytes_in}
-use Rattle.tiff_dir.specs.Query.{Rectangle, Group, groups, tile_range, array_range, window_tiles}
+use Rattle.tiff_dir.specs.Query.{Rectangle, Group, groups, tile_range, array_range, window_tiles, segment}
 use Rattle.tiff_dir.specs.Window.{IsUnpackedBy, IsUnpacked, tile_at, place_in_tile, sample_in, IsSample}
-use Rattle.tiff_dir.specs.Faulty.{IsTileOfWindow, level_compression, level_plain_size, level_plain_row, is_byte_count, IsNotPlainSize, IsFaulty, IsWindow}
+use Rattle.tiff_dir.specs.Faulty.{IsTileOfWindow, level_compression, level_plain_size, is_byte_count, IsNotPlainSize, IsFaulty, IsWindow}
 use Rattle.tiff_dir.specs.Shape.{draft_tiles, has_arrays}
 use Rattle.tiff_dir.proofs.Chain.{some_and_from}
 use Rattle.tiff_dir.proofs.Clean.{In, in_left, in_right, in_option, named, not_false}
 use Rattle.tiff_dir.proofs.Covered.{IsPixelOf, tile_inside, pixel_tile, among_in, covered}
 use Rattle.tiff_dir.proofs.Clear.{IsLaidLevel, layout_of_level, layout_there, IsAsked, asked, IsClear, clear, not_outside, tiles_are, groups_are, arrays_inside, group_inside}
-use Rattle.tiff_dir.proofs.Ends.{depth_told}
 use Rattle.tiff_dir.proofs.Told.{offsets_at, counts_at}
 use Rattle.tiff_dir.proofs.TileValues.{offset_told, count_told}
 
@@ -114,7 +113,7 @@ bytes_of f n t b = slice_range f b.first (b.first + b.count)
 
 segment_there : (f : List ℕ) (n t : ℕ) (b : HasBytes f n t) → segment f n t ≡ Some (bytes_of f n t b)
 unfolding segment
-segment_there f n t b = rw (b.first_is, b.count_is, le-leb (b.first + b.count) (length f) b.inside) refl
+segment_there f n t b = rw (range_there f n t b.first b.count b.first_is b.count_is, le-ltb (length f) (b.first + b.count) b.inside) refl
 
 -- ---- its bytes unpacked
 
@@ -124,11 +123,7 @@ compression_there f n l = rw l.there l.laid.drafted.compression
 
 size_there : (f : List ℕ) (n : ℕ) (l : IsLaidLevel f n) → level_plain_size f n ≡ Some (plain_size (layout_of_level f n l))
 unfolding level_plain_size plain_size_at
-size_there f n l = rw l.there (rw (l.laid.drafted.tile_width, l.laid.drafted.tile_length, l.laid.drafted.samples, depth_told f l.directory l.laid.bits l.laid.told l.laid.depth) refl)
-
-row_there : (f : List ℕ) (n : ℕ) (l : IsLaidLevel f n) → level_plain_row f n ≡ Some (plain_row (layout_of_level f n l))
-unfolding level_plain_row plain_row_at
-row_there f n l = rw l.there (rw (l.laid.drafted.tile_width, l.laid.drafted.samples, depth_told f l.directory l.laid.bits l.laid.told l.laid.depth) refl)
+size_there f n l = rw l.there (rw (l.laid.drafted.tile_width, l.laid.drafted.tile_length, l.laid.drafted.samples, l.laid.told) refl)
 
 tile_of_window : (f : List ℕ) (q : Query) (t : ℕ) (a : IsAsked f q) → In t (window_tiles f q) → IsTileOfWindow f q a.asked.level t
 tile_of_window f q t a there = record { asked = a.asked; asked_is = a.asked_is; level_is = refl; among = among_in t (window_tiles f q) there }
@@ -177,16 +172,13 @@ plain_there f q t c a b there none = at a.placed.level.laid.draft.compression re
     level = n;
     tile = t;
     of_window = tile_of_window f q t a there;
-    packed = compression_there f n a.placed.level ∙ ap Some is;
-    row = plain_row l;
-    row_is = row_there f n a.placed.level;
-    size = plain_size l;
-    size_is = size_there f n a.placed.level;
+    layout = l;
+    layout_is = layout_there f n a.placed.level;
     bytes = bytes;
     bytes_are = segment_there f n t b;
-    wrong = λ plain size packs. none plain (record {
-      size = size;
-      unpacked = subst (λ (how : Compression). IsUnpackedBy how (plain_row l) (plain_size l) bytes plain) (sym is) (size, packs);
+    wrong = λ plain unpacked. none plain (record {
+      size = (subst (λ (how : Compression). IsUnpackedBy how (plain_row l) (plain_size l) bytes plain) is unpacked).0;
+      unpacked = unpacked;
     });
   })
 
@@ -262,7 +254,7 @@ place_of_window (suc w) height samples k some less =
     let pixel : k / samples < suc w * height = div_below k samples (suc w * height) some less in
     (mod_below (k / samples) (suc w) (omega arith), div_below (k / samples) (suc w) height (omega arith) (omega (arith, pixel)), mod_below k samples some)
 
-some_samples : (n : ℕ) → is_sample_count n ≡ true → 0 < n
+some_samples : (n : ℕ) → accepts SAMPLES_PER_PIXEL n ≡ true → 0 < n
 some_samples zero bad = absurd (false≢true bad)
 some_samples (suc n) good = omega arith
 

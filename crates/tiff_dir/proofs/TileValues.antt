@@ -15,13 +15,12 @@ use Rattle.tiff_dir.specs.declared.level.Kind.TheVariants as kind
 use Rattle.tiff_dir.specs.Number.{number_in}
 use Rattle.tiff_dir.specs.File.{◌>>=◌, Field, order_of, number, kind_of, size_of, values_at, field, field_value, value, absent_value}
 use Rattle.tiff_dir.specs.Described.{grid_of, layout_of}
-use Rattle.tiff_dir.specs.Faulty.{level_compression, level_plain_size, level_plain_row}
-use Rattle.tiff_dir.specs.Level.{Layout, place_of, compression_of, grid_at, level_directory, level_grid, level_layout, level_value, plain_row, plain_size, plain_row_at, plain_size_at}
+use Rattle.tiff_dir.specs.Faulty.{level_compression, level_plain_size}
+use Rattle.tiff_dir.specs.Level.{Layout, place_of, compression_of, grid_at, level_directory, level_grid, level_layout, level_value, plain_size, depth_at, plain_size_at}
 use Rattle.tiff_dir.specs.Walk.{IsArrayOf, IsDescribed}
-use Rattle.tiff_dir.proofs.Ends.{depth_told}
 use Rattle.tiff_dir.proofs.Parts.{number_part}
-use Rattle.tiff_dir.proofs.Ends.{grid_told, layout_parts}
-use Rattle.tiff_dir.proofs.Told.{layout_found}
+use Rattle.tiff_dir.proofs.Ends.{grid_told, layout_parts, depth_value}
+use Rattle.tiff_dir.proofs.Told.{layout_found, offsets_at, counts_at}
 
 size_some : (k : Kind) → 0 < size_of k
 size_some kind.Byte = omega arith
@@ -114,14 +113,10 @@ compression_of_level : (f : List ℕ) (n k : ℕ) (l : Level) → level_director
 unfolding level_value
 compression_of_level f n k l there told = rw there told
 
-size_of_level : (f : List ℕ) (n k : ℕ) (l : Level) → level_directory f n ≡ Some k → value f k TILE_WIDTH 0 ≡ Some l.tile_width → value f k TILE_LENGTH 0 ≡ Some l.tile_length → value f k SAMPLES_PER_PIXEL 0 ≡ Some l.samples → value f k BITS_PER_SAMPLE 0 ≡ Some l.bits
+size_of_level : (f : List ℕ) (n k : ℕ) (l : Level) → level_directory f n ≡ Some k → value f k TILE_WIDTH 0 ≡ Some l.tile_width → value f k TILE_LENGTH 0 ≡ Some l.tile_length → value f k SAMPLES_PER_PIXEL 0 ≡ Some l.samples → depth_at f k ≡ Some l.bits
     → level_plain_size f n ≡ Some (plain_size (layout_of l))
 unfolding level_plain_size plain_size_at
-size_of_level f n k l there width length samples bits = rw there (rw (width, length, samples, depth_told f k l.bits bits (l.depth)) refl)
-
-row_of_level : (f : List ℕ) (n k : ℕ) (l : Level) → level_directory f n ≡ Some k → value f k TILE_WIDTH 0 ≡ Some l.tile_width → value f k SAMPLES_PER_PIXEL 0 ≡ Some l.samples → value f k BITS_PER_SAMPLE 0 ≡ Some l.bits → level_plain_row f n ≡ Some (plain_row (layout_of l))
-unfolding level_plain_row plain_row_at
-row_of_level f n k l there width samples bits = rw there (rw (width, samples, depth_told f k l.bits bits (l.depth)) refl)
+size_of_level f n k l there width length samples bits = rw there (rw (width, length, samples, bits) refl)
 
 pub described_by : (f : List ℕ) (n : ℕ) (l : Level) → level_layout f n ≡ Some (layout_of l) → IsDescribed f n l
 described_by f n l level =
@@ -134,9 +129,11 @@ described_by f n l level =
       tile_width = level_value_at f n k TILE_WIDTH 0 l.tile_width there grid.2;
       tile_length = level_value_at f n k TILE_LENGTH 0 l.tile_length there grid.3;
       samples = level_value_at f n k SAMPLES_PER_PIXEL 0 l.samples there is.1;
-      bits = level_value_at f n k BITS_PER_SAMPLE 0 l.bits there is.2;
+      bits = level_value_at f n k BITS_PER_SAMPLE 0 l.bits there (depth_value f k l.bits is.2);
       grid = grid_of_level f n k l there is.0;
       compression = compression_of_level f n k l there is.3;
       plain_size = size_of_level f n k l there grid.2 grid.3 is.1 is.2;
-      plain_row = row_of_level f n k l there grid.2 is.1 is.2;
+      layout = level;
+      offsets = offsets_at f n (layout_of l) level;
+      counts = counts_at f n (layout_of l) level;
     }

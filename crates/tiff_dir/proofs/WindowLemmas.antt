@@ -9,8 +9,8 @@ use Rattle.tiff_dir.specs.declared.level.Compression.{Compression}
 use Rattle.tiff_dir.specs.declared.level.Compression.TheVariants.{Plain, PackBits}
 use Rattle.tiff_dir.specs.declared.query.Query.{Query}
 use Rattle.tiff_dir.specs.File.{order_of}
-use Rattle.tiff_dir.specs.Level.{Layout, level_layout, segment, plain_row, plain_size}
-use Rattle.tiff_dir.specs.Query.{Rectangle}
+use Rattle.tiff_dir.specs.Level.{Layout, level_layout, plain_row, plain_size}
+use Rattle.tiff_dir.specs.Query.{Rectangle, segment}
 use Rattle.tiff_dir.specs.Window.{IsUnpackedBy, IsUnpacked, tile_at, place_in_tile, sample_in, IsSample, HasSamples}
 use Rattle.tiff_dir.specs.Faulty.{IsWindow}
 use Rattle.tiff_dir.proofs.PacketLemmas.{packs_once}

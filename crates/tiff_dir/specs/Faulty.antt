@@ -1,22 +1,21 @@
 -- What is wrong with a file for a query, and what its window is.
 use Rattle.tiff_dir.specs.declared.tags.TheConstants.{COMPRESSION, TILE_BYTE_COUNTS}
-use Rattle.std.specs.Prelude.{◌≡◌, ℕ, ◌⊎◌, Bool, true, false, ◌&&◌, nat_lt, nat_le, ◌==◌, List, length, Option, Some, IsSomeAnd}
+use Rattle.std.specs.Prelude.{◌≡◌, ℕ, ◌⊎◌, Bool, true, false, ◌&&◌, nat_lt, nat_le, ◌==◌, List, Option, Some, IsSomeAnd}
 use Rattle.std.specs.List.{list_any, IsAmong}
 use Rattle.tiff_dir.specs.declared.level.Compression.{Compression}
-use Rattle.tiff_dir.specs.declared.level.Compression.TheVariants.{Plain, PackBits}
+use Rattle.tiff_dir.specs.declared.level.Compression.TheVariants.{Plain}
 use Rattle.tiff_dir.specs.declared.query.Query.{Query}
 use Rattle.tiff_dir.specs.declared.query.Query.TheVariants.{Window, Info}
 use Rattle.tiff_dir.specs.declared.fault.FileFault.{FileFault}
 use Rattle.tiff_dir.specs.declared.fault.FileFault.TheVariants.{PastEnd, TileSize, Packet, Outside, TooLarge}
 use Rattle.tiff_dir.specs.File.{◌>>=◌}
-use Rattle.tiff_dir.specs.Packets.{Packs}
 use Rattle.tiff_dir.specs.Profile.{max_tile_bytes}
-use Rattle.tiff_dir.specs.Level.{compression_of, level_directory, level_value, plain_row_at, plain_size_at, segment}
+use Rattle.tiff_dir.specs.Level.{Layout, compression_of, level_directory, level_layout, level_value, plain_size_at}
 use Rattle.tiff_dir.specs.Needs.{ends_past}
 use Rattle.tiff_dir.specs.Geo.{IsGeoFault, IsKeyFault}
 use Rattle.tiff_dir.specs.Fault.{IsFaultOfDirectories}
-use Rattle.tiff_dir.specs.Query.{Rectangle, rectangle, is_outside, is_too_large, window_tiles, needs_of_query}
-use Rattle.tiff_dir.specs.Window.{HasSamples}
+use Rattle.tiff_dir.specs.Query.{Rectangle, rectangle, is_outside, is_too_large, window_tiles, needs_of_query, segment}
+use Rattle.tiff_dir.specs.Window.{HasSamples, IsUnpacked}
 
 -- tile t is one of the window's, in level n
 pub record IsTileOfWindow (f : List ℕ) (q : Query) (n t : ℕ) : Type 0 where
@@ -25,12 +24,9 @@ pub record IsTileOfWindow (f : List ℕ) (q : Query) (n t : ℕ) : Type 0 where
   pub level_is : asked.level ≡ n
   pub among : IsAmong (window_tiles f q) t
 
--- how the tiles of level n are packed, and how many bytes a row of one has when it is unpacked, and the tile
+-- how the tiles of level n are packed, and how many bytes one has when it is unpacked
 abbrev pub level_compression : List ℕ → ℕ → Option Compression
 level_compression f n = level_value f n COMPRESSION 0 >>= compression_of
-
-unfoldable pub level_plain_row : List ℕ → ℕ → Option ℕ
-level_plain_row f n = level_directory f n >>= plain_row_at f
 
 unfoldable pub level_plain_size : List ℕ → ℕ → Option ℕ
 level_plain_size f n = level_directory f n >>= plain_size_at f
@@ -51,19 +47,16 @@ pub record HasBadTile (f : List ℕ) (q : Query) : Type 0 where
   pub of_window : IsTileOfWindow f q level tile
   pub wrong : IsSomeAnd (level_value f level TILE_BYTE_COUNTS tile) (λ count. (is_byte_count count ≡ false) ⊎ IsNotPlainSize f level count)
 
--- the bytes of a packed tile of the window are no packets that fill it
+-- no list is unpacked from the bytes of a tile of the window: they are no packets that fill it
 pub record HasBadPackets (f : List ℕ) (q : Query) : Type 0 where
   pub level : ℕ
   pub tile : ℕ
   pub of_window : IsTileOfWindow f q level tile
-  pub packed : level_compression f level ≡ Some PackBits
-  pub row : ℕ
-  pub row_is : level_plain_row f level ≡ Some row
-  pub size : ℕ
-  pub size_is : level_plain_size f level ≡ Some size
+  pub layout : Layout
+  pub layout_is : level_layout f level ≡ Some layout
   pub bytes : List ℕ
   pub bytes_are : segment f level tile ≡ Some bytes
-  pub wrong : (plain : List ℕ) → length plain ≡ size → Packs row bytes plain → ⊥
+  pub wrong : (plain : List ℕ) → IsUnpacked layout bytes plain → ⊥
 
 -- A fault of a window's own.
 abbrev pub IsFaultOfWindow : List ℕ → Query → FileFault → Type 0

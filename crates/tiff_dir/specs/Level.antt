@@ -1,6 +1,6 @@
 -- The levels of a file: its image and the reduced-resolution images of it (TIFF 6.0, sections 8 and 15; OGC 21-026).
 use Rattle.tiff_dir.specs.declared.tags.TheConstants.{BITS_PER_SAMPLE, COMPRESSION, IMAGE_LENGTH, IMAGE_WIDTH, NEW_SUBFILE_TYPE, SAMPLES_PER_PIXEL, TILE_BYTE_COUNTS, TILE_LENGTH, TILE_OFFSETS, TILE_WIDTH}
-use Rattle.std.specs.Prelude.{ℕ, ◌+◌, ◌*◌, Bool, false, ◌||◌, ◌==◌, nat_le, if◌then◌else◌, List, map, length, slice_get, slice_range, Option, Some, None}
+use Rattle.std.specs.Prelude.{ℕ, ◌*◌, Bool, false, ◌||◌, ◌==◌, if◌then◌else◌, List, map, length, slice_get, Option, Some, None}
 use Rattle.std.specs.Option.{option_map_or}
 use Rattle.std.specs.List.{filter, last_or, range_with_len}
 use Rattle.tiff_dir.specs.declared.level.Place.{Place}
@@ -57,12 +57,18 @@ grid_at f k = do
   tile_length ← value f k TILE_LENGTH 0
   Some (record { width = width; length = length; tile_width = tile_width; tile_length = tile_length })
 
+-- the depth of the samples of directory k, where it is 8 or 16 bits
+unfoldable pub depth_at : List ℕ → ℕ → Option ℕ
+depth_at f k = do
+  bits ← value f k BITS_PER_SAMPLE 0
+  if is_depth bits then Some bits else None
+
 -- the layout that directory k describes, where all that it says is in the file
 unfoldable pub layout_at : List ℕ → ℕ → Option Layout
 layout_at f k = do
   grid ← grid_at f k
   samples ← value f k SAMPLES_PER_PIXEL 0
-  bits ← value f k BITS_PER_SAMPLE 0
+  bits ← depth_at f k
   compression ← value f k COMPRESSION 0 >>= compression_of
   offsets ← field f k TILE_OFFSETS >>= place_of f
   counts ← field f k TILE_BYTE_COUNTS >>= place_of f
@@ -86,13 +92,6 @@ level_layout f n = level_directory f n >>= layout_at f
 unfoldable pub level_value : List ℕ → ℕ → ℕ → ℕ → Option ℕ
 level_value f n tag i = level_directory f n >>= λ k. value f k tag i
 
--- The bytes of tile t of level n, where they are in the file.
-unfoldable pub segment : List ℕ → ℕ → ℕ → Option (List ℕ)
-segment f n t = do
-  first ← level_value f n TILE_OFFSETS t
-  count ← level_value f n TILE_BYTE_COUNTS t
-  if nat_le (first + count) (length f) then Some (slice_range f first (first + count)) else None
-
 -- how many tiles stand side by side, and how many there are
 abbrev pub across : Grid → ℕ
 across g = tiles_along g.width g.tile_width
@@ -110,20 +109,7 @@ plain_row l = row_bytes l.grid.tile_width l.samples l.bits
 abbrev pub plain_size : Layout → ℕ
 plain_size l = tile_bytes l.grid.tile_width l.grid.tile_length l.samples l.bits
 
--- the depth of the samples of directory k, where it is 8 or 16 bits
-unfoldable pub depth_at : List ℕ → ℕ → Option ℕ
-depth_at f k = do
-  bits ← value f k BITS_PER_SAMPLE 0
-  if is_depth bits then Some bits else None
-
--- how many bytes a row of a tile of directory k has when it is unpacked, and the tile
-unfoldable pub plain_row_at : List ℕ → ℕ → Option ℕ
-plain_row_at f k = do
-  tile_width ← value f k TILE_WIDTH 0
-  samples ← value f k SAMPLES_PER_PIXEL 0
-  bits ← depth_at f k
-  Some (row_bytes tile_width samples bits)
-
+-- how many bytes a tile of directory k has when it is unpacked
 unfoldable pub plain_size_at : List ℕ → ℕ → Option ℕ
 plain_size_at f k = do
   tile_width ← value f k TILE_WIDTH 0

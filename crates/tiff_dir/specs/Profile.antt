@@ -106,10 +106,6 @@ tiles_along side tile_side = (side + tile_side - 1) / tile_side
 abbrev pub tile_count : ℕ → ℕ → ℕ → ℕ → ℕ
 tile_count width length tile_width tile_length = tiles_along width tile_width * tiles_along length tile_length
 
--- a pixel has one sample or three
-abbrev pub is_sample_count : ℕ → Bool
-is_sample_count samples = samples == 1 || samples == 3
-
 -- offsets of tiles are LONG, their byte counts SHORT or LONG
 abbrev pub is_long : Kind → Bool
 is_long kind.Long = true

@@ -9,7 +9,7 @@ use Rattle.tiff_dir.specs.declared.query.Pick.TheVariants as pick
 use Rattle.tiff_dir.specs.Block.{blocks}
 use Rattle.tiff_dir.specs.File.{◌>>=◌}
 use Rattle.tiff_dir.specs.Level.{Grid, level_directories, level_directory, level_grid, level_value, across, tile_total}
-use Rattle.tiff_dir.specs.Needs.{Extent, ends_past, field_range, needs_of_directories, max_range_bytes}
+use Rattle.tiff_dir.specs.Needs.{Extent, bytes_in, ends_past, field_range, needs_of_directories, max_range_bytes}
 use Rattle.tiff_dir.specs.Geo.{geo_ranges}
 
 -- columns from left and rows from top, in the samples of a level
@@ -22,9 +22,10 @@ pub record Rectangle : Type 0 where
 
 -- level n has at least so many columns of w columns of level 0
 abbrev pub has_columns : List ℕ → ℕ → ℕ → ℕ → Bool
-has_columns f columns w n =
-    option_map_or (λ width. option_map_or (λ first. nat_le (columns * first) (width * w)) (level_value f 0 IMAGE_WIDTH 0) false)
-    (level_value f n IMAGE_WIDTH 0) false
+has_columns f columns w n = unwrap_or (do
+  width ← level_value f n IMAGE_WIDTH 0
+  first ← level_value f 0 IMAGE_WIDTH 0
+  Some (nat_le (columns * first) (width * w))) false
 
 -- the greatest such level, level 0 if there is none
 unfoldable pub smallest_level : List ℕ → ℕ → ℕ → ℕ
@@ -82,9 +83,10 @@ max_window_samples = 4194304
 
 -- The window has more than 4,194,304 samples.
 unfoldable pub is_too_large : List ℕ → Query → Bool
-is_too_large f q =
-    option_map_or (λ r. option_map_or (λ samples. nat_lt max_window_samples (r.width * r.height * samples))
-    (level_value f r.level SAMPLES_PER_PIXEL 0) false) (rectangle f q) false
+is_too_large f q = unwrap_or (do
+  r ← rectangle f q
+  samples ← level_value f r.level SAMPLES_PER_PIXEL 0
+  Some (nat_lt max_window_samples (r.width * r.height * samples))) false
 
 abbrev pub is_refused : List ℕ → Query → Bool
 is_refused f q = is_outside f q || is_too_large f q
@@ -106,19 +108,27 @@ tiles_in g r = filter (meets g r) (range_with_len 0 (tile_total g))
 -- The tiles that the window needs: none where it is outside or too large.
 unfoldable pub window_tiles : List ℕ → Query → List ℕ
 window_tiles f q =
-    if is_refused f q then []
-    else option_map_or (λ r. option_map_or (λ g. tiles_in g r) (level_grid f r.level) []) (rectangle f q) []
+    if is_refused f q then [] else unwrap_or (do
+      r ← rectangle f q
+      g ← level_grid f r.level
+      Some (tiles_in g r)) []
 
 -- the values of TileOffsets or TileByteCounts, in the entry or outside
 unfoldable pub array_range : List ℕ → ℕ → ℕ → Option Extent
 array_range f n tag = level_directory f n >>= λ k. field_range f k tag
 
--- the bytes of a tile
+-- where the bytes of tile t of level n stand
 unfoldable pub tile_range : List ℕ → ℕ → ℕ → Option Extent
 tile_range f n t = do
   first ← level_value f n TILE_OFFSETS t
   len ← level_value f n TILE_BYTE_COUNTS t
   Some (record { first = first; len = len })
+
+-- Those bytes, where they are in the file.
+unfoldable pub segment : List ℕ → ℕ → ℕ → Option (List ℕ)
+segment f n t = do
+  r ← tile_range f n t
+  if ends_past f r then None else Some (bytes_in f r)
 
 -- ---- groups: tiles that follow each other in the file are read by one range
 
@@ -155,14 +165,16 @@ grouped range tiles = grouped_after None (map (λ t. (t, range t)) tiles)
 
 -- The groups of the window's tiles.
 unfoldable pub groups : List ℕ → Query → List Group
-groups f q = option_map_or (λ r. grouped (tile_range f r.level) (window_tiles f q)) (rectangle f q) []
+groups f q = unwrap_or (do
+  r ← rectangle f q
+  Some (grouped (tile_range f r.level) (window_tiles f q))) []
 
 -- the arrays of the window's level
 unfoldable pub array_ranges : List ℕ → Query → List Extent
 array_ranges f q =
-    if is_refused f q then []
-    else option_map_or (λ r. option_to_list (array_range f r.level TILE_OFFSETS) ++ option_to_list (array_range f r.level TILE_BYTE_COUNTS))
-    (rectangle f q) []
+    if is_refused f q then [] else unwrap_or (do
+      r ← rectangle f q
+      Some (option_to_list (array_range f r.level TILE_OFFSETS) ++ option_to_list (array_range f r.level TILE_BYTE_COUNTS))) []
 
 -- what a window needs, and what Info needs, besides the directories
 unfoldable pub needs_of_query : List ℕ → Query → List Extent

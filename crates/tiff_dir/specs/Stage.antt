@@ -16,7 +16,7 @@ use Rattle.tiff_dir.specs.declared.stage.Stage.{Stage}
 use Rattle.tiff_dir.specs.declared.stage.Stage.TheVariants.{Header, Count, Table, Bits, Formats, Ended}
 use Rattle.tiff_dir.specs.Number.{number_in}
 use Rattle.tiff_dir.specs.File.{max_directories, ◌>>=◌, order_of, number, directory, has_directory, has_all_tags, fields, field, value, size_of}
-use Rattle.tiff_dir.specs.Profile.{is_depth, is_sample_count, is_long, is_short_or_long}
+use Rattle.tiff_dir.specs.Profile.{accepts, is_depth, is_long, is_short_or_long}
 use Rattle.tiff_dir.specs.Level.{Layout, is_level, previous_level, place_of, layout_at, compression_of}
 use Rattle.tiff_dir.specs.Described.{described}
 use Rattle.tiff_dir.specs.Needs.{Extent, bytes_in, max_entries, is_entry_count, header_range, outside_ranges, ranges_of_directory}
@@ -207,7 +207,7 @@ pub record IsBounded (d : Draft) : Type 0 where
 
 pub record IsDraft (d : Draft) : Type 0 where
   pub bounded : IsBounded d
-  pub samples : is_sample_count d.samples ≡ true
+  pub samples : accepts SAMPLES_PER_PIXEL d.samples ≡ true
   pub long : is_long d.offsets.kind ≡ true
   pub whole : is_short_or_long d.counts.kind ≡ true
 

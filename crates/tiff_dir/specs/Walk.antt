@@ -1,5 +1,5 @@
 -- The words for what callers see of a walk over a file's directories, which is given one range of the file after another.
-use Rattle.tiff_dir.specs.declared.tags.TheConstants.{BITS_PER_SAMPLE, GEO_ASCII_PARAMS, GEO_DOUBLE_PARAMS, GEO_KEY_DIRECTORY, IMAGE_LENGTH, IMAGE_WIDTH, MODEL_PIXEL_SCALE, MODEL_TIEPOINT, MODEL_TRANSFORMATION, SAMPLES_PER_PIXEL, TILE_LENGTH, TILE_WIDTH}
+use Rattle.tiff_dir.specs.declared.tags.TheConstants.{BITS_PER_SAMPLE, GEO_ASCII_PARAMS, GEO_DOUBLE_PARAMS, GEO_KEY_DIRECTORY, IMAGE_LENGTH, IMAGE_WIDTH, MODEL_PIXEL_SCALE, MODEL_TIEPOINT, MODEL_TRANSFORMATION, SAMPLES_PER_PIXEL, TILE_BYTE_COUNTS, TILE_LENGTH, TILE_OFFSETS, TILE_WIDTH}
 use Rattle.std.specs.Prelude.{◌≡◌, ℕ, ◌+◌, ◌-◌, ◌*◌, ◌<◌, ◌≤◌, ◌^◌, ⊤, true, List, drop, Option, Some, None, Result, Ok, Err, IsSomeAnd}
 use Rattle.tiff_dir.specs.declared.level.Level.{Level}
 use Rattle.tiff_dir.specs.declared.level.Place.{Place}
@@ -11,11 +11,12 @@ use Rattle.tiff_dir.specs.declared.fault.FileFault.{FileFault}
 use Rattle.tiff_dir.specs.declared.fault.WalkError.{WalkError}
 use Rattle.tiff_dir.specs.declared.fault.WalkError.TheVariants as errors
 use Rattle.tiff_dir.specs.File.{field, has_all_tags, size_of}
-use Rattle.tiff_dir.specs.Level.{level_grid, level_value, plain_row, plain_size}
+use Rattle.tiff_dir.specs.Level.{level_grid, level_layout, level_value, plain_size}
 use Rattle.tiff_dir.specs.Described.{grid_of, layout_of}
-use Rattle.tiff_dir.specs.Faulty.{level_compression, level_plain_size, level_plain_row}
+use Rattle.tiff_dir.specs.Faulty.{level_compression, level_plain_size}
 use Rattle.tiff_dir.specs.Needs.{Extent, extent_of_place, max_range_bytes, needs_of_directories}
 pub use Rattle.tiff_dir.specs.Needs.{bytes_in}
+use Rattle.tiff_dir.specs.Query.{array_range}
 use Rattle.tiff_dir.specs.Profile.{max_geo_bytes}
 use Rattle.tiff_dir.specs.Geo.{geo_place, IsGeoFault}
 use Rattle.tiff_dir.specs.Stage.{range_of}
@@ -72,7 +73,9 @@ pub record IsDescribed (f : List ℕ) (n : ℕ) (l : Level) : Type 0 where
   pub grid : level_grid f n ≡ Some (grid_of l)
   pub compression : level_compression f n ≡ Some l.compression
   pub plain_size : level_plain_size f n ≡ Some (plain_size (layout_of l))
-  pub plain_row : level_plain_row f n ≡ Some (plain_row (layout_of l))
+  pub layout : level_layout f n ≡ Some (layout_of l)
+  pub offsets : array_range f n TILE_OFFSETS ≡ Some (extent_of_place l.offsets)
+  pub counts : array_range f n TILE_BYTE_COUNTS ≡ Some (extent_of_place l.counts)
 
 -- what holds of the fault of a refusal
 abbrev pub IfFile : Result (Unit {0}) WalkError → (FileFault → Type 0) → Type 0

@@ -6,9 +6,9 @@ use Rattle.tiff_dir.specs.declared.level.Compression.TheVariants.{Plain, PackBit
 use Rattle.tiff_dir.specs.Number.{number_in}
 use Rattle.tiff_dir.specs.File.{order_of}
 use Rattle.tiff_dir.specs.Profile.{sample_bytes}
-use Rattle.tiff_dir.specs.Level.{Grid, Layout, level_layout, segment, across, plain_size, plain_row}
+use Rattle.tiff_dir.specs.Level.{Grid, Layout, level_layout, across, plain_size, plain_row}
 use Rattle.tiff_dir.specs.Packets.{Packs}
-use Rattle.tiff_dir.specs.Query.{Rectangle}
+use Rattle.tiff_dir.specs.Query.{Rectangle, segment}
 
 -- A tile's bytes are those of its segment, or what its packets stand for.
 abbrev pub IsUnpackedBy : Compression → (row size : ℕ) (bytes out : List ℕ) → Type 0

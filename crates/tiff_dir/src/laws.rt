@@ -1,13 +1,15 @@
 //! Laws of the definitions, which upper crates rest on. Each function does nothing: its contract is the law.
-ghost use Rattle.std.specs.Prelude.{◌≡◌, ℕ, List, []};
+ghost use Rattle.std.specs.Prelude.{◌≡◌, ℕ, List, [], Some, slice_get};
 ghost use Rattle.tiff_dir.specs.declared.query.Query.{Query};
 ghost use Rattle.tiff_dir.specs.declared.query.Query.TheVariants.{Window};
 ghost use Rattle.tiff_dir.specs.declared.query.Pick.{Pick};
 ghost use Rattle.tiff_dir.specs.declared.fault.FileFault.{FileFault};
+ghost use Rattle.tiff_dir.specs.declared.level.Level.{Level};
+ghost use Rattle.tiff_dir.specs.Described.{AreLevels};
 ghost use Rattle.tiff_dir.specs.Fault.{IsFaultOfDirectories};
 ghost use Rattle.tiff_dir.specs.WalkState.{WalkState};
 ghost use Rattle.tiff_dir.specs.Needs.{needs_of_directories, IsEndOf};
-ghost use Rattle.tiff_dir.specs.Walk.{to_come, WalkAgrees, HasEnded};
+ghost use Rattle.tiff_dir.specs.Walk.{to_come, WalkAgrees, HasEnded, IsDescribed};
 ghost use Rattle.tiff_dir.specs.Packets.{PacketsAreApart, TextsAreUnique};
 ghost use Rattle.tiff_dir.specs.Faulty.{IsFaulty, IsWindow};
 
@@ -29,6 +31,11 @@ pub fn what_comes()
     ensures over { (w : WalkState) (f : List ℕ) → WalkAgrees w f → HasEnded w → to_come w f ≡ [] }
     // Its directories are then without fault.
     ensures clean { (w : WalkState) (f : List ℕ) → WalkAgrees w f → HasEnded w → (fault : FileFault) → IsFaultOfDirectories f fault → ⊥ }
+{}
+
+/// The levels of a file are what it says of them: each has the values of its number's directory.
+pub fn levels_are_described()
+    ensures described { (f : List ℕ) (levels : List Level) (n : ℕ) (l : Level) → AreLevels f levels → slice_get levels n ≡ Some l → IsDescribed f n l }
 {}
 
 /// Bytes are packets in one way, and stand for one text.

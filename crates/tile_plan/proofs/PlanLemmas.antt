@@ -67,8 +67,7 @@ groups_are : (f : List ℕ) (q : Query) (order : Order) (l : Level) (r : Rectang
     → asked.groups f q ≡ grouped (tile_range f r.level) (tiles_of l r)
 unfolding asked.groups
 groups_are f q order l r complete offsets counts p =
-    ap (λ o. option_map_or (λ (s : asked.Rectangle). grouped (tile_range f s.level) (window_tiles f q)) o []) p.rectangle_is
-    ∙ ap (grouped (tile_range f r.level)) (window_is f q order l r complete offsets counts p)
+    rw p.rectangle_is (ap (grouped (tile_range f r.level)) (window_is f q order l r complete offsets counts p))
 
 range_is : (f : List ℕ) (n t : ℕ) (r : Extent) → IsRangeOf f n t r → tile_range f n t ≡ Some r
 unfolding tile_range

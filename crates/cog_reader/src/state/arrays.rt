@@ -14,7 +14,7 @@ use crate::kept::{Kept, NextArray};
 use crate::mosaic::Mosaic;
 use crate::state::{State, Step, span_of, tiles};
 use std::alloc::Global;
-use tiff_dir::{FileFault, Memory, Walk};
+use tiff_dir::{FileFault, Memory, Walk, levels_are_described, what_comes};
 use tile_plan::{PlanError, Rectangle};
 
 /// What comes next: an array, or, where both are kept, the window's tiles.
@@ -30,6 +30,8 @@ pub fn next(
     requires small { IsSomeAnd (slice_get (levels_of walk.now) rect.level) (λ l. IsSmall l rect) }
     ensures { IfOk result (λ step. (q : Asks) → IsStep complete walk.now kept.now q (state.Arrays rect) step) }
 {
+    what_comes();
+    levels_are_described();
     let level = &walk.levels()[rect.level];
     match kept.next(rect.level, level) {
         NextArray::Read(place) => match span_of(place, complete) {
@@ -60,6 +62,8 @@ pub fn accept(
         (record { walk = walk.now; kept = kept.new; state = state.Arrays rect })) }
     ensures err { OnErr result (kept.new ≡ kept.old) }
 {
+    what_comes();
+    levels_are_described();
     let levels = walk.levels();
     kept.add(alloc, rect.level, walk.order(), &levels[rect.level], bytes)?;
     Ok(())

@@ -14,7 +14,7 @@ use crate::fields::Fields;
 use crate::kept::Kept;
 use crate::state::{State, Step, arrays, fields};
 use std::alloc::Global;
-use tiff_dir::{FileFault, Memory, Query, Walk, WalkError, what_comes};
+use tiff_dir::{FileFault, Memory, Query, Walk, WalkError, levels_are_described, what_comes};
 use tile_plan::rect;
 
 /// What comes next: a range of the directories, or, where all are read, what the query needs of its own.
@@ -69,6 +69,7 @@ fn begin_window(
     ensures { IfOk result (IsStep complete walk.now kept.now query state.Directories) }
 {
     what_comes();
+    levels_are_described();
     match rect(walk.levels(), query) {
         Ok(rect) => arrays::next(alloc, complete, walk, kept, rect),
         Err(fault) => Ok(Step::Answer(Outcome::Fault(fault))),

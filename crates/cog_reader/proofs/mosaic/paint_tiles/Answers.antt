@@ -2,8 +2,7 @@ use Rattle.std.proofs.Common.{◌≡◌, ◌+◌, ◌-◌, ◌<◌, ◌++◌, �
 use Rattle.std.specs.List.{All}
 use Rattle.std.proofs.lemmas.Grind.{get_or_default_zero}
 use Rattle.std.proofs.lemmas.List.{take_more, take_all}
-use Rattle.tiff_dir.specs.Level.{plain_row, plain_size}
-use Rattle.tiff_dir.specs.Packets.{Packs}
+use Rattle.tiff_dir.specs.Window.{IsUnpacked}
 use Rattle.tiff_dir.specs.Described.{layout_of}
 use Rattle.tile_plan.specs.Plan.{Adjoin}
 use Rattle.cog_reader.specs.Mosaic.{tile_extent, IsPainted, HasDamage}
@@ -43,7 +42,7 @@ loop-tile-preserved c =
       level = c.paint.ensures.level ∙ sym c.requires.level;
       rectangle = c.paint.ensures.rectangle ∙ c.loop-tile.invariant.rectangle;
       size = c.paint.ensures.size ∙ c.loop-tile.invariant.size;
-      room = c.paint.auto.plain ∙ c.loop-tile.invariant.room;
+      room = λ packed. c.paint.auto.plain ∙ c.loop-tile.invariant.room packed;
       painted = λ f n first done arrays bytes_of adjoin all. (
           let rest = c.loop-tile.invariant.rest first adjoin in
           let within = tile_end (tile_extent a) first at size ts i rest less in
@@ -80,8 +79,7 @@ returns-in_err-paint-clause-damaged c f n first arrays bytes_of adjoin =
       bytes = take (at + len - at) (drop at c.args.bytes.now);
       bytes_are = segment;
       packet = bad.packet;
-      packed = sym (ap (λ l. l.compression) level) ∙ bad.packed;
-      wrong = subst (λ l. (plain : List ℕ) → length plain ≡ plain_size (layout_of l) → Packs (plain_row (layout_of l)) (take (at + len - at) (drop at c.args.bytes.now)) plain → ⊥) level bad.wrong;
+      wrong = subst (λ l. (plain : List ℕ) → IsUnpacked (layout_of l) (take (at + len - at) (drop at c.args.bytes.now)) plain → ⊥) level bad.wrong;
     })
 
 pub returns-clause-painted : goal.returns-clause-painted

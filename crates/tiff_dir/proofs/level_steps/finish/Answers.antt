@@ -22,5 +22,6 @@ returns-clause-end c = record { kept = c.in_ok-stage.ensures.kept; some = refl }
 
 pub returns-clause-agrees : goal.returns-clause-agrees
 returns-clause-agrees c = λ f is bits ok258 ok339 before.
-    let follows = level_follows f c.args.pending c.args.bits c.args.previous (record { pending = is; told = depth_told f c.args.pending.index c.args.bits bits c.requires.depth; depths = ok258; formats = ok339; before = before; shaped = c.in_ok-check_shape.ensures }) in
-    level_ends f c.args.pending c.args.bits c.in_ok-stage.stage c.level_of.result is bits c.level_of.ensures c.in_ok-stage.ensures.index (c.in_ok-stage.ensures.agrees f follows)
+    let told = depth_told f c.args.pending.index c.args.bits bits c.requires.depth in
+    let follows = level_follows f c.args.pending c.args.bits c.args.previous (record { pending = is; told = told; depths = ok258; formats = ok339; before = before; shaped = c.in_ok-check_shape.ensures }) in
+    level_ends f c.args.pending c.args.bits c.in_ok-stage.stage c.level_of.result is told c.level_of.ensures c.in_ok-stage.ensures.index (c.in_ok-stage.ensures.agrees f follows)

@@ -15,7 +15,7 @@ span_of-requires c = some_array c.args.kept.now c.args.rect.level c.index-levels
 pub returns-in-None : goal.returns-in-None
 returns-in-None c q =
     let l = c.index-levels-rect.result in
-    let here = level_told c.args.walk.now c.levels.result.now c.args.rect.level l c.args.rect c.levels.ensures.held c.requires.small c.index-levels-rect.is c.levels.ensures.level c.levels.ensures.values c.levels.ensures.clean in
+    let here = level_told c.args.walk.now c.levels.result.now c.args.rect.level l c.args.rect c.levels.ensures.held c.requires.small c.index-levels-rect.is c.levels.ensures.levels c.levels_are_described.ensures.described (λ f told. c.what_comes.ensures.clean _ f told c.requires.ended) in
     becomes_done c.args.complete c.args.walk.now c.args.kept.now q _ _
     (λ f base state. past_array f q c.args.rect l c.args.kept.now c.in-Read.place state.0 state.1 (here.layout f base.walked) c.in-Read.ensures (subst (λ n. n < c.in-Read.place.first + c.in-Read.place.len) (sym base.size) c.in-None.ensures))
 
@@ -25,7 +25,7 @@ returns-in-Some c q =
     let w = c.args.walk.now in
     let k = c.args.kept.now in
     let p = c.in-Read.place in
-    let here = level_told w c.levels.result.now c.args.rect.level l c.args.rect c.levels.ensures.held c.requires.small c.index-levels-rect.is c.levels.ensures.level c.levels.ensures.values c.levels.ensures.clean in
+    let here = level_told w c.levels.result.now c.args.rect.level l c.args.rect c.levels.ensures.held c.requires.small c.index-levels-rect.is c.levels.ensures.levels c.levels_are_described.ensures.described (λ f told. c.what_comes.ensures.clean _ f told c.requires.ended) in
     let within = c.in-Some.ensures.1 in (
       becomes_same c.args.complete w k q (Arrays c.args.rect) (c.requires.ended, c.requires.small),
       array_wanted c.args.complete w k c.args.rect l p c.in-Some.span here c.in-Read.ensures c.in-Some.ensures.0 (fair_array c.args.complete k c.args.rect.level l p c.in-Read.ensures (λ past. omega (arith, past, within))),
@@ -36,7 +36,7 @@ returns-in-Ok c q =
     let l = c.index-levels-rect.result in
     let w = c.args.walk.now in
     let a = c.in-Both.arrays.now in
-    let here = level_told w c.levels.result.now c.args.rect.level l c.args.rect c.levels.ensures.held c.requires.small c.index-levels-rect.is c.levels.ensures.level c.levels.ensures.values c.levels.ensures.clean in
+    let here = level_told w c.levels.result.now c.args.rect.level l c.args.rect c.levels.ensures.held c.requires.small c.index-levels-rect.is c.levels.ensures.levels c.levels_are_described.ensures.described (λ f told. c.what_comes.ensures.clean _ f told c.requires.ended) in
     let held = subst (IsKeptOf w) c.in-Both.ensures c.requires.kept in
     let same : l ≡ a.level = cc (here.there, held.1) in
     let begun = becomes_tiles c.args.complete w c.args.kept.now q c.args.rect l a c.in-Ok.mosaic c.requires.ended here c.in-Both.ensures same c.in-Ok.ensures.plan c.in-Ok.ensures.none.0 (λ f size p. c.in-Ok.ensures.underway f q size p) in
@@ -49,7 +49,7 @@ returns-in-Err-File c q =
     let l = c.index-levels-rect.result in
     let w = c.args.walk.now in
     let a = c.in-Both.arrays.now in
-    let here = level_told w c.levels.result.now c.args.rect.level l c.args.rect c.levels.ensures.held c.requires.small c.index-levels-rect.is c.levels.ensures.level c.levels.ensures.values c.levels.ensures.clean in
+    let here = level_told w c.levels.result.now c.args.rect.level l c.args.rect c.levels.ensures.held c.requires.small c.index-levels-rect.is c.levels.ensures.levels c.levels_are_described.ensures.described (λ f told. c.what_comes.ensures.clean _ f told c.requires.ended) in
     let held = subst (IsKeptOf w) c.in-Both.ensures c.requires.kept in
     let same : l ≡ a.level = cc (here.there, held.1) in
     becomes_done c.args.complete w c.args.kept.now q _ _

@@ -11,7 +11,7 @@ returns-in-Ok c =
     let w = c.args.walk.now in
     let k = c.args.kept.now in
     let begun = becomes_window c.args.complete w k c.args.query c.levels.result.now c.in-Ok.rect c.requires.ended c.levels.ensures.held c.in-Ok.ensures.asked
-    (λ f told. record { levels = c.levels.ensures.levels f told; each = c.levels.ensures.values f told }) (λ f told. c.what_comes.ensures.over w f told c.requires.ended) in
+    (λ f told. record { levels = c.levels.ensures.levels f told; each = λ n l. c.levels_are_described.ensures.described f _ n l (c.levels.ensures.levels f told) }) (λ f told. c.what_comes.ensures.over w f told c.requires.ended) in
     if_ok c.next.result (λ (step : Step). (q : Query) → IsStep c.args.complete w k q (Arrays c.in-Ok.rect) step) (λ (step : Step). IsStep c.args.complete w k c.args.query Directories step) c.next.ensures
     (λ step more. step_more c.args.complete w k c.args.query Directories (Arrays c.in-Ok.rect) step begun (more c.args.query))
 
@@ -20,5 +20,5 @@ returns-in-Err c =
     becomes_done c.args.complete c.args.walk.now c.args.kept.now c.args.query _ _
     (λ f base state. own_fault f c.args.query c.in-Err.fault c.requires.window (elim c.in-Err.ensures.refused [
       | inl info ↦ absurd (c.requires.window info)
-      | inr refused ↦ refused f (record { levels = c.levels.ensures.levels f base.walked; each = c.levels.ensures.values f base.walked })
+      | inr refused ↦ refused f (record { levels = c.levels.ensures.levels f base.walked; each = λ n l. c.levels_are_described.ensures.described f _ n l (c.levels.ensures.levels f base.walked) })
     ]))

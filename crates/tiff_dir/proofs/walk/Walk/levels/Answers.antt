@@ -1,13 +1,11 @@
 use Rattle.std.proofs.Common.{◌≡◌, ◌<◌, ◌∙◌, List, length, None, ap, sym, subst}
-use Rattle.std.specs.Option.{option_map}
 use Rattle.tiff_dir.specs.declared.level.Level.{Level}
 use Rattle.tiff_dir.specs.Stage.{range_of}
-use Rattle.tiff_dir.specs.Described.{AreLevels, layout_of}
+use Rattle.tiff_dir.specs.Described.{AreLevels}
 use Rattle.tiff_dir.specs.WalkState.{WalkState}
 use Rattle.tiff_dir.specs.Walk.{levels_of}
 use Rattle.tiff_dir.proofs.Bounds.{ended_some}
-use Rattle.tiff_dir.proofs.Told.{wanted_as, ended_clean, ended_levels, layout_number, offsets_at, counts_at}
-use Rattle.tiff_dir.proofs.TileValues.{described_by}
+use Rattle.tiff_dir.proofs.Told.{wanted_as, ended_levels}
 use Rattle.tiff_dir.proofs.walk.Walk.levels.Goals as goal
 
 pub returns-clause-levels : goal.returns-clause-levels
@@ -22,33 +20,6 @@ returns-clause-some c =
     let some = c.self.invariant.some (ended_some c.self.inside.stage c.self.inside.given c.self.invariant.kept none) in
     let P : List Level → Type 0 = λ ls. 0 < length ls in
     subst P (sym c.as_slice.ensures.value) some
-
-pub returns-clause-clean : goal.returns-clause-clean
-returns-clause-clean c = λ f told. ended_clean c.args.self.now f c.requires told
-
-pub returns-clause-level : goal.returns-clause-level
-returns-clause-level c = λ f told n.
-    let same : c.as_slice.result.now ≡ c.args.self.now.levels = c.as_slice.ensures.value ∙ ap (λ (w : WalkState). w.levels) c.self.view_is in
-    let P : List Level → Type 0 = λ ls. AreLevels f ls in
-    layout_number f c.as_slice.result.now n (subst P (sym same) (ended_levels c.args.self.now f c.requires told))
-
-pub returns-clause-offsets : goal.returns-clause-offsets
-returns-clause-offsets c = λ f told n l is.
-    let same : c.as_slice.result.now ≡ c.args.self.now.levels = c.as_slice.ensures.value ∙ ap (λ (w : WalkState). w.levels) c.self.view_is in
-    let P : List Level → Type 0 = λ ls. AreLevels f ls in
-    offsets_at f n (layout_of l) (layout_number f c.as_slice.result.now n (subst P (sym same) (ended_levels c.args.self.now f c.requires told)) ∙ ap (option_map layout_of) is)
-
-pub returns-clause-counts : goal.returns-clause-counts
-returns-clause-counts c = λ f told n l is.
-    let same : c.as_slice.result.now ≡ c.args.self.now.levels = c.as_slice.ensures.value ∙ ap (λ (w : WalkState). w.levels) c.self.view_is in
-    let P : List Level → Type 0 = λ ls. AreLevels f ls in
-    counts_at f n (layout_of l) (layout_number f c.as_slice.result.now n (subst P (sym same) (ended_levels c.args.self.now f c.requires told)) ∙ ap (option_map layout_of) is)
-
-pub returns-clause-values : goal.returns-clause-values
-returns-clause-values c = λ f told n l is.
-    let same : c.as_slice.result.now ≡ c.args.self.now.levels = c.as_slice.ensures.value ∙ ap (λ (w : WalkState). w.levels) c.self.view_is in
-    let P : List Level → Type 0 = λ ls. AreLevels f ls in
-    described_by f n l (layout_number f c.as_slice.result.now n (subst P (sym same) (ended_levels c.args.self.now f c.requires told)) ∙ ap (option_map layout_of) is)
 
 pub returns-clause-held : goal.returns-clause-held
 unfolding levels_of

@@ -1,7 +1,7 @@
 use Rattle.std.proofs.Common.{◌≡◌, None, ap, sym, ◌∙◌}
 use Rattle.tiff_dir.specs.Stage.{range_of}
 use Rattle.tiff_dir.specs.WalkState.{WalkState}
-use Rattle.tiff_dir.proofs.Told.{wanted_as, ended_stage, ended_clean, ended_order}
+use Rattle.tiff_dir.proofs.Told.{wanted_as, ended_stage, ended_order}
 use Rattle.tiff_dir.proofs.walk.Walk.order.Goals as goal
 
 pub unreachable-requires : goal.unreachable-requires
@@ -10,8 +10,5 @@ unreachable-requires c =
     let (o, k, is) = ended_stage c.self.inside.stage none in
     c.in_default.not-Ended o k is
 
-pub returns-clause-order : goal.returns-clause-order
-returns-clause-order c = λ f told. ended_order c.args.self.now f c.in-Ended.order _ (ap (λ (w : WalkState). w.stage) (sym c.self.view_is) ∙ c.in-Ended.is) told
-
-pub returns-clause-clean : goal.returns-clause-clean
-returns-clause-clean c = λ f told. ended_clean c.args.self.now f c.requires told
+pub returns : goal.returns
+returns c = record { order = λ f told. ended_order c.args.self.now f c.in-Ended.order _ (ap (λ (w : WalkState). w.stage) (sym c.self.view_is) ∙ c.in-Ended.is) told }
