@@ -19,7 +19,8 @@ use Rattle.cog_client.specs.declared.source.Source.{Source}
 use Rattle.cog_client.specs.Case.{Revision}
 use Rattle.cog_client.specs.Take.{emptied, stored_front}
 use Rattle.cog_client.specs.Client.{ClientState, Knows, KnowsBy, KnowsOne, ClientAgrees, IsClient, IsFew, IsReadingOf, IsReportOf, asked_of, blocks_of, host_of, name_of, query_of, report_of, revision_at, revision_of, tag_of, to_come, unread}
-use Rattle.cog_client.specs.Calls.{GoesOn, Opens, SameClient, StaysOf}
+use Rattle.cog_client.specs.Calls.{SameClient}
+use Rattle.cog_client.specs.Keeps.{GoesOnKeeping, OpensKeeping, StaysOf}
 use Rattle.cog_client.specs.Going as going
 use Rattle.cog_client.specs.Going.{work}
 use Rattle.cog_client.specs.Steps.{Adopts, Concludes, Stores}
@@ -70,11 +71,9 @@ agrees_by old new name revision knows book agrees =
     subst (λ v. IfSome v (KnowsOne new book)) (sym revision) (agrees_as (revision_of old) old new book name knows agrees)
 
 pub goes_by : (old new : ClientState) → SameClient old new → revision_of new ≡ revision_of old → going.AreSame (blocks_of old) (blocks_of new)
-    → ((f : List ℕ) → Knows f old → StaysOf f old new) → GoesOn old new
+    → ((f : List ℕ) → Knows f old → StaysOf f old new) → GoesOnKeeping old new
 goes_by old new same revision blocks file = record {
-  same = same;
-  revision = revision;
-  blocks = blocks;
+  seen = record { same = same; revision = revision; blocks = blocks };
   file = file;
   agrees = agrees_by old new same.name revision (λ f k. (file f k).knows);
 }
@@ -124,7 +123,7 @@ module _ (h n : List ℕ) (q : Option Query) (a : Option Span) (s : Source) (b :
   gone_report f s' (Some x) tag h = (h.0 ∙ sym tag, h.1)
 
   pub gone : (s' : Source) (new : Blocks) → s'.tag ≡ s.tag → s'.complete ≡ s.complete → IsClient (known h n q a (Some s) b r)
-      → going.ReaderGoesOn (work s.reader b) (work s'.reader new) → GoesOn (known h n q a (Some s) b r) (known h n q a (Some s') new r)
+      → going.ReaderGoesOn (work s.reader b) (work s'.reader new) → GoesOnKeeping (known h n q a (Some s) b r) (known h n q a (Some s') new r)
   unfolding host_of name_of query_of revision_of blocks_of to_come Knows
   gone s' new tag complete c goes =
       goes_by (known h n q a (Some s) b r) (known h n q a (Some s') new r) (record { host = refl; name = refl; query = refl })
@@ -155,7 +154,7 @@ module _ (h n : List ℕ) (q : Query) (a : Option Span) (s s' : Source) (b : Blo
       (d.report.1 ∙ sym d.tag, subst (λ k. IsTrueOf f k x.outcome) d.report.0 of)
 
   pub concluded : (x : Report) → ((r : ReaderState) (f : List ℕ) → reader.query_of r ≡ None → reader.to_come r f ≡ []) → IsClient (known h n (Some q) a (Some s) b None) → Concludes q s (Some x) s'
-      → GoesOn (known h n (Some q) a (Some s) b None) (known h n (Some q) None (Some s') b (Some x))
+      → GoesOnKeeping (known h n (Some q) a (Some s) b None) (known h n (Some q) None (Some s') b (Some x))
   unfolding host_of name_of query_of revision_of blocks_of to_come Knows
   concluded x none c d =
       goes_by (known h n (Some q) a (Some s) b None) (known h n (Some q) None (Some s') b (Some x)) (record { host = refl; name = refl; query = refl })
@@ -165,7 +164,7 @@ module _ (h n : List ℕ) (q : Query) (a : Option Span) (s s' : Source) (b : Blo
         come = subst (λ rs. IsEndOf rs (reader.to_come s.reader f)) (sym (none s'.reader f (d.unasked refl))) (end_nil (reader.to_come s.reader f));
       })
 
-pub goes_refl : (c : ClientState) → GoesOn c c
+pub goes_refl : (c : ClientState) → GoesOnKeeping c c
 goes_refl c =
     goes_by c c (record { host = refl; name = refl; query = refl }) refl (same_refl (blocks_of c)) (λ f knows. record { knows = knows; come = end_refl (to_come c f) })
 
@@ -175,11 +174,13 @@ same_trans a b c h k = record { host = k.host ∙ h.host; name = k.name ∙ h.na
 pub stays_trans : (f : List ℕ) (a b c : ClientState) → StaysOf f a b → StaysOf f b c → StaysOf f a c
 stays_trans f a b c h k = record { knows = k.knows; come = end_trans (to_come a f) (to_come b f) (to_come c f) h.come k.come }
 
-pub goes_trans : (a b c : ClientState) → GoesOn a b → GoesOn b c → GoesOn a c
+pub goes_trans : (a b c : ClientState) → GoesOnKeeping a b → GoesOnKeeping b c → GoesOnKeeping a c
 goes_trans a b c h k = record {
-  same = same_trans a b c h.same k.same;
-  revision = k.revision ∙ h.revision;
-  blocks = blocks_trans (blocks_of a) (blocks_of b) (blocks_of c) h.blocks k.blocks;
+  seen = record {
+    same = same_trans a b c h.seen.same k.seen.same;
+    revision = k.seen.revision ∙ h.seen.revision;
+    blocks = blocks_trans (blocks_of a) (blocks_of b) (blocks_of c) h.seen.blocks k.seen.blocks;
+  };
   file = λ f knows. let first = h.file f knows in stays_trans f a b c first (k.file f first.knows);
   agrees = λ book agrees. k.agrees book (h.agrees book agrees);
 }
@@ -190,16 +191,10 @@ abbrev pub EndsAreWanted : Type 0
 EndsAreWanted = (r : ReaderState) (f : List ℕ) → reader.ReaderAgrees r f → IfSome (reader.query_of r) (λ q. IsEndOf (reader.to_come r f) (needs f q))
 
 module _ (h n : List ℕ) (q : Option Query) (a : Option Span) (b : Blocks) (r : Option Report) (query : Query) where
-  pub opened_alone : Opens query (known h n q a None b r) (known h n (Some query) None None b None)
+  pub opened_alone : OpensKeeping query (known h n q a None b r) (known h n (Some query) None None b None)
   unfolding host_of name_of query_of asked_of revision_of report_of blocks_of to_come unread Knows ClientAgrees
   opened_alone = record {
-    host = refl;
-    name = refl;
-    asks = refl;
-    asked = refl;
-    revision = refl;
-    blocks = refl;
-    report = refl;
+    seen = record { host = refl; name = refl; asks = refl; asked = refl; revision = refl; blocks = refl; report = refl };
     knows = λ f k. tt;
     come = λ f k. end_nil (needs f query);
     held = λ f. refl;
@@ -213,19 +208,13 @@ module _ (h n : List ℕ) (q : Option Query) (a : Option Span) (b : Blocks) (r :
 
   pub opened : (s : Source) (x : ReaderState) → EndsAreWanted → reader.complete_of x ≡ reader.complete_of s.reader → reader.query_of x ≡ Some query
       → ((f : List ℕ) → reader.ReaderAgrees s.reader f → reader.ReaderAgrees x f) → ((f : List ℕ) → reader.to_come x f ≡ reader.unread s.reader f query) → IsClient (known h n q a (Some s) b r)
-      → Opens query (known h n q a (Some s) b r) (known h n (Some query) None (Some (record s { reader = x })) b None)
+      → OpensKeeping query (known h n q a (Some s) b r) (known h n (Some query) None (Some (record s { reader = x })) b None)
   unfolding host_of name_of query_of asked_of revision_of report_of blocks_of to_come unread Knows
   opened s x law complete asks agrees held c =
       let knows : (f : List ℕ) → Knows f (known h n q a (Some s) b r) → Knows f (known h n (Some query) None (Some (record s { reader = x })) b None) =
       λ f k. record { reader = agrees f k.reader; blocks = k.blocks; report = tt; sound = opened_sound s x complete asks c } in
       record {
-        host = refl;
-        name = refl;
-        asks = refl;
-        asked = refl;
-        revision = refl;
-        blocks = refl;
-        report = refl;
+        seen = record { host = refl; name = refl; asks = refl; asked = refl; revision = refl; blocks = refl; report = refl };
         knows = knows;
         come = λ f k. subst (λ o. IfSome o (λ q. IsEndOf (reader.to_come x f) (needs f q))) asks (law x f (agrees f k.reader));
         held = held;

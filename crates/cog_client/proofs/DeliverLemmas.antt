@@ -29,7 +29,8 @@ use Rattle.cog_client.specs.declared.source.Source.{Source}
 use Rattle.cog_client.specs.Case.{Revision, case_of, is_beside}
 use Rattle.cog_client.specs.Take.{Holding, Taken, IsIgnored, asked_or_first, base_of, keep, stored_count, emptied, first_span, revision_of_piece, stored_front, stored_of, take as taken, take_by}
 use Rattle.cog_client.specs.Client.{ClientState, Knows, KnowsOne, ClientAgrees, KnowsBy, IsReadingOf, IsStanding, asked_of, blocks_of, holding, name_of, report_of, revision_at, revision_in, revision_of, to_come}
-use Rattle.cog_client.specs.Calls.{Delivers, StaysOf, StopsDelivery, unless_reported}
+use Rattle.cog_client.specs.Calls.{unless_reported}
+use Rattle.cog_client.specs.Keeps.{DeliversKeeping, StaysOf, StopsDelivery}
 use Rattle.cog_client.specs.Going.{AreSame}
 use Rattle.cog_client.specs.Steps.{Adopts, StopsStoring, AcceptsPiece}
 use Rattle.cog_client.proofs.GoingLemmas.{end_refl, same_refl}
@@ -137,20 +138,22 @@ module _ (law : FrontsAreRead) (p : SeenPiece) (text : List ℕ) (reads : ReadsA
 
   pub begins_delivers : (old mid new : ClientState) (a : Span) (what : Delivered) (count : ℕ) → what ≡ (taken (holding old) (Ok p)).says
       → (taken (holding old) (Ok p)).leaves ≡ keep (revision_of_piece p) a (emptied (blocks_of old)) p → (IsIgnored what → ⊥)
-      → (revision_of old ≡ Some (revision_of_piece p) → ⊥) → Adopts p (Some a) old mid → AcceptsPiece p mid new count → Delivers old text what new
+      → (revision_of old ≡ Some (revision_of_piece p) → ⊥) → Adopts p (Some a) old mid → AcceptsPiece p mid new count → DeliversKeeping old text what new
   begins_delivers old mid new a what count says leaves used other adopts takes =
       let revision : revision_of new ≡ Some (revision_of_piece p) = takes.revision ∙ adopts.revision in
       let same = same_trans old mid new adopts.same takes.same in
       record {
-        same = same;
-        reading = Ok p;
-        reads = reads;
-        answers = says;
-        revision = revision ∙ sym (ap (λ (h : Holding). h.revision) leaves);
-        asked = takes.asked ∙ ap (unless_reported (report_of new)) (adopts.asks ∙ sym (ap (λ (h : Holding). h.asked) leaves));
-        blocks = subst (λ (b : Blocks). AreSame b (blocks_of new))
-            (ap (λ x. stored_of p (asked_or_first x) (blocks_of mid)) adopts.asks ∙ ap (stored_of p a) adopts.blocks ∙ sym (ap (λ (h : Holding). h.blocks) leaves)) takes.blocks;
-        ignored = λ i. absurd (used i);
+        seen = record {
+          same = same;
+          reading = Ok p;
+          reads = reads;
+          answers = says;
+          revision = revision ∙ sym (ap (λ (h : Holding). h.revision) leaves);
+          asked = takes.asked ∙ ap (unless_reported (report_of new)) (adopts.asks ∙ sym (ap (λ (h : Holding). h.asked) leaves));
+          blocks = subst (λ (b : Blocks). AreSame b (blocks_of new))
+              (ap (λ x. stored_of p (asked_or_first x) (blocks_of mid)) adopts.asks ∙ ap (stored_of p a) adopts.blocks ∙ sym (ap (λ (h : Holding). h.blocks) leaves)) takes.blocks;
+          ignored = λ i. absurd (used i);
+        };
         rests = inr takes.rests;
         file = λ f still piece knows. absurd (other (sym still ∙ revision));
         agrees = λ book distinct agrees honest. begun_agrees old mid new same.name revision adopts.knows takes.file book honest;
@@ -183,19 +186,21 @@ module _ (law : FrontsAreRead) (p : SeenPiece) (text : List ℕ) (reads : ReadsA
   -- ---- the revision that is read
 
   pub keeps_delivers : (old new : ClientState) (count : ℕ) → case_of (revision_of old) (asked_of old) p ≡ cases.Accepted → revision_of old ≡ Some (revision_of_piece p)
-      → IsSome (asked_of old) → ((f : List ℕ) → Knows f old → p.complete ≡ length f) → AcceptsPiece p old new count → Delivers old text (Took count) new
+      → IsSome (asked_of old) → ((f : List ℕ) → Knows f old → p.complete ≡ length f) → AcceptsPiece p old new count → DeliversKeeping old text (Took count) new
   keeps_delivers old new count is before asked size takes =
       let revision : revision_of new ≡ Some (revision_of_piece p) = takes.revision ∙ before in
       let t : taken (holding old) (Ok p) ≡ take_by cases.Accepted (holding old) p = ap (λ k. take_by k (holding old) p) is in
       record {
-        same = takes.same;
-        reading = Ok p;
-        reads = reads;
-        answers = ap Took takes.counted ∙ ap (λ (x : Taken). x.says) (sym t);
-        revision = takes.revision ∙ ap (λ (x : Taken). x.leaves.revision) (sym t);
-        asked = takes.asked ∙ ap (λ (x : Taken). unless_reported (report_of new) x.leaves.asked) (sym t);
-        blocks = subst (λ (x : Taken). AreSame x.leaves.blocks (blocks_of new)) (sym t) takes.blocks;
-        ignored = λ i. absurd i;
+        seen = record {
+          same = takes.same;
+          reading = Ok p;
+          reads = reads;
+          answers = ap Took takes.counted ∙ ap (λ (x : Taken). x.says) (sym t);
+          revision = takes.revision ∙ ap (λ (x : Taken). x.leaves.revision) (sym t);
+          asked = takes.asked ∙ ap (λ (x : Taken). unless_reported (report_of new) x.leaves.asked) (sym t);
+          blocks = subst (λ (x : Taken). AreSame x.leaves.blocks (blocks_of new)) (sym t) takes.blocks;
+          ignored = λ i. absurd i;
+        };
         rests = inr takes.rests;
         file = λ f still piece knows. takes.file f (size f knows) piece knows;
         agrees = kept_agrees old new takes.same.name before revision takes.file;
@@ -229,16 +234,18 @@ asks_still q a None h = refl
 asks_still q a (Some r) h = h.1
 
 pub ignores : (old : ClientState) (text : List ℕ) (w : why.Ignored) (reading : Result SeenPiece Why) → ReadsAnswer text reading
-    → taken (holding old) reading ≡ record { says = Ignored w; leaves = holding old } → asked_of old ≡ unless_reported (report_of old) (asked_of old) → Delivers old text (Ignored w) old
+    → taken (holding old) reading ≡ record { says = Ignored w; leaves = holding old } → asked_of old ≡ unless_reported (report_of old) (asked_of old) → DeliversKeeping old text (Ignored w) old
 ignores old text w reading reads is asked = record {
-  same = record { host = refl; name = refl; query = refl };
-  reading = reading;
-  reads = reads;
-  answers = sym (ap (λ (t : Taken). t.says) is);
-  revision = sym (ap (λ (t : Taken). t.leaves.revision) is);
-  asked = asked ∙ ap (λ (t : Taken). unless_reported (report_of old) t.leaves.asked) (sym is);
-  blocks = subst (λ (t : Taken). AreSame t.leaves.blocks (blocks_of old)) (sym is) (same_refl (blocks_of old));
-  ignored = λ i. refl;
+  seen = record {
+    same = record { host = refl; name = refl; query = refl };
+    reading = reading;
+    reads = reads;
+    answers = sym (ap (λ (t : Taken). t.says) is);
+    revision = sym (ap (λ (t : Taken). t.leaves.revision) is);
+    asked = asked ∙ ap (λ (t : Taken). unless_reported (report_of old) t.leaves.asked) (sym is);
+    blocks = subst (λ (t : Taken). AreSame t.leaves.blocks (blocks_of old)) (sym is) (same_refl (blocks_of old));
+    ignored = λ i. refl;
+  };
   rests = inl tt;
   file = λ f still piece knows. record { knows = knows; come = end_refl (to_come old f) };
   agrees = λ book distinct agrees honest. agrees;
@@ -268,7 +275,7 @@ module _ (law : FrontsAreRead) (p : SeenPiece) (text : List ℕ) (reads : ReadsA
   pub adopted_asks : case_of (revision_of old) (asked_of old) p ≡ cases.Adopted → asked_of old ≡ Some (asked_or_first (asked_of old))
   adopted_asks is = some_or_first (asked_of old) (was_asked (revision_of old) (asked_of old) p cases.Adopted is (λ w e. cc))
 
-  pub adopted_delivers : (count : ℕ) → case_of (revision_of old) (asked_of old) p ≡ cases.Adopted → Adopts p (asked_of old) old mid → AcceptsPiece p mid new count → Delivers old text (Took count) new
+  pub adopted_delivers : (count : ℕ) → case_of (revision_of old) (asked_of old) p ≡ cases.Adopted → Adopts p (asked_of old) old mid → AcceptsPiece p mid new count → DeliversKeeping old text (Took count) new
   adopted_delivers count is adopts takes =
       let a = asked_or_first (asked_of old) in
       let t : taken (holding old) (Ok p) ≡ take_by cases.Adopted (holding old) p = ap (λ k. take_by k (holding old) p) is in
@@ -284,7 +291,7 @@ module _ (law : FrontsAreRead) (p : SeenPiece) (text : List ℕ) (reads : ReadsA
       begins_stops law p text reads old mid new (asked_or_first (asked_of old)) cases.Adopted is refl (ap (λ (x : Taken). x.leaves) t) (λ i. subst (λ (x : Taken). IsIgnored x.says) t i)
       (subst (λ o. Adopts p o old mid) (adopted_asks is) adopts) stops
 
-  pub restarted_delivers : (count : ℕ) → case_of (revision_of old) (asked_of old) p ≡ cases.Restarted → Adopts p (Some first_span) old mid → AcceptsPiece p mid new count → Delivers old text Restarted new
+  pub restarted_delivers : (count : ℕ) → case_of (revision_of old) (asked_of old) p ≡ cases.Restarted → Adopts p (Some first_span) old mid → AcceptsPiece p mid new count → DeliversKeeping old text Restarted new
   restarted_delivers count is adopts takes =
       let t : taken (holding old) (Ok p) ≡ take_by cases.Restarted (holding old) p = ap (λ k. take_by k (holding old) p) is in
       begins_delivers law p text reads old mid new first_span Restarted count (ap (λ (x : Taken). x.says) (sym t)) (ap (λ (x : Taken). x.leaves) t) (λ i. i)
@@ -296,7 +303,7 @@ module _ (law : FrontsAreRead) (p : SeenPiece) (text : List ℕ) (reads : ReadsA
       begins_stops law p text reads old mid new first_span cases.Restarted is refl (ap (λ (x : Taken). x.leaves) t) (λ i. subst (λ (x : Taken). IsIgnored x.says) t i) adopts stops
 
 module _ (law : FrontsAreRead) (p : SeenPiece) (text : List ℕ) (reads : ReadsAnswer text (Ok p)) (old new : ClientState) where
-  pub accepted_delivers : ((r : ReaderState) (f : List ℕ) → reader.ReaderAgrees r f → length f ≡ reader.complete_of r) → (count : ℕ) → case_of (revision_of old) (asked_of old) p ≡ cases.Accepted → AcceptsPiece p old new count → Delivers old text (Took count) new
+  pub accepted_delivers : ((r : ReaderState) (f : List ℕ) → reader.ReaderAgrees r f → length f ≡ reader.complete_of r) → (count : ℕ) → case_of (revision_of old) (asked_of old) p ≡ cases.Accepted → AcceptsPiece p old new count → DeliversKeeping old text (Took count) new
   accepted_delivers lengths count is takes =
       let before = same_revision (revision_of old) (asked_of old) p is in
       keeps_delivers law p text reads old new count is before (was_asked (revision_of old) (asked_of old) p cases.Accepted is (λ w e. cc))

@@ -34,7 +34,7 @@ use Rattle.cog_client.specs.declared.delivered.Delivered.TheVariants.{Took, Rest
 use Rattle.cog_client.specs.Case.{Revision, case_of, is_beside}
 use Rattle.cog_client.specs.Take.{Holding, IsIgnored, asked_or_first, brought_by, stored_of, take as taken, take_by}
 use Rattle.cog_client.specs.Client.{ClientState, Knows, asked_of, blocks_of, holding, host_of, name_of, revision_of, tag_of, to_come}
-use Rattle.cog_client.specs.Calls.{AsksFor, Delivers, Lacks, StaysOf}
+use Rattle.cog_client.specs.Keeps.{AsksFor, DeliversKeeping, Lacks, StaysOf}
 use Rattle.cog_client.specs.Going.{AreSame}
 use Rattle.cog_client.specs.Progress.{BringsOn, IsOwnAnswer, OwnAnswersBringOn, left, left_of}
 use Rattle.cog_client.proofs.DeliverLemmas.{piece_at}
@@ -93,15 +93,15 @@ own_response answered c p span text own =
     ∙ ap (λ o. response_to_client o span.first span.last (tag_of c)) own.has
 
 module _ (answered : ClientsAreAnswered) (fronts : FrontsAreRead) where
-  pub own_reading : (old new : ClientState) (p : Publication) (span : Span) (text : List ℕ) (what : Delivered) → (own : IsOwnAnswer old p span text) → (d : Delivers old text what new)
-      → (is_current (tag_of old) p.tag ≡ true → span.first < length p.file) → d.reading ≡ Ok (piece_for p span.first span.last (tag_of old))
+  pub own_reading : (old new : ClientState) (p : Publication) (span : Span) (text : List ℕ) (what : Delivered) → (own : IsOwnAnswer old p span text) → (d : DeliversKeeping old text what new)
+      → (is_current (tag_of old) p.tag ≡ true → span.first < length p.file) → d.seen.reading ≡ Ok (piece_for p span.first span.last (tag_of old))
   own_reading old new p span text what own d fits =
       let tag = tag_of old in
       let message = request_text (host_of old) (name_of old) span.first span.last tag in
       let response = own_response answered old p span text own in
       let s = own.response in
       let whole : text ≡ take (length (text_of s)) (text_of s) = own.shown ∙ sym (take_all (length (text_of s)) (text_of s) (omega arith)) in
-      let read = fronts.answer own.catalogue message text s (length (text_of s)) d.reading own.lawful own.answers whole d.reads in
+      let read = fronts.answer own.catalogue message text s (length (text_of s)) d.seen.reading own.lawful own.answers whole d.seen.reads in
       read ∙ whole_seen s ∙ ap (λ (r : Response). reply_seen r.reply r.body) response
       ∙ part_seen p span.first span.last (is_current tag p.tag) (nat_lt span.first (length p.file)) (λ c. let low = fits c in grind (arith, nat_tests))
 
@@ -113,13 +113,13 @@ record Does (k : Case) (p : SeenPiece) (old new : ClientState) (what : Delivered
   revision : revision_of new ≡ (take_by k (holding old) p).leaves.revision
   blocks : AreSame (take_by k (holding old) p).leaves.blocks (blocks_of new)
 
-does_of : (k : Case) (p : SeenPiece) (old new : ClientState) (text : List ℕ) (what : Delivered) → (d : Delivers old text what new) → d.reading ≡ Ok p → case_of (revision_of old) (asked_of old) p ≡ k → Does k p old new what
+does_of : (k : Case) (p : SeenPiece) (old new : ClientState) (text : List ℕ) (what : Delivered) → (d : DeliversKeeping old text what new) → d.seen.reading ≡ Ok p → case_of (revision_of old) (asked_of old) p ≡ k → Does k p old new what
 does_of k p old new text what d reading is =
-    let same : taken (holding old) d.reading ≡ take_by k (holding old) p = ap (taken (holding old)) reading ∙ ap (λ c. take_by c (holding old) p) is in
+    let same : taken (holding old) d.seen.reading ≡ take_by k (holding old) p = ap (taken (holding old)) reading ∙ ap (λ c. take_by c (holding old) p) is in
     record {
-      says = d.answers ∙ ap (λ t. t.says) same;
-      revision = d.revision ∙ ap (λ t. t.leaves.revision) same;
-      blocks = subst (λ (b : Blocks). AreSame b (blocks_of new)) (ap (λ t. t.leaves.blocks) same) d.blocks;
+      says = d.seen.answers ∙ ap (λ t. t.says) same;
+      revision = d.seen.revision ∙ ap (λ t. t.leaves.revision) same;
+      blocks = subst (λ (b : Blocks). AreSame b (blocks_of new)) (ap (λ t. t.leaves.blocks) same) d.seen.blocks;
     }
 
 took : (what : Delivered) (n : ℕ) → what ≡ Took n → IsIgnored what → ⊥
@@ -272,9 +272,9 @@ fewer law brought some p c v s size knows l =
 -- ---- the three cases
 
 module _ (answered : ClientsAreAnswered) (fronts : FrontsAreRead) (named : PublishedIsNamed) (old new : ClientState) (p : Publication) (span : Span) (text : List ℕ) (what : Delivered)
-    (own : IsOwnAnswer old p span text) (d : Delivers old text what new) where
+    (own : IsOwnAnswer old p span text) (d : DeliversKeeping old text what new) where
   -- whatever case applies to the piece that is read
-  brings : (k : Case) (v : Option Revision) (piece : SeenPiece) → IsCase k p v piece → revision_of old ≡ v → d.reading ≡ Ok piece → case_of v (Some span) piece ≡ k
+  brings : (k : Case) (v : Option Revision) (piece : SeenPiece) → IsCase k p v piece → revision_of old ≡ v → d.seen.reading ≡ Ok piece → case_of v (Some span) piece ≡ k
       → (tag_of old ≡ Some p.tag → left p.file new + 1 ≤ left p.file old) → BringsOn p old new what
   brings k v piece case is reading applies less =
       let at : case_of (revision_of old) (asked_of old) piece ≡ k = ap (λ o. case_of o (asked_of old) piece) is ∙ ap (λ a. case_of v a piece) own.asked ∙ applies in
@@ -285,7 +285,7 @@ module _ (answered : ClientsAreAnswered) (fronts : FrontsAreRead) (named : Publi
         less = less;
       }
 
-  read_as : (known : Option (List ℕ)) → tag_of old ≡ known → (is_current known p.tag ≡ true → span.first < length p.file) → d.reading ≡ Ok (piece_for p span.first span.last known)
+  read_as : (known : Option (List ℕ)) → tag_of old ≡ known → (is_current known p.tag ≡ true → span.first < length p.file) → d.seen.reading ≡ Ok (piece_for p span.first span.last known)
   read_as known is fits =
       own_reading answered fronts old new p span text what own d (λ t. fits (ap (λ o. is_current o p.tag) (sym is) ∙ t))
       ∙ ap (λ o. Ok (piece_for p span.first span.last o)) is
@@ -322,7 +322,7 @@ module _ (answered : ClientsAreAnswered) (fronts : FrontsAreRead) (named : Publi
       let fits = q.fits in
       let high : span.last < length p.file = omega arith in
       let piece = part p span.first span.last in
-      let reading : d.reading ≡ Ok piece =
+      let reading : d.seen.reading ≡ Ok piece =
       read_as (Some v.tag) tag (λ _. low) ∙ ap (λ t. Ok (cond t (part p span.first (min span.last (length p.file - 1))) (all_of p))) equal
       ∙ ap (λ b. Ok (part p span.first b)) fits in
       let applies = case_taken p v span equal (sym size) high in
@@ -340,9 +340,9 @@ module _ (answered : ClientsAreAnswered) (fronts : FrontsAreRead) (named : Publi
             (part_named p span.first span.last (is_current (tag_of old) p.tag) (nat_lt span.first (length p.file)));
         front = ([], append-nil text ∙ own.shown);
       } in
-      let read = fronts.honest text p d.reading honest d.reads in
+      let read = fronts.honest text p d.seen.reading honest d.seen.reads in
       let still : revision_of new ≡ revision_of old = does.revision in
-      let stays : StaysOf p.file old new = d.file p.file still (piece_of d.reading read) knows in
+      let stays : StaysOf p.file old new = d.file p.file still (piece_of d.seen.reading read) knows in
       let blocks : AreSame (stored_of piece span (blocks_of old)) (blocks_of new) =
       subst (λ a. AreSame (stored_of piece (asked_or_first a) (blocks_of old)) (blocks_of new)) own.asked does.blocks in
       let on = left_on there few missing p.file old new (stored_of piece span (blocks_of old)) blocks stays.come in

@@ -19,7 +19,7 @@ use Rattle.cog_reader.specs.Reader as reader
 use Rattle.cog_client.specs.declared.source.Source.{Source}
 use Rattle.cog_client.specs.Case.{Revision}
 use Rattle.cog_client.specs.Client.{ClientState, Knows, KnowsBy, IsReadingOf, asked_of, blocks_of, query_of, report_of, revision_at, revision_of, to_come}
-use Rattle.cog_client.specs.Calls.{AsksFor, ComesFirst, Lacks, Misses}
+use Rattle.cog_client.specs.Keeps.{AsksFor, ComesFirst, Lacks, Misses}
 use Rattle.cog_client.specs.Going.{AreSame}
 use Rattle.cog_client.specs.Progress.{CostIsMost, DeliveryReports, GoingOnLeavesNoMore, IsAtWork, IsGone, IsOfNeeded, NeededAreAsked, OpeningLeavesCost, RequestReports, blocks_of_ranges, left, left_of, missing_of_range}
 
@@ -78,7 +78,7 @@ left_on there few same f old new b are come =
 
 pub goes_left : FoundAreThere → MissingIsFew → MissingIsSame → GoingOnLeavesNoMore
 unfolding left
-goes_left there few same old new f goes knows = left_on there few same f old new (blocks_of old) goes.blocks (goes.file f knows).come
+goes_left there few same old new f goes knows = left_on there few same f old new (blocks_of old) goes.seen.blocks (goes.file f knows).come
 
 -- ---- the cost
 
@@ -153,7 +153,7 @@ pub request_reports : LengthsAreKnown → MissingIsSome → RequestReports
 request_reports lengths some old new request f h work zero = reports lengths some f new work zero (asked_of new) (misses (asked_of new) refl h.asks)
   where
     misses : (o : Option Span) → asked_of new ≡ o → IfSome o (AsksFor new (revision_of new)) → Misses new o
-    misses None is asks = h.silent is
+    misses None is asks = h.seen.silent is
     misses (Some s) is asks = asks
 
 pub delivery_reports : LengthsAreKnown → MissingIsSome → DeliveryReports

@@ -14,7 +14,8 @@ use Rattle.cog_client.specs.declared.report.Report.{Report}
 use Rattle.cog_client.specs.declared.source.Source.{Source}
 use Rattle.cog_client.specs.Case.{Revision}
 use Rattle.cog_client.specs.Client.{ClientState, Knows, IsClient, IsFew, IsStanding, asked_of, blocks_of, host_of, name_of, query_of, report_of, revision_of, tag_of, to_come}
-use Rattle.cog_client.specs.Calls.{AsksFor, GoesOn, ComesFirst, Lacks, Requests, request_for, unless_reported}
+use Rattle.cog_client.specs.Calls.{IsAsked, request_for, unless_reported}
+use Rattle.cog_client.specs.Keeps.{AsksFor, GoesOnKeeping, ComesFirst, Lacks, RequestsKeeping}
 use Rattle.cog_client.specs.Going.{IsMissing}
 use Rattle.cog_client.proofs.GoingLemmas.{end_refl, few_blocks, same_refl}
 use Rattle.cog_client.proofs.ClientLemmas.{goes_by, goes_trans, known}
@@ -39,7 +40,7 @@ module _ (h n : List ℕ) (q : Option Query) (a asked : Option Span) (b : Blocks
   reasked_knows None c f k = tt
   reasked_knows (Some s) c f k = record { reader = k.reader; blocks = k.blocks; report = k.report; sound = c }
 
-  pub reasked : (s : Option Source) → IsClient (known h n q asked s b r) → GoesOn (known h n q a s b r) (known h n q asked s b r)
+  pub reasked : (s : Option Source) → IsClient (known h n q asked s b r) → GoesOnKeeping (known h n q a s b r) (known h n q asked s b r)
   unfolding host_of name_of query_of revision_of blocks_of to_come
   reasked s c =
       goes_by (known h n q a s b r) (known h n q asked s b r) (record { host = refl; name = refl; query = refl }) refl (same_refl b)
@@ -55,7 +56,7 @@ module _ (h n : List ℕ) (q : Option Query) (a : Option Span) (s : Option Sourc
   unasked_sound : IsClient (known h n q a s b r) → IsClient (known h n q None s b r)
   unasked_sound c = record { hosted = c.hosted; named = c.named; alone = c.alone; reading = c.reading; standing = standing_still q a r c.standing; few = tt }
 
-  pub unasked : IsClient (known h n q a s b r) → GoesOn (known h n q a s b r) (known h n q None s b r)
+  pub unasked : IsClient (known h n q a s b r) → GoesOnKeeping (known h n q a s b r) (known h n q None s b r)
   unasked c = reasked h n q a None b r s (unasked_sound c)
 
 pub none_asked : (r : Option Report) (a b : Option Span) → a ≡ unless_reported r b → b ≡ None → a ≡ None
@@ -88,6 +89,11 @@ asks_back : (old new : ClientState) (v : Option Revision) (span : Span) → bloc
 asks_back old new None span blocks knows come asks = asks
 asks_back old new (Some v) span blocks knows come l = lacks_back old new v span blocks knows come l
 
+-- what a caller sees of it
+pub is_asked : (c : ClientState) (v : Option Revision) (span : Span) → AsksFor c v span → IsAsked c v span
+is_asked c None span asks = asks
+is_asked c (Some v) span l = (l.range, l.missing)
+
 few_asked : (c : ClientState) (v : Option Revision) (span : Span) → AsksFor c v span → IsFew span
 few_asked c None span is = let first = ap (λ (s : Span). s.first) is in let last = ap (λ (s : Span). s.last) is in omega arith
 few_asked c (Some v) span l = few_missing (blocks_of c) v.complete l.range span l.missing
@@ -111,18 +117,25 @@ module _ (h n : List ℕ) (q : Option Query) (a : Option Span) (s : Option Sourc
     few = few_asked mid (revision_of mid) span asks;
   }
 
-  pub requested : (old : ClientState) (text : List ℕ) → GoesOn old mid → IsClient mid → IsClient new → is_some (query_of old) ≡ true → is_some (report_of old) ≡ false → report_of mid ≡ None
-      → Some text ≡ request_for mid (Some span) → CanAsk (host_of mid) (name_of mid) span.first span.last (tag_of mid) → AsksFor mid (revision_of mid) span → Requests old (Some text) new
+  pub requested : (old : ClientState) (text : List ℕ) → GoesOnKeeping old mid → IsClient mid → IsClient new → is_some (query_of old) ≡ true → is_some (report_of old) ≡ false → report_of mid ≡ None
+      → Some text ≡ request_for mid (Some span) → CanAsk (host_of mid) (name_of mid) span.first span.last (tag_of mid) → AsksFor mid (revision_of mid) span → RequestsKeeping old (Some text) new
   unfolding host_of name_of query_of asked_of revision_of report_of blocks_of to_come
-  requested old text goes c d query quiet none is can asks = record {
-    goes = goes_trans old mid new goes (reasked h n q a (Some span) b r s d);
-    text = is ∙ same_text old mid span goes.same.host goes.same.name goes.revision;
-    asks = asks_back mid new (revision_of mid) span refl (λ f k. ((reasked h n q (Some span) a b r s c).file f k).knows) (λ f. refl) asks;
-    lawful = same_lawful old mid span goes.same.host goes.same.name goes.revision can;
-    silent = λ none_is. absurd (none-some span (sym none_is));
-    idle = λ idle. absurd (elim idle [
-      | inl none_is ↦ false≢true (sym (ap is_some (sym goes.same.query ∙ none_is)) ∙ query)
-      | inr some ↦ false≢true (sym (ap is_some none) ∙ some)
-    ]);
-    report = λ some. absurd (false≢true (sym quiet ∙ some));
-  }
+  requested old text goes c d query quiet none is can asks =
+      let on = goes_trans old mid new goes (reasked h n q a (Some span) b r s d) in
+      let asking = asks_back mid new (revision_of mid) span refl (λ f k. ((reasked h n q (Some span) a b r s c).file f k).knows) (λ f. refl) asks in
+      record {
+        seen = record {
+          goes = on.seen;
+          text = is ∙ same_text old mid span goes.seen.same.host goes.seen.same.name goes.seen.revision;
+          asks = is_asked new (revision_of mid) span asking;
+          lawful = same_lawful old mid span goes.seen.same.host goes.seen.same.name goes.seen.revision can;
+          silent = λ none_is. absurd (none-some span (sym none_is));
+          idle = λ idle. absurd (elim idle [
+            | inl none_is ↦ false≢true (sym (ap is_some (sym goes.seen.same.query ∙ none_is)) ∙ query)
+            | inr some ↦ false≢true (sym (ap is_some none) ∙ some)
+          ]);
+          report = λ some. absurd (false≢true (sym quiet ∙ some));
+        };
+        goes = on;
+        asks = asking;
+      }

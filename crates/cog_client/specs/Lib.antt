@@ -4,6 +4,7 @@ pub mod Report
 pub mod Client
 pub mod Going
 pub mod Calls
+pub mod Keeps
 pub mod Steps
 pub mod Check
 pub mod Transport

@@ -15,7 +15,7 @@ use Rattle.cog_client.specs.declared.delivered.Delivered.{Delivered}
 use Rattle.cog_client.specs.Case.{Revision}
 use Rattle.cog_client.specs.Take.{IsIgnored}
 use Rattle.cog_client.specs.Client.{ClientState, Knows, asked_of, blocks_of, host_of, name_of, query_of, report_of, revision_of, tag_of, to_come}
-use Rattle.cog_client.specs.Calls.{AsksFor, Delivers, GoesOn, Opens, Requests}
+use Rattle.cog_client.specs.Keeps.{AsksFor, DeliversKeeping, GoesOnKeeping, OpensKeeping, RequestsKeeping}
 
 -- ---- counting
 
@@ -42,11 +42,11 @@ CostIsMost = (c : ClientState) (f : List ℕ) → Knows f c → IfSome (query_of
 
 -- So it is after an opening.
 abbrev pub OpeningLeavesCost : Type 0
-OpeningLeavesCost = (old new : ClientState) (q : Query) (f : List ℕ) → Opens q old new → Knows f old → left f new ≤ cost f q
+OpeningLeavesCost = (old new : ClientState) (q : Query) (f : List ℕ) → OpensKeeping q old new → Knows f old → left f new ≤ cost f q
 
 -- Going on, as each request does, never leaves more.
 abbrev pub GoingOnLeavesNoMore : Type 0
-GoingOnLeavesNoMore = (old new : ClientState) (f : List ℕ) → GoesOn old new → Knows f old → left f new ≤ left f old
+GoingOnLeavesNoMore = (old new : ClientState) (f : List ℕ) → GoesOnKeeping old new → Knows f old → left f new ≤ left f old
 
 -- ---- nothing left
 
@@ -59,12 +59,12 @@ pub record IsAtWork (f : List ℕ) (c : ClientState) : Type 0 where
 -- After a request that leaves nothing the report stands.
 abbrev pub RequestReports : Type 0
 RequestReports = (old new : ClientState) (request : Option (List ℕ)) (f : List ℕ) →
-    Requests old request new → IsAtWork f new → left f new ≡ 0 → IsSome (report_of new)
+    RequestsKeeping old request new → IsAtWork f new → left f new ≡ 0 → IsSome (report_of new)
 
 -- So it does after an answer that isn't ignored.
 abbrev pub DeliveryReports : Type 0
 DeliveryReports = (old new : ClientState) (text : List ℕ) (what : Delivered) (f : List ℕ) →
-    Delivers old text what new → (IsIgnored what → ⊥) → IsAtWork f new → left f new ≡ 0 → IsSome (report_of new)
+    DeliversKeeping old text what new → (IsIgnored what → ⊥) → IsAtWork f new → left f new ≡ 0 → IsSome (report_of new)
 
 -- ---- what is asked
 
@@ -119,4 +119,4 @@ pub record BringsOn (p : Publication) (old new : ClientState) (what : Delivered)
 abbrev pub OwnAnswersBringOn : Type 0
 OwnAnswersBringOn = (old new : ClientState) (p : Publication) (span : Span) (text : List ℕ) (what : Delivered) →
     IsOwnAnswer old p span text → (tag_of old ≡ Some p.tag → Knows p.file old) →
-    Delivers old text what new → BringsOn p old new what
+    DeliversKeeping old text what new → BringsOn p old new what

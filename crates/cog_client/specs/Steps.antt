@@ -11,7 +11,8 @@ use Rattle.cog_client.specs.declared.source.Source.{Source}
 use Rattle.cog_client.specs.Take.{asked_or_first, stored_count, emptied, revision_of_piece, stored_front, stored_of}
 use Rattle.cog_client.specs.Client.{ClientState, Knows, asked_of, blocks_of, report_of, revision_of}
 use Rattle.cog_client.specs.Going.{AreSame}
-use Rattle.cog_client.specs.Calls.{Rests, SameClient, StaysOf, unless_reported}
+use Rattle.cog_client.specs.Calls.{SameClient, unless_reported}
+use Rattle.cog_client.specs.Keeps.{Rests, StaysOf}
 
 -- the report is the reader's answer to the query, under the tag of what is read
 abbrev pub IsReportBy : Query → Source → Report → Type 0

@@ -80,7 +80,8 @@ impl Client {
     ghost use Rattle.cog_client.specs.declared.delivered.Current.TheVariants.{Same};
     ghost use Rattle.cog_client.specs.Client.{client_refusal, IsFew, IsClientRefusal, asked_of, host_of, name_of, blocks_of, query_of, report_of, revision_of, tag_of};
     ghost use Rattle.cog_client.specs.Take.{brought_by, stored_count, revision_of_piece};
-    ghost use Rattle.cog_client.specs.Calls.{Delivers, Forgets, GoesOn, Misses, Opens, Requests, Stands, Starts, StopsAsking, StopsDelivery, request_for, unless_reported};
+    ghost use Rattle.cog_client.specs.Calls.{Forgets, Starts, request_for, unless_reported};
+    ghost use Rattle.cog_client.specs.Keeps.{DeliversKeeping, GoesOnKeeping, Misses, OpensKeeping, RequestsKeeping, Stands, StopsAsking, StopsDelivery};
     ghost use Rattle.cog_reader.specs.Reader.{outcome_of};
     ghost use Rattle.cog_client.specs.Steps.{Adopts, Stores, StopsStoring, AcceptsPiece};
     ghost use Rattle.cog_client.specs.Check.{IsCurrent, IsStillThere, check_of};
@@ -128,7 +129,7 @@ impl Client {
     /// Asks a query, in the place of the one before. Nothing is asked of the server any more, and no report stands; what is
     /// known of the file stays: its revision, directories, the tile arrays that were read, and blocks. It takes no memory.
     pub fn open(&mut self, query: Query)
-        ensures { Opens query self.old self.new }
+        ensures { OpensKeeping query self.old self.new }
     {
         end_is_wanted();
         self.query = Some(query);
@@ -189,7 +190,7 @@ impl Client {
     /// and with an If-Range of the revision's tag (section 13.1.5), if there is one. There is none without a query, or where a
     /// report stands. After `Memory`, the only error, nothing is asked.
     pub fn request(&mut self) -> Result<Option<Vec<u8>>, Memory>
-        ensures ok { IfOk result (λ o. Requests self.old (option_map (λ v. v.items) o) self.new) }
+        ensures ok { IfOk result (λ o. RequestsKeeping self.old (option_map (λ v. v.items) o) self.new) }
         ensures err { OnErr result (StopsAsking self.old self.new) }
     {
         self.asked = None;
@@ -208,7 +209,7 @@ impl Client {
     /// Goes on, and says what is missing then: of a file that nothing is known of, its first bytes.
     fn missing(&mut self) -> Result<Option<Span>, Memory>
         requires { report_of self.old ≡ None }
-        ensures goes { GoesOn self.old self.new }
+        ensures goes { GoesOnKeeping self.old self.new }
         ensures asked { asked_of self.new ≡ unless_reported (report_of self.new) (asked_of self.old) }
         ensures ok { IfOk result (Misses self.new) }
         ensures silent { IfOk result (λ o. IsSome o → report_of self.new ≡ None) }
@@ -234,7 +235,7 @@ impl Client {
     fn go_on(&mut self) -> Result<Option<Span>, Memory>
         requires report { report_of self.old ≡ None }
         requires reads { IsSome (revision_of self.old) }
-        ensures goes { GoesOn self.old self.new }
+        ensures goes { GoesOnKeeping self.old self.new }
         ensures asked { asked_of self.new ≡ unless_reported (report_of self.new) (asked_of self.old) }
         ensures ok { IfOk result (Misses self.new) }
         ensures silent { IfOk result (λ o. IsSome o → report_of self.new ≡ None) }
@@ -261,7 +262,7 @@ impl Client {
     /// Takes the reader's answer for the report, where there is one, which ends what is asked for.
     fn stand(&mut self)
         requires { report_of self.old ≡ None }
-        ensures goes { GoesOn self.old self.new }
+        ensures goes { GoesOnKeeping self.old self.new }
         ensures asked { asked_of self.new ≡ unless_reported (report_of self.new) (asked_of self.old) }
         ensures reports { IsSome (query_of self.old)
             → IfSome self.old.source (λ s. IsSome (outcome_of s.reader) → IsSome (report_of self.new)) }
@@ -286,7 +287,7 @@ impl Client {
     /// changed nothing, so many blocks of it were stored, or another revision is read from now on. After `Memory`, the only
     /// error, some of its blocks may be stored.
     pub fn deliver(&mut self, answer: &[u8]) -> Result<Delivered, Memory>
-        ensures ok { IfOk result (λ what. Delivers self.old answer.now what self.new) }
+        ensures ok { IfOk result (λ what. DeliversKeeping self.old answer.now what self.new) }
         ensures err { OnErr result (StopsDelivery self.old answer.now self.new) }
     {
         fronts_are_read();

@@ -5,7 +5,8 @@ ghost use Rattle.std.specs.Borrow.{sem};
 ghost use Rattle.std.specs.Io.BufRead.{Rests};
 ghost use Rattle.cog_client.specs.contracts.client.Client.{the_row};
 ghost use Rattle.cog_client.specs.Client.{query_of, report_of};
-ghost use Rattle.cog_client.specs.Calls.{IsIdle, Stands};
+ghost use Rattle.cog_client.specs.Calls.{IsIdle};
+ghost use Rattle.cog_client.specs.Keeps.{Stands};
 ghost use Rattle.cog_client.specs.Transport.{IsInVain, IsTrueOfOne, KeepsReading};
 
 use crate::client::Client;

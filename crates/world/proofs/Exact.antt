@@ -23,7 +23,8 @@ use Rattle.world.specs.declared.event.AnsweredCheck.{AnsweredCheck}
 use Rattle.world.specs.declared.event.Effect.{Effect}
 use Rattle.world.specs.declared.event.Entry.{Entry}
 use Rattle.world.specs.World.{World, Seen, check_in, IsExact, IsExactEntry}
-use Rattle.world.specs.Run.{seen, IsCheckOf, IsChecked, IsCheckBy, Step}
+use Rattle.world.specs.Run.{seen, IsCheckOf, IsChecked, IsCheckBy}
+use Rattle.world.specs.State.{StepKeeping}
 use Rattle.world.specs.LowerLaws.{LowerLaws}
 use Rattle.world.proofs.Lists.{get-map}
 use Rattle.world.proofs.Good.{Good}
@@ -80,7 +81,7 @@ module _ (laws : LowerLaws) where
   exact_at None w cs new i n at g h = let P : Effect → Type 0 = λ e. IfSome (check_in e) (IsExact w i) in subst P (sym h.done) tt
   exact_at (Some c) w cs new i n at g h = exact_checked w cs i c h.check n.effect g at h.checked
 
-  pub exact_step : (w : World) (cs : List ClientState) (e : Event) (n : Entry) (new : List ClientState) → Good w cs → Step w cs e n new → IsExactEntry w e n
+  pub exact_step : (w : World) (cs : List ClientState) (e : Event) (n : Entry) (new : List ClientState) → Good w cs → StepKeeping w cs e n new → IsExactEntry w e n
   exact_step w cs (Publish name file) n new g h = tt
   exact_step w cs (Epoch e) n new g h = tt
   exact_step w cs (NewClient name blocks) n new g h = tt

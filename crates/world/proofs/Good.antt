@@ -16,7 +16,7 @@ use Rattle.cog_server.specs.declared.error.PublishError.{PublishError}
 use Rattle.cog_server.specs.declared.server.Answer.{Answer}
 use Rattle.cog_server.specs.Server.{ServerState, refusal_of}
 use Rattle.cog_client.specs.declared.error.ClientError.{ClientError}
-use Rattle.cog_client.specs.Client.{ClientState, ClientAgrees, client_refusal, name_of, query_of}
+use Rattle.cog_client.specs.Client.{ClientState, ClientAgrees, KnowsOne, client_refusal, name_of, query_of, revision_of}
 use Rattle.world.specs.declared.event.Event.{Event}
 use Rattle.world.specs.declared.event.Event.TheVariants.{Publish, Epoch, NewClient, Open, Forget, Ask, AskFrom, Deliver, Exchange, Check}
 use Rattle.world.specs.declared.event.Effect.{Effect}
@@ -252,6 +252,11 @@ good_after w cs e effect g new =
       agree = g.agree;
       honest = honest_added (answer_in effect) w.sent (scheduled w e).book (subst (λ xs. SentHonest xs (scheduled w e).book) (sent_stays w e) g.honest) new;
     }
+
+-- a client without a revision agrees with every book
+pub nothing_agrees : (c : ClientState) → revision_of c ≡ None → (book : Book) → ClientAgrees c book
+unfolding ClientAgrees
+nothing_agrees c none book = subst (λ o. IfSome o (KnowsOne c book)) (sym none) tt
 
 pub agree_set : (cs : List ClientState) (i : ℕ) (c next : ClientState) (book : Book) → slice_get cs i ≡ Some c → AllAgree cs book → AgreesLater next book → AllAgree (slice_set cs i next) book
 agree_set cs i c next book there all new = λ j d e. elim (get-set cs i j next d c there e) [

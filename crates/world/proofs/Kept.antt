@@ -6,7 +6,7 @@ use Rattle.std.proofs.lemmas.Option.{none-some}
 use Rattle.cog_server.specs.declared.server.Answer.{Answer}
 use Rattle.world.specs.declared.event.Entry.{Entry}
 use Rattle.world.specs.World.{answer_in}
-use Rattle.world.specs.Run.{AreKept, answer_at, noted}
+use Rattle.world.specs.State.{AreKept, answer_at, noted}
 
 at_more : (entries : List Entry) (n : Entry) (p : ℕ) (a : Answer) → answer_at entries p ≡ Some a → answer_at (entries ++ n ∷ []) p ≡ Some a
 at_more [] n p a is = absurd (none-some a is)

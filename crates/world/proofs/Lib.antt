@@ -5,4 +5,5 @@ pub mod Exact
 pub mod Needed
 pub mod Reached
 pub mod Kept
+pub mod CallLemmas
 pub mod Whole

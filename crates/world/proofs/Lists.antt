@@ -9,7 +9,8 @@ use Rattle.cog_client.specs.Client.{name_of}
 use Rattle.cog_server.specs.declared.server.Answer.{Answer}
 use Rattle.world.specs.declared.event.Effect.TheVariants as effects
 use Rattle.world.specs.World.{is_for}
-use Rattle.world.specs.Run.{Acts, AtClient, Changes, DeliversWith, IsDelivery, NewReport, Quiet, Tells, cut_at}
+use Rattle.world.specs.Run.{Acts, AtClient, Changes, Quiet, cut_at, news}
+use Rattle.world.specs.State.{DeliversWithKeeping, IsDeliveryKeeping, Keeping}
 
 pub get_there : {A : Type 0} (xs : List A) (i : ℕ) (x : A) → i < length xs → x ≡ get_or xs i x → slice_get xs i ≡ Some x
 get_there [] i x inside is = absurd (omega arith)
@@ -56,24 +57,23 @@ at_client R old i c next n inside is acts =
     let P : Option ClientState → Type 0 = λ o. AtClient o R i n old (slice_set old i next) in
     subst P (sym (get_there old i c inside is)) (record { next = next; changed = refl; acts = acts })
 
-pub tells_of : (had : Bool) (old new : ClientState) (report : Option Told) → had ≡ is_some (report_of old) → NewReport had new report → Tells old new report
-tells_of had old new report is h =
-    record { standing = h.standing; stands = h.stands; newly = h.newly ∙ ap (λ (b : Bool). if b then None else option_map told h.standing) is }
+pub tells_of : (had : Bool) (old new : ClientState) (report : Option Told) → had ≡ is_some (report_of old) → report ≡ (if had then None else option_map told (report_of new)) → report ≡ news old new
+tells_of had old new report is h = h ∙ ap (λ (b : Bool). if b then None else option_map told (report_of new)) is
 
 -- ---- deliveries
 
 -- an answer for another name isn't delivered
 pub not_received : (a : Answer) (o : Option ClientState) (cut : Option ℕ) (i : ℕ) (n : Entry) (old new : List ClientState) (c : ClientState) → o ≡ Some c → false ≡ is_for a (name_of c) → Quiet n effects.Skipped old new
-    → IsDelivery (Some a) o cut i n old new
+    → IsDeliveryKeeping (Some a) o cut i n old new
 not_received a o cut i n old new c at other quiet =
-    let P : Option ClientState → Type 0 = λ o. IsDelivery (Some a) o cut i n old new in
-    let Q : Bool → Type 0 = λ b. AtClient (if b then Some c else None) (DeliversWith (cut_at cut a.text.items) i n.effect) i n old new in
+    let P : Option ClientState → Type 0 = λ o. IsDeliveryKeeping (Some a) o cut i n old new in
+    let Q : Bool → Type 0 = λ b. AtClient (if b then Some c else None) (Keeping (DeliversWithKeeping (cut_at cut a.text.items) i n.effect)) i n old new in
     subst P (sym at) (subst Q other quiet)
 
 -- one for its name is
 pub received : (a : Answer) (o : Option ClientState) (cut : Option ℕ) (i : ℕ) (n : Entry) (old new : List ClientState) (c : ClientState) → o ≡ Some c → true ≡ is_for a (name_of c)
-    → Changes (DeliversWith (cut_at cut a.text.items) i n.effect) i c n old new → IsDelivery (Some a) o cut i n old new
+    → Changes (Keeping (DeliversWithKeeping (cut_at cut a.text.items) i n.effect)) i c n old new → IsDeliveryKeeping (Some a) o cut i n old new
 received a o cut i n old new c at own changes =
-    let P : Option ClientState → Type 0 = λ o. IsDelivery (Some a) o cut i n old new in
-    let Q : Bool → Type 0 = λ b. AtClient (if b then Some c else None) (DeliversWith (cut_at cut a.text.items) i n.effect) i n old new in
+    let P : Option ClientState → Type 0 = λ o. IsDeliveryKeeping (Some a) o cut i n old new in
+    let Q : Bool → Type 0 = λ b. AtClient (if b then Some c else None) (Keeping (DeliversWithKeeping (cut_at cut a.text.items) i n.effect)) i n old new in
     subst P (sym at) (subst Q own changes)

@@ -10,7 +10,8 @@ use Rattle.http_range.specs.Book.{Publication, Book, HasDistinctTags, In}
 use Rattle.cog_client.specs.declared.error.ClientError.{ClientError}
 use Rattle.cog_client.specs.Case.{Revision}
 use Rattle.cog_client.specs.Client.{ClientState, Knows, KnowsOne, ClientAgrees, asked_of, client_refusal, host_of, name_of, query_of, revision_of, tag_of}
-use Rattle.cog_client.specs.Calls.{AsksFor as AsksFor, Requests, request_for}
+use Rattle.cog_client.specs.Calls.{Requests, request_for}
+use Rattle.cog_client.specs.Keeps.{AsksFor, RequestsKeeping}
 use Rattle.cog_client.specs.Progress.{IsOfNeeded}
 use Rattle.cog_server.specs.declared.server.Answer.{Answer}
 use Rattle.world.specs.declared.event.Event.{Event}
@@ -20,7 +21,8 @@ use Rattle.world.specs.declared.event.Effect.{Effect}
 use Rattle.world.specs.declared.event.Entry.{Entry}
 use Rattle.world.specs.World.{World, Seen, host, is_for}
 use Rattle.world.specs.Progress.{IsNeededEntry, IsNeededBy, IsNeededIn, IsOfPublished, asked_in}
-use Rattle.world.specs.Run.{Asks, AsksWith, AtClient, DeliversWith, ExchangesWith, ForgetsAll, IsCheckBy, IsDelivery, IsExchanged, MakesBy, OpensWith, Step, asked_effect, cut_at, seen}
+use Rattle.world.specs.Run.{Asks, AtClient, ExchangesWith, ForgetsAll, IsCheckBy, IsExchanged, MakesBy, asked_effect, cut_at, seen}
+use Rattle.world.specs.State.{AsksWithKeeping, DeliversWithKeeping, ExchangesWithKeeping, IsDeliveryKeeping, Keeping, OpensWithKeeping, StepKeeping, request_in}
 use Rattle.world.specs.LowerLaws.{LowerLaws}
 use Rattle.world.proofs.Lists.{get-map, get-push, get-set}
 use Rattle.world.proofs.Good.{Good}
@@ -58,30 +60,30 @@ hosted_exchange catalogue sent i effect c next h = at h.asked h.exchanged
     at None e = ap host_of e.1 ∙ h.asks.requests.goes.same.host
     at (Some a) e = e.2.same.host ∙ h.asks.requests.goes.same.host
 
-hosted_delivery : (o : Option Answer) (client : Option ClientState) (cut : Option ℕ) (i : ℕ) (n : Entry) (old new : List ClientState) → slice_get old i ≡ client → IsDelivery o client cut i n old new → AllHosted old → AllHosted new
+hosted_delivery : (o : Option Answer) (client : Option ClientState) (cut : Option ℕ) (i : ℕ) (n : Entry) (old new : List ClientState) → slice_get old i ≡ client → IsDeliveryKeeping o client cut i n old new → AllHosted old → AllHosted new
 hosted_delivery None client cut i n old new at h all = hosted_same old new h.same all
 hosted_delivery (Some a) None cut i n old new at h all = hosted_same old new h.same all
 hosted_delivery (Some a) (Some c) cut i n old new at h all = by (is_for a (name_of c)) h
   where
-    by : (b : Bool) → AtClient (cond b (Some c) None) (DeliversWith (cut_at cut a.text.items) i n.effect) i n old new → AllHosted new
-    by true k = hosted_at (DeliversWith (cut_at cut a.text.items) i n.effect) (λ c next d. d.delivers.same.host) (Some c) i n old new at k all
+    by : (b : Bool) → AtClient (cond b (Some c) None) (Keeping (DeliversWithKeeping (cut_at cut a.text.items) i n.effect)) i n old new → AllHosted new
+    by true k = hosted_at (Keeping (DeliversWithKeeping (cut_at cut a.text.items) i n.effect)) (λ c next d. d.does.delivers.seen.same.host) (Some c) i n old new at k all
     by false k = hosted_same old new k.same all
 
 hosted_check : (o : Option ClientState) (catalogue : _) (sent i : ℕ) (n : Entry) (old new : List ClientState) → IsCheckBy o catalogue sent i n old new → AllHosted old → AllHosted new
 hosted_check None catalogue sent i n old new h all = hosted_same old new h.same all
 hosted_check (Some c) catalogue sent i n old new h all = hosted_same old new h.same all
 
-pub hosted_step : (w : World) (cs : List ClientState) (e : Event) (n : Entry) (new : List ClientState) → Step w cs e n new → AllHosted cs → AllHosted new
+pub hosted_step : (w : World) (cs : List ClientState) (e : Event) (n : Entry) (new : List ClientState) → StepKeeping w cs e n new → AllHosted cs → AllHosted new
 hosted_step w cs (Publish name file) n new h all = hosted_same cs new h.same all
 hosted_step w cs (Epoch e) n new h all = hosted_same cs new h.1.same all
 hosted_step w cs (NewClient name blocks) n new h all = hosted_made (client_refusal host name.items blocks) name.items blocks n cs new h all
-hosted_step w cs (Open i q) n new h all = hosted_at (OpensWith q i n.effect) (λ c next o. o.opens.host) (slice_get cs i) i n cs new refl h all
-hosted_step w cs (Forget i) n new h all = hosted_at (ForgetsAll i n.effect) (λ c next f. f.forgets.same.host) (slice_get cs i) i n cs new refl h all
+hosted_step w cs (Open i q) n new h all = hosted_at (Keeping (OpensWithKeeping q i n.effect)) (λ c next o. o.does.opens.seen.host) (slice_get cs i) i n cs new refl h all
+hosted_step w cs (Forget i) n new h all = hosted_at (Keeping (ForgetsAll i n.effect)) (λ c next f. f.does.forgets.same.host) (slice_get cs i) i n cs new refl h all
 hosted_step w cs (Ask message) n new h all = hosted_same cs new h.1 all
-hosted_step w cs (AskFrom i) n new h all = hosted_at (AsksWith w.catalogue (length w.sent) i n.effect) (λ c next a. a.asks.requests.goes.same.host) (slice_get cs i) i n cs new refl h all
+hosted_step w cs (AskFrom i) n new h all = hosted_at (Keeping (AsksWithKeeping w.catalogue (length w.sent) i n.effect)) (λ c next a. a.does.requests.seen.goes.same.host) (slice_get cs i) i n cs new refl h all
 hosted_step w cs (Deliver i a cut) n new h all = hosted_delivery (slice_get w.sent a) (slice_get cs i) cut i n cs new refl h all
 hosted_step w cs (Exchange i) n new h all =
-    hosted_at (ExchangesWith w.catalogue (length w.sent) i n.effect) (hosted_exchange w.catalogue (length w.sent) i n.effect) (slice_get cs i) i n cs new refl h all
+    hosted_at (Keeping (ExchangesWithKeeping w.catalogue (length w.sent) i n.effect)) (λ c next e. hosted_exchange w.catalogue (length w.sent) i n.effect c next e.does.seen) (slice_get cs i) i n cs new refl h all
 hosted_step w cs (Check i) n new h all = hosted_check (slice_get cs i) w.catalogue (length w.sent) i n cs new h all
 
 -- ---- what a client knows
@@ -137,16 +139,16 @@ module _ (laws : LowerLaws) where
       at None is = absurd (none-some span (sym (r.idle (inl is)) ∙ asked))
       at (Some q) is = (q, is)
 
-  needed_asked : (w : World) (cs : List ClientState) (i : ℕ) (c mid : ClientState) (a : AnsweredRequest) → Good w cs → AllHosted cs → slice_get cs i ≡ Some c → Asks w.catalogue (length w.sent) i (Some a) c mid → IsNeededIn w a
-  needed_asked w cs i c mid a g hosts at h =
+  needed_asked : (w : World) (cs : List ClientState) (i : ℕ) (c mid : ClientState) (a : AnsweredRequest) → Good w cs → AllHosted cs → slice_get cs i ≡ Some c → Asks w.catalogue (length w.sent) i (Some a) c mid → RequestsKeeping c (Some a.request.items) mid → IsNeededIn w a
+  needed_asked w cs i c mid a g hosts at h k =
       let r = h.requests in
       let answered = h.answered in
       let asked = answered.span in
       let q = asks_query c mid (Some a.request.items) a.span r asked in
       let tag : a.tag ≡ tag_of c = answered.tag ∙ ap (λ x. option_map (λ (v : Revision). v.tag) x) r.goes.revision in
       let text : a.request.items ≡ request_text (host_of c) (name_of c) a.span.first a.span.last (tag_of c) = same_Some _ _ (r.text ∙ ap (request_for c) asked) in
-      let agrees : ClientAgrees mid w.book = r.goes.agrees w.book (g.agree i c at w.book (λ p j. j) g.distinct) in
-      let asks : AsksFor mid (revision_of mid) a.span = subst (λ o. IfSome o (AsksFor mid (revision_of mid))) asked r.asks in
+      let agrees : ClientAgrees mid w.book = k.goes.agrees w.book (g.agree i c at w.book (λ p j. j) g.distinct) in
+      let asks : AsksFor mid (revision_of mid) a.span = subst (λ o. IfSome o (AsksFor mid (revision_of mid))) asked k.asks in
       record {
         seen = seen c;
         there = ap (λ j. slice_get w.clients j) answered.client
@@ -156,34 +158,35 @@ module _ (laws : LowerLaws) where
         needed = needed_by w c mid a (revision_of mid) q.0 refl answered.tag agrees asks r.goes.same.name (sym r.goes.same.query ∙ q.1) q.1;
       }
 
-  needed_of : (w : World) (cs : List ClientState) (i : ℕ) (c mid : ClientState) (o : Option AnsweredRequest) → Good w cs → AllHosted cs → slice_get cs i ≡ Some c → Asks w.catalogue (length w.sent) i o c mid → IfSome o (IsNeededIn w)
-  needed_of w cs i c mid None g hosts at h = tt
-  needed_of w cs i c mid (Some a) g hosts at h = needed_asked w cs i c mid a g hosts at h
+  needed_of : (w : World) (cs : List ClientState) (i : ℕ) (c mid : ClientState) (o : Option AnsweredRequest) → Good w cs → AllHosted cs → slice_get cs i ≡ Some c → Asks w.catalogue (length w.sent) i o c mid → RequestsKeeping c (request_in o) mid → IfSome o (IsNeededIn w)
+  needed_of w cs i c mid None g hosts at h k = tt
+  needed_of w cs i c mid (Some a) g hosts at h k = needed_asked w cs i c mid a g hosts at h k
 
   abbrev InEffect : World → Effect → Type 0
   InEffect w effect = IfSome (asked_in effect) (IsNeededIn w)
 
-  needed_ask_from : (o : Option ClientState) (w : World) (cs new : List ClientState) (i : ℕ) (n : Entry) → slice_get cs i ≡ o → Good w cs → AllHosted cs → AtClient o (AsksWith w.catalogue (length w.sent) i n.effect) i n cs new → InEffect w n.effect
+  needed_ask_from : (o : Option ClientState) (w : World) (cs new : List ClientState) (i : ℕ) (n : Entry) → slice_get cs i ≡ o → Good w cs → AllHosted cs → AtClient o (Keeping (AsksWithKeeping w.catalogue (length w.sent) i n.effect)) i n cs new → InEffect w n.effect
   needed_ask_from None w cs new i n at g hosts h = subst (InEffect w) (sym h.done) tt
   needed_ask_from (Some c) w cs new i n at g hosts h =
-      let d = h.acts.does in
-      by d.asked d.done (needed_of w cs i c h.next d.asked g hosts at d.asks)
+      let d = h.acts.does.does in
+      by d.seen.asked d.seen.done (needed_of w cs i c h.next d.seen.asked g hosts at d.seen.asks d.requests)
     where
       by : (a : Option AnsweredRequest) → n.effect ≡ asked_effect i a → IfSome a (IsNeededIn w) → InEffect w n.effect
       by None is k = subst (InEffect w) (sym is) tt
       by (Some a) is k = subst (InEffect w) (sym is) k
 
-  needed_exchange : (o : Option ClientState) (w : World) (cs new : List ClientState) (i : ℕ) (n : Entry) → slice_get cs i ≡ o → Good w cs → AllHosted cs → AtClient o (ExchangesWith w.catalogue (length w.sent) i n.effect) i n cs new → InEffect w n.effect
+  needed_exchange : (o : Option ClientState) (w : World) (cs new : List ClientState) (i : ℕ) (n : Entry) → slice_get cs i ≡ o → Good w cs → AllHosted cs → AtClient o (Keeping (ExchangesWithKeeping w.catalogue (length w.sent) i n.effect)) i n cs new → InEffect w n.effect
   needed_exchange None w cs new i n at g hosts h = subst (InEffect w) (sym h.done) tt
   needed_exchange (Some c) w cs new i n at g hosts h =
-      let d = h.acts.does in
-      by d.asked d.exchanged (needed_of w cs i c d.mid d.asked g hosts at d.asks)
+      let d = h.acts.does.does in
+      let e = d.seen in
+      by e.asked e.exchanged (needed_of w cs i c e.mid e.asked g hosts at e.asks d.requests)
     where
-      by : (a : Option AnsweredRequest) → IsExchanged i a n.effect h.acts.does.mid h.next → IfSome a (IsNeededIn w) → InEffect w n.effect
+      by : (a : Option AnsweredRequest) → IsExchanged i a n.effect h.acts.does.does.seen.mid h.next → IfSome a (IsNeededIn w) → InEffect w n.effect
       by None is k = subst (InEffect w) (sym is.0) tt
       by (Some a) is k = subst (InEffect w) (sym is.1) k
 
-  pub needed_step : (w : World) (cs : List ClientState) (e : Event) (n : Entry) (new : List ClientState) → Good w cs → AllHosted cs → Step w cs e n new → IsNeededEntry w e n
+  pub needed_step : (w : World) (cs : List ClientState) (e : Event) (n : Entry) (new : List ClientState) → Good w cs → AllHosted cs → StepKeeping w cs e n new → IsNeededEntry w e n
   needed_step w cs (Publish name file) n new g hosts h = tt
   needed_step w cs (Epoch e) n new g hosts h = tt
   needed_step w cs (NewClient name blocks) n new g hosts h = tt

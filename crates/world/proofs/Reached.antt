@@ -15,7 +15,8 @@ use Rattle.cog_client.specs.declared.report.Report.{Report}
 use Rattle.cog_client.specs.Report.{IsTrueReport, Told, told}
 use Rattle.cog_client.specs.Case.{Revision}
 use Rattle.cog_client.specs.Client.{ClientState, Knows, ClientAgrees, asked_of, host_of, name_of, query_of, report_of, tag_of}
-use Rattle.cog_client.specs.Calls.{Delivers, request_for}
+use Rattle.cog_client.specs.Calls.{request_for}
+use Rattle.cog_client.specs.Keeps.{DeliversKeeping, RequestsKeeping}
 use Rattle.cog_client.specs.Progress.{BringsOn, IsAtWork, IsOwnAnswer, left}
 use Rattle.world.specs.declared.event.Event.{Event}
 use Rattle.world.specs.declared.event.Event.TheVariants.{Open, Exchange}
@@ -23,7 +24,8 @@ use Rattle.world.specs.declared.event.AnsweredRequest.{AnsweredRequest}
 use Rattle.world.specs.declared.event.Entry.{Entry}
 use Rattle.world.specs.World.{World, Seen, after, after_all, start}
 use Rattle.world.specs.Progress.{AllReport, HasReport, stretch}
-use Rattle.world.specs.Run.{Asks, AtClient, Changes, ExchangesWith, IsExchanged, OpensWith, Runs, Tells, seen, told_of}
+use Rattle.world.specs.Run.{Asks, AtClient, Changes, IsExchanged, news, seen, told_of}
+use Rattle.world.specs.State.{ExchangesWithKeeping, IsDeliveredKeeping, Keeping, OpensWithKeeping, RunsKeeping, StandsTrue, request_in}
 use Rattle.world.specs.LowerLaws.{LowerLaws}
 use Rattle.world.proofs.Lists.{get-map, get-set_same}
 use Rattle.world.proofs.Good.{Good, good_start}
@@ -33,9 +35,9 @@ use Rattle.world.proofs.Needed.{knows_of, tag_is}
 -- ---- what is told
 
 -- the report that stands after an event, where none stood before it
-told_now : (old new : ClientState) (report : Option Told) → Tells old new report → report_of old ≡ None → report ≡ option_map told (report_of new)
+told_now : (old new : ClientState) (report : Option Told) → report ≡ news old new → report_of old ≡ None → report ≡ option_map told (report_of new)
 told_now old new report t none =
-    t.newly ∙ ap (λ o. if is_some o then None else option_map told t.standing) none ∙ ap (option_map told) t.stands.standing
+    t ∙ ap (λ o. if is_some o then None else option_map told (report_of new)) none
 
 -- ---- one exchange
 
@@ -74,8 +76,9 @@ module _ (laws : LowerLaws) (w : World) (cs : List ClientState) (i : ℕ) (c : C
   in_book name has = g.covers name p has
 
   -- the answer to the client's request is a server's whole answer to what it asks for
-  own : (mid : ClientState) (a : AnsweredRequest) → Asks w.catalogue (length w.sent) i (Some a) c mid → published (name_of c) w.catalogue ≡ Some p → IsOwnAnswer mid p a.span a.answer.text.items
-  own mid a h has =
+  own : (mid : ClientState) (a : AnsweredRequest) → Asks w.catalogue (length w.sent) i (Some a) c mid → RequestsKeeping c (Some a.request.items) mid
+      → published (name_of c) w.catalogue ≡ Some p → IsOwnAnswer mid p a.span a.answer.text.items
+  own mid a h k has =
       let r = h.requests in
       let span = a.span in
       let asked = h.answered.span in
@@ -94,7 +97,7 @@ module _ (laws : LowerLaws) (w : World) (cs : List ClientState) (i : ℕ) (c : C
         lawful = g.lawful;
         has = ap (λ n. published n w.catalogue) name ∙ has;
         asked = asked;
-        asks = some_of (asked_of mid) span _ asked r.asks;
+        asks = some_of (asked_of mid) span _ asked k.asks;
         can = subst (λ h. CanAsk h (name_of mid) span.first span.last (tag_of mid)) (sym host)
             (subst (λ n. CanAsk (host_of c) n span.first span.last (tag_of mid)) (sym name) (subst (λ t. CanAsk (host_of c) (name_of c) span.first span.last t) (sym tag) can));
         response = s.response;
@@ -103,18 +106,18 @@ module _ (laws : LowerLaws) (w : World) (cs : List ClientState) (i : ℕ) (c : C
       }
 
   -- after an answer without a report: fewer exchanges are left
-  fewer : (m : ℕ) (mid next : ClientState) (a : AnsweredRequest) (what : Delivered) (name : List ℕ) → IsReading q name c → published (name_of c) w.catalogue ≡ Some p → Asks w.catalogue (length w.sent) i (Some a) c mid
-      → Delivers mid a.answer.text.items what next → ClientAgrees next w.book → report_of next ≡ None → IsWithin p q (suc m) c → IsWithin p q m next
-  fewer m mid next a what name reading has asks d agrees none within =
+  fewer : (m : ℕ) (mid next : ClientState) (a : AnsweredRequest) (what : Delivered) (name : List ℕ) → IsReading q name c → published (name_of c) w.catalogue ≡ Some p → Asks w.catalogue (length w.sent) i (Some a) c mid → RequestsKeeping c (Some a.request.items) mid
+      → DeliversKeeping mid a.answer.text.items what next → ClientAgrees next w.book → report_of next ≡ None → IsWithin p q (suc m) c → IsWithin p q m next
+  fewer m mid next a what name reading has asks k d agrees none within =
       let f = p.file in
       let r = asks.requests in
       let among = in_book (name_of c) has in
-      let mid_agrees : ClientAgrees mid w.book = r.goes.agrees w.book agrees_now in
+      let mid_agrees : ClientAgrees mid w.book = k.goes.agrees w.book agrees_now in
       let brings : BringsOn p mid next what =
-      laws.brings mid next p a.span a.answer.text.items what (own mid a asks has) (knows_of laws mid w.book p g.distinct mid_agrees among) d in
+      laws.brings mid next p a.span a.answer.text.items what (own mid a asks k has) (knows_of laws mid w.book p g.distinct mid_agrees among) d in
       let tag : tag_of next ≡ Some p.tag = tag_is next (record { tag = p.tag; complete = length f }) brings.revision in
       let knows : Knows f next = knows_of laws next w.book p g.distinct agrees among tag in
-      let query : query_of next ≡ Some q = d.same.query ∙ r.goes.same.query ∙ reading.query in
+      let query : query_of next ≡ Some q = d.seen.same.query ∙ r.goes.same.query ∙ reading.query in
       let work : IsAtWork f next = record { revision = ap is_some brings.revision; knows = knows; query = ap is_some query } in
       let more : 1 ≤ left f next = some_left (left f next) (λ e. (let stands = laws.delivery mid next a.answer.text.items what f d brings.used work e in
       false≢true (sym (ap is_some none) ∙ stands))) in
@@ -127,21 +130,21 @@ module _ (laws : LowerLaws) (w : World) (cs : List ClientState) (i : ℕ) (c : C
           let mid_tag : tag_of mid ≡ Some p.tag = ap (λ x. option_map (λ (v : Revision). v.tag) x) asks.requests.goes.revision ∙ had.0 in
           let among = in_book (name_of c) has in
           let knows = knows_of laws c w.book p g.distinct agrees_now among had.0 in
-          let mid_agrees : ClientAgrees mid w.book = asks.requests.goes.agrees w.book agrees_now in
+          let mid_agrees : ClientAgrees mid w.book = k.goes.agrees w.book agrees_now in
           let brings : BringsOn p mid next what =
-          laws.brings mid next p a.span a.answer.text.items what (own mid a asks has) (knows_of laws mid w.book p g.distinct mid_agrees among) d in
-          omega (arith, had.1, brings.less mid_tag, laws.goes c mid p.file asks.requests.goes knows)
+          laws.brings mid next p a.span a.answer.text.items what (own mid a asks k has) (knows_of laws mid w.book p g.distinct mid_agrees among) d in
+          omega (arith, had.1, brings.less mid_tag, laws.goes c mid p.file k.goes knows)
 
   -- what one exchange comes to: the report is told, or the query is still read
   abbrev Outcome : ℕ → ClientState → Option Report → Type 0
   Outcome m next report = IsSomeAnd report (λ r. r.query ≡ q) ⊎ IsReading q (name_of c) next × IsWithin p q m next
 
   exchanged : (m : ℕ) (n : Entry) (next : ClientState) → IsReading q (name_of c) c → published (name_of c) w.catalogue ≡ Some p → IsWithin p q (suc m) c
-      → ExchangesWith w.catalogue (length w.sent) i n.effect c next → Tells c next (told_of n) → Outcome m next n.report
-  exchanged m n next reading has within h tells = by (report_of next) refl
+      → ExchangesWithKeeping w.catalogue (length w.sent) i n.effect c next → StandsTrue next → told_of n ≡ news c next → Outcome m next n.report
+  exchanged m n next reading has within h stands_true tells = by (report_of next) refl
     where
       kept : IsKept c next w.book
-      kept = exchanged_kept laws w cs i h.asked n.effect c h.mid next g h.asks h.exchanged (g.agree i c at)
+      kept = exchanged_kept laws w cs i h.seen.asked n.effect c h.seen.mid next g h.seen.asks h.requests h.seen.exchanged h.delivers (g.agree i c at)
 
       agrees : ClientAgrees next w.book
       agrees = kept.agrees w.book (λ p j. j) g.distinct
@@ -149,23 +152,24 @@ module _ (laws : LowerLaws) (w : World) (cs : List ClientState) (i : ℕ) (c : C
       query : query_of next ≡ Some q
       query = ap (λ (s : Seen). s.query) kept.same ∙ reading.query
 
-      silently : (o : Option AnsweredRequest) → Asks w.catalogue (length w.sent) i o c h.mid → IsExchanged i o n.effect h.mid next → report_of next ≡ None → IsWithin p q m next
-      silently None asks e none =
+      silently : (o : Option AnsweredRequest) → Asks w.catalogue (length w.sent) i o c h.seen.mid → RequestsKeeping c (request_in o) h.seen.mid → IsExchanged i o n.effect h.seen.mid next → IsDeliveredKeeping o h.seen.mid next
+          → report_of next ≡ None → IsWithin p q m next
+      silently None asks k e d none =
           let r = asks.requests in
-          let unasked = no_request c (asked_of h.mid) r.text in
+          let unasked = no_request c (asked_of h.seen.mid) r.text in
           absurd (elim (r.silent unasked) [
             | inl no_query ↦ false≢true (sym (ap is_some no_query) ∙ ap is_some (r.goes.same.query ∙ reading.query))
             | inr stands ↦ false≢true (sym (ap is_some none) ∙ ap (λ (x : ClientState). is_some (report_of x)) e.1 ∙ stands)
           ])
-      silently (Some a) asks e none = fewer m h.mid next a e.0 (name_of c) reading has asks e.2 agrees none within
+      silently (Some a) asks k e d none = fewer m h.seen.mid next a d.0 (name_of c) reading has asks k d.1 agrees none within
 
       asked : (r : Report) → report_of next ≡ Some r → r.query ≡ q
       asked r stands =
-          let true_now = some_of tells.standing r (λ (t : Report). IsTrueReport t (name_of next) (query_of next) w.book) (tells.stands.standing ∙ stands) (tells.stands.holds w.book agrees) in
+          let true_now = some_of (report_of next) r (λ (t : Report). IsTrueReport t (name_of next) (query_of next) w.book) stands (stands_true w.book agrees) in
           same_Some _ _ (sym true_now.asked ∙ query)
 
       by : (o : Option Report) → report_of next ≡ o → Outcome m next n.report
-      by None none = inr (record { query = query; name_is = ap (λ (s : Seen). s.name) kept.same; silent = none }, silently h.asked h.asks h.exchanged none)
+      by None none = inr (record { query = query; name_is = ap (λ (s : Seen). s.name) kept.same; silent = none }, silently h.seen.asked h.seen.asks h.requests h.seen.exchanged h.delivers none)
       by (Some r) stands = inl (report_for n.report r q (told_now c next (told_of n) tells reading.silent ∙ ap (option_map told) stands) (asked r stands))
 
 -- ---- a stretch
@@ -173,17 +177,17 @@ module _ (laws : LowerLaws) (w : World) (cs : List ClientState) (i : ℕ) (c : C
 module _ (laws : LowerLaws) (i : ℕ) (q : Query) (p : Publication) where
   -- so many exchanges have a report
   reach : (m : ℕ) (name : List ℕ) (w : World) (cs : List ClientState) (c : ClientState) (n : ℕ) (later : List Event) (ns : List Entry) (new : List ClientState) → Good w cs → slice_get cs i ≡ Some c → IsReading q name c
-      → published name w.catalogue ≡ Some p → IsWithin p q m c → m ≤ n → Runs w cs (replicate n (Exchange i) ++ later) ns new → HasReport i q (take m (replicate n (Exchange i) ++ later)) (take m ns)
+      → published name w.catalogue ≡ Some p → IsWithin p q m c → m ≤ n → RunsKeeping w cs (replicate n (Exchange i) ++ later) ns new → HasReport i q (take m (replicate n (Exchange i) ++ later)) (take m ns)
   reach zero name w cs c n later ns new g at reading has within enough h = absurd (elim within [ inl low ↦ omega arith | inr had ↦ omega (arith, had.2) ])
   reach (suc m) name w cs c zero later ns new g at reading has within enough h = absurd (omega arith)
   reach (suc m) name w cs c (suc n) later [] new g at reading has within enough h = absurd h
   reach (suc m) name w cs c (suc n) later (x ∷ ns) new g at reading has within enough (mid, step, rest) =
-      let R = ExchangesWith w.catalogue (length w.sent) i x.effect in
+      let R = Keeping (ExchangesWithKeeping w.catalogue (length w.sent) i x.effect) in
       let changes : Changes R i c x cs mid = subst (λ o. AtClient o R i x cs mid) at step in
       let own_name : name_of c ≡ name = reading.name_is in
       let mine : IsReading q (name_of c) c = record { query = reading.query; name_is = refl; silent = reading.silent } in
       let there : slice_get mid i ≡ Some changes.next = ap (λ (xs : List ClientState). slice_get xs i) changes.changed ∙ get-set_same cs i changes.next c at in
-      elim (exchanged laws w cs i c g at p q m x changes.next mine (ap (λ n. published n w.catalogue) own_name ∙ has) within changes.acts.does changes.acts.tells) [
+      elim (exchanged laws w cs i c g at p q m x changes.next mine (ap (λ n. published n w.catalogue) own_name ∙ has) within changes.acts.does.does changes.acts.does.stands changes.acts.tells) [
         | inl told ↦ inl (refl, told)
         | inr on ↦
             let next : IsReading q name changes.next = record { query = on.0.query; name_is = on.0.name_is ∙ own_name; silent = on.0.silent } in
@@ -196,29 +200,29 @@ module _ (laws : LowerLaws) (i : ℕ) (q : Query) (p : Publication) where
   client_at cs s (Some c) at is = (c, at, ap (λ (x : Seen). x.name) (same_Some _ _ is))
 
   from_opening : (w : World) (cs : List ClientState) (n : ℕ) (later : List Event) (ns : List Entry) (new : List ClientState) (s : Seen) → Good w cs → slice_get w.clients i ≡ Some s → published s.name w.catalogue ≡ Some p
-      → suc (cost p.file q) ≤ n → Runs w cs (stretch i q n ++ later) ns new → HasReport i q (take (suc (cost p.file q)) (drop 1 (stretch i q n ++ later))) (take (suc (cost p.file q)) (drop 1 ns))
+      → suc (cost p.file q) ≤ n → RunsKeeping w cs (stretch i q n ++ later) ns new → HasReport i q (take (suc (cost p.file q)) (drop 1 (stretch i q n ++ later))) (take (suc (cost p.file q)) (drop 1 ns))
   from_opening w cs n later [] new s g there has enough h = absurd h
   from_opening w cs n later (x ∷ ns) new s g there has enough (mid, step, rest) =
       let found = client_at cs s (slice_get cs i) refl (sym (get-map seen cs i) ∙ ap (λ (ss : List Seen). slice_get ss i) g.seen_are ∙ there) in
       let c = found.0 in
       let at = found.1 in
-      let R = OpensWith q i x.effect in
+      let R = Keeping (OpensWithKeeping q i x.effect) in
       let changes : Changes R i c x cs mid = subst (λ o. AtClient o R i x cs mid) at step in
-      let opens = changes.acts.does.opens in
+      let opens = changes.acts.does.does.opens.seen in
       let reading : IsReading q s.name changes.next = record { query = opens.asks; name_is = opens.name ∙ found.2; silent = opens.report } in
       let here : slice_get mid i ≡ Some changes.next = ap (λ (xs : List ClientState). slice_get xs i) changes.changed ∙ get-set_same cs i changes.next c at in
       reach (suc (cost p.file q)) s.name (after w (Open i q) x.effect) mid changes.next n later ns new (sound_step laws w cs (Open i q) x mid g step).good here reading has (inl (omega arith)) enough rest
 
   -- whatever was before it
   after_others : (w : World) (cs : List ClientState) (before later : List Event) (n : ℕ) (ns : List Entry) (new : List ClientState) (s : Seen) → Good w cs → slice_get (after_all w before ns).clients i ≡ Some s
-      → published s.name (after_all w before ns).catalogue ≡ Some p → suc (cost p.file q) ≤ n → Runs w cs (before ++ stretch i q n ++ later) ns new
+      → published s.name (after_all w before ns).catalogue ≡ Some p → suc (cost p.file q) ≤ n → RunsKeeping w cs (before ++ stretch i q n ++ later) ns new
       → HasReport i q (take (suc (cost p.file q)) (drop (suc (length before)) (before ++ stretch i q n ++ later))) (take (suc (cost p.file q)) (drop (suc (length before)) ns))
   after_others w cs [] later n ns new s g there has enough h = from_opening w cs n later ns new s g there has enough h
   after_others w cs (e ∷ before) later n [] new s g there has enough h = absurd h
   after_others w cs (e ∷ before) later n (x ∷ ns) new s g there has enough (mid, step, rest) =
       after_others (after w e x.effect) mid before later n ns new s (sound_step laws w cs e x mid g step).good there has enough rest
 
-pub reached : (laws : LowerLaws) (events : List Event) (entries : List Entry) (new : List ClientState) → Runs start [] events entries new → AllReport events entries
+pub reached : (laws : LowerLaws) (events : List Event) (entries : List Entry) (new : List ClientState) → RunsKeeping start [] events entries new → AllReport events entries
 reached laws events entries new runs i q n p s enough =
-    let found = after_others laws i q p start [] s.before s.later n entries new s.seen good_start s.there s.has enough (subst (λ es. Runs start [] es entries new) s.are runs) in
+    let found = after_others laws i q p start [] s.before s.later n entries new s.seen good_start s.there s.has enough (subst (λ es. RunsKeeping start [] es entries new) s.are runs) in
     subst (λ es. HasReport i q (take (suc (cost p.file q)) (drop (suc (length s.before)) es)) (take (suc (cost p.file q)) (drop (suc (length s.before)) entries))) (sym s.are) found

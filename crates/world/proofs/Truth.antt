@@ -23,6 +23,7 @@ use Rattle.cog_client.specs.declared.report.Report.{Report}
 use Rattle.cog_client.specs.Report.{told, IsTrueReport}
 use Rattle.cog_client.specs.Client.{ClientState, asked_of, client_refusal, host_of, name_of, query_of, report_of, tag_of}
 use Rattle.cog_client.specs.Calls.{request_for}
+use Rattle.cog_client.specs.Keeps.{RequestsKeeping}
 use Rattle.world.specs.declared.event.Event.{Event}
 use Rattle.world.specs.declared.event.Event.TheVariants.{Publish, Epoch, NewClient, Open, Forget, Ask, AskFrom, Deliver, Exchange, Check}
 use Rattle.world.specs.declared.event.AnsweredRequest.{AnsweredRequest}
@@ -31,10 +32,11 @@ use Rattle.world.specs.declared.event.Effect.{Effect}
 use Rattle.world.specs.declared.event.Effect.TheVariants as effects
 use Rattle.world.specs.declared.event.Entry.{Entry}
 use Rattle.world.specs.World.{World, Seen, host, is_for, answer_in, next_of, publish_by, refused_at, restart_by, scheduled, made_by, opened, after, client_of, IsTrueAt, StaysHonest}
-use Rattle.world.specs.Run.{seen, Tells, AtClient, MakesBy, OpensWith, ForgetsAll, Asks, asked_effect, AsksWith, IsExchanged, ExchangesWith, cut_at, publish_effect, receiver, told_of, DeliversWith, IsDelivery, IsChecked, IsCheckBy, Step}
+use Rattle.world.specs.Run.{seen, news, AtClient, MakesBy, ForgetsAll, Asks, asked_effect, IsExchanged, cut_at, publish_effect, receiver, told_of, IsChecked, IsCheckBy}
+use Rattle.world.specs.State.{AsksWithKeeping, DeliversWithKeeping, ExchangesWithKeeping, IsDeliveredKeeping, IsDeliveryKeeping, Keeping, OpensWithKeeping, StandsTrue, StepKeeping, request_in}
 use Rattle.world.specs.LowerLaws.{LowerLaws}
 use Rattle.world.proofs.Lists.{get-map, get-set_same}
-use Rattle.world.proofs.Good.{Good, AgreesLater, see, seen_same, kept_seen, opened_there, opened_none, agree_set, agree_push, good_publish, good_epoch, good_clients, good_after}
+use Rattle.world.proofs.Good.{Good, AgreesLater, see, seen_same, kept_seen, opened_there, opened_none, agree_set, agree_push, nothing_agrees, good_publish, good_epoch, good_clients, good_after}
 
 -- ---- nothing that was published is lost
 
@@ -99,13 +101,13 @@ sound_after w cs e n s honest = record { good = good_after w cs e n.effect s.goo
     again (Some r) h = record { at = h.at; by = h.by; seen = h.seen; there = h.there; holds = h.holds }
 
 -- a call of client i: the world is good and what is told is true
-sound_call : (laws : LowerLaws) (w : World) (cs new : List ClientState) (i : ℕ) (c next : ClientState) (n : Entry) → Good w new → slice_get cs i ≡ Some c → new ≡ slice_set cs i next → AgreesLater next w.book → Tells c next (told_of n) → IsSound w new (Some i) n.report
-sound_call laws w cs new i c next n g there changed agrees tells =
+sound_call : (laws : LowerLaws) (w : World) (cs new : List ClientState) (i : ℕ) (c next : ClientState) (n : Entry) → Good w new → slice_get cs i ≡ Some c → new ≡ slice_set cs i next → AgreesLater next w.book → StandsTrue next → told_of n ≡ news c next → IsSound w new (Some i) n.report
+sound_call laws w cs new i c next n g there changed agrees stands tells =
     let at : slice_get w.clients i ≡ Some (seen next) =
     ap (λ (ss : List Seen). slice_get ss i) (sym g.seen_are) ∙ (ap (λ (xs : List ClientState). slice_get (map seen xs) i) changed
     ∙ (get-map seen (slice_set cs i next) i ∙ ap (λ (o : Option ClientState). option_map seen o) (get-set_same cs i next c there))) in
-    let standing = tells.stands.holds w.book (agrees w.book (λ p j. j) g.distinct) in
-    let true_now = told_true laws (name_of next) (query_of next) w.book (is_some (report_of c)) n.report tells.standing tells.newly standing in
+    let standing = stands w.book (agrees w.book (λ p j. j) g.distinct) in
+    let true_now = told_true laws (name_of next) (query_of next) w.book (is_some (report_of c)) n.report (report_of next) tells standing in
     record { good = g; told = told_at n.report w i (seen next) at true_now }
 
 -- an event that tells nothing
@@ -117,19 +119,19 @@ sound_made (Some refusal) w cs new name blocks n g h = sound_quiet w cs new None
 sound_made None w cs new name blocks n g h =
     let seen_made : seen h.made ≡ see name None = ap (λ (m : List ℕ). see m (query_of h.made)) h.starts.named ∙ ap (λ (o : Option Query). see name o) h.starts.query in
     let all : map seen (cs ++ h.made ∷ []) ≡ w.clients ++ see name None ∷ [] = map_push seen cs h.made ∙ (ap (λ (ss : List Seen). ss ++ seen h.made ∷ []) g.seen_are ∙ ap (λ (s : Seen). w.clients ++ s ∷ []) seen_made) in
-    let good = good_clients w cs (cs ++ h.made ∷ []) (w.clients ++ see name None ∷ []) g all (agree_push cs h.made w.book g.agree (λ b inc d. h.starts.empty.agrees b)) in
+    let good = good_clients w cs (cs ++ h.made ∷ []) (w.clients ++ see name None ∷ []) g all (agree_push cs h.made w.book g.agree (λ b inc d. nothing_agrees h.made h.starts.empty.revision b)) in
     sound_quiet (made_by w name None) (cs ++ h.made ∷ []) new None n good h.added h.report
 
-sound_open : (laws : LowerLaws) (o : Option ClientState) (w : World) (cs new : List ClientState) (i : ℕ) (q : Query) (n : Entry) → slice_get cs i ≡ o → Good w cs → AtClient o (OpensWith q i n.effect) i n cs new → IsSound (scheduled w (Open i q)) new (Some i) n.report
+sound_open : (laws : LowerLaws) (o : Option ClientState) (w : World) (cs new : List ClientState) (i : ℕ) (q : Query) (n : Entry) → slice_get cs i ≡ o → Good w cs → AtClient o (Keeping (OpensWithKeeping q i n.effect)) i n cs new → IsSound (scheduled w (Open i q)) new (Some i) n.report
 sound_open laws None w cs new i q n at g h =
     let same : w.clients ≡ opened w.clients i q = sym (ap (λ (ss : List Seen). opened ss i q) (sym g.seen_are) ∙ (opened_none cs i q at ∙ g.seen_are)) in
     sound_quiet (scheduled w (Open i q)) cs new (Some i) n (good_clients w cs cs (opened w.clients i q) g (g.seen_are ∙ same) g.agree) h.same h.report
 sound_open laws (Some c) w cs new i q n at g h =
-    let opens = h.acts.does.opens in
+    let opens = h.acts.does.does.opens in
     let later : AgreesLater h.next w.book = (λ b inc d. opens.agrees b (g.agree i c at b inc d)) in
-    let seen_new : map seen (slice_set cs i h.next) ≡ opened w.clients i q = opened_there cs i c h.next q at opens.name opens.asks ∙ ap (λ (ss : List Seen). opened ss i q) g.seen_are in
+    let seen_new : map seen (slice_set cs i h.next) ≡ opened w.clients i q = opened_there cs i c h.next q at opens.seen.name opens.seen.asks ∙ ap (λ (ss : List Seen). opened ss i q) g.seen_are in
     let good = good_clients w cs (slice_set cs i h.next) (opened w.clients i q) g seen_new (agree_set cs i c h.next w.book at g.agree later) in
-    sound_call laws (scheduled w (Open i q)) cs new i c h.next n (subst (Good (scheduled w (Open i q))) (sym h.changed) good) at h.changed later h.acts.tells
+    sound_call laws (scheduled w (Open i q)) cs new i c h.next n (subst (Good (scheduled w (Open i q))) (sym h.changed) good) at h.changed later h.acts.does.stands h.acts.tells
 
 -- what a client is after its calls
 pub record IsKept (c next : ClientState) (book : Book) : Type 0 where
@@ -137,16 +139,16 @@ pub record IsKept (c next : ClientState) (book : Book) : Type 0 where
   pub agrees : AgreesLater next book
 
 -- a call of client i, after which it is kept
-sound_kept : (laws : LowerLaws) (w : World) (cs new : List ClientState) (i : ℕ) (c next : ClientState) (n : Entry) → Good w cs → slice_get cs i ≡ Some c → new ≡ slice_set cs i next → IsKept c next w.book → Tells c next (told_of n) → IsSound w new (Some i) n.report
-sound_kept laws w cs new i c next n g at changed kept tells =
+sound_kept : (laws : LowerLaws) (w : World) (cs new : List ClientState) (i : ℕ) (c next : ClientState) (n : Entry) → Good w cs → slice_get cs i ≡ Some c → new ≡ slice_set cs i next → IsKept c next w.book → StandsTrue next → told_of n ≡ news c next → IsSound w new (Some i) n.report
+sound_kept laws w cs new i c next n g at changed kept stands tells =
     let mid = good_clients w cs (slice_set cs i next) w.clients g (kept_seen cs i c next at kept.same ∙ g.seen_are) (agree_set cs i c next w.book at g.agree kept.agrees) in
-    sound_call laws w cs new i c next n (subst (Good w) (sym changed) mid) at changed kept.agrees tells
+    sound_call laws w cs new i c next n (subst (Good w) (sym changed) mid) at changed kept.agrees stands tells
 
-sound_forget : (laws : LowerLaws) (o : Option ClientState) (w : World) (cs new : List ClientState) (i : ℕ) (n : Entry) → slice_get cs i ≡ o → Good w cs → AtClient o (ForgetsAll i n.effect) i n cs new → IsSound w new (Some i) n.report
+sound_forget : (laws : LowerLaws) (o : Option ClientState) (w : World) (cs new : List ClientState) (i : ℕ) (n : Entry) → slice_get cs i ≡ o → Good w cs → AtClient o (Keeping (ForgetsAll i n.effect)) i n cs new → IsSound w new (Some i) n.report
 sound_forget laws None w cs new i n at g h = sound_quiet w cs new (Some i) n g h.same h.report
 sound_forget laws (Some c) w cs new i n at g h =
-    let forgets = h.acts.does.forgets in
-    sound_kept laws w cs new i c h.next n g at h.changed (record { same = seen_same c h.next forgets.same.name forgets.same.query; agrees = λ b inc d. forgets.empty.agrees b }) h.acts.tells
+    let forgets = h.acts.does.does.forgets in
+    sound_kept laws w cs new i c h.next n g at h.changed (record { same = seen_same c h.next forgets.same.name forgets.same.query; agrees = λ b inc d. nothing_agrees h.next forgets.empty.revision b }) h.acts.does.stands h.acts.tells
 
 -- ---- what is sent
 
@@ -229,10 +231,10 @@ module _ (laws : LowerLaws) where
 
   -- ---- requests
 
-  asks_kept : (w : World) (i : ℕ) (o : Option AnsweredRequest) (c mid : ClientState) → Asks w.catalogue (length w.sent) i o c mid → AgreesLater c w.book → IsKept c mid w.book
-  asks_kept w i o c mid h agrees = record {
-    same = seen_same c mid h.requests.goes.same.name h.requests.goes.same.query;
-    agrees = λ later inc d. h.requests.goes.agrees later (agrees later inc d);
+  asks_kept : (w : World) (request : Option (List ℕ)) (c mid : ClientState) → RequestsKeeping c request mid → AgreesLater c w.book → IsKept c mid w.book
+  asks_kept w request c mid h agrees = record {
+    same = seen_same c mid h.seen.goes.same.name h.seen.goes.same.query;
+    agrees = λ later inc d. h.goes.agrees later (agrees later inc d);
   }
 
   asks_honest : (w : World) (cs : List ClientState) (i : ℕ) (o : Option AnsweredRequest) (c mid : ClientState) → Good w cs → Asks w.catalogue (length w.sent) i o c mid → IfSome o (λ a. StaysHonest a.answer w.book)
@@ -243,67 +245,70 @@ module _ (laws : LowerLaws) where
   asked_honest w i None effect is h = let P : Effect → Type 0 = λ e. IfSome (answer_in e) (λ a. StaysHonest a w.book) in subst P (sym is) tt
   asked_honest w i (Some a) effect is h = let P : Effect → Type 0 = λ e. IfSome (answer_in e) (λ a. StaysHonest a w.book) in subst P (sym is) h
 
-  sound_ask_from : (o : Option ClientState) (w : World) (cs new : List ClientState) (i : ℕ) (n : Entry) → slice_get cs i ≡ o → Good w cs → AtClient o (AsksWith w.catalogue (length w.sent) i n.effect) i n cs new → IsSound w new (Some i) n.report
+  sound_ask_from : (o : Option ClientState) (w : World) (cs new : List ClientState) (i : ℕ) (n : Entry) → slice_get cs i ≡ o → Good w cs → AtClient o (Keeping (AsksWithKeeping w.catalogue (length w.sent) i n.effect)) i n cs new → IsSound w new (Some i) n.report
   sound_ask_from None w cs new i n at g h = sound_quiet w cs new (Some i) n g h.same h.report
   sound_ask_from (Some c) w cs new i n at g h =
-      let d = h.acts.does in
-      sound_kept laws w cs new i c h.next n g at h.changed (asks_kept w i d.asked c h.next d.asks (g.agree i c at)) h.acts.tells
+      let d = h.acts.does.does in
+      sound_kept laws w cs new i c h.next n g at h.changed (asks_kept w (request_in d.seen.asked) c h.next d.requests (g.agree i c at)) h.acts.does.stands h.acts.tells
 
-  ask_from_honest : (w : World) (cs : List ClientState) (i : ℕ) (effect : Effect) (c next : ClientState) → Good w cs → AsksWith w.catalogue (length w.sent) i effect c next → IfSome (answer_in effect) (λ a. StaysHonest a w.book)
-  ask_from_honest w cs i effect c next g h = asked_honest w i h.asked effect h.done (asks_honest w cs i h.asked c next g h.asks)
+  ask_from_honest : (w : World) (cs : List ClientState) (i : ℕ) (effect : Effect) (c next : ClientState) → Good w cs → AsksWithKeeping w.catalogue (length w.sent) i effect c next → IfSome (answer_in effect) (λ a. StaysHonest a w.book)
+  ask_from_honest w cs i effect c next g h = asked_honest w i h.seen.asked effect h.seen.done (asks_honest w cs i h.seen.asked c next g h.seen.asks)
 
   -- ---- exchanges
 
-  pub exchanged_kept : (w : World) (cs : List ClientState) (i : ℕ) (o : Option AnsweredRequest) (effect : Effect) (c mid next : ClientState) → Good w cs → Asks w.catalogue (length w.sent) i o c mid → IsExchanged i o effect mid next
-      → AgreesLater c w.book → IsKept c next w.book
-  exchanged_kept w cs i None effect c mid next g asks h agrees = let P : ClientState → Type 0 = λ x. IsKept c x w.book in subst P (sym h.1) (asks_kept w i None c mid asks agrees)
-  exchanged_kept w cs i (Some a) effect c mid next g asks h agrees =
+  pub exchanged_kept : (w : World) (cs : List ClientState) (i : ℕ) (o : Option AnsweredRequest) (effect : Effect) (c mid next : ClientState) → Good w cs → Asks w.catalogue (length w.sent) i o c mid → RequestsKeeping c (request_in o) mid
+      → IsExchanged i o effect mid next → IsDeliveredKeeping o mid next → AgreesLater c w.book → IsKept c next w.book
+  exchanged_kept w cs i None effect c mid next g asks k h d agrees = let P : ClientState → Type 0 = λ x. IsKept c x w.book in subst P (sym h.1) (asks_kept w None c mid k agrees)
+  exchanged_kept w cs i (Some a) effect c mid next g asks k h d agrees =
       let r = asks.requests in
-      let delivers = h.2 in
+      let delivers = d.1 in
       let asked = asked_for c (asked_of mid) a.request.items r.text r.lawful in
       let for : is_for a.answer (name_of c) ≡ true = answer_for w.catalogue (host_of c) (name_of c) (tag_of c) asked.0 a.request.items a.answer asked.1 asked.2 asks.answered.answered in
       let honest = answer_honest w cs a.request.items a.answer g asks.answered.answered in
       let P : Book → List ℕ → Type 0 = λ later name. IsHonest a.answer.text.items name later in
       record {
-        same = seen_same c next (delivers.same.name ∙ r.goes.same.name) (delivers.same.query ∙ r.goes.same.query);
-        agrees = λ later inc d. delivers.agrees later d (r.goes.agrees later (agrees later inc d)) (subst (λ name. P later name) (sym r.goes.same.name) (honest (name_of c) later for inc));
+        same = seen_same c next (delivers.seen.same.name ∙ r.goes.same.name) (delivers.seen.same.query ∙ r.goes.same.query);
+        agrees = λ later inc x. delivers.agrees later x (k.goes.agrees later (agrees later inc x)) (subst (λ name. P later name) (sym r.goes.same.name) (honest (name_of c) later for inc));
       }
 
   exchanged_honest : (w : World) (i : ℕ) (o : Option AnsweredRequest) (effect : Effect) (mid next : ClientState) → IsExchanged i o effect mid next → IfSome o (λ a. StaysHonest a.answer w.book) → IfSome (answer_in effect) (λ a. StaysHonest a w.book)
   exchanged_honest w i None effect mid next h honest = let P : Effect → Type 0 = λ e. IfSome (answer_in e) (λ a. StaysHonest a w.book) in subst P (sym h.0) tt
   exchanged_honest w i (Some a) effect mid next h honest = let P : Effect → Type 0 = λ e. IfSome (answer_in e) (λ a. StaysHonest a w.book) in subst P (sym h.1) honest
 
-  sound_exchange : (o : Option ClientState) (w : World) (cs new : List ClientState) (i : ℕ) (n : Entry) → slice_get cs i ≡ o → Good w cs → AtClient o (ExchangesWith w.catalogue (length w.sent) i n.effect) i n cs new → IsSound w new (Some i) n.report
+  sound_exchange : (o : Option ClientState) (w : World) (cs new : List ClientState) (i : ℕ) (n : Entry) → slice_get cs i ≡ o → Good w cs → AtClient o (Keeping (ExchangesWithKeeping w.catalogue (length w.sent) i n.effect)) i n cs new → IsSound w new (Some i) n.report
   sound_exchange None w cs new i n at g h = sound_quiet w cs new (Some i) n g h.same h.report
   sound_exchange (Some c) w cs new i n at g h =
-      let d = h.acts.does in
-      sound_kept laws w cs new i c h.next n g at h.changed (exchanged_kept w cs i d.asked n.effect c d.mid h.next g d.asks d.exchanged (g.agree i c at)) h.acts.tells
+      let d = h.acts.does.does in
+      let e = d.seen in
+      sound_kept laws w cs new i c h.next n g at h.changed (exchanged_kept w cs i e.asked n.effect c e.mid h.next g e.asks d.requests e.exchanged d.delivers (g.agree i c at)) h.acts.does.stands h.acts.tells
 
-  exchange_honest : (w : World) (cs : List ClientState) (i : ℕ) (effect : Effect) (c next : ClientState) → Good w cs → ExchangesWith w.catalogue (length w.sent) i effect c next → IfSome (answer_in effect) (λ a. StaysHonest a w.book)
-  exchange_honest w cs i effect c next g h = exchanged_honest w i h.asked effect h.mid next h.exchanged (asks_honest w cs i h.asked c h.mid g h.asks)
+  exchange_honest : (w : World) (cs : List ClientState) (i : ℕ) (effect : Effect) (c next : ClientState) → Good w cs → ExchangesWithKeeping w.catalogue (length w.sent) i effect c next → IfSome (answer_in effect) (λ a. StaysHonest a w.book)
+  exchange_honest w cs i effect c next g h =
+      let e = h.seen in
+      exchanged_honest w i e.asked effect e.mid next e.exchanged (asks_honest w cs i e.asked c e.mid g e.asks)
 
   -- ---- deliveries
 
   sound_delivery : (b : Bool) (w : World) (cs new : List ClientState) (i k : ℕ) (a : Answer) (c : ClientState) (cut : Option ℕ) (n : Entry) → is_for a (name_of c) ≡ b → slice_get w.sent k ≡ Some a → slice_get cs i ≡ Some c → Good w cs
-      → AtClient (if b then Some c else None) (DeliversWith (cut_at cut a.text.items) i n.effect) i n cs new → IsSound w new (Some i) n.report
+      → AtClient (if b then Some c else None) (Keeping (DeliversWithKeeping (cut_at cut a.text.items) i n.effect)) i n cs new → IsSound w new (Some i) n.report
   sound_delivery false w cs new i k a c cut n for sent at g h = sound_quiet w cs new (Some i) n g h.same h.report
   sound_delivery true w cs new i k a c cut n for sent at g h =
-      let d = h.acts.does.delivers in
+      let d = h.acts.does.does.delivers in
       let kept : IsKept c h.next w.book = record {
-        same = seen_same c h.next d.same.name d.same.query;
+        same = seen_same c h.next d.seen.same.name d.seen.same.query;
         agrees = λ later inc x. d.agrees later x (g.agree i c at later inc x)
             (laws.honest.cut (cut_at cut a.text.items) a.text.items (name_of c) later (front_is cut a.text.items) (g.honest k a sent (name_of c) later for inc));
       } in
-      sound_kept laws w cs new i c h.next n g at h.changed kept h.acts.tells
+      sound_kept laws w cs new i c h.next n g at h.changed kept h.acts.does.stands h.acts.tells
 
-  sound_deliver : (o : Option Answer) (oc : Option ClientState) (w : World) (cs new : List ClientState) (i k : ℕ) (cut : Option ℕ) (n : Entry) → slice_get w.sent k ≡ o → slice_get cs i ≡ oc → Good w cs → IsDelivery o oc cut i n cs new → IsSound w new (Some i) n.report
+  sound_deliver : (o : Option Answer) (oc : Option ClientState) (w : World) (cs new : List ClientState) (i k : ℕ) (cut : Option ℕ) (n : Entry) → slice_get w.sent k ≡ o → slice_get cs i ≡ oc → Good w cs → IsDeliveryKeeping o oc cut i n cs new → IsSound w new (Some i) n.report
   sound_deliver None oc w cs new i k cut n sent at g h = sound_quiet w cs new (Some i) n g h.same h.report
   sound_deliver (Some a) None w cs new i k cut n sent at g h = sound_quiet w cs new (Some i) n g h.same h.report
   sound_deliver (Some a) (Some c) w cs new i k cut n sent at g h = sound_delivery (is_for a (name_of c)) w cs new i k a c cut n refl sent at g h
 
-  deliver_honest : (o : Option Answer) (oc : Option ClientState) (book : Book) (i : ℕ) (cut : Option ℕ) (n : Entry) (cs new : List ClientState) → IsDelivery o oc cut i n cs new → IfSome (answer_in n.effect) (λ a. StaysHonest a book)
+  deliver_honest : (o : Option Answer) (oc : Option ClientState) (book : Book) (i : ℕ) (cut : Option ℕ) (n : Entry) (cs new : List ClientState) → IsDeliveryKeeping o oc cut i n cs new → IfSome (answer_in n.effect) (λ a. StaysHonest a book)
   deliver_honest None oc book i cut n cs new h = nothing_sent n.effect _ book h.done refl
-  deliver_honest (Some a) oc book i cut n cs new h = client_honest (receiver a oc) (DeliversWith (cut_at cut a.text.items) i n.effect) book i n cs new (λ c next is d. nothing_sent n.effect _ book d.done refl) h
+  deliver_honest (Some a) oc book i cut n cs new h = client_honest (receiver a oc) (Keeping (DeliversWithKeeping (cut_at cut a.text.items) i n.effect)) book i n cs new (λ c next is d. nothing_sent n.effect _ book d.does.seen.done refl) h
 
   -- ---- checks
 
@@ -324,20 +329,20 @@ module _ (laws : LowerLaws) where
   -- ---- one event
 
   -- what it sends is honest
-  pub honest_step : (w : World) (cs : List ClientState) (e : Event) (n : Entry) (new : List ClientState) → Good w cs → Step w cs e n new → IfSome (answer_in n.effect) (λ a. StaysHonest a w.book)
+  pub honest_step : (w : World) (cs : List ClientState) (e : Event) (n : Entry) (new : List ClientState) → Good w cs → StepKeeping w cs e n new → IfSome (answer_in n.effect) (λ a. StaysHonest a w.book)
   honest_step w cs (Publish name file) n new g h = nothing_sent n.effect _ w.book h.done (none_published (next_of w name.items file.items).tag (refused_at w name.items file.items))
   honest_step w cs (Epoch e) n new g h = nothing_sent n.effect _ w.book h.1.done (none_restarted (nat_lt w.epoch e) e)
   honest_step w cs (NewClient name blocks) n new g h = made_honest (client_refusal host name.items blocks) w.book name.items blocks n cs new h
-  honest_step w cs (Open i q) n new g h = client_honest (slice_get cs i) (OpensWith q i n.effect) w.book i n cs new (λ c next is d. nothing_sent n.effect _ w.book d.done refl) h
-  honest_step w cs (Forget i) n new g h = client_honest (slice_get cs i) (ForgetsAll i n.effect) w.book i n cs new (λ c next is d. nothing_sent n.effect _ w.book d.done refl) h
+  honest_step w cs (Open i q) n new g h = client_honest (slice_get cs i) (Keeping (OpensWithKeeping q i n.effect)) w.book i n cs new (λ c next is d. nothing_sent n.effect _ w.book d.does.seen.done refl) h
+  honest_step w cs (Forget i) n new g h = client_honest (slice_get cs i) (Keeping (ForgetsAll i n.effect)) w.book i n cs new (λ c next is d. nothing_sent n.effect _ w.book d.does.done refl) h
   honest_step w cs (Ask message) n new g h = subst (λ e. IfSome (answer_in e) (λ a. StaysHonest a w.book)) (sym h.0.done) (answer_honest w cs message.items h.0.answer g h.0.answered)
-  honest_step w cs (AskFrom i) n new g h = client_honest (slice_get cs i) (AsksWith w.catalogue (length w.sent) i n.effect) w.book i n cs new (λ c next is d. ask_from_honest w cs i n.effect c next g d) h
+  honest_step w cs (AskFrom i) n new g h = client_honest (slice_get cs i) (Keeping (AsksWithKeeping w.catalogue (length w.sent) i n.effect)) w.book i n cs new (λ c next is d. ask_from_honest w cs i n.effect c next g d.does) h
   honest_step w cs (Deliver i a cut) n new g h = deliver_honest (slice_get w.sent a) (slice_get cs i) w.book i cut n cs new h
-  honest_step w cs (Exchange i) n new g h = client_honest (slice_get cs i) (ExchangesWith w.catalogue (length w.sent) i n.effect) w.book i n cs new (λ c next is d. exchange_honest w cs i n.effect c next g d) h
+  honest_step w cs (Exchange i) n new g h = client_honest (slice_get cs i) (Keeping (ExchangesWithKeeping w.catalogue (length w.sent) i n.effect)) w.book i n cs new (λ c next is d. exchange_honest w cs i n.effect c next g d.does) h
   honest_step w cs (Check i) n new g h = check_sent (slice_get cs i) w cs new i n g h
 
   -- what it makes of the world is good, and what it tells is true
-  told_step : (w : World) (cs : List ClientState) (e : Event) (n : Entry) (new : List ClientState) → Good w cs → Step w cs e n new → IsSound (scheduled w e) new (client_of e) n.report
+  told_step : (w : World) (cs : List ClientState) (e : Event) (n : Entry) (new : List ClientState) → Good w cs → StepKeeping w cs e n new → IsSound (scheduled w e) new (client_of e) n.report
   told_step w cs (Publish name file) n new g h =
       sound_quiet (scheduled w (Publish name file)) cs new None n (good_publish laws w cs name.items file.items (refused_at w name.items file.items) refl g) h.same h.report
   told_step w cs (Epoch e) n new g h = sound_quiet (scheduled w (Epoch e)) cs new None n (good_epoch (nat_lt w.epoch e) w cs e refl h.0 g) h.1.same h.1.report
@@ -350,5 +355,5 @@ module _ (laws : LowerLaws) where
   told_step w cs (Exchange i) n new g h = sound_exchange (slice_get cs i) w cs new i n refl g h
   told_step w cs (Check i) n new g h = sound_check (slice_get cs i) w cs new i n g h
 
-  pub sound_step : (w : World) (cs : List ClientState) (e : Event) (n : Entry) (new : List ClientState) → Good w cs → Step w cs e n new → IsSound (after w e n.effect) new (client_of e) n.report
+  pub sound_step : (w : World) (cs : List ClientState) (e : Event) (n : Entry) (new : List ClientState) → Good w cs → StepKeeping w cs e n new → IsSound (after w e n.effect) new (client_of e) n.report
   sound_step w cs e n new g h = sound_after w new e n (told_step w cs e n new g h) (honest_step w cs e n new g h)

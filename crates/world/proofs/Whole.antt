@@ -28,11 +28,12 @@ use Rattle.cog_client.specs.declared.report.Report.{Report}
 use Rattle.cog_client.specs.Report.{Facts, facts_of}
 use Rattle.cog_client.specs.Client.{ClientState}
 use Rattle.world.specs.declared.event.Event.{Event}
-use Rattle.world.specs.declared.event.Event.TheVariants.{Publish, Ask, Deliver}
+use Rattle.world.specs.declared.event.Event.TheVariants.{Publish, Epoch, NewClient, Open, Forget, Ask, AskFrom, Deliver, Exchange, Check}
 use Rattle.world.specs.declared.event.Entry.{Entry}
 use Rattle.world.specs.Progress.{IsNeededEntry}
 use Rattle.world.specs.World.{World, start, answer_in, next_of, publish_by, refused_at, server_of, after, after_all, client_of, AtEach, IsTrueAt, IsTrueEntry, AllTrue, IsToldIn, AreEqual, SayTheSame, AreAlike, IsHonestEntry, IsExactEntry}
-use Rattle.world.specs.Run.{Answers, IsAtAfter, IsDelivery, Publishes, Step, Runs, IsBeginning, IsTrueLog, IsState, AreKept, Does, answer_at, noted}
+use Rattle.world.specs.Run.{Answers, AtClient, IsDelivery, Step, Runs, IsBeginning, IsTrueLog, receiver}
+use Rattle.world.specs.State.{AreKept, Does, IsAtAfter, IsDeliveryKeeping, IsState, Keeping, Publishes, RunsKeeping, StepKeeping, answer_at, noted}
 use Rattle.world.specs.LowerLaws.{LowerLaws}
 use Rattle.world.proofs.Good.{Good, good_start}
 use Rattle.world.proofs.Truth.{grows, honest_step, sound_step}
@@ -40,13 +41,13 @@ use Rattle.world.proofs.Exact.{exact_step}
 use Rattle.world.proofs.Needed.{AllHosted, hosted_start, hosted_step, needed_step}
 use Rattle.world.proofs.Kept.{kept_after, kept_at, kept_length}
 
-pub runs_more : (w : World) (cs : List ClientState) (es : List Event) (ns : List Entry) (mid : List ClientState) (e : Event) (n : Entry) (new : List ClientState) → Runs w cs es ns mid → Step (after_all w es ns) mid e n new → Runs w cs (es ++ e ∷ []) (ns ++ n ∷ []) new
-runs_more w cs [] [] mid e n new h s = (new, (let P : List ClientState → Type 0 = λ xs. Step w xs e n new in subst P h s), refl)
+pub runs_more : (w : World) (cs : List ClientState) (es : List Event) (ns : List Entry) (mid : List ClientState) (e : Event) (n : Entry) (new : List ClientState) → RunsKeeping w cs es ns mid → StepKeeping (after_all w es ns) mid e n new → RunsKeeping w cs (es ++ e ∷ []) (ns ++ n ∷ []) new
+runs_more w cs [] [] mid e n new h s = (new, (let P : List ClientState → Type 0 = λ xs. StepKeeping w xs e n new in subst P h s), refl)
 runs_more w cs [] (m ∷ ns) mid e n new h s = absurd h
 runs_more w cs (d ∷ es) [] mid e n new h s = absurd h
 runs_more w cs (d ∷ es) (m ∷ ns) mid e n new h s = (h.0, h.1, runs_more (after w d m.effect) h.0 es ns mid e n new h.2 s)
 
-after_more : (w : World) (cs : List ClientState) (es : List Event) (ns : List Entry) (mid : List ClientState) (e : Event) (n : Entry) → Runs w cs es ns mid → after_all w (es ++ e ∷ []) (ns ++ n ∷ []) ≡ after (after_all w es ns) e n.effect
+after_more : (w : World) (cs : List ClientState) (es : List Event) (ns : List Entry) (mid : List ClientState) (e : Event) (n : Entry) → RunsKeeping w cs es ns mid → after_all w (es ++ e ∷ []) (ns ++ n ∷ []) ≡ after (after_all w es ns) e n.effect
 after_more w cs [] [] mid e n h = refl
 after_more w cs [] (m ∷ ns) mid e n h = absurd h
 after_more w cs (d ∷ es) [] mid e n h = absurd h
@@ -55,21 +56,21 @@ after_more w cs (d ∷ es) (m ∷ ns) mid e n h = after_more (after w d m.effect
 -- ---- what holds at each event of a run
 
 pub each_run : (P : World → Event → Entry → Type 0) (laws : LowerLaws)
-    → ((w : World) (cs : List ClientState) (e : Event) (n : Entry) (new : List ClientState) → Good w cs → AllHosted cs → Step w cs e n new → P w e n)
-    → (w : World) (cs : List ClientState) (es : List Event) (ns : List Entry) (new : List ClientState) → Good w cs → AllHosted cs → Runs w cs es ns new → AtEach P w es ns
+    → ((w : World) (cs : List ClientState) (e : Event) (n : Entry) (new : List ClientState) → Good w cs → AllHosted cs → StepKeeping w cs e n new → P w e n)
+    → (w : World) (cs : List ClientState) (es : List Event) (ns : List Entry) (new : List ClientState) → Good w cs → AllHosted cs → RunsKeeping w cs es ns new → AtEach P w es ns
 each_run P laws each w cs [] [] new g hosts h = tt
 each_run P laws each w cs [] (n ∷ ns) new g hosts h = h
 each_run P laws each w cs (e ∷ es) [] new g hosts h = h
 each_run P laws each w cs (e ∷ es) (n ∷ ns) new g hosts (mid, step, rest) =
     (each w cs e n mid g hosts step, each_run P laws each (after w e n.effect) mid es ns new (sound_step laws w cs e n mid g step).good (hosted_step w cs e n mid step hosts) rest)
 
-good_run : (laws : LowerLaws) (w : World) (cs : List ClientState) (es : List Event) (ns : List Entry) (new : List ClientState) → Good w cs → Runs w cs es ns new → Good (after_all w es ns) new
+good_run : (laws : LowerLaws) (w : World) (cs : List ClientState) (es : List Event) (ns : List Entry) (new : List ClientState) → Good w cs → RunsKeeping w cs es ns new → Good (after_all w es ns) new
 good_run laws w cs [] [] new g h = subst (Good w) (sym h) g
 good_run laws w cs [] (n ∷ ns) new g h = absurd h
 good_run laws w cs (e ∷ es) [] new g h = absurd h
 good_run laws w cs (e ∷ es) (n ∷ ns) new g (mid, step, rest) = good_run laws (after w e n.effect) mid es ns new (sound_step laws w cs e n mid g step).good rest
 
-whole_run : (w : World) (cs : List ClientState) (es : List Event) (ns : List Entry) (new : List ClientState) → Runs w cs es ns new → length ns ≡ length es
+whole_run : (w : World) (cs : List ClientState) (es : List Event) (ns : List Entry) (new : List ClientState) → RunsKeeping w cs es ns new → length ns ≡ length es
 whole_run w cs [] [] new h = refl
 whole_run w cs [] (n ∷ ns) new h = absurd h
 whole_run w cs (e ∷ es) [] new h = absurd h
@@ -176,9 +177,37 @@ alike laws book ns distinct sources r s i j tag query =
     let Q : Query → Type 0 = λ q. IsTrueOf b.source.file q r.outcome in
     same_outcome laws b.source.file s.query r.outcome s.outcome (subst Q query (subst P same a.holds)) b.holds
 
+-- ---- what a caller sees of a run
+
+at_seen : (o : Option ClientState) (R S : ClientState → ClientState → Type 0) → ((c next : ClientState) → R c next → S c next) → (i : ℕ) (n : Entry) (old new : List ClientState) → AtClient o (Keeping R) i n old new → AtClient o S i n old new
+at_seen None R S each i n old new h = h
+at_seen (Some c) R S each i n old new h = record { next = h.next; changed = h.changed; acts = record { does = each c h.next h.acts.does.does; tells = h.acts.tells } }
+
+delivery_seen : (o : Option Answer) (client : Option ClientState) (cut : Option ℕ) (i : ℕ) (n : Entry) (old new : List ClientState) → IsDeliveryKeeping o client cut i n old new → IsDelivery o client cut i n old new
+delivery_seen None client cut i n old new h = h
+delivery_seen (Some a) client cut i n old new h = at_seen (receiver a client) _ _ (λ c next d. d.seen) i n old new h
+
+step_seen : (w : World) (cs : List ClientState) (e : Event) (n : Entry) (new : List ClientState) → StepKeeping w cs e n new → Step w cs e n new
+step_seen w cs (Publish name file) n new h = h
+step_seen w cs (Epoch e) n new h = h
+step_seen w cs (NewClient name blocks) n new h = h
+step_seen w cs (Open i q) n new h = at_seen (slice_get cs i) _ _ (λ c next d. d.seen) i n cs new h
+step_seen w cs (Forget i) n new h = at_seen (slice_get cs i) _ _ (λ c next d. d) i n cs new h
+step_seen w cs (Ask message) n new h = h
+step_seen w cs (AskFrom i) n new h = at_seen (slice_get cs i) _ _ (λ c next d. d.seen) i n cs new h
+step_seen w cs (Deliver i a cut) n new h = delivery_seen (slice_get w.sent a) (slice_get cs i) cut i n cs new h
+step_seen w cs (Exchange i) n new h = at_seen (slice_get cs i) _ _ (λ c next d. d.seen) i n cs new h
+step_seen w cs (Check i) n new h = h
+
+pub runs_seen : (w : World) (cs : List ClientState) (es : List Event) (ns : List Entry) (new : List ClientState) → RunsKeeping w cs es ns new → Runs w cs es ns new
+runs_seen w cs [] [] new h = h
+runs_seen w cs [] (n ∷ ns) new h = h
+runs_seen w cs (e ∷ es) [] new h = h
+runs_seen w cs (e ∷ es) (n ∷ ns) new (mid, step, rest) = (mid, step_seen w cs e n mid step, runs_seen (after w e n.effect) mid es ns new rest)
+
 -- ---- the log
 
-pub run_truth : (laws : LowerLaws) (es : List Event) (ns : List Entry) (cs : List ClientState) → Runs start [] es ns cs → IsTrueLog es ns
+pub run_truth : (laws : LowerLaws) (es : List Event) (ns : List Entry) (cs : List ClientState) → RunsKeeping start [] es ns cs → IsTrueLog es ns
 run_truth laws es ns cs runs =
     let good = good_run laws start [] es ns cs good_start runs in
     let reports = each_run IsTrueEntry laws (λ w cs e n new g hosts step. (sound_step laws w cs e n new g step).told) start [] es ns cs good_start hosted_start runs in
@@ -192,13 +221,13 @@ run_truth laws es ns cs runs =
       honest = each_run IsHonestEntry laws (λ w cs e n new g hosts step. honest_step laws w cs e n new g step) start [] es ns cs good_start hosted_start runs;
     }
 
-pub beginning : (laws : LowerLaws) (events : List Event) (k : ℕ) (ns : List Entry) (cs : List ClientState) → k < length events → Runs start [] (take k events) ns cs → IsBeginning events ns
-beginning laws events k ns cs fewer runs = record { count = k; fewer = fewer; clients = cs; logged = runs; truth = run_truth laws (take k events) ns cs runs }
+pub beginning : (laws : LowerLaws) (events : List Event) (k : ℕ) (ns : List Entry) (cs : List ClientState) → k < length events → RunsKeeping start [] (take k events) ns cs → IsBeginning events ns
+beginning laws events k ns cs fewer runs = record { count = k; fewer = fewer; clients = cs; logged = runs_seen start [] (take k events) ns cs runs; truth = run_truth laws (take k events) ns cs runs }
 
-pub whole : (events : List Event) (i : ℕ) (ns : List Entry) (cs : List ClientState) → length events ≤ i → Runs start [] (take i events) ns cs → Runs start [] events ns cs
-whole events i ns cs le runs = subst (λ xs. Runs start [] xs ns cs) (take_all i events le) runs
+pub whole : (events : List Event) (i : ℕ) (ns : List Entry) (cs : List ClientState) → length events ≤ i → RunsKeeping start [] (take i events) ns cs → RunsKeeping start [] events ns cs
+whole events i ns cs le runs = subst (λ xs. RunsKeeping start [] xs ns cs) (take_all i events le) runs
 
-pub whole_truth : (laws : LowerLaws) (events : List Event) (i : ℕ) (ns : List Entry) (cs : List ClientState) → length events ≤ i → Runs start [] (take i events) ns cs → IsTrueLog events ns
+pub whole_truth : (laws : LowerLaws) (events : List Event) (i : ℕ) (ns : List Entry) (cs : List ClientState) → length events ≤ i → RunsKeeping start [] (take i events) ns cs → IsTrueLog events ns
 whole_truth laws events i ns cs le runs = run_truth laws events ns cs (whole events i ns cs le runs)
 
 pub on_err_of : {T E : Type 0} (r : Result T E) (P : Type 0) → P → OnErr r P
@@ -206,9 +235,9 @@ on_err_of (Ok x) P p = tt
 on_err_of (Err e) P p = p
 
 pub begun : (entries : List Entry) (clients : List ClientState) (server : ServerState) (places : List ℕ) → entries ≡ [] → clients ≡ [] → server ≡ server_of start → places ≡ []
-    → Runs start [] [] entries clients × IsState (after_all start [] entries) server entries places
+    → RunsKeeping start [] [] entries clients × IsState (after_all start [] entries) server entries places
 begun entries clients server places none no_clients at no_places =
-    let P : List Entry → Type 0 = λ ns. Runs start [] [] ns clients in
+    let P : List Entry → Type 0 = λ ns. RunsKeeping start [] [] ns clients in
     let Q : List ℕ → Type 0 = λ ps. AreKept entries ps [] in
     (subst P (sym none) no_clients, record { server_at = at; kept = subst Q (sym no_places) tt })
 
@@ -221,13 +250,13 @@ state_at w server entries lent places lent_places same same_places h =
 
 -- a run with one more event
 pub more : (events : List Event) (i : ℕ) (ns : List Entry) (cs new : List ClientState) (e : Event) (n : Entry) (entries : List Entry) (old server : ServerState) (ps places : List ℕ) → i < length events → e ≡ get_or events i e → entries ≡ ns ++ n ∷ []
-    → places ≡ noted (answer_in n.effect) (length ns) ps → Runs start [] (take i events) ns cs → IsState (after_all start (take i events) ns) old ns ps → Does (after_all start (take i events) ns) cs e n new server
-    → Runs start [] (take (i + 1) events) entries new × IsState (after_all start (take (i + 1) events) entries) server entries places
+    → places ≡ noted (answer_in n.effect) (length ns) ps → RunsKeeping start [] (take i events) ns cs → IsState (after_all start (take i events) ns) old ns ps → Does (after_all start (take i events) ns) cs e n new server
+    → RunsKeeping start [] (take (i + 1) events) entries new × IsState (after_all start (take (i + 1) events) entries) server entries places
 more events i ns cs new e n entries old server ps places inside is added_one noted_one runs state does =
     let es : take (i + 1) events ≡ take i events ++ e ∷ [] = take_more events i e inside ∙ ap (λ (x : Event). take i events ++ x ∷ []) (sym is) in
     let w = after_all start (take i events) ns in
-    let P : List Event → Type 0 = λ xs. Runs start [] xs (ns ++ n ∷ []) new in
-    let P' : List Entry → Type 0 = λ ms. Runs start [] (take (i + 1) events) ms new in
+    let P : List Event → Type 0 = λ xs. RunsKeeping start [] xs (ns ++ n ∷ []) new in
+    let P' : List Entry → Type 0 = λ ms. RunsKeeping start [] (take (i + 1) events) ms new in
     let same : after_all start (take (i + 1) events) entries ≡ after w e n.effect =
     ap (λ (ms : List Entry). after_all start (take (i + 1) events) ms) added_one
     ∙ (ap (λ (xs : List Event). after_all start xs (ns ++ n ∷ [])) es ∙ after_more start [] (take i events) ns cs e n runs) in
@@ -285,7 +314,7 @@ ok_ask (Ok n) server entries places number cs event message message' is named co
     subst P (sym is) (record { step = (at_server R w server entries places s (subst C count (subst Q named h)), refl); server_at = s.server_at })
 
 -- a call of client i that the server answers
-pub ok_call : (F : ℕ → Event) (R : Catalogue → ℕ → ℕ → Entry → List ClientState → List ClientState → Type 0) (steps : (w : World) (i : ℕ) (n : Entry) (cs new : List ClientState) → R w.catalogue (length w.sent) i n cs new → Step w cs (F i) n new × (server_of (after w (F i) n.effect) ≡ server_of w))
+pub ok_call : (F : ℕ → Event) (R : Catalogue → ℕ → ℕ → Entry → List ClientState → List ClientState → Type 0) (steps : (w : World) (i : ℕ) (n : Entry) (cs new : List ClientState) → R w.catalogue (length w.sent) i n cs new → StepKeeping w cs (F i) n new × (server_of (after w (F i) n.effect) ≡ server_of w))
     → (r : Result Entry Memory) (server : ServerState) (entries : List Entry) (places : List ℕ) (number : ℕ) (cs new : List ClientState) (event : Event) (i i' : ℕ) → event ≡ F i → i' ≡ i → number ≡ length places
     → IfOk r (λ n. R server.catalogue number i' n cs new) → IfOk r (λ n. DoesIn server entries places cs event n new server)
 ok_call F R steps (Err e) server entries places number cs new event i i' is same count h = tt
@@ -298,9 +327,9 @@ ok_call F R steps (Ok n) server entries places number cs new event i i' is same 
     subst P (sym is) (record { step = t.0; server_at = s.server_at ∙ sym t.1 })
 
 pub ok_deliver : (r : Result Entry Memory) (server : ServerState) (entries : List Entry) (places : List ℕ) (cs new : List ClientState) (event : Event) (i k : ℕ) (cut : Option ℕ) (answer : Option Answer) → event ≡ Deliver i k cut
-    → answer ≡ option_and_then (answer_at entries) (slice_get places k) → IfOk r (λ n. IsDelivery answer (slice_get cs i) cut i n cs new) → IfOk r (λ n. DoesIn server entries places cs event n new server)
+    → answer ≡ option_and_then (answer_at entries) (slice_get places k) → IfOk r (λ n. IsDeliveryKeeping answer (slice_get cs i) cut i n cs new) → IfOk r (λ n. DoesIn server entries places cs event n new server)
 ok_deliver (Err e) server entries places cs new event i k cut answer is found h = tt
 ok_deliver (Ok n) server entries places cs new event i k cut answer is found h = λ w s.
     let P : Event → Type 0 = λ x. Does w cs x n new server in
-    let Q : Option Answer → Type 0 = λ a. IsDelivery a (slice_get cs i) cut i n cs new in
+    let Q : Option Answer → Type 0 = λ a. IsDeliveryKeeping a (slice_get cs i) cut i n cs new in
     subst P (sym is) (record { step = subst Q (found ∙ kept_at entries places w.sent k s.kept) h; server_at = s.server_at })

@@ -1,4 +1,5 @@
 pub mod World
 pub mod Progress
 pub mod Run
+pub mod State
 pub mod LowerLaws

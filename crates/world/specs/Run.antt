@@ -1,22 +1,18 @@
 -- A run: what each event does to the clients, and what is logged of it, by the contracts of the calls.
-use Rattle.std.specs.Prelude.{◌≡◌, ℕ, ◌+◌, ◌^◌, ◌<◌, Bool, nat_lt, if◌then◌else◌, List, [], ◌∷◌, ◌++◌, length, take, Option, Some, None, IfSome, is_some, slice_get, slice_set, option_and_then}
+use Rattle.std.specs.Prelude.{◌≡◌, ℕ, ◌^◌, ◌<◌, nat_lt, if◌then◌else◌, List, [], ◌∷◌, ◌++◌, length, take, Option, Some, None, IfSome, is_some, slice_get, slice_set}
 use Rattle.std.specs.Option.{option_map}
-use Rattle.std.specs.Bool.{MatchBool}
 use Rattle.tiff_dir.specs.declared.query.Query.{Query}
 use Rattle.http_range.specs.Ask.{CanCheck, check_text}
-use Rattle.http_range.specs.Book.{Publication, Catalogue, HasDistinctTags, publish, publication_tag}
+use Rattle.http_range.specs.Book.{Catalogue, HasDistinctTags}
 use Rattle.cog_server.specs.declared.error.PublishError.{PublishError}
 use Rattle.cog_server.specs.declared.server.Answer.{Answer}
-use Rattle.cog_server.specs.Server.{ServerState, IsAnswered, refusal_of}
+use Rattle.cog_server.specs.Server.{IsAnswered}
 use Rattle.cog_client.specs.declared.error.ClientError.{ClientError}
 use Rattle.cog_client.specs.declared.delivered.Delivered.{Delivered}
-use Rattle.cog_client.specs.declared.report.Report.{Report}
 use Rattle.cog_client.specs.Report.{Told, told}
 use Rattle.cog_client.specs.Client.{ClientState, client_refusal, host_of, name_of, query_of, asked_of, tag_of, report_of}
-use Rattle.cog_client.specs.Calls.{Starts, Opens, Forgets, Requests, Delivers, Stands}
+use Rattle.cog_client.specs.Calls.{Starts, Opens, Forgets, Requests, Delivers}
 use Rattle.cog_client.specs.Check.{IsCurrent}
-use Rattle.world.specs.declared.calls.Call.{Call}
-use Rattle.world.specs.declared.calls.Call.TheVariants as calls
 use Rattle.world.specs.declared.event.Event.{Event}
 use Rattle.world.specs.declared.event.Event.TheVariants.{Publish, Epoch, NewClient, Open, Forget, Ask, AskFrom, Deliver, Exchange, Check}
 use Rattle.world.specs.declared.event.AnsweredRequest.{AnsweredRequest}
@@ -24,7 +20,7 @@ use Rattle.world.specs.declared.event.AnsweredCheck.{AnsweredCheck}
 use Rattle.world.specs.declared.event.Effect.{Effect}
 use Rattle.world.specs.declared.event.Effect.TheVariants as effects
 use Rattle.world.specs.declared.event.Entry.{Entry}
-use Rattle.world.specs.World.{World, Seen, host, start, is_for, answer_in, next_of, refused_at, server_of, after, after_all, AllTrue, AllExact, AllHonest, AreAlike}
+use Rattle.world.specs.World.{World, Seen, host, start, is_for, next_of, refused_at, after, after_all, AllTrue, AllExact, AllHonest, AreAlike}
 use Rattle.world.specs.Progress.{AllNeeded}
 
 abbrev pub seen : ClientState → Seen
@@ -40,22 +36,14 @@ pub record Quiet (n : Entry) (effect : Effect) (old new : List ClientState) : Ty
   pub report : told_of n ≡ None
   pub same : new ≡ old
 
--- what stands at the client after the event and did not stand before it
-pub record Tells (old new : ClientState) (report : Option Told) : Type 0 where
-  pub standing : Option Report
-  pub stands : Stands new standing
-  pub newly : report ≡ (if is_some (report_of old) then None else option_map told standing)
+-- what stands at a client after a call and did not stand before it
+abbrev pub news : ClientState → ClientState → Option Told
+news old new = if is_some (report_of old) then None else option_map told (report_of new)
 
 -- what a call does to a client, and what is told of it
 pub record Acts (R : ClientState → ClientState → Type 0) (n : Entry) (old new : ClientState) : Type 0 where
   pub does : R old new
-  pub tells : Tells old new (told_of n)
-
--- the same, where it is known whether a report stood
-pub record NewReport (had : Bool) (c : ClientState) (report : Option Told) : Type 0 where
-  pub standing : Option Report
-  pub stands : Stands c standing
-  pub newly : report ≡ (if had then None else option_map told standing)
+  pub tells : told_of n ≡ news old new
 
 -- client i becomes another as R says, and the others stay
 pub record Changes (R : ClientState → ClientState → Type 0) (i : ℕ) (c : ClientState) (n : Entry) (old new : List ClientState) : Type 0 where
@@ -73,23 +61,6 @@ AtClient (Some c) R i n old new = Changes R i c n old new
 abbrev pub publish_effect : List ℕ → Option PublishError → Effect
 publish_effect tag None = effects.Published tag
 publish_effect tag (Some refusal) = effects.Refused refusal
-
--- the server has published the file, or has not changed
-abbrev pub IsAtAfter : Option PublishError → Publication → ServerState → ServerState → Type 0
-IsAtAfter None p old new = new ≡ record { epoch = old.epoch; count = old.count + 1; catalogue = publish p old.catalogue }
-IsAtAfter (Some refusal) p old new = new ≡ old
-
-pub record Publishes (name file : List ℕ) (n : Entry) (old new : ServerState) : Type 0 where
-  pub done : n.effect ≡ publish_effect (publication_tag old.epoch (old.count + 1)) (refusal_of old name file)
-  pub report : told_of n ≡ None
-  pub server_at : IsAtAfter (refusal_of old name file)
-      (record { name = name; tag = publication_tag old.epoch (old.count + 1); file = file }) old new
-
-pub record Restarts (epoch : ℕ) (n : Entry) (old new : ServerState) : Type 0 where
-  pub done : n.effect ≡ (if nat_lt old.epoch epoch then effects.Epoch epoch else effects.Skipped)
-  pub report : told_of n ≡ None
-  pub small : epoch < 2 ^ 32
-  pub server_at : MatchBool (nat_lt old.epoch epoch) (new ≡ record { epoch = epoch; count = 0; catalogue = [] }) (new ≡ old)
 
 -- a message is answered from the catalogue
 pub record Answers (catalogue : Catalogue) (sent : ℕ) (message : List ℕ) (n : Entry) : Type 0 where
@@ -174,14 +145,6 @@ pub record DeliversWith (text : List ℕ) (i : ℕ) (effect : Effect) (c next : 
   pub done : effect ≡ effects.Delivered i what
   pub delivers : Delivers c text what next
 
--- what a client does, by which of its calls an event makes
-abbrev pub CallsWith : Catalogue → ℕ → ℕ → Call → Effect → ClientState → ClientState → Type 0
-CallsWith catalogue sent i (calls.Open query) effect c next = OpensWith query i effect c next
-CallsWith catalogue sent i calls.Forget effect c next = ForgetsAll i effect c next
-CallsWith catalogue sent i calls.AskFrom effect c next = AsksWith catalogue sent i effect c next
-CallsWith catalogue sent i calls.Exchange effect c next = ExchangesWith catalogue sent i effect c next
-CallsWith catalogue sent i (calls.Deliver text) effect c next = DeliversWith text.now i effect c next
-
 -- the front of the answer is delivered, if it is there
 abbrev pub IsDelivery : Option Answer → Option ClientState → Option ℕ → ℕ → Entry → List ClientState → List ClientState → Type 0
 IsDelivery None client cut i n old new = Quiet n effects.Skipped old new
@@ -256,30 +219,3 @@ pub record IsBeginning (events : List Event) (entries : List Entry) : Type 0 whe
   pub clients : List ClientState
   pub logged : Runs start [] (take count events) entries clients
   pub truth : IsTrueLog (take count events) entries
-
--- ---- the code's state
-
--- the answer of the entry at a place
-abbrev pub answer_at : List Entry → ℕ → Option Answer
-answer_at entries place = option_and_then (λ n. answer_in n.effect) (slice_get entries place)
-
--- the entries at these places have the answers
-abbrev pub AreKept : List Entry → List ℕ → List Answer → Type 0
-AreKept entries [] [] = Unit {0}
-AreKept entries (p ∷ ps) [] = ⊥
-AreKept entries [] (a ∷ sent) = ⊥
-AreKept entries (p ∷ ps) (a ∷ sent) = (answer_at entries p ≡ Some a) × AreKept entries ps sent
-
--- the places after an effect that stands at the next one
-abbrev pub noted : Option Answer → ℕ → List ℕ → List ℕ
-noted None place places = places
-noted (Some a) place places = places ++ place ∷ []
-
--- the server's state is the world's, and the entries at these places have the answers that were sent
-pub record IsState (w : World) (server : ServerState) (entries : List Entry) (places : List ℕ) : Type 0 where
-  pub server_at : server ≡ server_of w
-  pub kept : AreKept entries places w.sent
-
-pub record Does (w : World) (old : List ClientState) (e : Event) (n : Entry) (new : List ClientState) (server : ServerState) : Type 0 where
-  pub step : Step w old e n new
-  pub server_at : server ≡ server_of (after w e n.effect)

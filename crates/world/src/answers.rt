@@ -2,7 +2,8 @@
 ghost use Rattle.std.specs.Prelude.{◌≡◌, ◌++◌, ◌∷◌, [], IfOk, OnOk, option_and_then, option_copied, slice_get};
 ghost use Rattle.cog_client.specs.Client.{name_of};
 ghost use Rattle.world.specs.World.{answer_in, is_for};
-ghost use Rattle.world.specs.Run.{IsDelivery, answer_at, cut_at, noted};
+ghost use Rattle.world.specs.Run.{cut_at};
+ghost use Rattle.world.specs.State.{IsDeliveryKeeping, answer_at, noted};
 
 use crate::calls::{Call, call_at};
 use crate::event::{Effect, Entry};
@@ -50,7 +51,7 @@ pub fn deliver_at(
     i: u32,
     cut: Option<u32>,
 ) -> Result<Entry, Memory>
-    ensures { IfOk result (λ n. IsDelivery (option_copied answer.entry) (slice_get clients.old.items i) cut i n clients.old.items clients.new.items) }
+    ensures { IfOk result (λ n. IsDeliveryKeeping (option_copied answer.entry) (slice_get clients.old.items i) cut i n clients.old.items clients.new.items) }
 {
     let Some(answer) = answer else {
         return Ok(quiet(Effect::Skipped));

@@ -1,10 +1,11 @@
 //! What happens at a client.
-ghost use Rattle.std.specs.Prelude.{◌≡◌, IfOk, is_some, slice_get};
+ghost use Rattle.std.specs.Prelude.{◌≡◌, IfOk, None, if◌then◌else◌, is_some, slice_get};
 ghost use Rattle.std.specs.Option.{option_map};
 ghost use Rattle.cog_client.specs.Report.{told};
 ghost use Rattle.cog_client.specs.Client.{client_refusal, report_of};
 ghost use Rattle.world.specs.World.{host};
-ghost use Rattle.world.specs.Run.{AtClient, CallsWith, MakesBy, NewReport};
+ghost use Rattle.world.specs.Run.{AtClient, MakesBy};
+ghost use Rattle.world.specs.State.{CallsWith, Keeping, StandsTrue};
 
 use crate::event::{Effect, Entry};
 use crate::exchange::{ask_from, deliver_whole};
@@ -37,7 +38,8 @@ pub fn has_report(client: &Client) -> bool
 
 /// The report that stands, where none stood before.
 pub fn new_report(alloc: Global, client: &Client, had: bool) -> Result<Option<Report>, Memory>
-    ensures { IfOk result (λ o. NewReport had client.now (option_map told o)) }
+    ensures newly { IfOk result (λ o. option_map told o ≡ (if had then None else option_map told (report_of client.now))) }
+    ensures stands { IfOk result (λ o. StandsTrue client.now) }
 {
     let standing = client.report();
     if had {
@@ -115,7 +117,7 @@ pub fn call_at(
     i: u32,
     what: Call<'_>,
 ) -> Result<Entry, Memory>
-    ensures { IfOk result (λ n. AtClient (slice_get clients.old.items i) (CallsWith server.now.catalogue number i what.entry n.effect) i n clients.old.items clients.new.items) }
+    ensures { IfOk result (λ n. AtClient (slice_get clients.old.items i) (Keeping (CallsWith server.now.catalogue number i what.entry n.effect)) i n clients.old.items clients.new.items) }
 {
     let Some(client) = clients.get_mut(i as usize) else {
         return Ok(quiet(Effect::Skipped));

@@ -4,7 +4,9 @@ ghost use Rattle.http_range.specs.Ask.{CanCheck};
 ghost use Rattle.cog_client.specs.Client.{asked_of, host_of, name_of, tag_of};
 ghost use Rattle.cog_client.specs.Check.{check_of};
 ghost use Rattle.world.specs.declared.event.AnsweredCheck.{AnsweredCheck};
+ghost use Rattle.cog_client.specs.Keeps.{RequestsKeeping};
 ghost use Rattle.world.specs.Run.{Asks, IsAnswerTo, IsCheckBy, IsChecked, IsCheckOf, IsExchanged};
+ghost use Rattle.world.specs.State.{IsDeliveredKeeping, request_in};
 
 use crate::event::{AnsweredCheck, AnsweredRequest, Effect, Entry};
 use crate::server::quiet;
@@ -53,7 +55,8 @@ pub fn ask_from(
     client: &mut Client,
     i: u32,
 ) -> Result<Option<AnsweredRequest>, Memory>
-    ensures { IfOk result (λ asked. Asks server.now.catalogue number i asked client.old client.new) }
+    ensures seen { IfOk result (λ asked. Asks server.now.catalogue number i asked client.old client.new) }
+    ensures kept { IfOk result (λ asked. RequestsKeeping client.old (request_in asked) client.new) }
 {
     let request = client.request()?;
     let Some(request) = request else {
@@ -70,7 +73,8 @@ pub fn deliver_whole(
     i: u32,
     asked: Option<AnsweredRequest>,
 ) -> Result<Effect, Memory>
-    ensures { IfOk result (λ effect. IsExchanged i asked effect client.old client.new) }
+    ensures seen { IfOk result (λ effect. IsExchanged i asked effect client.old client.new) }
+    ensures kept { IfOk result (λ effect. IsDeliveredKeeping asked client.old client.new) }
 {
     let Some(asked) = asked else {
         return Ok(Effect::Nothing(i));

@@ -4,7 +4,8 @@ ghost use Rattle.world.specs.LowerLaws.{LowerLaws};
 ghost use Rattle.http_range.specs.Book.{HasDistinctTags};
 ghost use Rattle.world.specs.World.{AllExact, AllHonest, AllTrue, AreAlike, World, after_all, start};
 ghost use Rattle.world.specs.Progress.{AllNeeded, AllReport};
-ghost use Rattle.world.specs.Run.{Does, IsBeginning, IsState, Runs};
+ghost use Rattle.world.specs.Run.{IsBeginning, Runs};
+ghost use Rattle.world.specs.State.{Does, IsState};
 
 use crate::answers::{answer_of, deliver_at, keep};
 use crate::calls::{Call, call_at, make_client};

@@ -17,4 +17,4 @@ returns-in_ok-deliver-in-Ok-clause-keeps g c =
     let P : List ℕ → Type 0 = λ text. IsHonestToAll speaks text in
     let e = c.in_ok-deliver-in-Ok.ensures.ok in
     keeps_taking speaks (g.T.Transport.speaks_for c.exchange.new.self) c.args.client.now c.deliver.new.self c.deref.result.now
-    c.in-Ok.ensures.speaks (subst P (sym c.deref.ensures.value) c.in-Ok.ensures.honest) e.same e.agrees
+    c.in-Ok.ensures.speaks (subst P (sym c.deref.ensures.value) c.in-Ok.ensures.honest) e.seen.same e.agrees

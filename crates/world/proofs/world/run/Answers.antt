@@ -1,7 +1,7 @@
-use Rattle.std.proofs.Common.{ℕ, arith, ap, ◌∙◌}
-use Rattle.world.specs.World.{answer_in}
-use Rattle.world.specs.Run.{noted}
-use Rattle.world.proofs.Whole.{begun, more, state_at, whole, beginning, whole_truth, on_err_of}
+use Rattle.std.proofs.Common.{ℕ, [], arith, ap, ◌∙◌}
+use Rattle.world.specs.World.{answer_in, start}
+use Rattle.world.specs.State.{noted}
+use Rattle.world.proofs.Whole.{begun, more, runs_seen, state_at, whole, beginning, whole_truth, on_err_of}
 use Rattle.world.proofs.Reached.{reached}
 use Rattle.world.proofs.world.run.Goals as goal
 
@@ -19,7 +19,9 @@ loop-event-preserved c =
 
 pub returns-clause-logged : goal.returns-clause-logged
 returns-clause-logged c =
-    whole c.args.events.now c.loop-event.event-index c.loop-event.log.entries.items c.loop-event.log.clients.items c.loop-event-test.false c.loop-event.invariant.runs
+    let l = c.loop-event in
+    runs_seen start [] c.args.events.now l.log.entries.items l.log.clients.items
+    (whole c.args.events.now l.event-index l.log.entries.items l.log.clients.items c.loop-event-test.false l.invariant.runs)
 
 pub returns-clause-whole : goal.returns-clause-whole
 returns-clause-whole c =

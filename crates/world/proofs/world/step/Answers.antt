@@ -2,7 +2,8 @@ use Rattle.std.proofs.Common.{List, length, refl, subst}
 use Rattle.std.specs.Prelude.{IfOk, slice_get}
 use Rattle.cog_client.specs.Client.{ClientState}
 use Rattle.world.specs.declared.event.Event.TheVariants.{AskFrom, Exchange, Check}
-use Rattle.world.specs.Run.{AsksWith, AtClient, ExchangesWith, IsCheckBy}
+use Rattle.world.specs.Run.{AtClient, IsCheckBy}
+use Rattle.world.specs.State.{AsksWithKeeping, ExchangesWithKeeping, Keeping}
 use Rattle.world.proofs.Whole.{ok_ask, ok_call, ok_deliver, ok_publish}
 use Rattle.world.proofs.world.step.Goals as goal
 
@@ -18,7 +19,7 @@ returns-in-Ask c =
 
 pub returns-in-AskFrom : goal.returns-in-AskFrom
 returns-in-AskFrom c =
-    ok_call (λ i. AskFrom i) (λ catalogue sent i n old new. AtClient (slice_get old i) (AsksWith catalogue sent i n.effect) i n old new) (λ w i n old new h. (h, refl))
+    ok_call (λ i. AskFrom i) (λ catalogue sent i n old new. AtClient (slice_get old i) (Keeping (AsksWithKeeping catalogue sent i n.effect)) i n old new) (λ w i n old new h. (h, refl))
     c.call_at-in-AskFrom.result c.args.server.now c.args.entries.now c.args.places.now (length c.args.places.now) c.args.clients.now.items c.call_at-in-AskFrom.new.clients.items c.args.event.now c.in-AskFrom.client c.in-AskFrom.client
     c.in-AskFrom.is refl refl c.call_at-in-AskFrom.ensures
 
@@ -28,7 +29,7 @@ returns-in-Deliver c =
 
 pub returns-in-Exchange : goal.returns-in-Exchange
 returns-in-Exchange c =
-    ok_call (λ i. Exchange i) (λ catalogue sent i n old new. AtClient (slice_get old i) (ExchangesWith catalogue sent i n.effect) i n old new) (λ w i n old new h. (h, refl))
+    ok_call (λ i. Exchange i) (λ catalogue sent i n old new. AtClient (slice_get old i) (Keeping (ExchangesWithKeeping catalogue sent i n.effect)) i n old new) (λ w i n old new h. (h, refl))
     c.call_at-in-Exchange.result c.args.server.now c.args.entries.now c.args.places.now (length c.args.places.now) c.args.clients.now.items c.call_at-in-Exchange.new.clients.items c.args.event.now c.in-Exchange.client c.in-Exchange.client
     c.in-Exchange.is refl refl c.call_at-in-Exchange.ensures
 

@@ -6,7 +6,8 @@ use Rattle.cog_client.specs.declared.delivered.Ignored.TheVariants.{NotUsed}
 use Rattle.cog_client.specs.Case.{case_of}
 use Rattle.cog_client.specs.Take.{take_by}
 use Rattle.cog_client.specs.Client.{ClientState, asked_of, holding, report_of, revision_of}
-use Rattle.cog_client.specs.Calls.{StopsDelivery, unless_reported}
+use Rattle.cog_client.specs.Calls.{unless_reported}
+use Rattle.cog_client.specs.Keeps.{StopsDelivery}
 use Rattle.cog_client.specs.Steps.{Adopts}
 use Rattle.cog_client.proofs.DeliverLemmas.{adopted_delivers, adopted_stops, asks_still, ignores, restarted_delivers, restarted_stops, accepted_delivers, accepted_stops}
 use Rattle.cog_client.proofs.GoingLemmas.{refused}

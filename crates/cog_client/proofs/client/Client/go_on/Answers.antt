@@ -1,6 +1,6 @@
 use Rattle.std.proofs.Common.{◌≡◌, Some, refl, sym, ap, subst, ◌∙◌}
 use Rattle.cog_client.specs.Client.{IsClient, ClientState}
-use Rattle.cog_client.specs.Calls.{GoesOn}
+use Rattle.cog_client.specs.Keeps.{GoesOnKeeping}
 use Rattle.cog_client.proofs.ClientLemmas.{gone, goes_trans, known}
 use Rattle.cog_client.proofs.client.Client.go_on.Goals as goal
 
@@ -12,6 +12,6 @@ returns-in-None-clause-goes c =
     ap (λ o. known i.host.items i.name.items i.query i.asked o i.cache i.report) c.in-Some.is in
     let mid : ClientState = known i.host.items i.name.items i.query i.asked (Some (record s { reader = c.fill.new.reader })) c.fill.new.cache i.report in
     goes_trans c.args.self.now mid c.stand.new.self
-    (subst (λ k. GoesOn k mid) (sym is ∙ c.self.view_is)
+    (subst (λ k. GoesOnKeeping k mid) (sym is ∙ c.self.view_is)
     (gone i.host.items i.name.items i.query i.asked s i.cache i.report (record s { reader = c.fill.new.reader }) c.fill.new.cache refl refl (subst IsClient is c.self.invariant) c.in_ok-missing.ensures.goes))
     c.stand.ensures.goes

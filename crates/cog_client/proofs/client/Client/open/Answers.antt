@@ -2,7 +2,7 @@ use Rattle.std.proofs.Common.{◌≡◌, Option, Some, None, sym, ap, subst, ◌
 use Rattle.cog_client.specs.contracts.client.Client.{the_view}
 use Rattle.cog_client.specs.declared.source.Source.{Source}
 use Rattle.cog_client.specs.Client.{IsClient, ClientState}
-use Rattle.cog_client.specs.Calls.{Opens}
+use Rattle.cog_client.specs.Keeps.{OpensKeeping}
 use Rattle.cog_client.proofs.ClientLemmas.{known, opened, opened_alone}
 use Rattle.cog_client.proofs.client.Client.open.Goals.{in-None, in-Some}
 use Rattle.cog_client.proofs.client.Client.open.Goals as goal
@@ -14,15 +14,15 @@ returns c =
     let old : Option Source → ClientState = λ o. known i.host.items i.name.items i.query i.asked o i.cache i.report in
     elim c.match-self-3.branch [
       | in-None w ↦
-          subst (λ x. Opens q c.args.self.now (the_view x)) (sym w.self-inside-is)
-          (subst (λ k. Opens q k (known i.host.items i.name.items (Some q) None i.source i.cache None)) c.self.view_is
-          (subst (λ o. Opens q (old o) (known i.host.items i.name.items (Some q) None o i.cache None)) (sym w.in-None.is)
+          subst (λ x. OpensKeeping q c.args.self.now (the_view x)) (sym w.self-inside-is)
+          (subst (λ k. OpensKeeping q k (known i.host.items i.name.items (Some q) None i.source i.cache None)) c.self.view_is
+          (subst (λ o. OpensKeeping q (old o) (known i.host.items i.name.items (Some q) None o i.cache None)) (sym w.in-None.is)
           (opened_alone i.host.items i.name.items i.query i.asked i.cache i.report q)))
       | in-Some w ↦
           let s = w.in-Some.source in
           let is : old i.source ≡ old (Some s) = ap old w.in-Some.is in
           let x = w.open.new.self in
-          subst (λ x. Opens q c.args.self.now (the_view x)) (sym w.self-inside-is)
-          (subst (λ k. Opens q k (known i.host.items i.name.items (Some q) None (Some (record s { reader = x })) i.cache None)) (sym is ∙ c.self.view_is)
+          subst (λ x. OpensKeeping q c.args.self.now (the_view x)) (sym w.self-inside-is)
+          (subst (λ k. OpensKeeping q k (known i.host.items i.name.items (Some q) None (Some (record s { reader = x })) i.cache None)) (sym is ∙ c.self.view_is)
           (opened i.host.items i.name.items i.query i.asked i.cache i.report q s x c.end_is_wanted.ensures w.open.ensures.complete w.open.ensures.query w.open.ensures.agrees w.open.ensures.come (subst IsClient is c.self.invariant)))
     ]

@@ -2,7 +2,8 @@ use Rattle.std.proofs.Common.{◌≡◌, Some, None, true, false, sym, ap, subst
 use Rattle.std.specs.Prelude.{is_some, not}
 use Rattle.http_range.specs.Ask.{CanAsk}
 use Rattle.cog_client.specs.Client.{ClientState, asked_of, host_of, name_of, query_of, report_of, revision_of, tag_of}
-use Rattle.cog_client.specs.Calls.{AsksFor, GoesOn, Misses, StopsAsking, request_for}
+use Rattle.cog_client.specs.Calls.{request_for}
+use Rattle.cog_client.specs.Keeps.{AsksFor, GoesOnKeeping, Misses, StopsAsking}
 use Rattle.cog_client.proofs.GoingLemmas.{refused}
 use Rattle.cog_client.proofs.ClientLemmas.{goes_trans, known}
 use Rattle.cog_client.proofs.RequestLemmas.{asking_sound, none_asked, requested, unasked}
@@ -14,7 +15,7 @@ returns-in_err-text-clause-err c =
     let i = c.self.inside in
     let e = c.in_ok-span.ensures in
     let before = known i.host.items i.name.items i.query None i.source i.cache i.report in
-    let old : GoesOn c.args.self.now before = subst (λ k. GoesOn k before) c.self.view_is (unasked i.host.items i.name.items i.query i.asked i.source i.cache i.report c.self.invariant) in
+    let old : GoesOnKeeping c.args.self.now before = subst (λ k. GoesOnKeeping k before) c.self.view_is (unasked i.host.items i.name.items i.query i.asked i.source i.cache i.report c.self.invariant) in
     refused c.from_residual-in_err-text.result (StopsAsking c.args.self.now c.missing.new.self) (record {
       goes = goes_trans c.args.self.now before c.missing.new.self old e.goes;
       asked = none_asked (report_of c.missing.new.self) (asked_of c.missing.new.self) (asked_of before) e.asked refl;
@@ -37,14 +38,14 @@ returns-clause-ok c =
     let j = c.self-2.inside in
     let e = c.in_ok-span.ensures in
     let before = known i.host.items i.name.items i.query None i.source i.cache i.report in
-    let old : GoesOn c.args.self.now before = subst (λ k. GoesOn k before) c.self.view_is (unasked i.host.items i.name.items i.query i.asked i.source i.cache i.report c.self.invariant) in
+    let old : GoesOnKeeping c.args.self.now before = subst (λ k. GoesOnKeeping k before) c.self.view_is (unasked i.host.items i.name.items i.query i.asked i.source i.cache i.report c.self.invariant) in
     let m : known j.host.items j.name.items j.query j.asked j.source j.cache j.report ≡ c.missing.new.self = c.self-2.view_is in
     let silent = ap report_of m ∙ e.silent (ap is_some c.in-Some.is) in
     let asks = subst (λ k. AsksFor k (revision_of k) c.in-Some.span) (sym m) (subst (Misses c.missing.new.self) c.in-Some.is e.ok) in
     let some : is_some i.query ≡ true = c.is_none.ensures ∙ ap not c.if-is_none.false in
     let quiet : is_some i.report ≡ false = sym c.is_some.ensures ∙ c.if-is_some.false in
     requested j.host.items j.name.items j.query j.asked j.source j.cache j.report c.in-Some.span c.args.self.now c.in_ok-text.text.items
-    (subst (GoesOn c.args.self.now) (sym m) (goes_trans c.args.self.now before c.missing.new.self old e.goes)) c.self-2.invariant
+    (subst (GoesOnKeeping c.args.self.now) (sym m) (goes_trans c.args.self.now before c.missing.new.self old e.goes)) c.self-2.invariant
     (asking_sound j.host.items j.name.items j.query j.asked j.source j.cache j.report c.in-Some.span c.self-2.invariant silent asks)
     (ap (λ (k : ClientState). is_some (query_of k)) (sym c.self.view_is) ∙ some) (ap (λ (k : ClientState). is_some (report_of k)) (sym c.self.view_is) ∙ quiet) silent
     (c.in_ok-text.ensures.text ∙ ap (λ k. request_for k (Some c.in-Some.span)) (sym m))

@@ -1,6 +1,6 @@
 use Rattle.std.proofs.Common.{◌≡◌, Some, None, sym, subst, ◌∙◌}
 use Rattle.cog_client.specs.Client.{IsClient, ClientState, report_of}
-use Rattle.cog_client.specs.Calls.{GoesOn}
+use Rattle.cog_client.specs.Keeps.{GoesOnKeeping}
 use Rattle.cog_client.proofs.ClientLemmas.{concluded, known, known_is}
 use Rattle.cog_client.proofs.client.Client.stand.Goals as goal
 
@@ -14,6 +14,6 @@ returns-in-Some-conclude-clause-goes c =
     let silent : i.report ≡ None = subst (λ (k : ClientState). report_of k ≡ None) (sym c.self.view_is) c.requires in
     let is : known i.host.items i.name.items i.query i.asked i.source i.cache i.report ≡ known i.host.items i.name.items (Some q) i.asked (Some s) i.cache None =
     known_is i.host.items i.name.items i.query (Some q) i.asked i.source (Some s) i.cache i.report None c.in-Some.is c.in-Some-source.is silent in
-    subst (λ k. GoesOn k (known i.host.items i.name.items i.query None (Some c.conclude.new.self) i.cache (Some x))) (sym is ∙ c.self.view_is)
-    (subst (λ o. GoesOn (known i.host.items i.name.items (Some q) i.asked (Some s) i.cache None) (known i.host.items i.name.items o None (Some c.conclude.new.self) i.cache (Some x))) (sym c.in-Some.is)
+    subst (λ k. GoesOnKeeping k (known i.host.items i.name.items i.query None (Some c.conclude.new.self) i.cache (Some x))) (sym is ∙ c.self.view_is)
+    (subst (λ o. GoesOnKeeping (known i.host.items i.name.items (Some q) i.asked (Some s) i.cache None) (known i.host.items i.name.items o None (Some c.conclude.new.self) i.cache (Some x))) (sym c.in-Some.is)
     (concluded i.host.items i.name.items q i.asked s c.conclude.new.self i.cache x c.nothing_comes.ensures.unasked (subst IsClient is c.self.invariant) c.in-Some-conclude.ensures))

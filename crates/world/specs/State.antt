@@ -1,0 +1,134 @@
+-- What only the code's steps and their proofs need: what the calls of clients keep of the files that these know, and how the
+-- code holds the world.
+use Rattle.std.specs.Prelude.{◌≡◌, ℕ, ◌+◌, ◌^◌, ◌<◌, ⊤, nat_lt, if◌then◌else◌, List, [], ◌∷◌, ◌++◌, length, Option, Some, None, IfSome, slice_get, option_and_then}
+use Rattle.std.specs.Option.{option_map}
+use Rattle.std.specs.Bool.{MatchBool}
+use Rattle.tiff_dir.specs.declared.query.Query.{Query}
+use Rattle.http_range.specs.Book.{Publication, Book, Catalogue, publish, publication_tag}
+use Rattle.cog_server.specs.declared.error.PublishError.{PublishError}
+use Rattle.cog_server.specs.declared.server.Answer.{Answer}
+use Rattle.cog_server.specs.Server.{ServerState, refusal_of}
+use Rattle.cog_client.specs.declared.delivered.Delivered.{Delivered}
+use Rattle.cog_client.specs.Report.{IsTrueReport}
+use Rattle.cog_client.specs.Client.{ClientAgrees, ClientState, name_of, query_of, report_of}
+use Rattle.cog_client.specs.Keeps.{DeliversKeeping, OpensKeeping, RequestsKeeping}
+use Rattle.world.specs.declared.calls.Call.{Call}
+use Rattle.world.specs.declared.calls.Call.TheVariants as calls
+use Rattle.world.specs.declared.event.Event.{Event}
+use Rattle.world.specs.declared.event.Event.TheVariants.{Open, Forget, AskFrom, Deliver, Exchange}
+use Rattle.world.specs.declared.event.AnsweredRequest.{AnsweredRequest}
+use Rattle.world.specs.declared.event.Effect.{Effect}
+use Rattle.world.specs.declared.event.Effect.TheVariants as effects
+use Rattle.world.specs.declared.event.Entry.{Entry}
+use Rattle.world.specs.World.{World, after, answer_in, server_of}
+use Rattle.world.specs.Run.{AsksWith, AtClient, DeliversWith, ExchangesWith, ForgetsAll, OpensWith, Quiet, Step, cut_at, publish_effect, receiver, told_of}
+
+-- ---- what the calls keep
+
+-- the report that stands is true for each book that the client agrees with
+abbrev pub StandsTrue : ClientState → Type 0
+StandsTrue c = (book : Book) → ClientAgrees c book → IfSome (report_of c) (λ r. IsTrueReport r (name_of c) (query_of c) book)
+
+-- a call, with that of the client after it
+pub record Keeping (R : ClientState → ClientState → Type 0) (c next : ClientState) : Type 0 where
+  pub does : R c next
+  pub stands : StandsTrue next
+
+pub record OpensWithKeeping (query : Query) (i : ℕ) (effect : Effect) (c next : ClientState) : Type 0 where
+  pub seen : OpensWith query i effect c next
+  pub opens : OpensKeeping query c next
+
+-- the text of a client's request, if it has one
+abbrev pub request_in : Option AnsweredRequest → Option (List ℕ)
+request_in asked = option_map (λ a. a.request.items) asked
+
+pub record AsksWithKeeping (catalogue : Catalogue) (sent i : ℕ) (effect : Effect) (c next : ClientState) : Type 0 where
+  pub seen : AsksWith catalogue sent i effect c next
+  pub requests : RequestsKeeping c (request_in seen.asked) next
+
+abbrev pub IsDeliveredKeeping : Option AnsweredRequest → ClientState → ClientState → Type 0
+IsDeliveredKeeping None mid next = ⊤
+IsDeliveredKeeping (Some a) mid next = (what : Delivered) × DeliversKeeping mid a.answer.text.items what next
+
+pub record ExchangesWithKeeping (catalogue : Catalogue) (sent i : ℕ) (effect : Effect) (c next : ClientState) : Type 0 where
+  pub seen : ExchangesWith catalogue sent i effect c next
+  pub requests : RequestsKeeping c (request_in seen.asked) seen.mid
+  pub delivers : IsDeliveredKeeping seen.asked seen.mid next
+
+pub record DeliversWithKeeping (text : List ℕ) (i : ℕ) (effect : Effect) (c next : ClientState) : Type 0 where
+  pub seen : DeliversWith text i effect c next
+  pub delivers : DeliversKeeping c text seen.what next
+
+-- what a client does, by which of its calls an event makes
+abbrev pub CallsWith : Catalogue → ℕ → ℕ → Call → Effect → ClientState → ClientState → Type 0
+CallsWith catalogue sent i (calls.Open query) effect c next = OpensWithKeeping query i effect c next
+CallsWith catalogue sent i calls.Forget effect c next = ForgetsAll i effect c next
+CallsWith catalogue sent i calls.AskFrom effect c next = AsksWithKeeping catalogue sent i effect c next
+CallsWith catalogue sent i calls.Exchange effect c next = ExchangesWithKeeping catalogue sent i effect c next
+CallsWith catalogue sent i (calls.Deliver text) effect c next = DeliversWithKeeping text.now i effect c next
+
+abbrev pub IsDeliveryKeeping : Option Answer → Option ClientState → Option ℕ → ℕ → Entry → List ClientState → List ClientState → Type 0
+IsDeliveryKeeping None client cut i n old new = Quiet n effects.Skipped old new
+IsDeliveryKeeping (Some a) client cut i n old new =
+    AtClient (receiver a client) (Keeping (DeliversWithKeeping (cut_at cut a.text.items) i n.effect)) i n old new
+
+-- one event, and all the events of a run
+abbrev pub StepKeeping : World → List ClientState → Event → Entry → List ClientState → Type 0
+StepKeeping w old (Open i q) n new = AtClient (slice_get old i) (Keeping (OpensWithKeeping q i n.effect)) i n old new
+StepKeeping w old (Forget i) n new = AtClient (slice_get old i) (Keeping (ForgetsAll i n.effect)) i n old new
+StepKeeping w old (AskFrom i) n new = AtClient (slice_get old i) (Keeping (AsksWithKeeping w.catalogue (length w.sent) i n.effect)) i n old new
+StepKeeping w old (Deliver i a cut) n new = IsDeliveryKeeping (slice_get w.sent a) (slice_get old i) cut i n old new
+StepKeeping w old (Exchange i) n new = AtClient (slice_get old i) (Keeping (ExchangesWithKeeping w.catalogue (length w.sent) i n.effect)) i n old new
+StepKeeping w old e n new = Step w old e n new
+
+abbrev pub RunsKeeping : World → List ClientState → List Event → List Entry → List ClientState → Type 0
+RunsKeeping w old [] [] new = new ≡ old
+RunsKeeping w old [] (n ∷ ns) new = ⊥
+RunsKeeping w old (e ∷ es) [] new = ⊥
+RunsKeeping w old (e ∷ es) (n ∷ ns) new = (mid : List ClientState) × StepKeeping w old e n mid × RunsKeeping (after w e n.effect) mid es ns new
+
+-- ---- the server
+
+-- the server has published the file, or has not changed
+abbrev pub IsAtAfter : Option PublishError → Publication → ServerState → ServerState → Type 0
+IsAtAfter None p old new = new ≡ record { epoch = old.epoch; count = old.count + 1; catalogue = publish p old.catalogue }
+IsAtAfter (Some refusal) p old new = new ≡ old
+
+pub record Publishes (name file : List ℕ) (n : Entry) (old new : ServerState) : Type 0 where
+  pub done : n.effect ≡ publish_effect (publication_tag old.epoch (old.count + 1)) (refusal_of old name file)
+  pub report : told_of n ≡ None
+  pub server_at : IsAtAfter (refusal_of old name file)
+      (record { name = name; tag = publication_tag old.epoch (old.count + 1); file = file }) old new
+
+pub record Restarts (epoch : ℕ) (n : Entry) (old new : ServerState) : Type 0 where
+  pub done : n.effect ≡ (if nat_lt old.epoch epoch then effects.Epoch epoch else effects.Skipped)
+  pub report : told_of n ≡ None
+  pub small : epoch < 2 ^ 32
+  pub server_at : MatchBool (nat_lt old.epoch epoch) (new ≡ record { epoch = epoch; count = 0; catalogue = [] }) (new ≡ old)
+
+-- ---- the entries that have the answers
+
+-- the answer of the entry at a place
+abbrev pub answer_at : List Entry → ℕ → Option Answer
+answer_at entries place = option_and_then (λ n. answer_in n.effect) (slice_get entries place)
+
+-- the entries at these places have the answers
+abbrev pub AreKept : List Entry → List ℕ → List Answer → Type 0
+AreKept entries [] [] = Unit {0}
+AreKept entries (p ∷ ps) [] = ⊥
+AreKept entries [] (a ∷ sent) = ⊥
+AreKept entries (p ∷ ps) (a ∷ sent) = (answer_at entries p ≡ Some a) × AreKept entries ps sent
+
+-- the places after an effect that stands at the next one
+abbrev pub noted : Option Answer → ℕ → List ℕ → List ℕ
+noted None place places = places
+noted (Some a) place places = places ++ place ∷ []
+
+-- the server's state is the world's, and the entries at these places have the answers that were sent
+pub record IsState (w : World) (server : ServerState) (entries : List Entry) (places : List ℕ) : Type 0 where
+  pub server_at : server ≡ server_of w
+  pub kept : AreKept entries places w.sent
+
+pub record Does (w : World) (old : List ClientState) (e : Event) (n : Entry) (new : List ClientState) (server : ServerState) : Type 0 where
+  pub step : StepKeeping w old e n new
+  pub server_at : server ≡ server_of (after w e n.effect)
