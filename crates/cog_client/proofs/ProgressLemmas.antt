@@ -12,13 +12,14 @@ use Rattle.tiff_dir.specs.declared.span.Span.{Span}
 use Rattle.tiff_dir.specs.Needs.{Extent, IsEndOf, ends_past}
 use Rattle.tiff_dir.specs.Query.{blocks_of_extent as touched, cost, needs}
 use Rattle.tiff_dir.specs.Block.{blocks, end_of, first_block}
-use Rattle.range_cache.specs.Cache.{Blocks, numbers}
+use Rattle.range_cache.specs.Cache.{Blocks, Holds, numbers}
 use Rattle.range_cache.specs.Laws.{FoundAreThere, HaveSame, MissingIsFew, MissingIsSame, MissingIsSome}
 use Rattle.range_cache.specs.Numbers.{missing}
 use Rattle.cog_reader.specs.Reader as reader
 use Rattle.cog_client.specs.declared.source.Source.{Source}
 use Rattle.cog_client.specs.Case.{Revision}
-use Rattle.cog_client.specs.Client.{ClientState, Knows, KnowsBy, IsReadingOf, asked_of, blocks_of, query_of, report_of, revision_at, revision_of, to_come}
+use Rattle.http_range.specs.Book.{Publication, Book, In}
+use Rattle.cog_client.specs.Client.{AgreementIsSeen, ClientAgrees, ClientState, IsOf, Knows, KnowsBy, KnowsOne, IsReadingOf, asked_of, blocks_of, query_of, report_of, revision_at, revision_of, to_come}
 use Rattle.cog_client.specs.Keeps.{AsksFor, ComesFirst, Lacks, Misses}
 use Rattle.cog_client.specs.Going.{AreSame}
 use Rattle.cog_client.specs.Progress.{CostIsMost, DeliveryReports, GoingOnLeavesNoMore, IsAtWork, IsGone, IsOfNeeded, NeededAreAsked, OpeningLeavesCost, RequestReports, blocks_of_ranges, left, left_of, missing_of_range}
@@ -112,6 +113,32 @@ known_length lengths f c v is knows = at c.source refl is knows
     at (Some s) e is k =
         let reading = subst (λ o. IfSome o (IsReadingOf c.query c.report)) e k.sound.reading in
         lengths s.reader f k.reader ∙ sym reading.0 ∙ ap (λ (w : Revision). w.complete) (same_Some _ _ is)
+
+-- the blocks of a client that knows the file are the file's
+blocks_known : (f : List ℕ) (c : ClientState) (v : Revision) → revision_of c ≡ Some v → Knows f c → Holds f (blocks_of c)
+unfolding Knows revision_of blocks_of
+blocks_known f c v is knows = at c.source refl is knows
+  where
+    at : (o : Option Source) → c.source ≡ o → revision_at o ≡ Some v → IfSome o (KnowsBy f c) → Holds f c.cache
+    at None e is k = absurd (none-some v is)
+    at (Some s) e is k = k.blocks
+
+pub agreement_seen : LengthsAreKnown → AgreementIsSeen
+unfolding ClientAgrees
+agreement_seen lengths c book agrees = at (revision_of c) refl agrees
+  where
+    at : (o : Option Revision) → revision_of c ≡ o → IfSome o (KnowsOne c book) → IfSome o (λ v. (p : Publication) × In p book × IsOf c v p)
+    at None is k = tt
+    at (Some v) is k = (
+      k.source,
+      k.published,
+      record {
+        named = k.of_name;
+        tagged = k.of_tag;
+        long = known_length lengths k.source.file c v is k.knows;
+        blocks = blocks_known k.source.file c v is k.knows;
+      },
+    )
 
 pub first_split : (r : Extent) (rs : List Extent) → ComesFirst r rs → (rest : List Extent) × (rs ≡ r ∷ rest)
 first_split r [] is = absurd (none-some r is)

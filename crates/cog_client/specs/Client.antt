@@ -1,5 +1,5 @@
 -- The words for what callers know of a client, and when what it holds is of a published file.
-use Rattle.std.specs.Prelude.{◌≡◌, ℕ, ◌+◌, ◌*◌, ◌<◌, not, ◌||◌, nat_lt, IsTrue, if◌then◌else◌, List, [], Option, Some, None, IfSome, is_some, ⊤}
+use Rattle.std.specs.Prelude.{◌≡◌, ℕ, ◌+◌, ◌*◌, ◌<◌, not, ◌||◌, nat_lt, IsTrue, if◌then◌else◌, List, [], length, Option, Some, None, IfSome, is_some, ⊤}
 use Rattle.std.specs.Option.{option_map, option_map_or}
 use Rattle.tiff_dir.specs.declared.query.Query.{Query}
 use Rattle.tiff_dir.specs.declared.span.Span.{Span}
@@ -156,3 +156,18 @@ pub record KnowsOne (c : ClientState) (book : Book) (v : Revision) : Type 0 wher
 -- What the client holds agrees with the book.
 unfoldable pub ClientAgrees : ClientState → Book → Type 0
 ClientAgrees c book = IfSome (revision_of c) (KnowsOne c book)
+
+-- What a caller sees of a client that reads this revision is of the publication: its name, tag and length, and its blocks.
+pub record IsOf (c : ClientState) (v : Revision) (p : Publication) : Type 0 where
+  pub named : p.name ≡ name_of c
+  pub tagged : p.tag ≡ v.tag
+  pub long : length p.file ≡ v.complete
+  pub blocks : Holds p.file (blocks_of c)
+
+-- A client that has a revision is of one publication of the book.
+abbrev pub IsOfBook : ClientState → Book → Type 0
+IsOfBook c book = IfSome (revision_of c) (λ v. (p : Publication) × In p book × IsOf c v p)
+
+-- So it is where what it holds agrees with the book.
+abbrev pub AgreementIsSeen : Type 0
+AgreementIsSeen = (c : ClientState) (book : Book) → ClientAgrees c book → IsOfBook c book

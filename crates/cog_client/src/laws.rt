@@ -2,7 +2,7 @@
 ghost use Rattle.std.specs.Prelude.{ℕ, List, IfSome};
 ghost use Rattle.tiff_dir.specs.Needs.{IsEndOf};
 ghost use Rattle.tiff_dir.specs.Query.{needs};
-ghost use Rattle.cog_client.specs.Client.{query_of, to_come, ClientState, Knows};
+ghost use Rattle.cog_client.specs.Client.{AgreementIsSeen, query_of, to_come, ClientState, Knows};
 ghost use Rattle.cog_client.specs.Report.{TruthIsTold};
 ghost use Rattle.cog_client.specs.Progress.{CostIsMost, DeliveryReports, GoingOnLeavesNoMore, NeededAreAsked, OpeningLeavesCost, OwnAnswersBringOn, RequestReports};
 
@@ -57,6 +57,13 @@ pub fn own_answers_bring_on()
     pieces_bring_blocks();
     stores_are_counted();
     stored_stay();
+}
+
+/// A client that agrees with a book is, as far as a caller sees, of one publication of it.
+pub fn agreement_is_seen()
+    ensures { AgreementIsSeen }
+{
+    lengths_are_known();
 }
 
 /// A report that tells the same as a true one, as a copy does, is true.

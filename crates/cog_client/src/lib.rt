@@ -20,7 +20,7 @@ pub use error::{ClientError, FetchError};
 pub use fetching::fetch;
 pub use http_range::{Span, Tag, Why};
 pub use laws::{
-    end_is_needed, equal_reports_are_true, left_never_grows, needed_are_asked,
+    agreement_is_seen, end_is_needed, equal_reports_are_true, left_never_grows, needed_are_asked,
     nothing_left_is_reported, own_answers_bring_on,
 };
 pub use report::Report;

@@ -26,12 +26,12 @@ use Rattle.cog_server.specs.declared.server.Answer.{Answer}
 use Rattle.cog_server.specs.Server.{ServerState}
 use Rattle.cog_client.specs.declared.report.Report.{Report}
 use Rattle.cog_client.specs.Report.{Facts, facts_of}
-use Rattle.cog_client.specs.Client.{ClientState}
+use Rattle.cog_client.specs.Client.{ClientState, IsOfBook}
 use Rattle.world.specs.declared.event.Event.{Event}
 use Rattle.world.specs.declared.event.Event.TheVariants.{Publish, Epoch, NewClient, Open, Forget, Ask, AskFrom, Deliver, Exchange, Check}
 use Rattle.world.specs.declared.event.Entry.{Entry}
 use Rattle.world.specs.Progress.{IsNeededEntry}
-use Rattle.world.specs.World.{World, start, answer_in, next_of, publish_by, refused_at, server_of, after, after_all, client_of, AtEach, IsTrueAt, IsTrueEntry, AllTrue, IsToldIn, AreEqual, SayTheSame, AreAlike, IsHonestEntry, IsExactEntry}
+use Rattle.world.specs.World.{World, start, answer_in, next_of, publish_by, refused_at, server_of, after, after_all, client_of, AtEach, IsTrueAt, IsTrueEntry, AllTrue, IsToldIn, AreEqual, SayTheSame, AreAlike, AreOfBook, IsHonestEntry, IsExactEntry}
 use Rattle.world.specs.Run.{Answers, AtClient, IsDelivery, Step, Runs, IsBeginning, IsTrueLog, receiver}
 use Rattle.world.specs.State.{AreKept, Does, IsAtAfter, IsDeliveryKeeping, IsState, Keeping, Publishes, RunsKeeping, StepKeeping, answer_at, noted}
 use Rattle.world.specs.LowerLaws.{LowerLaws}
@@ -220,6 +220,16 @@ run_truth laws es ns cs runs =
       distinct = good.distinct;
       honest = each_run IsHonestEntry laws (λ w cs e n new g hosts step. honest_step laws w cs e n new g step) start [] es ns cs good_start hosted_start runs;
     }
+
+pub clients_truth : (laws : LowerLaws) (es : List Event) (ns : List Entry) (cs : List ClientState) → RunsKeeping start [] es ns cs → AreOfBook cs (after_all start es ns).book
+clients_truth laws es ns cs runs i = by (slice_get cs i) refl
+  where
+    good : Good (after_all start es ns) cs
+    good = good_run laws start [] es ns cs good_start runs
+
+    by : (o : Option ClientState) → slice_get cs i ≡ o → IfSome o (λ c. IsOfBook c (after_all start es ns).book)
+    by None at = tt
+    by (Some c) at = laws.seen c (after_all start es ns).book (good.agree i c at (after_all start es ns).book (λ p j. j) good.distinct)
 
 pub beginning : (laws : LowerLaws) (events : List Event) (k : ℕ) (ns : List Entry) (cs : List ClientState) → k < length events → RunsKeeping start [] (take k events) ns cs → IsBeginning events ns
 beginning laws events k ns cs fewer runs = record { count = k; fewer = fewer; clients = cs; logged = runs_seen start [] (take k events) ns cs runs; truth = run_truth laws (take k events) ns cs runs }

@@ -4,6 +4,7 @@ use Rattle.tiff_dir.specs.declared.query.Query.{Query}
 use Rattle.tiff_dir.specs.Faulty.{IsWindow}
 use Rattle.geokeys.specs.Same.{KeysAreUnique}
 use Rattle.http_range.specs.Laws.{TagsTellOne, TagsTellPublications, PublicationTagsAreKept, ClientsAreAnswered, ChecksAreAnswered, ChecksAreRead, PublishReplaces, PublishedIsNamed, HonestyIsKept}
+use Rattle.cog_client.specs.Client.{AgreementIsSeen}
 use Rattle.cog_client.specs.Report.{TruthIsTold}
 use Rattle.cog_client.specs.Progress.{CostIsMost, DeliveryReports, GoingOnLeavesNoMore, NeededAreAsked, OwnAnswersBringOn, RequestReports}
 
@@ -19,6 +20,7 @@ pub record LowerLaws : Type 0 where
   pub honest : HonestyIsKept
   pub window : (f : List ℕ) (q : Query) (v u : List ℕ) → IsWindow f q v → IsWindow f q u → v ≡ u
   pub told : TruthIsTold
+  pub seen : AgreementIsSeen
   pub geo : KeysAreUnique
   pub cost : CostIsMost
   pub goes : GoingOnLeavesNoMore

@@ -18,7 +18,7 @@ use Rattle.cog_client.specs.declared.error.ClientError.{ClientError}
 use Rattle.cog_client.specs.declared.delivered.Current.TheVariants.{Same}
 use Rattle.cog_client.specs.declared.report.Report.{Report}
 use Rattle.cog_client.specs.Report.{IsTrueReport, facts_of}
-use Rattle.cog_client.specs.Client.{client_refusal}
+use Rattle.cog_client.specs.Client.{ClientState, IsOfBook, client_refusal}
 use Rattle.world.specs.declared.event.Event.{Event}
 use Rattle.world.specs.declared.event.Event.TheVariants.{Publish, Epoch, NewClient, Open, Forget, AskFrom, Deliver, Exchange, Check}
 use Rattle.world.specs.declared.event.AnsweredCheck.{AnsweredCheck}
@@ -177,6 +177,10 @@ IsHonestEntry w e n = IfSome (answer_in n.effect) (λ a. StaysHonest a w.book)
 -- Each answer is honest from when it is sent.
 abbrev pub AllHonest : World → List Event → List Entry → Type 0
 AllHonest w es ns = AtEach IsHonestEntry w es ns
+
+-- Each client that has a revision is of one publication of the book.
+abbrev pub AreOfBook : List ClientState → Book → Type 0
+AreOfBook clients book = (i : ℕ) → IfSome (slice_get clients i) (λ c. IsOfBook c book)
 
 -- the check of an entry
 abbrev pub check_in : Effect → Option AnsweredCheck

@@ -2,7 +2,7 @@
 ghost use Rattle.std.specs.Prelude.{◌≡◌, [], IfOk, OnOk, OnErr, length};
 ghost use Rattle.world.specs.LowerLaws.{LowerLaws};
 ghost use Rattle.http_range.specs.Book.{HasDistinctTags};
-ghost use Rattle.world.specs.World.{AllExact, AllHonest, AllTrue, AreAlike, World, after_all, start};
+ghost use Rattle.world.specs.World.{AllExact, AllHonest, AllTrue, AreAlike, AreOfBook, World, after_all, start};
 ghost use Rattle.world.specs.Progress.{AllNeeded, AllReport};
 ghost use Rattle.world.specs.Run.{IsBeginning, Runs};
 ghost use Rattle.world.specs.State.{Does, IsState};
@@ -13,8 +13,8 @@ use crate::event::{Entry, Event, Log};
 use crate::exchange::check_at;
 use crate::server::{ask, publish, restart};
 use cog_client::{
-    Client, equal_reports_are_true, left_never_grows, needed_are_asked, nothing_left_is_reported,
-    own_answers_bring_on,
+    Client, agreement_is_seen, equal_reports_are_true, left_never_grows, needed_are_asked,
+    nothing_left_is_reported, own_answers_bring_on,
 };
 use cog_server::Server;
 use geokeys::one_geo;
@@ -63,6 +63,10 @@ pub fn run(alloc: Global, events: &[Event], log: &mut Log) -> Result<(), Memory>
     ensures distinct { OnOk result (HasDistinctTags (after_all start events.now log.new.entries.items).book) }
     ensures honest { OnOk result (AllHonest start events.now log.new.entries.items) }
 
+    // Each client that the log leaves and that reads a revision has the name, tag and length of one publication of the whole
+    // schedule, and its blocks are that file's.
+    ensures clients { OnOk result (AreOfBook log.new.clients.items (after_all start events.now log.new.entries.items).book) }
+
     // The entries, and the clients that the log leaves, are those that the schedule and the contracts of the clients' calls
     // make: an event makes a client, or changes only the one that it names, and a report in an entry is that client's.
     ensures logged { OnOk result (Runs start [] events.now log.new.entries.items log.new.clients.items) }
@@ -88,6 +92,7 @@ fn lower_laws()
 {
     tags_tell_publications();
     equal_reports_are_true();
+    agreement_is_seen();
     one_geo();
     publications_replace();
     clients_are_answered();

@@ -13,6 +13,7 @@ returns c = record {
   honest = c.honesty_is_kept.ensures;
   window = c.one_window.ensures.window;
   told = c.equal_reports_are_true.ensures;
+  seen = c.agreement_is_seen.ensures;
   geo = c.one_geo.ensures.keys;
   cost = c.left_never_grows.ensures.cost;
   goes = c.left_never_grows.ensures.goes;

@@ -1,7 +1,7 @@
 use Rattle.std.proofs.Common.{ℕ, [], arith, ap, ◌∙◌}
 use Rattle.world.specs.World.{answer_in, start}
 use Rattle.world.specs.State.{noted}
-use Rattle.world.proofs.Whole.{begun, more, runs_seen, state_at, whole, beginning, whole_truth, on_err_of}
+use Rattle.world.proofs.Whole.{begun, clients_truth, more, runs_seen, state_at, whole, beginning, whole_truth, on_err_of}
 use Rattle.world.proofs.Reached.{reached}
 use Rattle.world.proofs.world.run.Goals as goal
 
@@ -46,6 +46,12 @@ returns-clause-distinct c =
 pub returns-clause-honest : goal.returns-clause-honest
 returns-clause-honest c =
     (whole_truth c.lower_laws.ensures c.args.events.now c.loop-event.event-index c.loop-event.log.entries.items c.loop-event.log.clients.items c.loop-event-test.false c.loop-event.invariant.runs).honest
+
+pub returns-clause-clients : goal.returns-clause-clients
+returns-clause-clients c =
+    let l = c.loop-event in
+    clients_truth c.lower_laws.ensures c.args.events.now l.log.entries.items l.log.clients.items
+    (whole c.args.events.now l.event-index l.log.entries.items l.log.clients.items c.loop-event-test.false l.invariant.runs)
 
 pub returns-clause-needed : goal.returns-clause-needed
 returns-clause-needed c =
