@@ -1,12 +1,15 @@
 //! How fast the loops over bytes go, and the server. Without a word it checks what they give; with the word `measure` it
-//! prints how many GB a second each loop writes on hot tiles, and how many answers a second are served from memory.
+//! prints how many GB a second each loop writes on hot tiles, first on the packed tiles of the files whose names follow, and how
+//! many answers a second are served from memory.
 #![tactic(auto)]
 
+mod files;
 mod picture;
 mod serving;
 mod tiles;
 
 use anyhow::{Result, bail, ensure};
+use files::measure_file;
 use packbits::unpack;
 use picture::Picture;
 use serving::{check_serving, measure_serving};
@@ -131,7 +134,11 @@ fn main(rt: HostRuntime) -> Result<()> {
     let alloc = rt.alloc();
     let mut measures = false;
     for word in env::args(&rt)?.skip(1) {
-        measures = measures || word.as_str() == "measure";
+        if measures {
+            measure_file(&rt, word.as_str())?;
+        } else {
+            measures = word.as_str() == "measure";
+        }
     }
     if measures {
         measure(&rt, alloc)

@@ -6,11 +6,21 @@ pub const ROW: usize = 256;
 
 pub const TILE: usize = 65536;
 
+/// Where the packets of 1, 2 and so on to 16 bytes begin in a row; behind them those of 1 to 15 bytes fill it.
+const STARTS: [usize; 16] = [0, 1, 3, 6, 10, 15, 21, 28, 36, 45, 55, 66, 78, 91, 105, 120];
+
+/// Where the second row of them begins.
+const AGAIN: usize = 136;
+
 /// What a tile is made of.
 #[derive(Clone, Copy)]
 pub enum Kind {
     /// Bytes without runs, in packets of 128.
     Noise,
+    /// Bytes without runs, in packets of 8.
+    Copies8,
+    /// Bytes without runs, in packets of 1 to 16.
+    Copies1To16,
     /// Runs of 32 equal bytes.
     Runs32,
     /// Runs of 4 equal bytes.
@@ -18,15 +28,61 @@ pub enum Kind {
 }
 
 impl Kind {
-    pub const ALL: [Kind; 3] = [Kind::Noise, Kind::Runs32, Kind::Runs4];
+    pub const ALL: [Kind; 5] = [
+        Kind::Noise,
+        Kind::Copies8,
+        Kind::Copies1To16,
+        Kind::Runs32,
+        Kind::Runs4,
+    ];
 
     pub fn name(self) -> &'static str {
         match self {
             Kind::Noise => "noise",
+            Kind::Copies8 => "copies of 8",
+            Kind::Copies1To16 => "copies of 1 to 16",
             Kind::Runs32 => "runs of 32",
             Kind::Runs4 => "runs of 4",
         }
     }
+
+    /// The sample at a place of the tile.
+    fn sample(self, place: usize) -> u8 {
+        match self {
+            Kind::Noise | Kind::Copies8 | Kind::Copies1To16 => noise(place),
+            Kind::Runs32 => noise(place / 32),
+            Kind::Runs4 => noise(place / 4),
+        }
+    }
+
+    /// The head of the packet that begins at a place, if one does.
+    fn head(self, place: usize) -> Option<u8> {
+        match self {
+            Kind::Noise => (place % 128 == 0).then_some(127),
+            Kind::Copies8 => (place % 8 == 0).then_some(7),
+            Kind::Copies1To16 => short_head(place % ROW),
+            Kind::Runs32 => (place % 32 == 0).then_some(225),
+            Kind::Runs4 => (place % 4 == 0).then_some(253),
+        }
+    }
+
+    /// Whether its packets copy bytes.
+    fn copies(self) -> bool {
+        !matches!(self, Kind::Runs32 | Kind::Runs4)
+    }
+}
+
+/// The head of the packet of 1 to 16 bytes that begins at a place of a row, if one does.
+fn short_head(place: usize) -> Option<u8> {
+    let place = if place < AGAIN { place } else { place - AGAIN };
+    let mut head = 0u8;
+    for start in &STARTS {
+        if *start == place {
+            return Some(head);
+        }
+        head = head.wrapping_add(1);
+    }
+    None
 }
 
 /// A byte that depends on all bits of its place.
@@ -40,12 +96,7 @@ fn noise(place: usize) -> u8 {
 pub fn plain(alloc: Global, kind: Kind) -> Result<Vec<u8>, AllocError> {
     let mut tile = Vec::with_capacity(alloc, TILE)?;
     for place in 0..TILE {
-        let of = match kind {
-            Kind::Noise => place,
-            Kind::Runs32 => place / 32,
-            Kind::Runs4 => place / 4,
-        };
-        tile.push(noise(of))?;
+        tile.push(kind.sample(place))?;
     }
     Ok(tile)
 }
@@ -54,25 +105,12 @@ pub fn plain(alloc: Global, kind: Kind) -> Result<Vec<u8>, AllocError> {
 pub fn packed(alloc: Global, kind: Kind) -> Result<Vec<u8>, AllocError> {
     let mut bytes = Vec::new(alloc);
     for place in 0..TILE {
-        match kind {
-            Kind::Noise => {
-                if place % 128 == 0 {
-                    bytes.push(127)?;
-                }
-                bytes.push(noise(place))?;
-            }
-            Kind::Runs32 => {
-                if place % 32 == 0 {
-                    bytes.push(225)?;
-                    bytes.push(noise(place / 32))?;
-                }
-            }
-            Kind::Runs4 => {
-                if place % 4 == 0 {
-                    bytes.push(253)?;
-                    bytes.push(noise(place / 4))?;
-                }
-            }
+        let head = kind.head(place);
+        if let Some(head) = head {
+            bytes.push(head)?;
+        }
+        if head.is_some() || kind.copies() {
+            bytes.push(kind.sample(place))?;
         }
     }
     Ok(bytes)

@@ -8,7 +8,7 @@ use tiff_dir::{FileFault, one_text};
 /// The head of a packet that stands for nothing; below it a packet copies, above it one repeats.
 const NO_OP: usize = 128;
 
-/// How many bytes are written at once where there is room: a short run costs no call.
+/// How many bytes are written at once where there is room: a short run costs no call, nor do a few bytes that are copied.
 const AT_ONCE: usize = 16;
 
 /// Writes a byte so many times. What follows in `out` may be overwritten.
@@ -21,6 +21,20 @@ fn repeat(byte: u8, times: usize, out: &mut [u8])
         out[..AT_ONCE].copy_from_slice(&[byte; AT_ONCE]);
     } else {
         out[..times].fill(byte);
+    }
+}
+
+/// Copies the first `len` bytes. What follows in `out` may be overwritten.
+#[inline(always)]
+fn copy(bytes: &[u8], len: usize, out: &mut [u8])
+    requires there { len ≤ length bytes.now }
+    requires room { len ≤ length out.old }
+    ensures { take len out.new ≡ take len bytes.now }
+{
+    if len <= AT_ONCE && AT_ONCE <= bytes.len() && AT_ONCE <= out.len() {
+        out[..AT_ONCE].copy_from_slice(&bytes[..AT_ONCE]);
+    } else {
+        out[..len].copy_from_slice(&bytes[..len]);
     }
 }
 
@@ -40,7 +54,7 @@ fn unpack_first(bytes: &[u8], room: usize, out: &mut [u8]) -> Option<(usize, usi
         if len > room || len >= bytes.len() {
             return None;
         }
-        out[..len].copy_from_slice(&bytes[1..len + 1]);
+        copy(&bytes[1..], len, out);
         Some((len + 1, len))
     } else if head > NO_OP {
         let times = 257 - head;

@@ -200,6 +200,19 @@ fn tells_no_size_of_another_depth(rt: HostRuntime) -> Result<(), Fail> {
     expect_faults(&rt, name, &file, query_of(PIXEL), &[Unsupported(258)])
 }
 
+#[test]
+fn tells_a_depth_of_12_alone(rt: HostRuntime) -> Result<(), Fail> {
+    let fixture = f6(rt.alloc())?;
+    let file = changed(rt.alloc(), &fixture, &[(42, &[12][..])])?;
+    expect_faults(
+        &rt,
+        "12 bits a sample, two bytes each",
+        &file,
+        query_of(PIXEL),
+        &[Unsupported(258)],
+    )
+}
+
 /// The count and the offset of its only key are past the end of the field.
 #[test]
 fn tells_the_place_of_a_key_by_its_location(rt: HostRuntime) -> Result<(), Fail> {

@@ -1,0 +1,12 @@
+use Rattle.std.proofs.Common.{◌≡◌, ◌≤◌, length, take, drop, ap, ◌∙◌, arith}
+use Rattle.std.proofs.lemmas.List.{take-append-le, take-take, length-take-le}
+use Rattle.packbits.proofs.unpacking.copy.Goals as goal
+
+pub returns-then-out-ge-AT_ONCE : goal.returns-then-out-ge-AT_ONCE
+returns-then-out-ge-AT_ONCE c =
+    let new = c.copy_from_slice.new.self in
+    let size : length new ≡ 16 = c.copy_from_slice.ensures.len ∙ length-take-le 16 c.args.out.now c.if-out-ge-AT_ONCE.true in
+    let few : c.args.len ≤ length new = omega (arith, size, c.if-len-le-AT_ONCE.true) in
+    take-append-le c.args.len new (drop 16 c.args.out.now) few
+    ∙ ap (take c.args.len) c.copy_from_slice.ensures.after
+    ∙ take-take c.args.len 16 c.args.bytes.now c.if-len-le-AT_ONCE.true
