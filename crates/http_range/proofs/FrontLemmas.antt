@@ -1,7 +1,7 @@
 -- What is found of the head at the front of an answer that may be cut.
-use Rattle.std.proofs.Common.{◌≡◌, ℕ, ◌+◌, ◌-◌, ◌<◌, ◌≤◌, List, [], ◌++◌, length, take, drop, refl, sym, ap, ◌∙◌, subst, arith, inl, inr, append-nil, length-append, Result, Ok, Err}
+use Rattle.std.proofs.Common.{◌≡◌, ℕ, ◌+◌, ◌-◌, ◌<◌, ◌≤◌, List, [], ◌++◌, length, take, refl, sym, ap, ◌∙◌, subst, arith, inl, inr, append-nil, length-append, Result, Ok, Err}
 use Rattle.std.proofs.lemmas.List.{take_all}
-use Rattle.std.proofs.Math.Seq.{take-append-add, drop-append_seam}
+use Rattle.std.proofs.Math.Seq.{take-append-add}
 use Rattle.httparse.specs.Grammar.{ResponseHead, IsResponseHead, ReadsResponse, print_response}
 use Rattle.httparse.proofs.GrammarLemmas.{response_unique, response_prefix_free, ReadsResponse-append}
 use Rattle.http_range.specs.declared.reading.Why.{Why}
@@ -10,10 +10,10 @@ use Rattle.http_range.specs.Head.{SeenHead, head_front, IsHeadOf, seen_head, Fin
 
 -- the head that is there is the one that is found
 pub found_whole : (bytes : List ℕ) (h : ResponseHead) (found : Result SeenHead Why) → IsHeadOf bytes h
-    → FindsHead bytes found → found ≡ Ok (seen_head bytes h)
+    → FindsHead bytes found → found ≡ Ok (seen_head h)
 found_whole bytes h (Ok seen) is finds =
     let same = response_unique (head_front bytes) finds.0 h _ _ finds.1.reads is.reads in
-    ap Ok (finds.2 ∙ ap (seen_head bytes) same.0)
+    ap Ok (finds.2 ∙ ap seen_head same.0)
 found_whole bytes h (Err Cut) is finds =
     absurd (finds.none h is.rest
     (let short = finds.short in
@@ -75,8 +75,3 @@ whole_head h is room small bytes rest parts =
       reads = (is, ap (take 4096) parts ∙ ap (λ (k : ℕ). take k (print_response h ++ rest)) e ∙ take-append-add (print_response h) rest m);
       room = room;
     }
-
--- what is seen of it
-pub seen_whole : (h : ResponseHead) (bytes rest : List ℕ) → bytes ≡ print_response h ++ rest
-    → (seen_head bytes h).rest ≡ rest
-seen_whole h bytes rest parts = ap (drop (length (print_response h))) parts ∙ drop-append_seam (print_response h) rest

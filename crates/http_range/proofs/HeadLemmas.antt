@@ -16,16 +16,16 @@ room_of : (front : List ℕ) (spans : List HeaderSpan) (n : ℕ) (fields : List 
 room_of front spans n fields long same =
     omega (arith, ap length same, length-map (take n spans) (header_bytes front), length-map fields name_and_value, length-take n spans)
 
-pub head_found : (bytes front rest : List ℕ) (spans : List HeaderSpan) (r : ResponseSpans) (fields : List FieldLine)
+pub head_found : (bytes front : List ℕ) (spans : List HeaderSpan) (r : ResponseSpans) (fields : List FieldLine)
     → fields ≡ fields_at front (take r.headers spans) → front ≡ head_front bytes
-    → rest ≡ drop r.len bytes → length spans ≡ 32 → IsResponseOf front spans r
+    → length spans ≡ 32 → IsResponseOf front spans r
     → (h : ResponseHead) × IsHeadOf bytes h
-    × (◌≡◌ {A = SeenHead} (record { status = r.code; fields = fields; rest = rest }) (seen_head bytes h))
-head_found bytes front rest spans r fields same is after long of =
+    × (◌≡◌ {A = SeenHead} (record { status = r.code; fields = fields; size = r.len }) (seen_head h))
+head_found bytes front spans r fields same is long of =
     let at = of.1 in (
       of.0,
       record { rest = drop r.len front; reads = rw (← is) at.reads; room = room_of front spans r.headers of.0.fields long at.fields },
-      λ i. record { status = at.code i; fields = (same ∙ at.fields) i; rest = (after ∙ ap (λ (n : ℕ). drop n bytes) at.len) i },
+      λ i. record { status = at.code i; fields = (same ∙ at.fields) i; size = at.len i },
     )
 
 pub head_cut : (bytes front : List ℕ) → front ≡ head_front bytes → head_front bytes ≡ bytes → length bytes < 4096

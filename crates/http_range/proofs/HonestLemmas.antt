@@ -14,7 +14,7 @@ use Rattle.http_range.specs.Honest.{IsFront, IsHonestFor, IsNamelessFront, IsHon
 use Rattle.http_range.specs.Laws.{FrontsAreRead, ChecksAreRead, HonestyIsKept}
 use Rattle.http_parts.specs.Laws.{PartsAreRead}
 use Rattle.http_range.proofs.BookLemmas.{published_lawful, tags_tell_one}
-use Rattle.http_range.proofs.RoundTrip.{front_read, front_checked}
+use Rattle.http_range.proofs.RoundTrip.{front_head, front_read, front_checked}
 use Rattle.http_range.proofs.ResponseLemmas.{Kind, IsRefusal, IsFileAnswer, kind_of, front_same, front_trans}
 
 front_is : (text whole : List ℕ) → IsFront text whole → text ≡ take (length text) whole
@@ -228,6 +228,7 @@ module _ (laws : PartsAreRead) where
 
   pub fronts_are_read : FrontsAreRead
   fronts_are_read = record {
+    head = λ reply close body bytes k r sent is reads. front_head laws reply close body k sent bytes is r reads;
     reply = λ reply close body bytes k r sent is reads. front_read laws reply close body k sent bytes is r reads;
     answer = λ catalogue message bytes s k r lawful answers is reads. answer_read catalogue message s k lawful answers bytes is r reads;
     honest = λ text p r honest reads. honest_read text p honest r reads;

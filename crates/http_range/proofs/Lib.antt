@@ -1,6 +1,7 @@
 pub mod HeadLemmas
 pub mod TextLemmas
 pub mod FrontLemmas
+pub mod GrowLemmas
 pub mod PlaceLemmas
 pub mod ReplyLemmas
 pub mod RoundTrip

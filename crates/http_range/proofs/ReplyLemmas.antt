@@ -1,5 +1,5 @@
 -- A reply's fields are plain lines, and they are read as what was written.
-use Rattle.std.proofs.Common.{◌≡◌, ℕ, ◌+◌, ◌-◌, ◌^◌, ◌<◌, ◌≤◌, Bool, true, false, List, [], ◌∷◌, ◌++◌, length, take, refl, subst, arith, append-nil, append_assoc, length-append, Option, Some, None, codes, Ok, reverse}
+use Rattle.std.proofs.Common.{◌≡◌, ℕ, ◌+◌, ◌-◌, ◌^◌, ◌<◌, ◌≤◌, Bool, true, false, List, [], ◌∷◌, ◌++◌, length, refl, subst, arith, append-nil, append_assoc, length-append, Option, Some, None, codes, Ok, reverse}
 use Rattle.std.specs.Prelude.{decimal}
 use Rattle.std.specs.List.{list_all}
 use Rattle.std.proofs.Math.Dec.{eqb}
@@ -17,7 +17,7 @@ use Rattle.http_range.specs.declared.reply.Reply.TheVariants.{R200, R206, R304, 
 use Rattle.http_range.specs.Reply.{content_range, content_length, file_fields, fields_of, IsSent}
 use Rattle.http_range.specs.ContentRange.{range_of}
 use Rattle.http_range.specs.Piece.{◌>>=◌}
-use Rattle.http_range.specs.Reading.{tag_by_rows, piece_by_rows, reading_of}
+use Rattle.http_range.specs.Reading.{tag_by_rows, announced_by_rows, announced_of, reply_announced}
 use Rattle.http_parts.specs.Laws.{PartsAreRead}
 use Rattle.http_range.proofs.TextLemmas.{IsShort, ArePlain}
 use Rattle.http_range.proofs.PlaceLemmas.{before_at, after_at, digits_miss}
@@ -180,19 +180,18 @@ module _ (laws : PartsAreRead) where
   kept_read tag kept =
       let both = and_parts _ _ kept in rw (laws.tags.strong tag both.0, both.0, both.1)
 
-  pub reads_206 : (tag : List ℕ) (a b l : ℕ) (close : Bool) (rest : List ℕ) → IsSent (R206 tag a b l)
-      → reading_of (record { status = 206; fields = fields_of (R206 tag a b l) ++ closing close; rest = rest })
-      ≡ Ok (record { tag = tag; whole = false; first = a; complete = l; body = take (b - a + 1) rest })
-  reads_206 tag a b l close rest sent = by_closing close
+  pub reads_206 : (tag : List ℕ) (a b l : ℕ) (close : Bool) (size : ℕ) → IsSent (R206 tag a b l)
+      → announced_of (record { status = 206; fields = fields_of (R206 tag a b l) ++ closing close; size = size })
+      ≡ reply_announced (R206 tag a b l) size
+  reads_206 tag a b l close size sent = by_closing close
     where
       part : (range : Option ContentRange) (m : Option ℕ) → range ≡ Some (record { first = a; last = b; complete = l }) → m ≡ Some (b - a + 1)
-          → (tag_by_rows (Some tag) >>= (λ t. piece_by_rows true t range m rest))
-          ≡ Ok (record { tag = tag; whole = false; first = a; complete = l; body = take (b - a + 1) rest })
+          → (tag_by_rows (Some tag) >>= (λ t. announced_by_rows true t range m size)) ≡ reply_announced (R206 tag a b l) size
       part range m is long = rw (kept_read tag sent.0, is, long, eq-eqb (b - a + 1) (b - a + 1) refl)
 
       by_closing : (close : Bool)
-          → reading_of (record { status = 206; fields = fields_of (R206 tag a b l) ++ closing close; rest = rest })
-          ≡ Ok (record { tag = tag; whole = false; first = a; complete = l; body = take (b - a + 1) rest })
+          → announced_of (record { status = 206; fields = fields_of (R206 tag a b l) ++ closing close; size = size })
+          ≡ reply_announced (R206 tag a b l) size
       by_closing true =
           let ab = sent.1 in let bl = sent.2 in let small = sent.3 in
           part _ _ (range_of-content_range a b l sent.1 sent.2 sent.3) (laws.decimals.number_64 (b - a + 1) (omega arith))
@@ -200,18 +199,17 @@ module _ (laws : PartsAreRead) where
           let ab = sent.1 in let bl = sent.2 in let small = sent.3 in
           part _ _ (range_of-content_range a b l sent.1 sent.2 sent.3) (laws.decimals.number_64 (b - a + 1) (omega arith))
 
-  pub reads_200 : (tag : List ℕ) (l : ℕ) (close : Bool) (rest : List ℕ) → IsSent (R200 tag l)
-      → reading_of (record { status = 200; fields = fields_of (R200 tag l) ++ closing close; rest = rest })
-      ≡ Ok (record { tag = tag; whole = true; first = 0; complete = l; body = take l rest })
-  reads_200 tag l close rest sent = by_closing close
+  pub reads_200 : (tag : List ℕ) (l : ℕ) (close : Bool) (size : ℕ) → IsSent (R200 tag l)
+      → announced_of (record { status = 200; fields = fields_of (R200 tag l) ++ closing close; size = size })
+      ≡ reply_announced (R200 tag l) size
+  reads_200 tag l close size sent = by_closing close
     where
       whole : (m : Option ℕ) → m ≡ Some l
-          → (tag_by_rows (Some tag) >>= (λ t. piece_by_rows false t None m rest))
-          ≡ Ok (record { tag = tag; whole = true; first = 0; complete = l; body = take l rest })
+          → (tag_by_rows (Some tag) >>= (λ t. announced_by_rows false t None m size)) ≡ reply_announced (R200 tag l) size
       whole m long = rw (kept_read tag sent.0, long)
 
       by_closing : (close : Bool)
-          → reading_of (record { status = 200; fields = fields_of (R200 tag l) ++ closing close; rest = rest })
-          ≡ Ok (record { tag = tag; whole = true; first = 0; complete = l; body = take l rest })
+          → announced_of (record { status = 200; fields = fields_of (R200 tag l) ++ closing close; size = size })
+          ≡ reply_announced (R200 tag l) size
       by_closing true = whole _ (laws.decimals.number_64 l sent.1)
       by_closing false = whole _ (laws.decimals.number_64 l sent.1)

@@ -1,10 +1,10 @@
 -- What a server writes is what a client reads, cut anywhere.
-use Rattle.std.proofs.Common.{◌≡◌, ℕ, ◌+◌, ◌-◌, ◌<◌, ◌≤◌, Bool, true, false, cond, List, ◌++◌, length, take, drop, refl, ap, ◌∙◌, subst, arith, inl, inr, length-append, length-drop, take-append-drop, codes, Result, Ok, Err}
+use Rattle.std.proofs.Common.{◌≡◌, ℕ, ◌+◌, ◌-◌, ◌<◌, ◌≤◌, Bool, true, false, cond, List, ◌++◌, length, take, drop, refl, sym, ap, ◌∙◌, subst, arith, inl, inr, length-append, length-drop, take-append-drop, codes, Result, Ok, Err}
 use Rattle.std.specs.List.{list_all}
 use Rattle.std.specs.Char.{is_ascii_digit}
 use Rattle.std.specs.Str.Parse.{digits_value}
 use Rattle.std.proofs.Math.Dec.{leb}
-use Rattle.std.proofs.Math.Seq.{take-append-add}
+use Rattle.std.proofs.Math.Seq.{take-append-add, drop-append_seam}
 use Rattle.std.proofs.lemmas.Bool.{le-leb, lt-leb, cases_lt}
 use Rattle.std.proofs.lemmas.List.{take-append-le}
 use Rattle.std.proofs.lemmas.List.Sums.{AllPass-from_list_all}
@@ -16,11 +16,12 @@ use Rattle.http_range.specs.declared.reply.Reply.TheVariants.{R200, R206, R304, 
 use Rattle.http_parts.specs.Text.{FieldLine, head_with, closing}
 use Rattle.http_range.specs.Reply.{IsSent, status_of, status_line, fields_of, head_text}
 use Rattle.http_range.specs.Head.{SeenHead, seen_head, FindsHead}
+use Rattle.http_range.specs.Announced.{Announced, piece_behind}
 use Rattle.http_range.specs.Piece.{SeenPiece, ◌>>=◌}
-use Rattle.http_range.specs.Reading.{reading_of, reply_seen, front_seen, check_tag, tag_seen, front_tag, ReadsAnswer, ReadsCheck}
+use Rattle.http_range.specs.Reading.{announced_of, reply_seen, front_seen, reply_announced, front_announced, check_tag, tag_seen, front_tag, ReadsHead, ReadsAnswer, ReadsCheck}
 use Rattle.http_range.proofs.TextLemmas.{ArePlain, head_by, status_by, head_with-is, head_is, length-fields, length-head_with, seen-are}
 use Rattle.http_parts.specs.Laws.{PartsAreRead}
-use Rattle.http_range.proofs.FrontLemmas.{found_whole, found_cut, whole_head, seen_whole}
+use Rattle.http_range.proofs.FrontLemmas.{found_whole, found_cut, whole_head}
 use Rattle.http_range.proofs.ReplyLemmas.{fields_plain, closing_plain, plain-append, kept_read, reads_200, reads_206}
 
 abbrev digits_of : Reply → List ℕ
@@ -68,12 +69,12 @@ closing_few true = omega arith
 closing_few false = omega arith
 
 -- the first k bytes of a reply and a body have its whole head, or are cut
-record IsFoundHead (reply : Reply) (close : Bool) (body : List ℕ) (k : ℕ) (found : Result SeenHead Why) : Type 0 where
+record IsFoundHead (reply : Reply) (close : Bool) (k : ℕ) (found : Result SeenHead Why) : Type 0 where
   whole : length (head_text reply close) ≤ k
       → found ≡ Ok (record {
         status = status_of reply;
         fields = fields_of reply ++ closing close;
-        rest = take (k - length (head_text reply close)) body;
+        size = length (head_text reply close);
       })
   short : k < length (head_text reply close) → found ≡ Err Cut
 
@@ -108,20 +109,18 @@ module _ (laws : PartsAreRead) where
     room : length head.fields ≤ 32
     room = let n = few in omega (arith, length-fields lines)
 
-    -- what is seen of the head and of what follows it
-    seen_is : (bytes rest : List ℕ) → bytes ≡ head_text reply close ++ rest
-        → seen_head bytes head ≡ record { status = status_of reply; fields = lines; rest = rest }
-    seen_is bytes rest parts =
-        let behind = seen_whole head bytes rest (parts ∙ ap (λ (t : List ℕ). t ++ rest) printed) in
-        λ i. record { status = (status reply).code i; fields = seen-are laws lines plain i; rest = behind i }
+    -- what is seen of the head
+    seen_is : seen_head head ≡ record { status = status_of reply; fields = lines; size = length (head_text reply close) }
+    seen_is =
+        λ i. record { status = (status reply).code i; fields = seen-are laws lines plain i; size = length (sym printed i) }
 
     found_there : (bytes rest : List ℕ) → bytes ≡ head_text reply close ++ rest → (found : Result SeenHead Why)
-        → FindsHead bytes found → found ≡ Ok (record { status = status_of reply; fields = lines; rest = rest })
+        → FindsHead bytes found → found ≡ Ok (record { status = status_of reply; fields = lines; size = length (head_text reply close) })
     found_there bytes rest parts found finds =
         let fits : length (print_response head) ≤ 4096 = subst (λ (t : List ℕ). length t ≤ 4096) printed small in
         found_whole bytes head found
         (whole_head head valid room fits bytes rest (parts ∙ ap (λ (t : List ℕ). t ++ rest) printed)) finds
-        ∙ ap Ok (seen_is bytes rest parts)
+        ∙ ap Ok seen_is
 
     found_short : (bytes more : List ℕ) → 0 < length more → bytes ++ more ≡ head_text reply close → (found : Result SeenHead Why)
         → FindsHead bytes found → found ≡ Err Cut
@@ -130,35 +129,35 @@ module _ (laws : PartsAreRead) where
         found_cut head valid room fits bytes more some (parts ∙ printed)
 
   -- what the fields of a reply say
-  reads_reply : (reply : Reply) (close : Bool) (rest : List ℕ) → IsSent reply
-      → reading_of (record { status = status_of reply; fields = fields_of reply ++ closing close; rest = rest }) ≡ reply_seen reply rest
-  reads_reply (R200 tag l) close rest sent = reads_200 laws tag l close rest sent
-  reads_reply (R206 tag a b l) close rest sent = reads_206 laws tag a b l close rest sent
-  reads_reply (R304 tag) close rest sent = refl
-  reads_reply R400 close rest sent = refl
-  reads_reply R404 close rest sent = refl
-  reads_reply R405 close rest sent = refl
-  reads_reply R412 close rest sent = refl
-  reads_reply (R416 l) close rest sent = refl
+  reads_reply : (reply : Reply) (close : Bool) (size : ℕ) → IsSent reply
+      → announced_of (record { status = status_of reply; fields = fields_of reply ++ closing close; size = size }) ≡ reply_announced reply size
+  reads_reply (R200 tag l) close size sent = reads_200 laws tag l close size sent
+  reads_reply (R206 tag a b l) close size sent = reads_206 laws tag a b l close size sent
+  reads_reply (R304 tag) close size sent = refl
+  reads_reply R400 close size sent = refl
+  reads_reply R404 close size sent = refl
+  reads_reply R405 close size sent = refl
+  reads_reply R412 close size sent = refl
+  reads_reply (R416 l) close size sent = refl
 
   -- what a check reads of them
-  reads_tag : (reply : Reply) (close : Bool) (rest : List ℕ) → IsSent reply
-      → check_tag (record { status = status_of reply; fields = fields_of reply ++ closing close; rest = rest }) ≡ tag_seen reply
-  reads_tag (R200 tag l) true rest sent = kept_read laws tag sent.0
-  reads_tag (R200 tag l) false rest sent = kept_read laws tag sent.0
-  reads_tag (R206 tag a b l) true rest sent = kept_read laws tag sent.0
-  reads_tag (R206 tag a b l) false rest sent = kept_read laws tag sent.0
-  reads_tag (R304 tag) true rest sent = kept_read laws tag sent
-  reads_tag (R304 tag) false rest sent = kept_read laws tag sent
-  reads_tag R400 close rest sent = refl
-  reads_tag R404 close rest sent = refl
-  reads_tag R405 close rest sent = refl
-  reads_tag R412 close rest sent = refl
-  reads_tag (R416 l) close rest sent = refl
+  reads_tag : (reply : Reply) (close : Bool) (size : ℕ) → IsSent reply
+      → check_tag (record { status = status_of reply; fields = fields_of reply ++ closing close; size = size }) ≡ tag_seen reply
+  reads_tag (R200 tag l) true size sent = kept_read laws tag sent.0
+  reads_tag (R200 tag l) false size sent = kept_read laws tag sent.0
+  reads_tag (R206 tag a b l) true size sent = kept_read laws tag sent.0
+  reads_tag (R206 tag a b l) false size sent = kept_read laws tag sent.0
+  reads_tag (R304 tag) true size sent = kept_read laws tag sent
+  reads_tag (R304 tag) false size sent = kept_read laws tag sent
+  reads_tag R400 close size sent = refl
+  reads_tag R404 close size sent = refl
+  reads_tag R405 close size sent = refl
+  reads_tag R412 close size sent = refl
+  reads_tag (R416 l) close size sent = refl
 
   front_found : (reply : Reply) (close : Bool) (body : List ℕ) (k : ℕ) → IsSent reply → (bytes : List ℕ)
       → bytes ≡ take k (head_text reply close ++ body) → (found : Result SeenHead Why) → FindsHead bytes found
-      → IsFoundHead reply close body k found
+      → IsFoundHead reply close k found
   front_found reply close body k sent bytes is found finds =
       let text = head_text reply close in
       let n = length text in record {
@@ -175,11 +174,11 @@ module _ (laws : PartsAreRead) where
       }
 
   -- what is read of them, by what is read of the whole head
-  front_by : {A : Type 0} (of : SeenHead → Result A Why) (told : List ℕ → Result A Why) (reply : Reply) (close : Bool) (body : List ℕ) (k : ℕ)
+  front_by : {A : Type 0} (of : SeenHead → Result A Why) (told : Result A Why) (reply : Reply) (close : Bool) (body : List ℕ) (k : ℕ)
       → IsSent reply
-      → ((rest : List ℕ) → of (record { status = status_of reply; fields = fields_of reply ++ closing close; rest = rest }) ≡ told rest)
+      → of (record { status = status_of reply; fields = fields_of reply ++ closing close; size = length (head_text reply close) }) ≡ told
       → (bytes : List ℕ) → bytes ≡ take k (head_text reply close ++ body) → (found : Result SeenHead Why) → FindsHead bytes found
-      → (found >>= of) ≡ cond (leb (length (head_text reply close)) k) (told (take (k - length (head_text reply close)) body)) (Err Cut)
+      → (found >>= of) ≡ cond (leb (length (head_text reply close)) k) told (Err Cut)
   front_by of told reply close body k sent tells bytes is found finds =
       let n = length (head_text reply close) in
       let head = front_found reply close body k sent bytes is found finds in
@@ -189,17 +188,48 @@ module _ (laws : PartsAreRead) where
             ap (λ (f : Result SeenHead Why). f >>= of) (head.short below) ∙ rw test
         | inr above ↦
             let test : leb n k ≡ true = le-leb n k above in
-            ap (λ (f : Result SeenHead Why). f >>= of) (head.whole above) ∙ tells (take (k - n) body) ∙ rw test
+            ap (λ (f : Result SeenHead Why). f >>= of) (head.whole above) ∙ tells ∙ rw test
       ]
+
+  pub front_head : (reply : Reply) (close : Bool) (body : List ℕ) (k : ℕ) → IsSent reply → (bytes : List ℕ)
+      → bytes ≡ take k (head_text reply close ++ body) → (r : Result Announced Why) → ReadsHead bytes r
+      → r ≡ front_announced reply close k
+  front_head reply close body k sent bytes is r reads =
+      let n = length (head_text reply close) in
+      reads.2 ∙ front_by announced_of (reply_announced reply n) reply close body k sent (reads_reply reply close n sent) bytes is reads.0 reads.1
+
+  -- the piece that a reply announces, where these bytes follow its head
+  reply_behind : (reply : Reply) (n : ℕ) (bytes rest : List ℕ) → drop n bytes ≡ rest
+      → (reply_announced reply n >>= (λ a. Ok (piece_behind bytes a))) ≡ reply_seen reply rest
+  reply_behind (R200 tag l) n bytes rest behind = rw behind
+  reply_behind (R206 tag a b l) n bytes rest behind = rw behind
+  reply_behind (R304 tag) n bytes rest behind = refl
+  reply_behind R400 n bytes rest behind = refl
+  reply_behind R404 n bytes rest behind = refl
+  reply_behind R405 n bytes rest behind = refl
+  reply_behind R412 n bytes rest behind = refl
+  reply_behind (R416 l) n bytes rest behind = refl
 
   pub front_read : (reply : Reply) (close : Bool) (body : List ℕ) (k : ℕ) → IsSent reply → (bytes : List ℕ)
       → bytes ≡ take k (head_text reply close ++ body) → (r : Result SeenPiece Why) → ReadsAnswer bytes r
       → r ≡ front_seen reply close body k
   front_read reply close body k sent bytes is r reads =
-      reads.2 ∙ front_by reading_of (reply_seen reply) reply close body k sent (λ rest. reads_reply reply close rest sent) bytes is reads.0 reads.1
+      let text = head_text reply close in
+      let n = length text in
+      let head = front_head reply close body k sent bytes is reads.0 reads.1 in
+      reads.2 ∙ ap (λ (h : Result Announced Why). h >>= (λ a. Ok (piece_behind bytes a))) head
+      ∙ elim (cases_lt k n) [
+        | inl below ↦ let test : leb n k ≡ false = lt-leb n k below in rw test
+        | inr above ↦
+            let test : leb n k ≡ true = le-leb n k above in
+            let e : k ≡ n + (k - n) = omega arith in
+            let parts : bytes ≡ text ++ take (k - n) body =
+            is ∙ ap (λ (m : ℕ). take m (text ++ body)) e ∙ take-append-add text body (k - n) in
+            rw test (reply_behind reply n bytes (take (k - n) body) (ap (drop n) parts ∙ drop-append_seam text (take (k - n) body)))
+      ]
 
   pub front_checked : (reply : Reply) (close : Bool) (body : List ℕ) (k : ℕ) → IsSent reply → (bytes : List ℕ)
       → bytes ≡ take k (head_text reply close ++ body) → (r : Result (List ℕ) Why) → ReadsCheck bytes r
       → r ≡ front_tag reply close k
   front_checked reply close body k sent bytes is r reads =
-      reads.2 ∙ front_by check_tag (λ rest. tag_seen reply) reply close body k sent (λ rest. reads_tag reply close rest sent) bytes is reads.0 reads.1
+      reads.2 ∙ front_by check_tag (tag_seen reply) reply close body k sent (reads_tag reply close (length (head_text reply close)) sent) bytes is reads.0 reads.1

@@ -1,5 +1,5 @@
 -- The head of an answer, in the first 4,096 bytes (RFC 9112, sections 4 and 5).
-use Rattle.std.specs.Prelude.{◌≡◌, ℕ, ◌<◌, ◌≤◌, ◌⊎◌, List, length, take, drop, map, Result, Ok, Err}
+use Rattle.std.specs.Prelude.{◌≡◌, ℕ, ◌<◌, ◌≤◌, ◌⊎◌, List, length, take, map, Result, Ok, Err}
 use Rattle.httparse.specs.Grammar.{ResponseHead, ReadsResponse, print_response, status_code, HasNoResponse, MayBecomeResponse}
 use Rattle.httparse.specs.Spans.{name_and_value, ResponseOverflows}
 use Rattle.http_parts.specs.declared.limits.TheConstants.{FIELD_LIMIT, HEAD_LIMIT}
@@ -7,11 +7,11 @@ use Rattle.http_range.specs.declared.reading.Why.{Why}
 use Rattle.http_range.specs.declared.reading.Why.TheVariants.{Cut, Head, Status, NoTag, WeakTag, TagTooLong, NoRange, NoLength, Coding}
 use Rattle.http_parts.specs.Text.{FieldLine}
 
--- what is read of a head, and the bytes after it
+-- what is read of a head, and how many bytes it has
 pub record SeenHead : Type 0 where
   pub status : ℕ
   pub fields : List FieldLine
-  pub rest : List ℕ
+  pub size : ℕ
 
 -- the bytes where a head is looked for
 abbrev pub head_front : List ℕ → List ℕ
@@ -23,12 +23,9 @@ pub record IsHeadOf (bytes : List ℕ) (h : ResponseHead) : Type 0 where
   pub reads : ReadsResponse (head_front bytes) h rest
   pub room : length h.fields ≤ FIELD_LIMIT
 
-abbrev pub seen_head : List ℕ → ResponseHead → SeenHead
-seen_head bytes h = record {
-  status = status_code h;
-  fields = map name_and_value h.fields;
-  rest = drop (length (print_response h)) bytes;
-}
+abbrev pub seen_head : ResponseHead → SeenHead
+seen_head h =
+    record { status = status_code h; fields = map name_and_value h.fields; size = length (print_response h) }
 
 -- a front of a head, and too short to be refused
 pub record IsCut (bytes : List ℕ) : Type 0 where
@@ -43,7 +40,7 @@ IsRefused bytes =
 
 -- what is answered of the head of bytes: its parts, or one of the cases *cut* and *refused head*
 abbrev pub FindsHead : List ℕ → Result SeenHead Why → Type 0
-FindsHead bytes (Ok seen) = (h : ResponseHead) × IsHeadOf bytes h × (seen ≡ seen_head bytes h)
+FindsHead bytes (Ok seen) = (h : ResponseHead) × IsHeadOf bytes h × (seen ≡ seen_head h)
 FindsHead bytes (Err Cut) = IsCut bytes
 FindsHead bytes (Err Head) = IsRefused bytes
 FindsHead bytes (Err (Status code)) = ⊥

@@ -1,19 +1,21 @@
 -- Laws of the definitions, each the contract of a function of `laws`.
-use Rattle.std.specs.Prelude.{◌≡◌, ◌≢◌, ◌<◌, ◌≤◌, ◌^◌, ◌↔◌, ◌⊎◌, ℕ, Bool, true, IsTrue, IsErr, IfOk, List, [], ◌∷◌, ◌++◌, length, take, drop, Option, Some, None, Result}
+use Rattle.std.specs.Prelude.{◌≡◌, ◌≢◌, ◌<◌, ◌≤◌, ◌^◌, ◌-◌, ◌↔◌, ◌⊎◌, ℕ, Bool, true, IsTrue, IsErr, IfOk, List, [], ◌∷◌, ◌++◌, length, take, drop, Option, Some, None, Result, Ok, Err}
 use Rattle.httparse.specs.Grammar.{RequestHead, IsRequestHead, print_request}
 use Rattle.http_range.specs.Ask.{CanAsk, request_text, CanCheck, check_text}
 use Rattle.http_range.specs.Book.{Publication, IsPublication, Book, In, HasDistinctTags, Includes, Covers, Catalogue, IsCatalogue, published, publish, publication_tag}
 use Rattle.http_range.specs.Response.{Response, text_of, IsAnswer, response_to_client, response_to_check}
-use Rattle.http_parts.specs.declared.limits.TheConstants.{MESSAGE_LIMIT}
+use Rattle.http_parts.specs.declared.limits.TheConstants.{HEAD_LIMIT, MESSAGE_LIMIT}
 use Rattle.http_range.specs.Seen.{SeenRequest, HasRequest}
 use Rattle.http_range.specs.Scan.{is_message}
 use Rattle.http_range.specs.Stream.{AreAnswers, HasNoMessage, IsAnswered, IsFirstMessage, IsMessage, IsUnfinished}
 use Rattle.http_range.specs.Honest.{IsFront, IsHonestFor, IsNamelessFront, IsHonest, IsPieceOf, IsPieceOfBook}
 use Rattle.http_range.specs.declared.reading.Why.{Why}
+use Rattle.http_range.specs.declared.reading.Why.TheVariants.{Cut}
 use Rattle.http_range.specs.declared.reply.Reply.{Reply}
 use Rattle.http_range.specs.Reply.{IsSent, head_text}
 use Rattle.http_range.specs.Piece.{SeenPiece}
-use Rattle.http_range.specs.Reading.{front_seen, front_tag, ReadsAnswer, ReadsCheck}
+use Rattle.http_range.specs.Announced.{Announced, body_behind, FitsFront}
+use Rattle.http_range.specs.Reading.{front_seen, front_announced, front_tag, ReadsHead, ReadsAnswer, ReadsCheck}
 use Rattle.http_range.specs.ContentRange.{IsContentRange, range_of}
 use Rattle.http_range.specs.declared.reading.ContentRange.{ContentRange}
 use Rattle.http_parts.specs.Tag.{is_kept_tag}
@@ -135,8 +137,27 @@ pub record HonestyIsKept : Type 0 where
   -- what it is honest for is a lawful publication
   pub lawful : (text : List ℕ) (p : Publication) → IsHonestFor text p → IsPublication p
 
+-- what is read of the head at the front of an answer stays when bytes follow
+pub record HeadsGrow : Type 0 where
+  -- only *cut* may change
+  pub stays : (front more : List ℕ) (r : Result Announced Why) → r ≢ Err Cut → ReadsHead front r → ReadsHead (front ++ more) r
+  -- a head is not *cut* where there are 4,096 bytes
+  pub decided : (bytes : List ℕ) (r : Result Announced Why) → HEAD_LIMIT ≤ length bytes → ReadsHead bytes r → r ≢ Err Cut
+  -- a whole head is read in one way
+  pub one : (bytes : List ℕ) (head : Announced) (r : Result Announced Why) → ReadsHead bytes (Ok head) → ReadsHead bytes r
+      → r ≡ Ok head
+  -- all its bytes are there
+  pub fits : (bytes : List ℕ) (head : Announced) → ReadsHead bytes (Ok head) → FitsFront bytes head
+  -- of the bytes that follow a front, those that the body still lacks are its own
+  pub body : (front more : List ℕ) (head : Announced) → ReadsHead front (Ok head)
+      → body_behind head (front ++ more)
+      ≡ body_behind head front ++ take (head.length - length (body_behind head front)) more
+
 -- what is read of an answer, or of a front of it
 pub record FrontsAreRead : Type 0 where
+  -- the first k bytes of a reply and its body have that reply's head, or are cut in it
+  pub head : (reply : Reply) (close : Bool) (body bytes : List ℕ) (k : ℕ) (r : Result Announced Why) → IsSent reply
+      → bytes ≡ take k (head_text reply close ++ body) → ReadsHead bytes r → r ≡ front_announced reply close k
   -- the first k bytes of a reply and its body are read as that reply, or as cut in its head
   pub reply : (reply : Reply) (close : Bool) (body bytes : List ℕ) (k : ℕ) (r : Result SeenPiece Why) → IsSent reply
       → bytes ≡ take k (head_text reply close ++ body) → ReadsAnswer bytes r → r ≡ front_seen reply close body k

@@ -14,6 +14,7 @@ pub mod Head
 pub mod AnswerHead
 pub mod Piece
 pub mod ContentRange
+pub mod Announced
 pub mod Reading
 pub mod Book
 pub mod Response

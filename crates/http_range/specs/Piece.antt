@@ -1,6 +1,5 @@
 -- What an answer says to a client: a piece of a file, or why it is not used.
-use Rattle.std.specs.Prelude.{ℕ, ◌+◌, ◌<◌, ◌≤◌, ◌^◌, Bool, true, false, List, length, take, Option, Some, None, Result, Ok, Err}
-use Rattle.http_range.specs.declared.reading.ContentRange.{ContentRange}
+use Rattle.std.specs.Prelude.{ℕ, ◌+◌, ◌<◌, ◌≤◌, ◌^◌, Bool, List, length, Result, Ok, Err}
 use Rattle.http_range.specs.declared.reading.Why.{Why}
 use Rattle.http_range.specs.declared.reading.Why.TheVariants.{Cut, Head, Status, NoTag, WeakTag, TagTooLong, NoRange, NoLength, Coding}
 use Rattle.http_range.specs.declared.reading.Piece.{Piece}
@@ -25,20 +24,9 @@ pub record IsInside (p : SeenPiece) : Type 0 where
 abbrev pub piece_seen : Piece → SeenPiece
 piece_seen p = record { tag = p.tag; whole = p.whole; first = p.first; complete = p.complete; body = p.body.now }
 
-abbrev pub result_seen : Result Piece Why → Result SeenPiece Why
-result_seen (Ok p) = Ok (piece_seen p)
-result_seen (Err why) = Err why
-
 abbrev pub reading_seen : Reading → Result SeenPiece Why
 reading_seen (APiece p) = Ok (piece_seen p)
 reading_seen (NotUsed why) = Err why
-
--- the piece of a whole file, or of the part that the range covers; n is the length that the head gives
-abbrev pub piece_by : List ℕ → Option ContentRange → ℕ → List ℕ → SeenPiece
-piece_by tag None n rest =
-    record { tag = tag; whole = true; first = 0; complete = n; body = take n rest }
-piece_by tag (Some range) n rest =
-    record { tag = tag; whole = false; first = range.first; complete = range.complete; body = take n rest }
 
 -- the tag that the answer to a check says
 abbrev pub check_seen : CheckReading → Result (List ℕ) Why

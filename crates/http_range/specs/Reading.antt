@@ -11,7 +11,8 @@ use Rattle.http_parts.specs.Digits.{number_64}
 use Rattle.http_parts.specs.Tag.{is_entity_tag, is_weak_tag}
 use Rattle.http_parts.specs.declared.limits.TheConstants.{TAG_LIMIT}
 use Rattle.http_range.specs.Head.{SeenHead, FindsHead}
-use Rattle.http_range.specs.Piece.{SeenPiece, piece_by, ◌>>=◌}
+use Rattle.http_range.specs.Piece.{SeenPiece, ◌>>=◌}
+use Rattle.http_range.specs.Announced.{Announced, announced_by, piece_behind}
 use Rattle.http_range.specs.ContentRange.{range_of}
 
 -- ---- what stands in the head
@@ -84,27 +85,32 @@ abbrev pub lacks_length : Bool → Option ContentRange → Option ℕ → Bool
 lacks_length partial range length =
     is_none length || (partial && not (holds range (λ r. holds length (λ n. r.last - r.first + 1 == n))))
 
--- the first of these two that applies, or the piece: of the whole file, or of the part that the range names; the body is
--- what follows the head, at most Content-Length bytes of it
-abbrev pub piece_by_rows : Bool → List ℕ → Option ContentRange → Option ℕ → List ℕ → Result SeenPiece Why
-piece_by_rows partial tag range length rest =
+-- the first of these two that applies, or what is announced: the whole file, or the part that the range names, and as many
+-- bytes as the Content-Length says
+abbrev pub announced_by_rows : Bool → List ℕ → Option ContentRange → Option ℕ → ℕ → Result Announced Why
+announced_by_rows partial tag range length size =
     if lacks_range partial range then Err NoRange
     else if lacks_length partial range length then Err NoLength
-    else Ok (piece_by tag (if partial then range else None) (unwrap_or length 0) rest)
+    else Ok (announced_by tag (if partial then range else None) (unwrap_or length 0) size)
 
 -- the rows from *no range* on; a 206 is a part
-abbrev pub piece_in : SeenHead → List ℕ → Result SeenPiece Why
-piece_in head tag =
-    piece_by_rows (head.status == 206) tag (range_named head) (length_named head) head.rest
+abbrev pub announced_in : SeenHead → List ℕ → Result Announced Why
+announced_in head tag =
+    announced_by_rows (head.status == 206) tag (range_named head) (length_named head) head.size
 
 -- the first row that applies to a whole head
-abbrev pub reading_of : SeenHead → Result SeenPiece Why
-reading_of head =
-    if has_other_status head then Err (Status head.status) else (tag_in head >>= piece_in head)
+abbrev pub announced_of : SeenHead → Result Announced Why
+announced_of head =
+    if has_other_status head then Err (Status head.status) else (tag_in head >>= announced_in head)
 
--- how an answer is read: by its head, or as *cut* or *refused head*
+-- how the head of an answer is read: by the rows, or as *cut* or *refused head*
+abbrev pub ReadsHead : List ℕ → Result Announced Why → Type 0
+ReadsHead bytes r = (found : Result SeenHead Why) × FindsHead bytes found × (r ≡ (found >>= announced_of))
+
+-- how an answer is read: by its head, and a piece is what follows that
 abbrev pub ReadsAnswer : List ℕ → Result SeenPiece Why → Type 0
-ReadsAnswer bytes r = (found : Result SeenHead Why) × FindsHead bytes found × (r ≡ (found >>= reading_of))
+ReadsAnswer bytes r =
+    (head : Result Announced Why) × ReadsHead bytes head × (r ≡ (head >>= (λ a. Ok (piece_behind bytes a))))
 
 -- ---- the answer to a client's check
 
@@ -121,6 +127,25 @@ abbrev pub ReadsCheck : List ℕ → Result (List ℕ) Why → Type 0
 ReadsCheck bytes r = (found : Result SeenHead Why) × FindsHead bytes found × (r ≡ (found >>= check_tag))
 
 -- ---- what a client reads of a reply
+
+-- what a reply announces in a head of this size
+abbrev pub reply_announced : Reply → ℕ → Result Announced Why
+reply_announced (R200 tag l) size =
+    Ok (record { tag = tag; whole = true; first = 0; complete = l; length = l; size = size })
+reply_announced (R206 tag first last l) size =
+    Ok (record { tag = tag; whole = false; first = first; complete = l; length = last - first + 1; size = size })
+reply_announced (R304 tag) size = Err (Status 304)
+reply_announced R400 size = Err (Status 400)
+reply_announced R404 size = Err (Status 404)
+reply_announced R405 size = Err (Status 405)
+reply_announced R412 size = Err (Status 412)
+reply_announced (R416 l) size = Err (Status 416)
+
+-- the same where only the first k bytes of the answer came
+abbrev pub front_announced : Reply → Bool → ℕ → Result Announced Why
+front_announced reply close k =
+    let n = length (head_text reply close) in
+    if nat_le n k then reply_announced reply n else Err Cut
 
 -- what a reply says to a client that got these bytes behind its head
 abbrev pub reply_seen : Reply → List ℕ → Result SeenPiece Why

@@ -5,19 +5,18 @@ ghost use Rattle.http_range.specs.AnswerHead.{head_seen, found_seen};
 ghost use Rattle.http_range.specs.Reading.{is_coded, tag_by_rows, tag_in};
 
 use crate::reading::Why;
-use http_parts::bytes::after;
 use http_parts::fields::Fields;
 use http_parts::limits::{FIELD_LIMIT, HEAD_LIMIT};
 use http_parts::tag::{Tag, is_opaque_tag, is_weak_tag};
 use httparse::Status;
 use httparse::spans::{EMPTY_HEADER_SPAN, parse_response};
 
-/// What stands in a head, and the bytes after it.
+/// What stands in a head, and how many bytes it has.
 #[derive(Drop)]
 pub(crate) struct AnswerHead<'b> {
     pub(crate) status: u16,
     pub(crate) fields: Fields<'b>,
-    pub(crate) rest: &'b [u8],
+    pub(crate) size: usize,
 }
 
 /// The bytes where a head is looked for.
@@ -43,7 +42,7 @@ pub(crate) fn head_of(bytes: &[u8]) -> Result<AnswerHead<'_>, Why>
         Ok(Status::Complete(head)) => Ok(AnswerHead {
             status: head.code,
             fields: Fields::new(front, spans, head.headers),
-            rest: after(bytes, head.len),
+            size: head.len,
         }),
         Ok(Status::Partial) => {
             if bytes.len() < HEAD_LIMIT {

@@ -1,6 +1,6 @@
 //! Laws of the definitions, for the crates above. Each function does nothing but name the laws
 //! that it rests on: its contract is the law.
-ghost use Rattle.http_range.specs.Laws.{FrontsAreRead, ChecksAreRead, HonestyIsKept, ContentRangesAreForms, TagsTellPublications, PublicationTagsAreKept, AnswersAreUnique, StreamsAreAnsweredOnce, MessagesStay, MessagesAreTested, HeadsAreMessages, HeadsStay, ClientsAreAnswered, ChecksAreAnswered, ClientsAreServed, ChecksAreServed, PublishReplaces, PublishedIsNamed};
+ghost use Rattle.http_range.specs.Laws.{HeadsGrow, FrontsAreRead, ChecksAreRead, HonestyIsKept, ContentRangesAreForms, TagsTellPublications, PublicationTagsAreKept, AnswersAreUnique, StreamsAreAnsweredOnce, MessagesStay, MessagesAreTested, HeadsAreMessages, HeadsStay, ClientsAreAnswered, ChecksAreAnswered, ClientsAreServed, ChecksAreServed, PublishReplaces, PublishedIsNamed};
 ghost use Rattle.http_parts.specs.Laws.{TagsAreQuoted};
 
 use http_parts::laws::parts_are_read;
@@ -47,6 +47,11 @@ pub fn publications_replace()
 /// An answer of a server is honest, and stays so where it is cut and where the book grows.
 pub fn honesty_is_kept()
     ensures { HonestyIsKept }
+{}
+
+/// What is read of an answer's head stays when bytes follow.
+pub fn heads_grow()
+    ensures { HeadsGrow }
 {}
 
 /// What is read of a server's answer, whole or cut.

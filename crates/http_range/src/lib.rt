@@ -23,12 +23,12 @@ pub use http_parts::limits::{ANSWERS_LIMIT, MESSAGE_LIMIT};
 pub use http_parts::names::{is_host, is_name};
 pub use http_parts::tag::Tag;
 pub use laws::{
-    answers_are_unique, clients_are_answered, fronts_are_read, honesty_is_kept, messages_stay,
-    publications_replace, tags_tell_publications, values_have_forms,
+    answers_are_unique, clients_are_answered, fronts_are_read, heads_grow, honesty_is_kept,
+    messages_stay, publications_replace, tags_tell_publications, values_have_forms,
 };
 pub use publication::{FILE_LIMIT, NAMES_LIMIT, publication_tag};
 pub use range::{RangeSpec, Resolved, read_range, resolve};
-pub use reading::{Piece, Reading, Why, read_answer};
+pub use reading::{Head, HeadReading, Piece, Reading, Why, read_answer, read_head};
 pub use reply::{Reply, append_head, write_head};
 pub use request::{Request, read_request};
 pub use stream::message_length;

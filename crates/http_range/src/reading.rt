@@ -1,12 +1,14 @@
 //! A client's reading of answers.
 ghost use Rattle.std.specs.Prelude.{◌≡◌, true, false, None, IfOk, option_copied};
 ghost use Rattle.http_range.specs.AnswerHead.{head_seen};
-ghost use Rattle.http_range.specs.Piece.{piece_seen, reading_seen, result_seen, number_of_why, IsInside};
+ghost use Rattle.http_range.specs.Announced.{announced, announced_seen, head_reading_seen, piece_behind, FitsFile, FitsFront};
+ghost use Rattle.http_range.specs.Piece.{piece_seen, reading_seen, number_of_why, IsInside};
 ghost use Rattle.http_range.specs.ContentRange.{range_of, range_of_numbers, IsRange};
-ghost use Rattle.http_range.specs.Reading.{has_other_status, range_named, length_named, piece_by_rows, piece_in, reading_of, ReadsAnswer};
+ghost use Rattle.http_range.specs.Reading.{has_other_status, range_named, length_named, announced_by_rows, announced_in, announced_of, ReadsHead, ReadsAnswer};
 
 use crate::answer_head::{AnswerHead, head_of};
-use http_parts::bytes::{after, split_first, up_to};
+use crate::laws::heads_grow;
+use http_parts::bytes::{after, past, split_first, up_to};
 use http_parts::digits::number_64;
 use http_parts::tag::Tag;
 
@@ -58,6 +60,29 @@ pub struct Piece<'b> {
     /// The length of the whole file in bytes.
     pub complete: u64,
     pub body: &'b [u8],
+}
+
+/// The head of an answer that brings a piece of a file: of which revision, from where on, and how many bytes.
+#[derive(Debug, Drop)]
+pub struct Head {
+    pub tag: Tag,
+    /// Whether the answer is the whole file.
+    pub whole: bool,
+    /// The position of the body's first byte, in bytes from 0.
+    pub first: u64,
+    /// The length of the whole file in bytes.
+    pub complete: u64,
+    /// The length of the body in bytes; what follows it is no part of the answer.
+    pub length: u64,
+    /// The length of the head in bytes; the body follows it.
+    pub size: usize,
+}
+
+/// What the head of an answer says to a client.
+#[derive(Debug, Drop)]
+pub enum HeadReading {
+    Head(Head),
+    NotUsed(Why),
 }
 
 /// What an answer says to a client.
@@ -133,43 +158,45 @@ fn length_named(head: &AnswerHead) -> Option<u64>
     }
 }
 
-fn whole_piece<'b>(tag: Tag, length: Option<u64>, rest: &'b [u8]) -> Result<Piece<'b>, Why>
-    ensures value { result_seen result ≡ piece_by_rows false tag None length rest.now }
-    ensures fits { IfOk (result_seen result) IsInside }
+fn whole_head(tag: Tag, length: Option<u64>, size: usize) -> Result<Head, Why>
+    ensures value { announced_seen result ≡ announced_by_rows false tag None length size }
+    ensures fits { IfOk (announced_seen result) FitsFile }
 {
     match length {
         None => Err(Why::NoLength),
-        Some(n) => Ok(Piece {
+        Some(n) => Ok(Head {
             tag,
             whole: true,
             first: 0,
             complete: n,
-            body: up_to(rest, n),
+            length: n,
+            size,
         }),
     }
 }
 
-fn part_piece<'b>(
+fn part_head(
     tag: Tag,
     range: Option<ContentRange>,
     length: Option<u64>,
-    rest: &'b [u8],
-) -> Result<Piece<'b>, Why>
+    size: usize,
+) -> Result<Head, Why>
     requires { IsRange range }
-    ensures value { result_seen result ≡ piece_by_rows true tag range length rest.now }
-    ensures fits { IfOk (result_seen result) IsInside }
+    ensures value { announced_seen result ≡ announced_by_rows true tag range length size }
+    ensures fits { IfOk (announced_seen result) FitsFile }
 {
     match (range, length) {
         (None, _) => Err(Why::NoRange),
         (Some(_), None) => Err(Why::NoLength),
         (Some(range), Some(n)) => {
             if range.last - range.first + 1 == n {
-                Ok(Piece {
+                Ok(Head {
                     tag,
                     whole: false,
                     first: range.first,
                     complete: range.complete,
-                    body: up_to(rest, n),
+                    length: n,
+                    size,
                 })
             } else {
                 Err(Why::NoLength)
@@ -178,14 +205,14 @@ fn part_piece<'b>(
     }
 }
 
-fn piece_in<'b>(head: &AnswerHead<'b>, tag: Tag) -> Result<Piece<'b>, Why>
-    ensures value { result_seen result ≡ piece_in (head_seen head.now) tag }
-    ensures fits { IfOk (result_seen result) IsInside }
+fn announced_in(head: &AnswerHead, tag: Tag) -> Result<Head, Why>
+    ensures value { announced_seen result ≡ announced_in (head_seen head.now) tag }
+    ensures fits { IfOk (announced_seen result) FitsFile }
 {
     if head.status == 206 {
-        part_piece(tag, range_named(head), length_named(head), head.rest)
+        part_head(tag, range_named(head), length_named(head), head.size)
     } else {
-        whole_piece(tag, length_named(head), head.rest)
+        whole_head(tag, length_named(head), head.size)
     }
 }
 
@@ -196,23 +223,49 @@ pub(crate) fn has_other_status(head: &AnswerHead) -> bool
     head.status != 200 && head.status != 206
 }
 
-fn piece_of<'b>(head: &AnswerHead<'b>) -> Result<Piece<'b>, Why>
-    ensures value { result_seen result ≡ reading_of (head_seen head.now) }
-    ensures fits { IfOk (result_seen result) IsInside }
+fn announced_of(head: &AnswerHead) -> Result<Head, Why>
+    ensures value { announced_seen result ≡ announced_of (head_seen head.now) }
+    ensures fits { IfOk (announced_seen result) FitsFile }
 {
     if has_other_status(head) {
         return Err(Why::Status(head.status));
     }
     let tag = head.tag()?;
-    piece_in(head, tag)
+    announced_in(head, tag)
 }
 
-fn read(bytes: &[u8]) -> Result<Piece<'_>, Why>
-    ensures reads { ReadsAnswer bytes.now (result_seen result) }
-    ensures fits { IfOk (result_seen result) IsInside }
+fn read(bytes: &[u8]) -> Result<Head, Why>
+    ensures reads { ReadsHead bytes.now (announced_seen result) }
+    ensures fits { IfOk (announced_seen result) FitsFile }
 {
     let head = head_of(bytes)?;
-    piece_of(&head)
+    announced_of(&head)
+}
+
+/// What the head of an answer announces, read from a front of the answer. While fewer than 4,096 bytes are there, `Why::Cut` and
+/// `Why::Head` may change with the bytes that follow.
+pub fn read_head(bytes: &[u8]) -> HeadReading
+    ensures reads { ReadsHead bytes.now (head_reading_seen result) }
+    ensures fits { IfOk (head_reading_seen result) FitsFile }
+    ensures there { IfOk (head_reading_seen result) (FitsFront bytes.now) }
+{
+    heads_grow();
+    match read(bytes) {
+        Ok(head) => HeadReading::Head(head),
+        Err(why) => HeadReading::NotUsed(why),
+    }
+}
+
+fn piece_behind(bytes: &[u8], head: Head) -> Piece<'_>
+    ensures { piece_seen result ≡ piece_behind bytes.now (announced head) }
+{
+    Piece {
+        tag: head.tag,
+        whole: head.whole,
+        first: head.first,
+        complete: head.complete,
+        body: up_to(past(bytes, head.size), head.length),
+    }
 }
 
 /// What an answer, or a front of one, says. The piece's body is what follows the head, as far as the answer's length goes.
@@ -221,8 +274,8 @@ pub fn read_answer(bytes: &[u8]) -> Reading<'_>
     // A piece that is read lies in its file, also where the answer is not an honest one.
     ensures fits { IfOk (reading_seen result) IsInside }
 {
-    match read(bytes) {
-        Ok(piece) => Reading::Piece(piece),
-        Err(why) => Reading::NotUsed(why),
+    match read_head(bytes) {
+        HeadReading::Head(head) => Reading::Piece(piece_behind(bytes, head)),
+        HeadReading::NotUsed(why) => Reading::NotUsed(why),
     }
 }

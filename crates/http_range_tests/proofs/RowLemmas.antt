@@ -17,13 +17,15 @@ use Rattle.http_range.specs.Text.{line}
 use Rattle.http_range.specs.Members.{members}
 use Rattle.http_range.specs.Range.{range_spec}
 use Rattle.http_range.specs.Reply.{content_range}
+use Rattle.http_range.specs.ContentRange.{range_of}
+use Rattle.http_range.specs.Digits.{number_64}
 use Rattle.http_range.specs.Ask.{range_value}
 use Rattle.http_range.specs.Book.{publication_tag}
 use Rattle.http_range.specs.Laws.{MessagesAreTested}
 use Rattle.http_range.specs.Scan.{is_message}
 use Rattle.http_range.specs.Stream.{HasNoMessage, IsFirstMessage}
 use Rattle.http_range.specs.Stream.AreAnswers.{unfinished, closed, more}
-use Rattle.http_range_tests.specs.Rows.{AreParts, part_rows, TextRows, MessageRows, get_a, StreamRows, shelf, whole_file, get_and_close, whole_and_close, AreCases, case_rows, condition_rows}
+use Rattle.http_range_tests.specs.Rows.{AreParts, part_rows, TextRows, HeadRows, MessageRows, get_a, StreamRows, shelf, whole_file, get_and_close, whole_and_close, AreCases, case_rows, condition_rows}
 
 pub parts_are : AreParts part_rows
 unfolding range_spec
@@ -48,6 +50,21 @@ texts_are = record {
   not_modified = refl;
   not_modified_length = refl;
   unsatisfiable = refl;
+}
+
+pub heads_are : HeadRows
+unfolding digits line content_range range_of number_64
+heads_are = record {
+  part = refl;
+  no_range = refl;
+  no_length = refl;
+  whole = refl;
+  status = refl;
+  none = refl;
+  some = refl;
+  all = refl;
+  cut = refl;
+  there = refl;
 }
 
 both : (a b : Bool) → (a && b) ≡ true → (a ≡ true) × (b ≡ true)

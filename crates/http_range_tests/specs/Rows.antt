@@ -1,5 +1,5 @@
 -- Worked rows of the definitions.
-use Rattle.std.specs.Prelude.{◌≡◌, ℕ, Bool, true, false, List, [], ◌∷◌, ◌++◌, length, codes, replicate, Option, Some, None, ⊤}
+use Rattle.std.specs.Prelude.{◌≡◌, ℕ, Bool, true, false, List, [], ◌∷◌, ◌++◌, length, codes, replicate, Option, Some, None, Ok, Err, ⊤}
 use Rattle.http_range.specs.declared.range.Resolved.{Resolved}
 use Rattle.http_range.specs.declared.range.Resolved.TheVariants.{Whole, Part, Unsatisfiable}
 use Rattle.http_range.specs.declared.reply.Reply.{Reply}
@@ -8,6 +8,10 @@ use Rattle.http_range.specs.Text.{FieldLine}
 use Rattle.http_range.specs.Range.{part}
 use Rattle.http_range.specs.Reply.{head_text}
 use Rattle.http_range.specs.Ask.{request_text}
+use Rattle.http_range.specs.declared.reading.Why.TheVariants.{Cut, Status, NoRange, NoLength}
+use Rattle.http_range.specs.Head.{SeenHead}
+use Rattle.http_range.specs.Announced.{Announced, body_behind}
+use Rattle.http_range.specs.Reading.{announced_of, front_announced}
 use Rattle.http_range.specs.Seen.{SeenRequest}
 use Rattle.http_range.specs.Book.{Catalogue, publication_tag}
 use Rattle.http_range.specs.Response.{Response, answer_by}
@@ -85,6 +89,36 @@ pub record TextRows : Type 0 where
   pub not_modified_length : length (head_text (R304 tag_1) true) ≡ 61
   pub unsatisfiable : head_text (R416 378) false
       ≡ codes "HTTP/1.1 416 Range Not Satisfiable\r\nContent-Range: bytes */378\r\nContent-Length: 0\r\n\r\n"
+
+-- ---- what heads announce
+
+-- the lines of a part that covers these positions
+abbrev pub part_lines : List ℕ → List ℕ → List FieldLine
+part_lines range length =
+    (codes "etag", tag_1) ∷ (codes "Content-Range", range) ∷ (codes "Content-Length", length) ∷ []
+
+abbrev pub part_head : List ℕ → List ℕ → SeenHead
+part_head range length = record { status = 206; fields = part_lines range length; size = 171 }
+
+-- the bytes 5 to 7 of a file of 9
+abbrev pub three_of_nine : Announced
+three_of_nine = record { tag = tag_1; whole = false; first = 5; complete = 9; length = 3; size = 171 }
+
+pub record HeadRows : Type 0 where
+  pub part : announced_of (part_head (codes "bytes 5-7/9") (codes "3")) ≡ Ok three_of_nine
+  pub no_range : announced_of (part_head (codes "bytes */9") (codes "3")) ≡ Err NoRange
+  pub no_length : announced_of (part_head (codes "bytes 5-7/9") (codes "4")) ≡ Err NoLength
+  pub whole : announced_of (record { status = 200; fields = part_lines (codes "bytes */9") (codes "4"); size = 80 })
+      ≡ Ok (record { tag = tag_1; whole = true; first = 0; complete = 4; length = 4; size = 80 })
+  pub status : announced_of (record { status = 304; fields = []; size = 61 }) ≡ Err (Status 304)
+  -- the body is what follows the head: none of it, some, and all; bytes after that are passed over
+  pub none : body_behind three_of_nine (replicate 171 7) ≡ []
+  pub some : body_behind three_of_nine (replicate 171 7 ++ 1 ∷ 2 ∷ []) ≡ 1 ∷ 2 ∷ []
+  pub all : body_behind three_of_nine (replicate 171 7 ++ 1 ∷ 2 ∷ 3 ∷ 4 ∷ []) ≡ 1 ∷ 2 ∷ 3 ∷ []
+  -- a front of the first answer is cut in its head, or has all of it
+  pub cut : front_announced (R206 tag_1 0 65535 67706) true 170 ≡ Err Cut
+  pub there : front_announced (R206 tag_1 0 65535 67706) true 171
+      ≡ Ok (record { tag = tag_1; whole = false; first = 0; complete = 67706; length = 65536; size = 171 })
 
 -- ---- messages of a stream
 

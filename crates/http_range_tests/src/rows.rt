@@ -1,13 +1,14 @@
 //! Worked rows of the definitions, as a law. The check of this crate proves it by computing, so there is nothing to run.
-ghost use Rattle.http_range_tests.specs.Rows.{AreParts, part_rows, TextRows, MessageRows, AreCases, case_rows, condition_rows, StreamRows};
+ghost use Rattle.http_range_tests.specs.Rows.{AreParts, part_rows, TextRows, HeadRows, MessageRows, AreCases, case_rows, condition_rows, StreamRows};
 
 use http_range::messages_stay;
 
-/// The definitions give the worked rows: the parts that values of Range name, the texts of heads, what is read of a message,
-/// answers, answers to conditions, and the messages of a stream.
+/// The definitions give the worked rows: the parts that values of Range name, the texts of heads and what they announce,
+/// what is read of a message, answers, answers to conditions, and the messages of a stream.
 pub fn rows_hold()
     ensures parts { AreParts part_rows }
     ensures texts { TextRows }
+    ensures heads { HeadRows }
     ensures messages { MessageRows }
     ensures answers { AreCases case_rows }
     ensures conditions { AreCases condition_rows }

@@ -5,3 +5,4 @@ pub mod Whole
 pub mod Bytes
 pub mod Putting
 pub mod LawLemmas
+pub mod Parting

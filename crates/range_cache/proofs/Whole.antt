@@ -115,7 +115,7 @@ block_of_piece f bytes complete first n whole piece lies =
     ∙ slice_to_end f (n * 16384) ((n + 1) * 16384)
 
 -- what holds of each block that a piece brings
-all_brought : (P : Block → Type 0) (complete first : ℕ) (bytes : List ℕ) (wanted : Span) →
+pub all_brought : (P : Block → Type 0) (complete first : ℕ) (bytes : List ℕ) (wanted : Span) →
     ((n : ℕ) → is_brought complete first (length bytes) wanted n ≡ true → P (block_in complete first bytes n)) → (ns : List ℕ) →
     All P (map (block_in complete first bytes) (filter (is_brought complete first (length bytes) wanted) ns))
 all_brought P complete first bytes wanted h [] = All-nil P

@@ -1,10 +1,10 @@
 -- Laws of these definitions, for the crates above.
-use Rattle.std.specs.Prelude.{◌≡◌, ℕ, ◌+◌, ◌*◌, ◌<◌, ◌≤◌, true, false, List, length, take, is_some}
+use Rattle.std.specs.Prelude.{◌≡◌, ◌⊎◌, ℕ, ◌+◌, ◌-◌, ◌*◌, ◌<◌, ◌≤◌, true, false, List, [], ◌++◌, length, take, drop, min, max, is_some}
 use Rattle.tiff_dir.specs.declared.span.Span.{Span}
-use Rattle.tiff_dir.specs.Block.{block_size}
+use Rattle.tiff_dir.specs.Block.{block_size, end_of}
 use Rattle.range_cache.specs.Numbers.{has, missing, IsGap, IsLed, Stays}
 use Rattle.range_cache.specs.Cache.{Block, Blocks, block_at, numbers, stored, stores, Holds}
-use Rattle.range_cache.specs.Piece.{is_brought, whole_blocks, IsPieceOf}
+use Rattle.range_cache.specs.Piece.{is_brought, is_wanted, whole_blocks, IsPieceOf}
 
 -- the same blocks are there
 abbrev pub HaveSame : List ℕ → List ℕ → Type 0
@@ -68,3 +68,70 @@ abbrev pub FrontHolds : Type 0
 FrontHolds = (f : List ℕ) (c : Blocks) (complete first : ℕ) (bytes : List ℕ) (wanted : Span) (k : ℕ) →
     complete ≡ length f → IsPieceOf f first bytes → Holds f c →
     Holds f (record c { entries = stored c.capacity (take k (whole_blocks complete first bytes wanted)) c.entries })
+
+-- ---- a piece that comes in parts
+
+-- no block is cut here: one begins, or the file ends
+abbrev pub IsEdge : ℕ → ℕ → Type 0
+IsEdge complete at = (at ≡ complete) ⊎ ((n : ℕ) × (at ≡ n * block_size))
+
+-- a piece that is cut at such a place brings the blocks of the first part, and then those of the second
+abbrev pub EdgesPart : Type 0
+EdgesPart = (complete first : ℕ) (front rest : List ℕ) (wanted : Span) → IsEdge complete (first + length front) →
+    whole_blocks complete first (front ++ rest) wanted
+    ≡ whole_blocks complete first front wanted ++ whole_blocks complete (first + length front) rest wanted
+
+-- The places from first up to end lie in block n, and are not all of it.
+pub record IsPartOf (complete first end n : ℕ) : Type 0 where
+  pub begins : n * block_size ≤ first
+  pub ends : end ≤ end_of complete n
+  pub lacks : (n * block_size < first) ⊎ (end < end_of complete n)
+
+-- a part of a block brings none
+abbrev pub PartsBringNone : Type 0
+PartsBringNone = (complete first : ℕ) (bytes : List ℕ) (wanted : Span) (n : ℕ) →
+    IsPartOf complete first (first + length bytes) n → whole_blocks complete first bytes wanted ≡ []
+
+-- a piece that has no byte of what is wanted brings none
+abbrev pub BesideBringNone : Type 0
+BesideBringNone = (complete first : ℕ) (bytes : List ℕ) (wanted : Span) →
+    min (first + length bytes) (wanted.last + 1) ≤ max first wanted.first → whole_blocks complete first bytes wanted ≡ []
+
+-- A piece is cut inside block n, which begins in the front and ends in the rest.
+pub record IsCutIn (complete first : ℕ) (front rest : List ℕ) (n : ℕ) : Type 0 where
+  pub begins : first ≤ n * block_size
+  pub reached : n * block_size ≤ first + length front
+  pub cut : first + length front < end_of complete n
+  pub ends : end_of complete n ≤ first + length front + length rest
+
+-- the part of block n in the front, and how many bytes of it stand in the rest
+abbrev pub begun : ℕ → List ℕ → ℕ → List ℕ
+begun first front n = drop (n * block_size - first) front
+
+abbrev pub lacking : ℕ → ℕ → List ℕ → ℕ → ℕ
+lacking complete first front n = end_of complete n - (first + length front)
+
+-- such a piece brings the blocks of the front, the one that the cut goes through, and those of what follows that
+abbrev pub CutsPart : Type 0
+CutsPart = (complete first : ℕ) (front rest : List ℕ) (wanted : Span) (n : ℕ) → IsCutIn complete first front rest n →
+    let m = lacking complete first front n in
+    whole_blocks complete first (front ++ rest) wanted
+    ≡ whole_blocks complete first front wanted
+    ++ (whole_blocks complete (n * block_size) (begun first front n ++ take m rest) wanted
+    ++ whole_blocks complete (end_of complete n) (drop m rest) wanted)
+
+-- blocks of two lists are stored one list after the other, and counted so
+abbrev pub StoredJoin : Type 0
+StoredJoin = (capacity : ℕ) (new later bs : List Block) →
+    stored capacity (new ++ later) bs ≡ stored capacity later (stored capacity new bs)
+
+abbrev pub StoresJoin : Type 0
+StoresJoin = (capacity : ℕ) (new later bs : List Block) →
+    stores capacity (new ++ later) bs ≡ stores capacity new bs + stores capacity later (stored capacity new bs)
+
+-- bytes of a block that isn't wanted change nothing
+abbrev pub UnwantedStay : Type 0
+UnwantedStay = (c : Blocks) (complete : ℕ) (bytes : List ℕ) (wanted : Span) (n : ℕ) →
+    is_wanted c complete wanted n ≡ false → n * block_size + length bytes ≤ end_of complete n →
+    let new = whole_blocks complete (n * block_size) bytes wanted in
+    (stored c.capacity new c.entries ≡ c.entries) × (stores c.capacity new c.entries ≡ 0)

@@ -1,5 +1,5 @@
 //! Laws of the definitions, which upper crates rest on. Each function does nothing: its contract is the law.
-ghost use Rattle.range_cache.specs.Laws.{FoundAreThere, FrontHolds, GapsAreUnique, MissingIsSame, MissingIsFew, MissingIsSome, StoredHolds, StoredStay, StoresAreFew, StoresAreSome, WholeAreBrought, WholeAreFew};
+ghost use Rattle.range_cache.specs.Laws.{BesideBringNone, CutsPart, EdgesPart, FoundAreThere, FrontHolds, GapsAreUnique, MissingIsSame, MissingIsFew, MissingIsSome, PartsBringNone, StoredHolds, StoredJoin, StoredStay, StoresAreFew, StoresAreSome, StoresJoin, UnwantedStay, WholeAreBrought, WholeAreFew};
 
 /// What is missing is said by which blocks are there alone.
 pub fn missing_is_exact()
@@ -31,4 +31,16 @@ pub fn stored_are_held()
 /// No block of a range that leads leaves where blocks of it are stored.
 pub fn stored_stay()
     ensures { StoredStay }
+{}
+
+/// A piece that comes in parts brings the blocks that it brings whole: those of a part, the one that a cut goes through, and those
+/// of the rest; and they are stored one after another.
+pub fn parts_bring_blocks()
+    ensures edges { EdgesPart }
+    ensures none { PartsBringNone }
+    ensures beside { BesideBringNone }
+    ensures cuts { CutsPart }
+    ensures stored { StoredJoin }
+    ensures counted { StoresJoin }
+    ensures unwanted { UnwantedStay }
 {}

@@ -1,5 +1,6 @@
 //! What a client reads of an answer.
 use super::answer_heads::FIRST_HEAD;
+use super::fronts::told_of_head;
 use super::tags::{LONGEST_TAG, tag_1};
 use http_range::{Memory, Piece, Reading, Why, read_answer, read_request};
 use std::alloc::Global;
@@ -106,6 +107,7 @@ fn tells_why_an_answer_is_not_used(rt: HostRuntime) -> Result<(), Fail> {
     for (place, line, want) in CHANGED_LINES {
         let text = with_line(rt.alloc(), place, line.as_bytes())?;
         assert_eq!(rt; told(text.as_slice()), want, "{line:?}");
+        assert_eq!(rt; told_of_head(text.as_slice()), want, "{line:?}");
     }
     let same = with_line(rt.alloc(), 7, b"")?;
     assert_eq!(rt; same.as_slice(), FIRST_HEAD);
@@ -204,7 +206,7 @@ fn reads_heads_as_other_servers_write_them(rt: HostRuntime) -> Result<(), Fail> 
 }
 
 /// The front filled up to `n` bytes, and then the back.
-fn padded(alloc: Global, front: &[u8], n: usize, back: &[u8]) -> Result<Vec<u8>, Memory> {
+pub fn padded(alloc: Global, front: &[u8], n: usize, back: &[u8]) -> Result<Vec<u8>, Memory> {
     let mut text = Vec::from_slice(alloc, front)?;
     for _ in front.len()..n {
         text.push(b'x')?;

@@ -6,7 +6,7 @@ use Rattle.http_range.proofs.answer_head.head_of.Goals as goal
 pub returns-in-Ok-Complete : goal.returns-in-Ok-Complete
 returns-in-Ok-Complete c =
     let complete = rw c.in-Ok-Complete.field-0-is at c.in-Ok-Complete.ensures.complete in
-    head_found c.args.bytes.now _ _ _ c.in-Ok-Complete.head c.new.result c.new.ensures c.head_front-front.ensures.front c.after.ensures
+    head_found c.args.bytes.now _ _ c.in-Ok-Complete.head c.new.result c.new.ensures c.head_front-front.ensures.front
     c.parse_response.auto.headers complete
 
 pub returns-then-bytes-lt-HEAD_LIMIT : goal.returns-then-bytes-lt-HEAD_LIMIT

@@ -1,4 +1,4 @@
-use Rattle.http_range_tests.proofs.RowLemmas.{parts_are, texts_are, messages_are, answers_are, conditions_are, streams_are}
+use Rattle.http_range_tests.proofs.RowLemmas.{parts_are, texts_are, heads_are, messages_are, answers_are, conditions_are, streams_are}
 use Rattle.http_range_tests.proofs.rows.rows_hold.Goals as goal
 
 pub returns-clause-parts : goal.returns-clause-parts
@@ -6,6 +6,9 @@ returns-clause-parts c = parts_are
 
 pub returns-clause-texts : goal.returns-clause-texts
 returns-clause-texts c = texts_are
+
+pub returns-clause-heads : goal.returns-clause-heads
+returns-clause-heads c = heads_are
 
 pub returns-clause-answers : goal.returns-clause-answers
 returns-clause-answers c = answers_are
