@@ -8,3 +8,4 @@ pub mod Steps
 pub mod Check
 pub mod Transport
 pub mod Progress
+pub mod Pieces

@@ -9,6 +9,7 @@ mod error;
 mod fetching;
 mod going;
 mod laws;
+mod pieces;
 mod report;
 mod source;
 mod transport;
@@ -23,6 +24,7 @@ pub use laws::{
     end_is_needed, left_never_grows, needed_are_asked, nothing_left_is_reported,
     own_answers_bring_on,
 };
+pub use pieces::Pieces;
 pub use report::Report;
 pub use tiff_dir::{Memory, Query};
 pub use transport::{Lost, Transport};
