@@ -11,7 +11,7 @@ use Rattle.tiff_dir.specs.Block.{block_count, end_of, is_whole}
 use Rattle.range_cache.specs.Numbers.{has}
 use Rattle.range_cache.specs.Cache.{Block, Blocks, numbers, put_one, stored, stores}
 use Rattle.range_cache.specs.Piece.{block_in, is_brought, is_wanted, whole_blocks}
-use Rattle.range_cache.specs.Laws.{IsEdge, EdgesPart, PartsBringNone, IsCutIn, begun, lacking, CutsPart, StoredJoin, StoresJoin, UnwantedStay}
+use Rattle.range_cache.specs.Laws.{IsEdge, EdgesPart, PartsBringNone, BesideBringNone, IsCutIn, begun, lacking, CutsPart, StoredJoin, StoresJoin, UnwantedStay}
 use Rattle.range_cache.proofs.Whole.{LiesIn, lies_in, all_brought}
 
 -- ---- storing
@@ -205,6 +205,17 @@ parts_bring_none complete first bytes wanted n part =
           | inl lt ↦ omega (arith, l.there, l.begins, l.ends)
           | inr lt ↦ omega (arith, l.there, l.begins, l.ends)
         ]
+
+pub beside_bring_none : BesideBringNone
+unfolding whole_blocks
+beside_bring_none complete first bytes wanted beside =
+    ap (map (block_in complete first bytes))
+    (filter_none (is_brought complete first (length bytes) wanted) 0 (block_count complete) (λ k _. never _ (λ t.
+    let parts = and_parts _ _ t in
+    missed k (lies_in complete first (first + length bytes) k parts.0) (lies_in complete wanted.first (wanted.last + 1) k parts.1))))
+  where
+    missed : (k : ℕ) → LiesIn complete first (first + length bytes) k → LiesIn complete wanted.first (wanted.last + 1) k → ⊥
+    missed k l w = omega (arith, beside, l.there, l.begins, l.ends, w.begins, w.ends)
 
 module _ (complete first : ℕ) (front rest : List ℕ) (wanted : Span) (n : ℕ) (is : IsCutIn complete first front rest n) where
   abbrev w : ℕ → List ℕ → List Block

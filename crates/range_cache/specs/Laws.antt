@@ -1,5 +1,5 @@
 -- Laws of these definitions, for the crates above.
-use Rattle.std.specs.Prelude.{◌≡◌, ◌⊎◌, ℕ, ◌+◌, ◌-◌, ◌*◌, ◌<◌, ◌≤◌, true, false, List, [], ◌++◌, length, take, drop, is_some}
+use Rattle.std.specs.Prelude.{◌≡◌, ◌⊎◌, ℕ, ◌+◌, ◌-◌, ◌*◌, ◌<◌, ◌≤◌, true, false, List, [], ◌++◌, length, take, drop, min, max, is_some}
 use Rattle.tiff_dir.specs.declared.span.Span.{Span}
 use Rattle.tiff_dir.specs.Block.{block_size, end_of}
 use Rattle.range_cache.specs.Numbers.{has, missing, IsGap, IsLed, Stays}
@@ -91,6 +91,11 @@ pub record IsPartOf (complete first end n : ℕ) : Type 0 where
 abbrev pub PartsBringNone : Type 0
 PartsBringNone = (complete first : ℕ) (bytes : List ℕ) (wanted : Span) (n : ℕ) →
     IsPartOf complete first (first + length bytes) n → whole_blocks complete first bytes wanted ≡ []
+
+-- a piece that has no byte of what is wanted brings none
+abbrev pub BesideBringNone : Type 0
+BesideBringNone = (complete first : ℕ) (bytes : List ℕ) (wanted : Span) →
+    min (first + length bytes) (wanted.last + 1) ≤ max first wanted.first → whole_blocks complete first bytes wanted ≡ []
 
 -- A piece is cut inside block n, which begins in the front and ends in the rest.
 pub record IsCutIn (complete first : ℕ) (front rest : List ℕ) (n : ℕ) : Type 0 where

@@ -1,5 +1,5 @@
 //! Laws of the definitions, which upper crates rest on. Each function does nothing: its contract is the law.
-ghost use Rattle.range_cache.specs.Laws.{CutsPart, EdgesPart, FoundAreThere, FrontHolds, GapsAreUnique, MissingIsSame, MissingIsFew, MissingIsSome, PartsBringNone, StoredHolds, StoredJoin, StoredStay, StoresAreFew, StoresAreSome, StoresJoin, UnwantedStay, WholeAreBrought, WholeAreFew};
+ghost use Rattle.range_cache.specs.Laws.{BesideBringNone, CutsPart, EdgesPart, FoundAreThere, FrontHolds, GapsAreUnique, MissingIsSame, MissingIsFew, MissingIsSome, PartsBringNone, StoredHolds, StoredJoin, StoredStay, StoresAreFew, StoresAreSome, StoresJoin, UnwantedStay, WholeAreBrought, WholeAreFew};
 
 /// What is missing is said by which blocks are there alone.
 pub fn missing_is_exact()
@@ -38,6 +38,7 @@ pub fn stored_stay()
 pub fn parts_bring_blocks()
     ensures edges { EdgesPart }
     ensures none { PartsBringNone }
+    ensures beside { BesideBringNone }
     ensures cuts { CutsPart }
     ensures stored { StoredJoin }
     ensures counted { StoresJoin }
