@@ -7,3 +7,4 @@ pub mod FetchLemmas
 pub mod ProgressLemmas
 pub mod OwnLemmas
 pub mod Worked
+pub mod FedLemmas

@@ -9,3 +9,4 @@ pub mod Check
 pub mod Transport
 pub mod Progress
 pub mod Pieces
+pub mod Fed

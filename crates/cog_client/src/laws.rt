@@ -3,11 +3,14 @@ ghost use Rattle.std.specs.Prelude.{ℕ, List, IfSome};
 ghost use Rattle.tiff_dir.specs.Needs.{IsEndOf};
 ghost use Rattle.tiff_dir.specs.Query.{needs};
 ghost use Rattle.cog_client.specs.Client.{query_of, to_come, ClientState, Knows};
+ghost use Rattle.cog_client.specs.Fed.{CaseIsOfHead, CutsAreStored, EdgesAreStored, LeavesByHead, PartsAreNotStored};
 ghost use Rattle.cog_client.specs.Progress.{CostIsMost, DeliveryReports, GoingOnLeavesNoMore, NeededAreAsked, OpeningLeavesCost, OwnAnswersBringOn, RequestReports};
 
 use cog_reader::{end_is_wanted, lengths_are_known, nothing_comes};
 use http_range::{clients_are_answered, fronts_are_read, publications_replace};
-use range_cache::{missing_is_exact, pieces_bring_blocks, stored_stay, stores_are_counted};
+use range_cache::{
+    missing_is_exact, parts_bring_blocks, pieces_bring_blocks, stored_stay, stores_are_counted,
+};
 
 /// What a client still needs of a file for its query is the end of what the query needs of it.
 pub fn end_is_needed()
@@ -56,4 +59,15 @@ pub fn own_answers_bring_on()
     pieces_bring_blocks();
     stores_are_counted();
     stored_stay();
+}
+
+/// An answer that comes in pieces is taken by its head, and by the body as far as it has come.
+pub fn answers_come_in_pieces()
+    ensures head { CaseIsOfHead }
+    ensures leaves { LeavesByHead }
+    ensures edges { EdgesAreStored }
+    ensures cuts { CutsAreStored }
+    ensures parts { PartsAreNotStored }
+{
+    parts_bring_blocks();
 }

@@ -21,8 +21,8 @@ pub use error::{ClientError, FetchError};
 pub use fetching::fetch;
 pub use http_range::{Span, Tag, Why};
 pub use laws::{
-    end_is_needed, left_never_grows, needed_are_asked, nothing_left_is_reported,
-    own_answers_bring_on,
+    answers_come_in_pieces, end_is_needed, left_never_grows, needed_are_asked,
+    nothing_left_is_reported, own_answers_bring_on,
 };
 pub use pieces::Pieces;
 pub use report::Report;
