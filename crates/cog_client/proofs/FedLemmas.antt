@@ -1,5 +1,5 @@
 -- An answer that comes in pieces is taken by its head, and by the body as far as it has come.
-use Rattle.std.proofs.Common.{◌≡◌, ◌⊎◌, ◌+◌, ◌*◌, Bool, true, false, cond, not, List, ◌++◌, take as front, drop, refl, sym, ap, ◌∙◌, inl, inr, Option, Some, None, nat_eq}
+use Rattle.std.proofs.Common.{Ok, length, ℕ, ◌≡◌, ◌⊎◌, ◌+◌, ◌*◌, Bool, true, false, cond, not, List, ◌++◌, take as front, drop, refl, sym, ap, ◌∙◌, inl, inr, Option, Some, None, nat_eq}
 use Rattle.std.specs.Prelude.{IfSome, IsSome}
 use Rattle.std.proofs.lemmas.Bool.{leb-true}
 use Rattle.std.specs.Str.{bytes_eq}
@@ -12,8 +12,10 @@ use Rattle.range_cache.specs.Laws.{begun, lacking, CutsPart, EdgesPart, PartsBri
 use Rattle.cog_client.specs.declared.case.Case.TheVariants.{Ignored, Restarted, Accepted}
 use Rattle.cog_client.specs.declared.delivered.Ignored.TheVariants.{OtherRevision, OtherLength, NotAsked}
 use Rattle.cog_client.specs.Case.{Revision, is_beside}
-use Rattle.cog_client.specs.Take.{Holding, asked_or_first, brought_by, stored_of, take_by}
-use Rattle.cog_client.specs.Fed.{case_of_head, piece_with, piece_at, CaseIsOfHead, LeavesByHead, CutsAreStored, EdgesAreStored, PartsAreNotStored}
+use Rattle.cog_client.specs.Take.{take, base_of, stored_count, Holding, asked_or_first, brought_by, stored_of, take_by}
+use Rattle.cog_client.specs.declared.delivered.Delivered.TheVariants.{Took, Ignored as AnIgnored}
+use Rattle.cog_client.specs.Fed.Feed.{follows}
+use Rattle.cog_client.specs.Fed.{case_of_head, piece_with, piece_at, asked_by, told_at_end, is_beside_at, CaseIsOfHead, EndTells, LeavesByHead, CutsAreStored, EdgesAreStored, PartsAreNotStored}
 
 -- ---- the case
 
@@ -33,6 +35,37 @@ case_is_of_head v None head body = inl refl
 case_is_of_head None (Some s) head body = inl refl
 case_is_of_head (Some v) (Some s) head body =
     by_rows (not (bytes_eq v.tag head.tag)) head.whole (not (nat_eq v.complete head.complete)) (is_beside s (piece_with head body))
+
+-- ---- what is told
+
+tells_rows : (v : Option Revision) (s : Span) (b : Blocks) (head : Announced) (body part : List ℕ) (count : ℕ) (tag whole same beside : Bool)
+    → is_beside_at head (length body) s ≡ beside
+    → count ≡ stored_count (piece_with head body)
+    (asked_by (cond tag (cond whole Restarted (Ignored OtherRevision)) (cond same (Ignored OtherLength) Accepted)) (Some s))
+    (base_of (cond tag (cond whole Restarted (Ignored OtherRevision)) (cond same (Ignored OtherLength) Accepted)) b)
+    → told_at_end (follows head (cond tag (cond whole Restarted (Ignored OtherRevision)) (cond same (Ignored OtherLength) Accepted)) (length body) part count) (Some s)
+    ≡ (take_by (cond tag (cond whole Restarted (Ignored OtherRevision)) (cond same (Ignored OtherLength) (cond beside (Ignored NotAsked) Accepted)))
+    (record { revision = v; asked = Some s; blocks = b }) (piece_with head body)).says
+tells_rows v s b head body part count true true same beside is counted = refl
+tells_rows v s b head body part count true false same beside is counted = refl
+tells_rows v s b head body part count false whole true beside is counted = refl
+tells_rows v s b head body part count false whole false true is counted =
+    ap (λ t. cond t (AnIgnored NotAsked) (Took count)) is
+tells_rows v s b head body part count false whole false false is counted =
+    ap (λ t. cond t (AnIgnored NotAsked) (Took count)) is ∙ ap Took counted
+
+tells : (v : Option Revision) (asked : Option Span) (b : Blocks) (head : Announced) (body part : List ℕ) (count : ℕ)
+    → count ≡ stored_count (piece_with head body) (asked_by (case_of_head v asked head) asked) (base_of (case_of_head v asked head) b)
+    → told_at_end (follows head (case_of_head v asked head) (length body) part count) asked
+    ≡ (take (record { revision = v; asked = asked; blocks = b }) (Ok (piece_with head body))).says
+tells v None b head body part count counted = refl
+tells None (Some s) b head body part count counted = ap Took counted
+tells (Some v) (Some s) b head body part count counted =
+    tells_rows (Some v) s b head body part count (not (bytes_eq v.tag head.tag)) head.whole (not (nat_eq v.complete head.complete))
+    (is_beside s (piece_with head body)) refl counted
+
+pub end_tells : EndTells
+end_tells s head body part count counted = tells s.revision s.asked s.blocks head body part count counted
 
 -- ---- what is left
 

@@ -3,7 +3,7 @@ ghost use Rattle.std.specs.Prelude.{ℕ, List, IfSome};
 ghost use Rattle.tiff_dir.specs.Needs.{IsEndOf};
 ghost use Rattle.tiff_dir.specs.Query.{needs};
 ghost use Rattle.cog_client.specs.Client.{query_of, to_come, ClientState, Knows};
-ghost use Rattle.cog_client.specs.Fed.{CaseIsOfHead, CutsAreStored, EdgesAreStored, LeavesByHead, PartsAreNotStored};
+ghost use Rattle.cog_client.specs.Fed.{CaseIsOfHead, CutsAreStored, EdgesAreStored, EndTells, LeavesByHead, PartsAreNotStored};
 ghost use Rattle.cog_client.specs.Progress.{CostIsMost, DeliveryReports, GoingOnLeavesNoMore, NeededAreAsked, OpeningLeavesCost, OwnAnswersBringOn, RequestReports};
 
 use cog_reader::{end_is_wanted, lengths_are_known, nothing_comes};
@@ -65,6 +65,7 @@ pub fn own_answers_bring_on()
 pub fn answers_come_in_pieces()
     ensures head { CaseIsOfHead }
     ensures leaves { LeavesByHead }
+    ensures told { EndTells }
     ensures edges { EdgesAreStored }
     ensures cuts { CutsAreStored }
     ensures parts { PartsAreNotStored }
