@@ -8,3 +8,4 @@ pub mod ProgressLemmas
 pub mod OwnLemmas
 pub mod TruthLemmas
 pub mod Worked
+pub mod FedLemmas

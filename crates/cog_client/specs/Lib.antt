@@ -9,3 +9,5 @@ pub mod Steps
 pub mod Check
 pub mod Transport
 pub mod Progress
+pub mod Pieces
+pub mod Fed

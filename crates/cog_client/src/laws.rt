@@ -4,11 +4,14 @@ ghost use Rattle.tiff_dir.specs.Needs.{IsEndOf};
 ghost use Rattle.tiff_dir.specs.Query.{needs};
 ghost use Rattle.cog_client.specs.Client.{AgreementIsSeen, query_of, to_come, ClientState, Knows};
 ghost use Rattle.cog_client.specs.Report.{TruthIsTold};
+ghost use Rattle.cog_client.specs.Fed.{CaseIsOfHead, CutsAreStored, EdgesAreStored, EndTells, LeavesByHead, PartsAreNotStored};
 ghost use Rattle.cog_client.specs.Progress.{CostIsMost, DeliveryReports, GoingOnLeavesNoMore, NeededAreAsked, OpeningLeavesCost, OwnAnswersBringOn, RequestReports};
 
 use cog_reader::{end_is_wanted, lengths_are_known, nothing_comes};
 use http_range::{clients_are_answered, fronts_are_read, publications_replace};
-use range_cache::{missing_is_exact, pieces_bring_blocks, stored_stay, stores_are_counted};
+use range_cache::{
+    missing_is_exact, parts_bring_blocks, pieces_bring_blocks, stored_stay, stores_are_counted,
+};
 
 /// What a client still needs of a file for its query is the end of what the query needs of it.
 pub fn end_is_needed()
@@ -70,3 +73,15 @@ pub fn agreement_is_seen()
 pub fn equal_reports_are_true()
     ensures { TruthIsTold }
 {}
+
+/// An answer that comes in pieces is taken by its head, and by the body as far as it has come.
+pub fn answers_come_in_pieces()
+    ensures head { CaseIsOfHead }
+    ensures leaves { LeavesByHead }
+    ensures told { EndTells }
+    ensures edges { EdgesAreStored }
+    ensures cuts { CutsAreStored }
+    ensures parts { PartsAreNotStored }
+{
+    parts_bring_blocks();
+}

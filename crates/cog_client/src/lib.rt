@@ -9,6 +9,7 @@ mod error;
 mod fetching;
 mod going;
 mod laws;
+mod pieces;
 mod report;
 mod source;
 mod transport;
@@ -20,9 +21,10 @@ pub use error::{ClientError, FetchError};
 pub use fetching::fetch;
 pub use http_range::{Span, Tag, Why};
 pub use laws::{
-    agreement_is_seen, end_is_needed, equal_reports_are_true, left_never_grows, needed_are_asked,
-    nothing_left_is_reported, own_answers_bring_on,
+    agreement_is_seen, answers_come_in_pieces, end_is_needed, equal_reports_are_true,
+    left_never_grows, needed_are_asked, nothing_left_is_reported, own_answers_bring_on,
 };
+pub use pieces::Pieces;
 pub use report::Report;
 pub use tiff_dir::{Memory, Query};
 pub use transport::{Lost, Transport};

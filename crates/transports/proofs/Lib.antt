@@ -1,1 +1,2 @@
 pub mod TransportLemmas
+pub mod PieceLemmas

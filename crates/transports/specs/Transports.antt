@@ -1,7 +1,8 @@
 -- What others know of the transports here.
-use Rattle.std.specs.Prelude.{ℕ, List}
+use Rattle.std.specs.Prelude.{ℕ, List, drop}
 use Rattle.cog_server.specs.Server.{ServerState}
 use Rattle.transports.specs.declared.in_memory.InMemory.{InMemory}
+use Rattle.transports.specs.declared.in_pieces.InPieces.{InPieces}
 use Rattle.transports.specs.declared.scripted.Fate.{Fate}
 use Rattle.transports.specs.declared.scripted.Scripted.{Scripted}
 
@@ -23,3 +24,11 @@ inner_of s = s.inner
 -- what becomes of the next answers, in order
 abbrev pub fates_of : {T : Type 0} → Scripted T → List Fate
 fates_of s = s.fates.now
+
+-- the transport whose answers come in pieces
+abbrev pub source_of : {T : Type 0} → InPieces T → T
+source_of s = s.inner
+
+-- what is still to come of its last answer
+abbrev pub rest_of : {T : Type 0} → InPieces T → List ℕ
+rest_of s = drop s.at s.answer.items

@@ -3,7 +3,9 @@
 #![tactic(auto)]
 
 mod in_memory;
+mod in_pieces;
 mod scripted;
 
 pub use in_memory::{InMemory, server_of_one};
+pub use in_pieces::InPieces;
 pub use scripted::{Fate, Scripted};

@@ -1,0 +1,190 @@
+-- How an answer that comes in pieces is taken: by its head, and by the body as far as it has come.
+use Rattle.std.specs.Prelude.{◌≡◌, ◌≢◌, ◌⊎◌, ℕ, ◌+◌, ◌*◌, ◌/◌, ◌<◌, ◌≤◌, not, ◌==◌, ◌&&◌, nat_le, nat_lt, min, max, Bool, if◌then◌else◌, true, List, [], ◌++◌, length, take as front, drop, Option, Some, None, IfSome, Result, Ok, Err, ⊤}
+use Rattle.std.specs.Str.{bytes_eq}
+use Rattle.tiff_dir.specs.declared.span.Span.{Span}
+use Rattle.tiff_dir.specs.Block.{block_size, end_of}
+use Rattle.http_range.specs.declared.reading.Why.{Why}
+use Rattle.http_range.specs.declared.reading.Why.TheVariants.{Cut, Head}
+use Rattle.http_range.specs.Piece.{SeenPiece}
+use Rattle.http_range.specs.Announced.{Announced, body_behind}
+use Rattle.http_range.specs.Reading.{ReadsHead}
+use Rattle.range_cache.specs.Cache.{Blocks}
+use Rattle.range_cache.specs.Laws.{IsCutIn, IsEdge, IsPartOf, begun, lacking}
+use Rattle.range_cache.specs.Piece.{is_wanted}
+use Rattle.cog_client.specs.declared.case.Case.{Case}
+use Rattle.cog_client.specs.declared.case.Case.TheVariants.{Ignored, Adopted, Restarted, Accepted}
+use Rattle.cog_client.specs.declared.delivered.Ignored as why
+use Rattle.cog_client.specs.declared.delivered.Ignored.TheVariants.{NotUsed, OtherRevision, OtherLength, NotAsked}
+use Rattle.cog_client.specs.declared.delivered.Delivered.{Delivered}
+use Rattle.cog_client.specs.declared.delivered.Delivered.TheVariants.{Took, Restarted as ARestart, Ignored as AnIgnored}
+use Rattle.cog_client.specs.Case.{Revision, case_of, is_beside}
+use Rattle.cog_client.specs.Take.{Holding, asked_or_first, base_of, first_span, stored_count, stored_of, take, take_by}
+
+-- ---- by the head
+
+-- The case that the head alone tells: whether the body is beside what is asked for is known at its end.
+abbrev pub case_of_head : Option Revision → Option Span → Announced → Case
+case_of_head v None head = Ignored NotAsked
+case_of_head None (Some s) head = Adopted
+case_of_head (Some v) (Some s) head =
+    if not (bytes_eq v.tag head.tag) then (if head.whole then Restarted else Ignored OtherRevision)
+    else if not (v.complete == head.complete) then Ignored OtherLength
+    else Accepted
+
+-- the piece that the head announces, with this body
+abbrev pub piece_with : Announced → List ℕ → SeenPiece
+piece_with head body =
+    record { tag = head.tag; whole = head.whole; first = head.first; complete = head.complete; body = body }
+
+-- bytes of the same file from another place on
+abbrev pub piece_at : Announced → ℕ → List ℕ → SeenPiece
+piece_at head place bytes =
+    record { tag = head.tag; whole = head.whole; first = place; complete = head.complete; body = bytes }
+
+-- The case of an answer is that of its head, save that it may be beside what is asked for.
+abbrev pub CaseIsOfHead : Type 0
+CaseIsOfHead = (v : Option Revision) (asked : Option Span) (head : Announced) (body : List ℕ) →
+    (case_of v asked (piece_with head body) ≡ case_of_head v asked head)
+    ⊎ ((case_of_head v asked head ≡ Accepted) × (case_of v asked (piece_with head body) ≡ Ignored NotAsked)
+    × IfSome asked (λ s. is_beside s (piece_with head body) ≡ true))
+
+-- What an answer leaves is what the case of its head leaves: a body that is beside what is asked for brings no block.
+abbrev pub LeavesByHead : Type 0
+LeavesByHead = (h : Holding) (head : Announced) (body : List ℕ) →
+    (take h (Ok (piece_with head body))).leaves ≡ (take_by (case_of_head h.revision h.asked head) h (piece_with head body)).leaves
+
+-- ---- by the body
+
+-- More of the body is stored: the block that the cut goes through, and then the blocks of the rest; so they are counted.
+abbrev pub CutsAreStored : Type 0
+CutsAreStored = (head : Announced) (body more : List ℕ) (span : Span) (b : Blocks) (n : ℕ) →
+    IsCutIn head.complete head.first body more n →
+    let m = lacking head.complete head.first body n in
+    let cut = piece_at head (n * block_size) (begun head.first body n ++ front m more) in
+    let rest = piece_at head (end_of head.complete n) (drop m more) in
+    let before = stored_of (piece_with head body) span b in
+    (stored_of (piece_with head (body ++ more)) span b ≡ stored_of rest span (stored_of cut span before))
+    × (stored_count (piece_with head (body ++ more)) span b
+    ≡ stored_count (piece_with head body) span b + (stored_count cut span before + stored_count rest span (stored_of cut span before)))
+
+-- Where the body so far ends at the edge of a block, the blocks of the rest are stored.
+abbrev pub EdgesAreStored : Type 0
+EdgesAreStored = (head : Announced) (body more : List ℕ) (span : Span) (b : Blocks) →
+    IsEdge head.complete (head.first + length body) →
+    let rest = piece_at head (head.first + length body) more in
+    let before = stored_of (piece_with head body) span b in
+    (stored_of (piece_with head (body ++ more)) span b ≡ stored_of rest span before)
+    × (stored_count (piece_with head (body ++ more)) span b
+    ≡ stored_count (piece_with head body) span b + stored_count rest span before)
+
+-- A part of a block stores nothing.
+abbrev pub PartsAreNotStored : Type 0
+PartsAreNotStored = (head : Announced) (place : ℕ) (bytes : List ℕ) (span : Span) (b : Blocks) (n : ℕ) →
+    IsPartOf head.complete place (place + length bytes) n →
+    (stored_of (piece_at head place bytes) span b ≡ b) × (stored_count (piece_at head place bytes) span b ≡ 0)
+
+-- ---- between two pieces
+
+-- What is kept of an answer: the bytes of a head that isn't whole; why what follows matters no more; or the head, its case, how
+-- many bytes of the body came, the bytes of a wanted block that isn't whole yet, and how many blocks were stored.
+pub data Feed : Type 0 where
+  waits : List ℕ → Feed
+  unused : Why → Feed
+  passed : why.Ignored → Feed
+  follows : Announced → Case → ℕ → List ℕ → ℕ → Feed
+
+-- the block in which the bytes end that came so far
+abbrev pub cut_block : Announced → List ℕ → ℕ
+cut_block head body = (head.first + length body) / block_size
+
+-- the bytes so far of a block that begins in the body, isn't whole yet, and is wanted
+abbrev pub part_of : Announced → Blocks → Span → List ℕ → List ℕ
+part_of head blocks span body =
+    let n = cut_block head body in
+    if nat_le head.first (n * block_size) && nat_lt (head.first + length body) (end_of head.complete n)
+    && is_wanted blocks head.complete span n
+    then begun head.first body n else []
+
+-- what is asked for from the head on
+abbrev pub asked_by : Case → Option Span → Span
+asked_by Restarted asked = first_span
+asked_by Adopted asked = asked_or_first asked
+asked_by Accepted asked = asked_or_first asked
+asked_by (Ignored w) asked = asked_or_first asked
+
+-- the case uses the body
+abbrev pub UsesBody : Case → Type 0
+UsesBody (Ignored w) = ⊥
+UsesBody Adopted = ⊤
+UsesBody Restarted = ⊤
+UsesBody Accepted = ⊤
+
+-- the reason is told by a head that is whole, or too long
+abbrev pub IsSettled : List ℕ → Why → Type 0
+IsSettled bytes w = (w ≢ Cut) × ((w ≡ Head) → 4096 ≤ length bytes)
+
+-- The front p of an answer has no head yet: it is kept, and nothing else changed.
+pub record FedHead (s : Holding) (p : List ℕ) (now : Holding) (feed : Feed) : Type 0 where
+  pub short : length p < 4096
+  pub open_head : (r : Result Announced Why) → ReadsHead p r → (r ≡ Err Cut) ⊎ (r ≡ Err Head)
+  pub keeps : feed ≡ waits p
+  pub same : now ≡ s
+
+-- The head says that the answer is not used.
+pub record FedUnused (s : Holding) (p : List ℕ) (now : Holding) (feed : Feed) : Type 0 where
+  pub reading : Why
+  pub reads : ReadsHead p (Err reading)
+  pub settled : IsSettled p reading
+  pub keeps : feed ≡ unused reading
+  pub same : now ≡ s
+
+-- The case of the head passes the body over.
+pub record FedPassed (s : Holding) (p : List ℕ) (now : Holding) (feed : Feed) : Type 0 where
+  pub head : Announced
+  pub reads : ReadsHead p (Ok head)
+  pub reason : why.Ignored
+  pub is : case_of_head s.revision s.asked head ≡ Ignored reason
+  pub keeps : feed ≡ passed reason
+  pub same : now ≡ s
+
+-- The body so far is taken: the client holds what the case of the head leaves of it, by the start.
+pub record FedBody (s : Holding) (p : List ℕ) (now : Holding) (feed : Feed) : Type 0 where
+  pub head : Announced
+  pub reads : ReadsHead p (Ok head)
+  pub uses : UsesBody (case_of_head s.revision s.asked head)
+  pub count : ℕ
+  pub counted : count
+      ≡ stored_count (piece_with head (body_behind head p)) (asked_by (case_of_head s.revision s.asked head) s.asked)
+      (base_of (case_of_head s.revision s.asked head) s.blocks)
+  pub keeps : feed
+      ≡ follows head (case_of_head s.revision s.asked head) (length (body_behind head p))
+      (part_of head now.blocks (asked_by (case_of_head s.revision s.asked head) s.asked) (body_behind head p)) count
+  pub holds : now ≡ (take_by (case_of_head s.revision s.asked head) s (piece_with head (body_behind head p))).leaves
+
+-- What a client holds now, and keeps of an answer, that held s when it began and to which the front p of it came.
+abbrev pub Fed : Holding → List ℕ → Holding → Feed → Type 0
+Fed s p now feed = FedHead s p now feed ⊎ (FedUnused s p now feed ⊎ (FedPassed s p now feed ⊎ FedBody s p now feed))
+
+-- ---- at the end
+
+-- no byte of a body of that length is asked for
+abbrev pub is_beside_at : Announced → ℕ → Span → Bool
+is_beside_at head came s = nat_le (min (head.first + came) (s.last + 1)) (max head.first s.first)
+
+-- what is told of the answer: a body that followed may have been beside what was asked for
+abbrev pub told_at_end : Feed → Option Span → Delivered
+told_at_end (waits bytes) asked = AnIgnored (NotUsed Cut)
+told_at_end (unused w) asked = AnIgnored (NotUsed w)
+told_at_end (passed w) asked = AnIgnored w
+told_at_end (follows head Adopted came part count) asked = Took count
+told_at_end (follows head Restarted came part count) asked = ARestart
+told_at_end (follows head (Ignored w) came part count) asked = AnIgnored w
+told_at_end (follows head Accepted came part count) asked =
+    if is_beside_at head came (asked_or_first asked) then AnIgnored NotAsked else Took count
+
+-- What is told at the end of an answer is what *take* says of the whole of it.
+abbrev pub EndTells : Type 0
+EndTells = (s : Holding) (head : Announced) (body part : List ℕ) (count : ℕ) →
+    let case = case_of_head s.revision s.asked head in
+    count ≡ stored_count (piece_with head body) (asked_by case s.asked) (base_of case s.blocks) →
+    told_at_end (follows head case (length body) part count) s.asked ≡ (take s (Ok (piece_with head body))).says

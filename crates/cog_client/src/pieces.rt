@@ -1,0 +1,38 @@
+//! What carries a client's requests, and brings the answers in pieces, as they arrive.
+ghost use Rattle.std.specs.Prelude.{◌≡◌, ◌+◌, ◌<◌, ◌≤◌, ◌^◌, ℕ, List, IfOk, OnOk, length};
+ghost use Rattle.http_range.specs.Book.{Publication};
+ghost use Rattle.cog_client.specs.Pieces.{BringsOf};
+ghost use Rattle.cog_client.specs.Transport.{IsHonestToAll, SpeaksOn};
+
+use crate::transport::Lost;
+
+/// Carries requests to a server, and brings its answers in pieces, whole or cut, or none.
+pub trait Pieces {
+    /// It speaks for this publication: what it brings is of answers of a server that has it.
+    ghost speaks_for: { Self → Publication → Type 0 };
+
+    /// The requests so far.
+    ghost count: { Self → ℕ };
+
+    /// What is still to come of the answer to the last request.
+    ghost rest: { Self → List ℕ };
+
+    /// Sends a request. What was still to come of the answer before is dropped.
+    fn start(&mut self, request: &[u8]) -> Result<(), Lost>
+        requires { count self.old + 1 < 2 ^ 64 }
+        ensures honest { OnOk result (IsHonestToAll (speaks_for self.old) (rest self.new)) }
+        ensures speaks { SpeaksOn (speaks_for self.old) (speaks_for self.new) }
+        ensures counted { count self.new ≡ count self.old + 1 };
+
+    /// Brings the next bytes of the answer into the front of `out`, which isn't empty, and says how many: none at the end.
+    fn next(&mut self, out: &mut [u8]) -> Result<usize, Lost>
+        requires { 0 < length out.old }
+        ensures fits { IfOk result (λ n. n ≤ length out.new) }
+        ensures brings { IfOk result (λ n. BringsOf (speaks_for self.old) (rest self.old) out.new n (rest self.new)) }
+        ensures speaks { SpeaksOn (speaks_for self.old) (speaks_for self.new) }
+        ensures counted { count self.new ≡ count self.old };
+
+    /// How many requests there were, those that brought nothing too.
+    fn starts(&self) -> u64
+        ensures { result ≡ count self.now };
+}

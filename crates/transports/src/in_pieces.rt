@@ -1,0 +1,91 @@
+//! A transport whose answers come in pieces.
+ghost use Rattle.std.specs.Prelude.{◌≡◌};
+
+use cog_client::{Lost, Pieces, Transport};
+use std::alloc::Global;
+
+/// Another transport, each of whose answers comes in pieces: of the given sizes, one after another, at least a byte each, and after
+/// the last of them of as many bytes as there is room for. It speaks for what the other one speaks for, and counts its exchanges.
+#[derive(Drop)]
+pub struct InPieces<'p, T> {
+    inner: T,
+    sizes: &'p [usize],
+    left: &'p [usize],
+    answer: Vec<u8>,
+    at: usize,
+}
+
+impl<'p, T> InPieces<'p, T> {
+    ghost use Rattle.std.specs.Prelude.{◌≡◌, ◌<◌, ◌≤◌, [], length};
+    ghost use Rattle.transports.specs.Transports.{rest_of, source_of};
+
+    /// One to which no answer has come.
+    pub fn new(alloc: Global, inner: T, sizes: &'p [usize]) -> Self
+        ensures source { source_of result ≡ inner }
+        ensures rest { rest_of result ≡ [] }
+    {
+        InPieces {
+            inner,
+            sizes,
+            left: sizes,
+            answer: Vec::new(alloc),
+            at: 0,
+        }
+    }
+
+    /// What is still to come of the answer.
+    fn rest(&self) -> &[u8]
+        ensures { result.now ≡ rest_of self.now }
+    {
+        match self.answer.get(self.at..) {
+            Some(rest) => rest,
+            None => &[],
+        }
+    }
+
+    /// The size of the next piece, at most what there is room for.
+    fn next_size(&mut self, room: usize) -> usize
+        ensures source { source_of self.new ≡ source_of self.old }
+        ensures rest { rest_of self.new ≡ rest_of self.old }
+        ensures few { result ≤ room }
+        ensures some { 0 < room → 0 < result }
+    {
+        match self.left.split_first() {
+            None => room,
+            Some((size, left)) => {
+                self.left = left;
+                (*size).max(1).min(room)
+            }
+        }
+    }
+}
+
+impl<T: Transport> Pieces for InPieces<'_, T> {
+    ghost use Rattle.transports.specs.Transports.{rest_of, source_of};
+
+    ghost speaks_for = { λ s. T.speaks_for (source_of s) };
+
+    ghost count = { λ s. T.count (source_of s) };
+
+    ghost rest = { rest_of };
+
+    fn start(&mut self, request: &[u8]) -> Result<(), Lost> {
+        self.left = self.sizes;
+        self.answer = self.inner.exchange(request)?;
+        self.at = 0;
+        Ok(())
+    }
+
+    fn next(&mut self, out: &mut [u8]) -> Result<usize, Lost> {
+        let size = self.next_size(out.len());
+        let rest = self.rest();
+        let n = rest.len().min(size);
+        out[..n].copy_from_slice(&rest[..n]);
+        self.at += n;
+        Ok(n)
+    }
+
+    fn starts(&self) -> u64 {
+        self.inner.exchanges()
+    }
+}
