@@ -39,6 +39,7 @@ use Rattle.world.proofs.Good.{Good, good_start}
 use Rattle.world.proofs.Truth.{grows, honest_step, sound_step}
 use Rattle.world.proofs.Exact.{exact_step}
 use Rattle.world.proofs.Needed.{AllHosted, hosted_start, hosted_step, needed_step}
+use Rattle.world.proofs.Reached.{reached}
 use Rattle.world.proofs.Kept.{kept_after, kept_at, kept_length}
 
 pub runs_more : (w : World) (cs : List ClientState) (es : List Event) (ns : List Entry) (mid : List ClientState) (e : Event) (n : Entry) (new : List ClientState) → RunsKeeping w cs es ns mid → StepKeeping (after_all w es ns) mid e n new → RunsKeeping w cs (es ++ e ∷ []) (ns ++ n ∷ []) new
@@ -207,21 +208,7 @@ runs_seen w cs (e ∷ es) (n ∷ ns) new (mid, step, rest) = (mid, step_seen w c
 
 -- ---- the log
 
-pub run_truth : (laws : LowerLaws) (es : List Event) (ns : List Entry) (cs : List ClientState) → RunsKeeping start [] es ns cs → IsTrueLog es ns
-run_truth laws es ns cs runs =
-    let good = good_run laws start [] es ns cs good_start runs in
-    let reports = each_run IsTrueEntry laws (λ w cs e n new g hosts step. (sound_step laws w cs e n new g step).told) start [] es ns cs good_start hosted_start runs in
-    record {
-      whole = whole_run start [] es ns cs runs;
-      true_reports = reports;
-      alike = alike laws (after_all start es ns).book ns good.distinct (λ r i. source_of start es ns r reports i);
-      needed = each_run IsNeededEntry laws (needed_step laws) start [] es ns cs good_start hosted_start runs;
-      checked = each_run IsExactEntry laws (λ w cs e n new g hosts step. exact_step laws w cs e n new g step) start [] es ns cs good_start hosted_start runs;
-      distinct = good.distinct;
-      honest = each_run IsHonestEntry laws (λ w cs e n new g hosts step. honest_step laws w cs e n new g step) start [] es ns cs good_start hosted_start runs;
-    }
-
-pub clients_truth : (laws : LowerLaws) (es : List Event) (ns : List Entry) (cs : List ClientState) → RunsKeeping start [] es ns cs → AreOfBook cs (after_all start es ns).book
+clients_truth : (laws : LowerLaws) (es : List Event) (ns : List Entry) (cs : List ClientState) → RunsKeeping start [] es ns cs → AreOfBook cs (after_all start es ns).book
 clients_truth laws es ns cs runs i = by (slice_get cs i) refl
   where
     good : Good (after_all start es ns) cs
@@ -231,13 +218,29 @@ clients_truth laws es ns cs runs i = by (slice_get cs i) refl
     by None at = tt
     by (Some c) at = laws.seen c (after_all start es ns).book (good.agree i c at (after_all start es ns).book (λ p j. j) good.distinct)
 
+pub run_truth : (laws : LowerLaws) (es : List Event) (ns : List Entry) (cs : List ClientState) → RunsKeeping start [] es ns cs → IsTrueLog es ns cs
+run_truth laws es ns cs runs =
+    let good = good_run laws start [] es ns cs good_start runs in
+    let reports = each_run IsTrueEntry laws (λ w cs e n new g hosts step. (sound_step laws w cs e n new g step).told) start [] es ns cs good_start hosted_start runs in
+    record {
+      whole = whole_run start [] es ns cs runs;
+      true_reports = reports;
+      alike = alike laws (after_all start es ns).book ns good.distinct (λ r i. source_of start es ns r reports i);
+      needed = each_run IsNeededEntry laws (needed_step laws) start [] es ns cs good_start hosted_start runs;
+      progress = reached laws es ns cs runs;
+      checked = each_run IsExactEntry laws (λ w cs e n new g hosts step. exact_step laws w cs e n new g step) start [] es ns cs good_start hosted_start runs;
+      distinct = good.distinct;
+      honest = each_run IsHonestEntry laws (λ w cs e n new g hosts step. honest_step laws w cs e n new g step) start [] es ns cs good_start hosted_start runs;
+      clients = clients_truth laws es ns cs runs;
+    }
+
 pub beginning : (laws : LowerLaws) (events : List Event) (k : ℕ) (ns : List Entry) (cs : List ClientState) → k < length events → RunsKeeping start [] (take k events) ns cs → IsBeginning events ns
 beginning laws events k ns cs fewer runs = record { count = k; fewer = fewer; clients = cs; logged = runs_seen start [] (take k events) ns cs runs; truth = run_truth laws (take k events) ns cs runs }
 
 pub whole : (events : List Event) (i : ℕ) (ns : List Entry) (cs : List ClientState) → length events ≤ i → RunsKeeping start [] (take i events) ns cs → RunsKeeping start [] events ns cs
 whole events i ns cs le runs = subst (λ xs. RunsKeeping start [] xs ns cs) (take_all i events le) runs
 
-pub whole_truth : (laws : LowerLaws) (events : List Event) (i : ℕ) (ns : List Entry) (cs : List ClientState) → length events ≤ i → RunsKeeping start [] (take i events) ns cs → IsTrueLog events ns
+pub whole_truth : (laws : LowerLaws) (events : List Event) (i : ℕ) (ns : List Entry) (cs : List ClientState) → length events ≤ i → RunsKeeping start [] (take i events) ns cs → IsTrueLog events ns cs
 whole_truth laws events i ns cs le runs = run_truth laws events ns cs (whole events i ns cs le runs)
 
 pub on_err_of : {T E : Type 0} (r : Result T E) (P : Type 0) → P → OnErr r P

@@ -71,7 +71,7 @@ pub fn run(alloc: Global, events: &[Event], log: &mut Log) -> Result<(), Memory>
     // make: an event makes a client, or changes only the one that it names, and a report in an entry is that client's.
     ensures logged { OnOk result (Runs start [] events.now log.new.entries.items log.new.clients.items) }
 
-    // After want of memory all but progress holds of the events before the one that met it.
+    // After want of memory all this holds of the events before the one that met it.
     ensures memory { OnErr result (IsBeginning events.now log.new.entries.items) }
 {
     lower_laws();

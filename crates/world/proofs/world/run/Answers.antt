@@ -1,8 +1,7 @@
 use Rattle.std.proofs.Common.{ℕ, [], arith, ap, ◌∙◌}
 use Rattle.world.specs.World.{answer_in, start}
 use Rattle.world.specs.State.{noted}
-use Rattle.world.proofs.Whole.{begun, clients_truth, more, runs_seen, state_at, whole, beginning, whole_truth, on_err_of}
-use Rattle.world.proofs.Reached.{reached}
+use Rattle.world.proofs.Whole.{begun, more, runs_seen, state_at, whole, beginning, whole_truth, on_err_of}
 use Rattle.world.proofs.world.run.Goals as goal
 
 pub loop-event-init : goal.loop-event-init
@@ -49,9 +48,7 @@ returns-clause-honest c =
 
 pub returns-clause-clients : goal.returns-clause-clients
 returns-clause-clients c =
-    let l = c.loop-event in
-    clients_truth c.lower_laws.ensures c.args.events.now l.log.entries.items l.log.clients.items
-    (whole c.args.events.now l.event-index l.log.entries.items l.log.clients.items c.loop-event-test.false l.invariant.runs)
+    (whole_truth c.lower_laws.ensures c.args.events.now c.loop-event.event-index c.loop-event.log.entries.items c.loop-event.log.clients.items c.loop-event-test.false c.loop-event.invariant.runs).clients
 
 pub returns-clause-needed : goal.returns-clause-needed
 returns-clause-needed c =
@@ -59,9 +56,7 @@ returns-clause-needed c =
 
 pub returns-clause-progress : goal.returns-clause-progress
 returns-clause-progress c =
-    let l = c.loop-event in
-    reached c.lower_laws.ensures c.args.events.now l.log.entries.items l.log.clients.items
-    (whole c.args.events.now l.event-index l.log.entries.items l.log.clients.items c.loop-event-test.false l.invariant.runs)
+    (whole_truth c.lower_laws.ensures c.args.events.now c.loop-event.event-index c.loop-event.log.entries.items c.loop-event.log.clients.items c.loop-event-test.false c.loop-event.invariant.runs).progress
 
 pub returns-in_err-entry-clause-memory : goal.returns-in_err-entry-clause-memory
 returns-in_err-entry-clause-memory c =
