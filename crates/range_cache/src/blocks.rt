@@ -1,9 +1,10 @@
 //! Work on the blocks of a cache, by their numbers.
-ghost use Rattle.std.specs.Prelude.{◌≡◌, true, false, ℕ, List, ◌+◌, ◌-◌, ◌*◌, ◌<◌, ◌≤◌, ◌^◌, ◌==◌, IfOk, OnErr, MatchOption, length, take, map, if◌then◌else◌};
+ghost use Rattle.std.specs.Prelude.{nat_eq, ◌≡◌, true, false, ℕ, List, ◌+◌, ◌-◌, ◌*◌, ◌<◌, ◌≤◌, ◌^◌, ◌==◌, IfOk, OnErr, MatchOption, length, take, map, if◌then◌else◌};
 ghost use Rattle.std.specs.List.{All, IsDistinct, filter, range_with_len, slice_range};
 ghost use Rattle.tiff_dir.specs.Block.{block_size, block_of, first_block, blocks as touched, block_count, end_of};
-ghost use Rattle.range_cache.specs.Numbers.{has, AreThere, IsGap};
+ghost use Rattle.range_cache.specs.Numbers.{has, AreThere};
 ghost use Rattle.range_cache.specs.Cache.{blocks_in, numbers, brought, put_one, stored, stores};
+ghost use Rattle.lru.specs.LruCache.{promoted};
 ghost use Rattle.range_cache.specs.Piece.{block_in, is_brought};
 
 use lru::LruCache;
@@ -18,20 +19,8 @@ pub fn last_of(number: u64, complete: u64) -> u64
     (number * BLOCK_SIZE + (BLOCK_SIZE - 1)).min(complete - 1)
 }
 
-/// Brings the blocks from one number up to another that are there to the front, in ascending order.
-pub fn bring(blocks: &mut LruCache<u64, Vec<u8>>, from: u64, to: u64)
-    requires ordered { from ≤ to }
-    requires distinct { IsDistinct ◌==◌ (numbers (blocks_in blocks.old.entries)) }
-    ensures entries { blocks_in blocks.new.entries ≡ brought (range_with_len from (to - from)) (blocks_in blocks.old.entries) }
-    ensures capacity { blocks.new.cap ≡ blocks.old.cap }
-{
-    for number in from..to {
-        blocks.promote(&number);
-    }
-}
-
 /// Where the run of missing blocks ends that goes on here.
-fn end_of_run(blocks: &LruCache<u64, Vec<u8>>, from: u64, to: u64) -> u64
+pub fn end_of_run(blocks: &LruCache<u64, Vec<u8>>, from: u64, to: u64) -> u64
     requires { from ≤ to }
     ensures within { (from ≤ result) × (result ≤ to) }
     ensures gone { (k : ℕ) → from ≤ k → k < result → has k (numbers (blocks_in blocks.now.entries)) ≡ false }
@@ -45,59 +34,61 @@ fn end_of_run(blocks: &LruCache<u64, Vec<u8>>, from: u64, to: u64) -> u64
     to
 }
 
-/// The first run of missing blocks from one number up to another: its first block, and its end.
-pub fn first_gap(blocks: &LruCache<u64, Vec<u8>>, from: u64, to: u64) -> Option<(u64, u64)>
-    requires { from ≤ to }
-    ensures { MatchOption result
-        (AreThere (numbers (blocks_in blocks.now.entries)) from (to - from))
-        (λ run. IsGap (numbers (blocks_in blocks.now.entries)) from (to - from) run.0 run.1) }
-{
-    for number in from..to {
-        if !blocks.contains(&number) {
-            let end = end_of_run(blocks, number + 1, to);
-            return Some((number, end));
-        }
-    }
-    None
-}
-
-/// Copies a part of a block, from a place in it on.
-fn copy_part(blocks: &LruCache<u64, Vec<u8>>, number: u64, skip: usize, out: &mut [u8])
+/// Copies a part of a block, from a place in it on, and brings the block to the front. Whether it is there.
+fn take_part(blocks: &mut LruCache<u64, Vec<u8>>, number: u64, skip: usize, out: &mut [u8]) -> bool
     requires { skip + length out.old < 2 ^ 64 }
-    ensures { (f : List ℕ) → All (λ b. b.1 ≡ block_of f b.0) (blocks_in blocks.now.entries) →
-        has number (numbers (blocks_in blocks.now.entries)) ≡ true →
+    ensures there { result ≡ has number (numbers (blocks_in blocks.old.entries)) }
+    ensures entries { blocks.new.entries ≡ promoted (nat_eq number) blocks.old.entries }
+    ensures capacity { blocks.new.cap ≡ blocks.old.cap }
+    ensures copied { (f : List ℕ) → All (λ b. b.1 ≡ block_of f b.0) (blocks_in blocks.old.entries) →
+        has number (numbers (blocks_in blocks.old.entries)) ≡ true →
         skip + length out.old ≤ block_size → number * block_size + skip + length out.old ≤ length f →
         out.new ≡ slice_range f (number * block_size + skip) (number * block_size + skip + length out.old) }
 {
-    let Some(block) = blocks.peek(&number) else {
-        return;
+    let Some(block) = blocks.get(&number) else {
+        return false;
     };
-    let Some(part) = block.get(skip..skip + out.len()) else {
-        return;
-    };
-    out.copy_from_slice(part);
+    if let Some(part) = block.get(skip..skip + out.len()) {
+        out.copy_from_slice(part);
+    }
+    true
 }
 
-/// Copies a range out of blocks that are all there, a part of each.
-pub fn copy(blocks: &LruCache<u64, Vec<u8>>, first: u64, out: &mut [u8])
+/// Copies a range out of its blocks, a part of each, and brings those that are there to the front, in ascending order. The
+/// first one that isn't there.
+pub fn copy(blocks: &mut LruCache<u64, Vec<u8>>, first: u64, out: &mut [u8]) -> Option<u64>
     requires some { 0 < length out.old }
     requires within { first + length out.old < 2 ^ 64 }
-    ensures { (f : List ℕ) → first + length out.old ≤ length f →
-        All (λ b. b.1 ≡ block_of f b.0) (blocks_in blocks.now.entries) →
-        AreThere (numbers (blocks_in blocks.now.entries)) (first_block first) (touched first (length out.old)) →
+    requires distinct { IsDistinct ◌==◌ (numbers (blocks_in blocks.old.entries)) }
+    ensures entries { blocks_in blocks.new.entries
+        ≡ brought (range_with_len (first_block first) (touched first (length out.old))) (blocks_in blocks.old.entries) }
+    ensures capacity { blocks.new.cap ≡ blocks.old.cap }
+    ensures missing { MatchOption result
+        (AreThere (numbers (blocks_in blocks.old.entries)) (first_block first) (touched first (length out.old)))
+        (λ n. (first_block first ≤ n) × (n < first_block first + touched first (length out.old))
+        × AreThere (numbers (blocks_in blocks.old.entries)) (first_block first) (n - first_block first)
+        × (has n (numbers (blocks_in blocks.old.entries)) ≡ false)) }
+    ensures copied { (f : List ℕ) → first + length out.old ≤ length f →
+        All (λ b. b.1 ≡ block_of f b.0) (blocks_in blocks.old.entries) →
+        AreThere (numbers (blocks_in blocks.old.entries)) (first_block first) (touched first (length out.old)) →
         out.new ≡ slice_range f first (first + length out.old) }
 {
     let end = first + out.len() as u64;
+    let mut missing = None;
     for number in first / BLOCK_SIZE..(end - 1) / BLOCK_SIZE + 1 {
         let start = first.max(number * BLOCK_SIZE);
         let stop = last_of(number, end) + 1;
-        copy_part(
+        let is_there = take_part(
             blocks,
             number,
             (start - number * BLOCK_SIZE) as usize,
             &mut out[(start - first) as usize..(stop - first) as usize],
         );
+        if !is_there {
+            missing = missing.or(Some(number));
+        }
     }
+    missing
 }
 
 /// Stores a block where it isn't there, and says how many were stored.

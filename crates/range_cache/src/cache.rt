@@ -7,7 +7,7 @@ ghost use Rattle.range_cache.specs.Cache.{Blocks, block_at, max_capacity, min_ca
 ghost use Rattle.range_cache.specs.Piece.{whole_blocks, IsPieceOf, is_wanted};
 ghost use Rattle.range_cache.specs.Missing.{IsFirstGap};
 
-use crate::blocks::{bring, copy, first_gap, last_of, store, whole_run};
+use crate::blocks::{copy, end_of_run, last_of, store, whole_run};
 use crate::missing::Missing;
 use lru::LruCache;
 use std::alloc::Global;
@@ -102,16 +102,11 @@ impl Cache {
         ensures led { IsLed (numbers self.new.entries) (first_block first) (blocks first (length out.old)) }
     {
         self.law();
-        let from = first / BLOCK_SIZE;
         let to = (first + out.len() as u64 - 1) / BLOCK_SIZE + 1;
-        match first_gap(&self.blocks, from, to) {
-            None => {
-                copy(&self.blocks, first, out);
-                bring(&mut self.blocks, from, to);
-                Ok(())
-            }
-            Some((start, end)) => {
-                bring(&mut self.blocks, from, to);
+        match copy(&mut self.blocks, first, out) {
+            None => Ok(()),
+            Some(start) => {
+                let end = end_of_run(&self.blocks, start + 1, to);
                 Err(Missing {
                     first: start * BLOCK_SIZE,
                     last: last_of(end - 1, complete),

@@ -1,81 +1,83 @@
-use Rattle.std.proofs.Common.{◌≡◌, ℕ, ◌+◌, ◌-◌, ◌/◌, ◌<◌, List, length, ap, sym, ◌∙◌, subst, arith}
+use Rattle.std.proofs.Common.{◌≡◌, ℕ, ◌+◌, ◌-◌, ◌<◌, ◌≤◌, true, false, List, length, refl, ap, sym, ◌∙◌, subst, arith, inl, inr}
+use Rattle.std.proofs.lemmas.Bool.Decides.{eqb_tells}
 use Rattle.std.specs.List.{All, range_with_len}
 use Rattle.tiff_dir.specs.Block.{first_block, blocks}
-use Rattle.range_cache.specs.Numbers.{has, AreThere, IsLed}
-use Rattle.range_cache.specs.Cache.{Block, Blocks, block_at, kept_blocks, blocks_in, numbers, brought, Holds}
+use Rattle.range_cache.specs.Numbers.{has, AreThere, IsGap, IsLed}
+use Rattle.range_cache.specs.Cache.{Blocks, block_at, blocks_in, numbers, Holds}
 use Rattle.range_cache.proofs.Bytes.{IsOf, blocks-some}
 use Rattle.range_cache.proofs.Fronts.{block_at-brought, has-brought, All-brought, led-brought}
 use Rattle.range_cache.proofs.cache.Cache.read_into.Goals as goal
+use Rattle.range_cache.proofs.cache.Cache.read_into.Goals.{in-None, in-Some}
 
--- how many blocks are touched, as they are gone over
-count_is : (first len : ℕ) → 0 < len → (first + len - 1) / 16384 + 1 - first / 16384 ≡ blocks first len
-count_is first len some = let count = blocks-some first len some in omega (arith, count)
+-- the first missing block, and the end of the run of missing ones from it on
+gap : (old new : List ℕ) (n count start end : ℕ) → ((k : ℕ) → has k new ≡ has k old) →
+    n ≤ start → AreThere old n (start - n) → has start old ≡ false → start + 1 ≤ end → end ≤ n + count →
+    ((k : ℕ) → start + 1 ≤ k → k < end → has k new ≡ false) → (end < n + count → has end new ≡ true) → IsGap old n count start end
+gap old new n count start end same begins there first_gone some within gone ends = record {
+  begins = begins;
+  some = omega arith;
+  within = within;
+  before = λ k low high. there k low (omega arith);
+  gone = λ k low high. elim (eqb_tells k start) [
+    | inl e ↦ ap (λ j. has j old) e.1 ∙ first_gone
+    | inr e ↦ let other = e.1 in sym (same k) ∙ gone k (omega arith) high
+  ];
+  ends = λ less. sym (same end) ∙ ends less;
+}
 
--- the blocks that are kept, as the caller sees them
-brings : (old new : Blocks) (kept : List Block) (first len : ℕ) → 0 < len → kept ≡ old.entries →
-    new.entries ≡ brought (range_with_len (first / 16384) ((first + len - 1) / 16384 + 1 - first / 16384)) kept →
-    new.entries ≡ brought (range_with_len (first_block first) (blocks first len)) old.entries
-brings old new kept first len some view is =
-    is ∙ ap (λ k. brought (range_with_len (first / 16384) k) kept) (count_is first len some) ∙ ap (brought (range_with_len (first_block first) (blocks first len))) view
-
--- what follows of them
-kept : (old new : Blocks) (ns : List ℕ) → new.entries ≡ brought ns old.entries → (k : ℕ) → block_at k new.entries ≡ block_at k old.entries
-kept old new ns is k = ap (block_at k) is ∙ block_at-brought k ns old.entries
-
-same : (old new : Blocks) (ns : List ℕ) → new.entries ≡ brought ns old.entries → (k : ℕ) → has k (numbers new.entries) ≡ has k (numbers old.entries)
-same old new ns is k = ap (λ bs. has k (numbers bs)) is ∙ has-brought k ns old.entries
-
-holds : (old new : Blocks) (ns : List ℕ) → new.entries ≡ brought ns old.entries → (f : List ℕ) → Holds f old → Holds f new
-unfolding Holds
-holds old new ns is f held = subst (All (IsOf f)) (sym is) (All-brought (IsOf f) ns old.entries held)
-
-led : (old new : Blocks) (n count : ℕ) → new.entries ≡ brought (range_with_len n count) old.entries → IsLed (numbers new.entries) n count
-led old new n count is = subst (λ bs. IsLed (numbers bs) n count) (sym is) (led-brought n count old.entries)
-
-pub returns-in-None-clause-slice : goal.returns-in-None-clause-slice
-unfolding Holds
-returns-in-None-clause-slice c = λ f within held.
+pub returns-clause-exact : goal.returns-clause-exact
+returns-clause-exact c =
     let first = c.args.first in
-    let kept : All (IsOf f) (blocks_in c.self.inside.blocks.entries) = subst (λ (v : Blocks). All (IsOf f) v.entries) (sym c.self.view_is) held in
-    let there = subst (AreThere (numbers (blocks_in c.self.inside.blocks.entries)) (first_block first)) (count_is first (length c.args.out.now) c.requires.some) c.in-None.ensures in
-    c.copy.ensures f within kept there
+    let len = length c.args.out.now in
+    let from = first_block first in
+    let count = blocks-some first len c.requires.some in
+    let old = blocks_in c.self.inside.blocks.entries in
+    let view : old ≡ c.args.self.now.entries = ap (λ (v : Blocks). v.entries) c.self.view_is in
+    let same : (k : ℕ) → has k (numbers (blocks_in c.copy.new.blocks.entries)) ≡ has k (numbers old) =
+    λ k. ap (λ bs. has k (numbers bs)) c.copy.ensures.entries ∙ has-brought k (range_with_len from (blocks first len)) old in
+    elim c.match-copy.branch [
+      | in-None w ↦ rw w.result-is (subst (λ bs. AreThere (numbers bs) from (blocks first len)) view w.in-None.ensures.missing)
+      | in-Some w ↦
+          let start = w.in-Some.start in
+          let end = w.end_of_run-end.result in
+          let missing = w.in-Some.ensures.missing in
+          let run = w.end_of_run-end.ensures in
+          rw w.result-is (record {
+            from = start;
+            to = end;
+            gap = subst (λ bs. IsGap (numbers bs) from (blocks first len) start end) view
+                (gap (numbers old) (numbers (blocks_in c.copy.new.blocks.entries)) from (blocks first len) start end same
+                missing.0 missing.2 missing.3 run.within.0 (omega (arith, run.within.1, count)) run.gone (λ less. run.ends (omega (arith, less, count))));
+            first_is = refl;
+            last_is = w.last_of.ensures;
+          })
+    ]
 
-pub returns-in-None-clause-kept : goal.returns-in-None-clause-kept
-returns-in-None-clause-kept c = kept c.args.self.now (kept_blocks c.bring.new.blocks) _
-    (brings c.args.self.now (kept_blocks c.bring.new.blocks) (blocks_in c.self.inside.blocks.entries) c.args.first (length c.args.out.now) c.requires.some
-    (ap (λ (v : Blocks). v.entries) c.self.view_is) c.bring.ensures.entries)
+pub returns-clause-slice : goal.returns-clause-slice
+unfolding Holds
+returns-clause-slice c =
+    elim c.match-copy.branch [
+      | in-None w ↦ rw w.result-is (λ f within held.
+          c.copy.ensures.copied f within (subst (λ (v : Blocks). All (IsOf f) v.entries) (sym c.self.view_is) held) w.in-None.ensures.missing)
+      | in-Some w ↦ rw w.result-is tt
+    ]
 
-pub returns-in-None-clause-same : goal.returns-in-None-clause-same
-returns-in-None-clause-same c = same c.args.self.now (kept_blocks c.bring.new.blocks) _
-    (brings c.args.self.now (kept_blocks c.bring.new.blocks) (blocks_in c.self.inside.blocks.entries) c.args.first (length c.args.out.now) c.requires.some
-    (ap (λ (v : Blocks). v.entries) c.self.view_is) c.bring.ensures.entries)
+pub returns-clause-kept : goal.returns-clause-kept
+returns-clause-kept c = λ k. ap (block_at k) c.copy.ensures.entries
+    ∙ block_at-brought k (range_with_len (first_block c.args.first) (blocks c.args.first (length c.args.out.now))) _
+    ∙ ap (λ (v : Blocks). block_at k v.entries) c.self.view_is
 
-pub returns-in-None-clause-holds : goal.returns-in-None-clause-holds
-returns-in-None-clause-holds c = holds c.args.self.now (kept_blocks c.bring.new.blocks) _
-    (brings c.args.self.now (kept_blocks c.bring.new.blocks) (blocks_in c.self.inside.blocks.entries) c.args.first (length c.args.out.now) c.requires.some
-    (ap (λ (v : Blocks). v.entries) c.self.view_is) c.bring.ensures.entries)
+pub returns-clause-same : goal.returns-clause-same
+returns-clause-same c = λ k. ap (λ bs. has k (numbers bs)) c.copy.ensures.entries
+    ∙ has-brought k (range_with_len (first_block c.args.first) (blocks c.args.first (length c.args.out.now))) _
+    ∙ ap (λ (v : Blocks). has k (numbers v.entries)) c.self.view_is
 
-pub returns-in-None-clause-led : goal.returns-in-None-clause-led
-returns-in-None-clause-led c = led c.args.self.now (kept_blocks c.bring.new.blocks) (first_block c.args.first) (blocks c.args.first (length c.args.out.now))
-    (brings c.args.self.now (kept_blocks c.bring.new.blocks) (blocks_in c.self.inside.blocks.entries) c.args.first (length c.args.out.now) c.requires.some
-    (ap (λ (v : Blocks). v.entries) c.self.view_is) c.bring.ensures.entries)
+pub returns-clause-holds : goal.returns-clause-holds
+unfolding Holds
+returns-clause-holds c = λ f held. subst (All (IsOf f)) (sym c.copy.ensures.entries)
+    (All-brought (IsOf f) (range_with_len (first_block c.args.first) (blocks c.args.first (length c.args.out.now))) (blocks_in c.self.inside.blocks.entries)
+    (subst (λ (v : Blocks). All (IsOf f) v.entries) (sym c.self.view_is) held))
 
-pub returns-in-Some-clause-kept : goal.returns-in-Some-clause-kept
-returns-in-Some-clause-kept c = kept c.args.self.now (kept_blocks c.bring-in-Some.new.blocks) _
-    (brings c.args.self.now (kept_blocks c.bring-in-Some.new.blocks) (blocks_in c.self.inside.blocks.entries) c.args.first (length c.args.out.now) c.requires.some
-    (ap (λ (v : Blocks). v.entries) c.self.view_is) c.bring-in-Some.ensures.entries)
-
-pub returns-in-Some-clause-same : goal.returns-in-Some-clause-same
-returns-in-Some-clause-same c = same c.args.self.now (kept_blocks c.bring-in-Some.new.blocks) _
-    (brings c.args.self.now (kept_blocks c.bring-in-Some.new.blocks) (blocks_in c.self.inside.blocks.entries) c.args.first (length c.args.out.now) c.requires.some
-    (ap (λ (v : Blocks). v.entries) c.self.view_is) c.bring-in-Some.ensures.entries)
-
-pub returns-in-Some-clause-holds : goal.returns-in-Some-clause-holds
-returns-in-Some-clause-holds c = holds c.args.self.now (kept_blocks c.bring-in-Some.new.blocks) _
-    (brings c.args.self.now (kept_blocks c.bring-in-Some.new.blocks) (blocks_in c.self.inside.blocks.entries) c.args.first (length c.args.out.now) c.requires.some
-    (ap (λ (v : Blocks). v.entries) c.self.view_is) c.bring-in-Some.ensures.entries)
-
-pub returns-in-Some-clause-led : goal.returns-in-Some-clause-led
-returns-in-Some-clause-led c = led c.args.self.now (kept_blocks c.bring-in-Some.new.blocks) (first_block c.args.first) (blocks c.args.first (length c.args.out.now))
-    (brings c.args.self.now (kept_blocks c.bring-in-Some.new.blocks) (blocks_in c.self.inside.blocks.entries) c.args.first (length c.args.out.now) c.requires.some
-    (ap (λ (v : Blocks). v.entries) c.self.view_is) c.bring-in-Some.ensures.entries)
+pub returns-clause-led : goal.returns-clause-led
+returns-clause-led c = subst (λ bs. IsLed (numbers bs) (first_block c.args.first) (blocks c.args.first (length c.args.out.now))) (sym c.copy.ensures.entries)
+    (led-brought (first_block c.args.first) (blocks c.args.first (length c.args.out.now)) (blocks_in c.self.inside.blocks.entries))
