@@ -1,6 +1,6 @@
 -- The end of a level: its shape, and the level itself.
 use Rattle.tiff_dir.specs.declared.tags.TheConstants.{BITS_PER_SAMPLE, COMPRESSION, IMAGE_LENGTH, IMAGE_WIDTH, PHOTOMETRIC_INTERPRETATION, SAMPLES_PER_PIXEL, SAMPLE_FORMAT, TILE_BYTE_COUNTS, TILE_LENGTH, TILE_OFFSETS, TILE_WIDTH}
-use Rattle.std.proofs.Common.{◌≡◌, ℕ, ◌+◌, ◌*◌, ◌%◌, ◌≤◌, inl, inr, Bool, true, false, ◌&&◌, ◌==◌, if◌then◌else◌, nat_lt, nat_le, List, get_or, Option, Some, None, IsSomeAnd, refl, sym, subst, ap, ◌∙◌, arith, lit<, add-one}
+use Rattle.std.proofs.Common.{◌≡◌, ℕ, ◌+◌, ◌*◌, ◌%◌, ◌≤◌, ◌≢◌, inl, inr, Bool, true, false, ◌&&◌, ◌==◌, if◌then◌else◌, nat_lt, nat_le, List, get_or, Option, Some, None, IsSomeAnd, refl, sym, subst, ap, ◌∙◌, arith, lit<, add-one}
 use Rattle.std.proofs.lemmas.Option.{same_Some, none-some}
 use Rattle.std.proofs.lemmas.Bool.{and_parts, and_cases, eqb-true, ltb-true, ltb-false, cases_eq, false≢true}
 use Rattle.std.specs.Option.{option_map}
@@ -8,6 +8,7 @@ use Rattle.std.specs.List.{AllPass}
 use Rattle.tiff_dir.specs.declared.table.Entry.{Entry}
 use Rattle.tiff_dir.specs.declared.rule.Rule.{Rule}
 use Rattle.tiff_dir.specs.declared.level.Kind.{Kind}
+use Rattle.tiff_dir.specs.declared.level.Kind.TheVariants as kind
 use Rattle.tiff_dir.specs.Table.{keeps, short_or, place_or, draft_in, HasValues}
 use Rattle.tiff_dir.proofs.Fields.{kind_told, kind_long, typed, met_entry, met_there}
 use Rattle.tiff_dir.proofs.Levels.{fits_cases}
@@ -20,7 +21,7 @@ use Rattle.tiff_dir.specs.declared.stage.Stage.{Stage}
 use Rattle.tiff_dir.specs.declared.fault.FileFault.{FileFault}
 use Rattle.tiff_dir.specs.declared.fault.FileFault.TheVariants.{Missing, FieldType, Unsupported, LevelShape, TileSize, TileArray}
 use Rattle.tiff_dir.specs.File.{◌>>=◌, Field, kind_of, size_of, values_at, field, value}
-use Rattle.tiff_dir.specs.Profile.{subfile_rule, profile, samples_fit, is_depth, accepts, is_long, is_short_or_long, is_tile_side, tile_bytes, max_tile_bytes, max_tiles}
+use Rattle.tiff_dir.specs.Profile.{subfile_rule, profile, samples_fit, is_depth, accepts, is_tile_side, tile_bytes, max_tile_bytes, max_tiles}
 use Rattle.tiff_dir.specs.Described.{described, layout_of}
 use Rattle.tiff_dir.specs.Level.{Grid, Layout, grid_at, previous_level, place_of, compression_of, layout_at, depth_at, plain_size_at}
 use Rattle.tiff_dir.specs.Fault.{is_smaller, sides, directory_tiles, IsUnsupported, IsNotSmaller, IsNoTileArray, IsFaultOfLevel, IsFaultAt}
@@ -291,7 +292,7 @@ is_multiple side good =
     let whole : side % 16 ≡ 0 = eqb-true (side % 16) 0 p.1 in
     (omega arith, whole)
 
-long_place : (es : List Entry) → AllPass (keeps es) profile → is_long (place_or es TILE_OFFSETS).kind ≡ true
+long_place : (es : List Entry) → AllPass (keeps es) profile → (place_or es TILE_OFFSETS).kind ≡ kind.Long
 unfolding profile
 long_place es met =
     let r : Rule = get_or profile 10 subfile_rule in
@@ -300,21 +301,25 @@ long_place es met =
     let four : e.kind ≡ 4 = kind_long r.typing e.kind refl (typed r e (met_entry es r e ok there)) in
     rw there (rw four refl)
 
-whole_place : (es : List Entry) → AllPass (keeps es) profile → is_short_or_long (place_or es TILE_BYTE_COUNTS).kind ≡ true
+-- byte counts of tiles are LONG where they aren't SHORT
+abbrev IsCount : Kind → Type 0
+IsCount k = k ≢ kind.Short → k ≡ kind.Long
+
+whole_place : (es : List Entry) → AllPass (keeps es) profile → IsCount (place_or es TILE_BYTE_COUNTS).kind
 unfolding profile
 whole_place es met =
     let r : Rule = get_or profile 11 subfile_rule in
     let ok = met 11 subfile_rule (lit< tt) in
     let (e, there) = met_there es r ok refl in
-    elim (kind_told r.typing e.kind tt (typed r e (met_entry es r e ok there))) [ inl three ↦ rw there (rw three refl) | inr four ↦ rw there (rw four refl) ]
+    elim (kind_told r.typing e.kind tt (typed r e (met_entry es r e ok there))) [ inl three ↦ λ no_short. absurd (no_short (rw there (rw three refl))) | inr four ↦ λ no_short. rw there (rw four refl) ]
 
 pub draft_bounds : (es : List Entry) (d : Draft) → AllPass (keeps es) profile → HasValues es → d ≡ draft_in es → IsBounded d → IsDraft d
 unfolding draft_in
 draft_bounds es d met right is bounded = record {
   bounded = bounded;
   samples = (let P : Draft → Type 0 = λ x. accepts SAMPLES_PER_PIXEL x.samples ≡ true in subst P (sym is) (count_fits (short_or es SAMPLES_PER_PIXEL 1) (short_or es PHOTOMETRIC_INTERPRETATION 0) right.samples));
-  long = ap (λ (x : Draft). is_long x.offsets.kind) is ∙ long_place es met;
-  whole = ap (λ (x : Draft). is_short_or_long x.counts.kind) is ∙ whole_place es met;
+  long = ap (λ (x : Draft). x.offsets.kind) is ∙ long_place es met;
+  whole = subst (λ (x : Draft). IsCount x.counts.kind) (sym is) (whole_place es met);
 } where
   count_fits : (s p : ℕ) → samples_fit s p ≡ true → accepts SAMPLES_PER_PIXEL s ≡ true
   count_fits s p ok = elim (fits_cases s p ok) [ inl one ↦ rw one refl | inr three ↦ rw three refl ]

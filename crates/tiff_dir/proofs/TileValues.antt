@@ -3,9 +3,7 @@ use Rattle.tiff_dir.specs.declared.tags.TheConstants.{BITS_PER_SAMPLE, COMPRESSI
 use Rattle.std.proofs.Common.{◌≡◌, ℕ, ◌+◌, ◌*◌, ◌<◌, ◌≤◌, List, length, Option, Some, None, refl, subst, ◌∙◌, arith}
 use Rattle.std.proofs.Math.Nat.{mul-le-mul_right}
 use Rattle.std.proofs.lemmas.Option.{same_Some, none-some}
-use Rattle.std.proofs.lemmas.Bool.{lt-ltb, false≢true}
-use Rattle.std.specs.Prelude.{IsTrue}
-use Rattle.tiff_dir.specs.Profile.{is_long, is_short_or_long}
+use Rattle.std.proofs.lemmas.Bool.{lt-ltb}
 use Rattle.std.specs.Option.{option_map_or}
 use Rattle.tiff_dir.specs.declared.order.Order.{Order}
 use Rattle.tiff_dir.specs.declared.level.Level.{Level}
@@ -35,15 +33,6 @@ size_some kind.SignedLong = omega arith
 size_some kind.SignedRational = omega arith
 size_some kind.Float = omega arith
 size_some kind.Double = omega arith
-
-pub long_is : (k : Kind) → IsTrue (is_long k) → k ≡ kind.Long
-long_is kind.Long is = refl
-long_is _ is = absurd (false≢true is)
-
-pub other_is : (k : Kind) → IsTrue (is_short_or_long k) → (k ≡ kind.Short → ⊥) → k ≡ kind.Long
-other_is kind.Short is no_short = absurd (no_short refl)
-other_is kind.Long is no_short = refl
-other_is _ is no_short = absurd (false≢true is)
 
 -- the number of tile t is in the array
 pub within : (t count size : ℕ) → t < count → t * size + size ≤ count * size

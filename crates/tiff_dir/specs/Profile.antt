@@ -1,8 +1,6 @@
 -- The fields of a level in this project's profile of tiled TIFF (TIFF 6.0, sections 8 and 15).
 use Rattle.tiff_dir.specs.declared.tags.TheConstants.{BITS_PER_SAMPLE, COMPRESSION, GEO_ASCII_PARAMS, GEO_DOUBLE_PARAMS, GEO_KEY_DIRECTORY, IMAGE_LENGTH, IMAGE_WIDTH, MODEL_PIXEL_SCALE, MODEL_TIEPOINT, MODEL_TRANSFORMATION, NEW_SUBFILE_TYPE, PHOTOMETRIC_INTERPRETATION, PLANAR_CONFIGURATION, SAMPLES_PER_PIXEL, SAMPLE_FORMAT, TILE_BYTE_COUNTS, TILE_LENGTH, TILE_OFFSETS, TILE_WIDTH}
 use Rattle.std.specs.Prelude.{ℕ, ◌+◌, ◌-◌, ◌*◌, ◌/◌, ◌%◌, Bool, true, false, ◌&&◌, ◌||◌, ◌==◌, nat_lt, if◌then◌else◌, List, [], ◌∷◌, get_or}
-use Rattle.tiff_dir.specs.declared.level.Kind.{Kind}
-use Rattle.tiff_dir.specs.declared.level.Kind.TheVariants as kind
 use Rattle.tiff_dir.specs.declared.rule.Typing.{Typing}
 use Rattle.tiff_dir.specs.declared.rule.Typing.TheVariants as typing
 use Rattle.tiff_dir.specs.declared.rule.Count.TheVariants.{One, Samples, Tiles, Exactly, Multiple}
@@ -105,16 +103,6 @@ tiles_along side tile_side = (side + tile_side - 1) / tile_side
 -- how many tiles a level of these sides has
 abbrev pub tile_count : ℕ → ℕ → ℕ → ℕ → ℕ
 tile_count width length tile_width tile_length = tiles_along width tile_width * tiles_along length tile_length
-
--- offsets of tiles are LONG, their byte counts SHORT or LONG
-abbrev pub is_long : Kind → Bool
-is_long kind.Long = true
-is_long _ = false
-
-abbrev pub is_short_or_long : Kind → Bool
-is_short_or_long kind.Short = true
-is_short_or_long kind.Long = true
-is_short_or_long _ = false
 
 -- the greatest number of bytes of a tile, and of tiles of a level
 abbrev pub max_tile_bytes : ℕ

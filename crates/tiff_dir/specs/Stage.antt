@@ -6,6 +6,7 @@ use Rattle.std.specs.List.{filter, flat_map, range_with_len}
 use Rattle.tiff_dir.specs.declared.order.Order.{Order}
 use Rattle.tiff_dir.specs.declared.table.Entry.{Entry}
 use Rattle.tiff_dir.specs.declared.level.Level.{Level}
+use Rattle.tiff_dir.specs.declared.level.Kind.TheVariants as kind
 use Rattle.tiff_dir.specs.declared.level.Place.{Place}
 use Rattle.tiff_dir.specs.declared.fault.FileFault.{FileFault}
 use Rattle.tiff_dir.specs.declared.fault.FileFault.TheVariants.{Missing, FieldType}
@@ -16,7 +17,7 @@ use Rattle.tiff_dir.specs.declared.stage.Stage.{Stage}
 use Rattle.tiff_dir.specs.declared.stage.Stage.TheVariants.{Header, Count, Table, Bits, Formats, Ended}
 use Rattle.tiff_dir.specs.Number.{number_in}
 use Rattle.tiff_dir.specs.File.{max_directories, ◌>>=◌, order_of, number, directory, has_directory, has_all_tags, fields, field, value, size_of}
-use Rattle.tiff_dir.specs.Profile.{accepts, is_depth, is_long, is_short_or_long}
+use Rattle.tiff_dir.specs.Profile.{accepts, is_depth}
 use Rattle.tiff_dir.specs.Level.{Layout, is_level, previous_level, place_of, layout_at, compression_of}
 use Rattle.tiff_dir.specs.Described.{described}
 use Rattle.tiff_dir.specs.Needs.{Extent, bytes_in, max_entries, is_entry_count, header_range, outside_ranges, ranges_of_directory}
@@ -208,8 +209,8 @@ pub record IsBounded (d : Draft) : Type 0 where
 pub record IsDraft (d : Draft) : Type 0 where
   pub bounded : IsBounded d
   pub samples : accepts SAMPLES_PER_PIXEL d.samples ≡ true
-  pub long : is_long d.offsets.kind ≡ true
-  pub whole : is_short_or_long d.counts.kind ≡ true
+  pub long : d.offsets.kind ≡ kind.Long
+  pub whole : d.counts.kind ≢ kind.Short → d.counts.kind ≡ kind.Long
 
 -- how many ranges a walk has taken at most, and that it is at one of the directories that a file may have
 abbrev pub IsKept : Stage → ℕ → Type 0

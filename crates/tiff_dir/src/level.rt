@@ -1,8 +1,9 @@
 //! One image of a file, and the types of its fields (TIFF 6.0, sections 2 and 15).
-ghost use Rattle.std.specs.Prelude.{◌≡◌, ◌*◌, ◌<◌, ◌≤◌, ◌^◌, ◌&&◌, IsTrue};
+ghost use Rattle.std.specs.Prelude.{◌≡◌, ◌≢◌, ◌*◌, ◌<◌, ◌≤◌, ◌^◌, ◌&&◌, IsTrue};
+ghost use Rattle.tiff_dir.specs.declared.level.Kind.TheVariants as kind;
 ghost use Rattle.tiff_dir.specs.declared.tags.TheConstants.{SAMPLES_PER_PIXEL};
 ghost use Rattle.tiff_dir.specs.File.{size_of};
-ghost use Rattle.tiff_dir.specs.Profile.{accepts, is_depth, is_long, is_short_or_long, is_tile_side, max_tile_bytes, max_tiles, tile_bytes, tile_count, tiles_along};
+ghost use Rattle.tiff_dir.specs.Profile.{accepts, is_depth, is_tile_side, max_tile_bytes, max_tiles, tile_bytes, tile_count, tiles_along};
 
 /// The type of a field's values (TIFF 6.0, section 2), in the order of the types' numbers.
 #[derive(Clone, Copy, Debug, PartialEq, Eq)]
@@ -80,7 +81,7 @@ pub struct Level {
     ghost tiles: { tile_count width length tile_width tile_length ≤ max_tiles },
     ghost offset_of_each: { offsets.count ≡ tile_count width length tile_width tile_length },
     ghost count_of_each: { counts.count ≡ tile_count width length tile_width tile_length },
-    ghost kinds: { IsTrue (is_long offsets.kind) × IsTrue (is_short_or_long counts.kind) },
+    ghost kinds: { (offsets.kind ≡ kind.Long) × (counts.kind ≢ kind.Short → counts.kind ≡ kind.Long) },
     ghost lens: { (offsets.len ≡ offsets.count * size_of offsets.kind) × (counts.len ≡ counts.count * size_of counts.kind) },
     ghost near: { (offsets.first < 2 ^ 33) × (counts.first < 2 ^ 33) },
 }
