@@ -53,11 +53,10 @@ next_place ps i len wanted = at (slice_get ps i) refl wanted where
   at None is bad = absurd bad
   at (Some p) is good = (p, is, good)
 
-pub reading_more : (places : GeoPlaces) (present : List Place) (i : ℕ) (bytes more new : List ℕ) (p : Place) → AreFields places present i bytes → slice_get present i ≡ Some p → length more ≡ p.len → new ≡ bytes ++ more
-    → AreFields places present (i + 1) new
-reading_more places present i bytes more new p r is len same = record {
+pub reading_more : (places : GeoPlaces) (i : ℕ) (bytes more new : List ℕ) (p : Place) → AreFields places i bytes → slice_get (present_in places) i ≡ Some p → length more ≡ p.len → new ≡ bytes ++ more
+    → AreFields places (i + 1) new
+reading_more places i bytes more new p r is len same = let present = present_in places in record {
   typed = r.typed;
-  all = r.all;
   within = (let less = slice_get_within present i p is in omega (arith, less));
   whole =
       ap length same ∙ length-append bytes more

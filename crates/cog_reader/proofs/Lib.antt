@@ -5,6 +5,7 @@ pub mod WindowSamples
 pub mod SoundLemmas
 pub mod KeptLemmas
 pub mod FieldLemmas
+pub mod PlaceLemmas
 pub mod StepLemmas
 pub mod GiveLemmas
 pub mod ReaderLemmas

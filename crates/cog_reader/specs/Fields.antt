@@ -26,11 +26,10 @@ pub record FieldsState : Type 0 where
   pub bytes : List ℕ
 
 -- the bounds that it keeps: all bytes of the fields that were read are there
-pub record AreFields (places : GeoPlaces) (present : List Place) (given : ℕ) (bytes : List ℕ) : Type 0 where
+pub record AreFields (places : GeoPlaces) (given : ℕ) (bytes : List ℕ) : Type 0 where
   pub typed : AreTyped places
-  pub all : present ≡ present_in places
-  pub within : given ≤ length present
-  pub whole : length bytes ≡ total (take given present)
+  pub within : given ≤ length (present_in places)
+  pub whole : length bytes ≡ total (take given (present_in places))
 
 -- how many bytes a field has: none where it is absent
 abbrev pub len_of_field : Option Place → ℕ

@@ -1,6 +1,5 @@
 //! The geo fields of the first directory, read one after another.
-ghost use Rattle.std.specs.Prelude.{◌≡◌, ◌+◌, ◌++◌, ◌≤◌, ℕ, List, [], drop, IfOk, IsSomeAnd, None, OnErr, OnOk, length, slice_get, take};
-ghost use Rattle.std.specs.Option.{option_to_list};
+ghost use Rattle.std.specs.Prelude.{◌≡◌, ◌+◌, ◌++◌, ◌≤◌, ℕ, List, [], drop, IsSomeAnd, None, OnErr, OnOk, length, slice_get, take};
 ghost use Rattle.tiff_dir.specs.Walk.{AreTyped, IsArrayOf};
 ghost use Rattle.cog_reader.specs.Fields.{len_of_field, present_in, AreFieldParts, IsReadOf};
 
@@ -12,8 +11,6 @@ use tiff_dir::{GeoPlaces, Memory, Place};
 #[derive(Drop)]
 pub struct Fields {
     places: GeoPlaces,
-    /// The places of those that are there, in the order in which they are read.
-    present: Vec<Place>,
     given: usize,
     bytes: Vec<u8>,
 }
@@ -25,7 +22,7 @@ impl Model for Fields {
 
     ghost view = { λ x. record { places = x.places; given = x.given; bytes = x.bytes.items } };
 
-    ghost invariant = { λ x. AreFields x.places x.present.items x.given x.bytes.items };
+    ghost invariant = { λ x. AreFields x.places x.given x.bytes.items };
 }
 
 /// The bytes of the six fields; those of an absent one are none.
@@ -39,14 +36,27 @@ pub struct Parts<'a> {
     pub transformation: &'a [u8],
 }
 
-/// Adds a place, if there is one.
-fn add(present: &mut Vec<Place>, place: Option<Place>) -> Result<(), Memory>
-    ensures { OnOk result (present.new.items ≡ present.old.items ++ option_to_list place) }
+/// The place with this number among those that are there, in the order in which they are read.
+fn nth_place(places: &GeoPlaces, n: usize) -> Option<Place>
+    ensures { result ≡ slice_get (present_in places.now) n }
 {
-    if let Some(place) = place {
-        present.push(place)?;
+    let mut left = n;
+    for place in [
+        places.directory,
+        places.doubles,
+        places.ascii,
+        places.scale,
+        places.tiepoints,
+        places.transformation,
+    ] {
+        if place.is_some() {
+            if left == 0 {
+                return place;
+            }
+            left -= 1;
+        }
     }
-    Ok(())
+    None
 }
 
 /// Cuts a field's bytes off the front.
@@ -63,23 +73,15 @@ fn cut(place: Option<Place>, bytes: &[u8]) -> (&[u8], &[u8])
 
 impl Fields {
     /// None of them was read.
-    pub fn new(alloc: Global, places: GeoPlaces) -> Result<Fields, Memory>
+    pub fn new(alloc: Global, places: GeoPlaces) -> Fields
         requires { AreTyped places }
-        ensures { IfOk result (λ x. x ≡ record { places = places; given = 0; bytes = [] }) }
+        ensures { result ≡ record { places = places; given = 0; bytes = [] } }
     {
-        let mut present = Vec::new(alloc);
-        add(&mut present, places.directory)?;
-        add(&mut present, places.doubles)?;
-        add(&mut present, places.ascii)?;
-        add(&mut present, places.scale)?;
-        add(&mut present, places.tiepoints)?;
-        add(&mut present, places.transformation)?;
-        Ok(Fields {
+        Fields {
             places,
-            present,
             given: 0,
             bytes: Vec::new(alloc),
-        })
+        }
     }
 
     /// Where the fields stand.
@@ -97,7 +99,7 @@ impl Fields {
         // There is none exactly where all were read.
         ensures end { result ≡ None → self.now.given ≡ length (present_in self.now.places) }
     {
-        self.present.get(self.given).copied()
+        nth_place(&self.places, self.given)
     }
 
     /// Takes the bytes of the next field.

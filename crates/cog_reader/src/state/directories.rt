@@ -48,7 +48,7 @@ fn begin_info(alloc: Global, complete: u64, walk: &Walk) -> Result<Step, Memory>
         Ok(places) => places,
         Err(fault) => return Ok(Step::Answer(Outcome::Fault(fault))),
     };
-    let fields = Fields::new(alloc, places)?;
+    let fields = Fields::new(alloc, places);
     match fields::next(alloc, complete, walk, fields) {
         Ok(step) => Ok(step),
         Err(_fields) => Err(Memory),

@@ -1,4 +1,4 @@
-use Rattle.std.proofs.Common.{◌≡◌, ◌+◌, length, ap, sym, subst, ◌∙◌}
+use Rattle.std.proofs.Common.{◌≡◌, ◌+◌, length, sym, subst}
 use Rattle.std.specs.Prelude.{IsSomeAnd, slice_get}
 use Rattle.tiff_dir.specs.Walk.{IsArrayOf}
 use Rattle.cog_reader.specs.Fields.{FieldsState, present_in, IsReadOf}
@@ -11,7 +11,7 @@ invariant_of-self-2 c =
     let i = c.self.inside in
     let wanted = subst (λ (r : FieldsState). IsSomeAnd (slice_get (present_in r.places) r.given) (λ p. length c.args.bytes.now ≡ p.len)) (sym c.self.view_is) c.requires in
     let (p, there, len) = next_place (present_in i.places) i.given (length c.args.bytes.now) wanted in
-    reading_more i.places i.present.items i.given i.bytes.items c.args.bytes.now c.extend_from_slice.new.self.items p c.self.invariant (ap (λ l. slice_get l i.given) c.self.invariant.all ∙ there) len
+    reading_more i.places i.given i.bytes.items c.args.bytes.now c.extend_from_slice.new.self.items p c.self.invariant there len
     c.in_ok-extend_from_slice.ensures.items
 
 pub returns-clause-fields : goal.returns-clause-fields

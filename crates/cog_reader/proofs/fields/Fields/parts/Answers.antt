@@ -10,8 +10,7 @@ returns-clause-parts c =
     let g = c.self.inside.places in
     let inv = c.self.invariant in
     let given = ap (λ (r : FieldsState). r.given) c.self.view_is ∙ c.requires in
-    let all = ap length inv.all in
-    let whole = inv.whole ∙ ap total (take_all c.self.inside.given c.self.inside.present.items (omega (arith, given, all, ap (λ (r : FieldsState). length (present_in r.places)) c.self.view_is)) ∙ inv.all) in
+    let whole = inv.whole ∙ ap total (take_all c.self.inside.given (present_in g) (omega (arith, given, ap (λ (r : FieldsState). length (present_in r.places)) c.self.view_is))) in
     subst (λ (r : FieldsState). AreFieldParts r.places r.bytes c.cut.result.0.now c.cut-2.result.0.now c.cut-3.result.0.now c.cut-4.result.0.now c.cut-5.result.0.now c.cut-6.result.0.now) c.self.view_is
     (subst (λ bytes. AreFieldParts g bytes c.cut.result.0.now c.cut-2.result.0.now c.cut-3.result.0.now c.cut-4.result.0.now c.cut-5.result.0.now c.cut-6.result.0.now) c.deref.ensures.value
     (all_parts g c.deref.result.now c.cut.result.0.now c.cut.result.1.now c.cut-2.result.0.now c.cut-2.result.1.now c.cut-3.result.0.now c.cut-3.result.1.now c.cut-4.result.0.now c.cut-4.result.1.now c.cut-5.result.0.now c.cut-5.result.1.now c.cut-6.result.0.now c.cut-6.result.1.now

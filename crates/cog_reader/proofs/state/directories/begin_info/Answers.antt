@@ -9,5 +9,5 @@ returns-in-Err c k = becomes_done c.args.complete c.args.walk.now k _ _ _ (λ f 
 pub returns-in-Ok-next : goal.returns-in-Ok-next
 returns-in-Ok-next c k =
     let w = c.args.walk.now in
-    let begun = becomes_fields c.args.complete w k c.in-Ok.places c.in_ok-fields.fields c.requires c.in_ok-fields.ensures c.in-Ok.ensures.places (λ f told. c.what_comes.ensures.over w f told c.requires) in
-    step_more c.args.complete w k Info Directories (Fields c.in_ok-fields.fields) c.in-Ok-next.step begun (c.in-Ok-next.ensures.step k Info)
+    let begun = becomes_fields c.args.complete w k c.in-Ok.places c.new-fields.result c.requires c.new-fields.ensures c.in-Ok.ensures.places (λ f told. c.what_comes.ensures.over w f told c.requires) in
+    step_more c.args.complete w k Info Directories (Fields c.new-fields.result) c.in-Ok-next.step begun (c.in-Ok-next.ensures.step k Info)
