@@ -20,9 +20,6 @@ fn words<R: Env + AllocGlobal>(rt: &R) -> Result<Vec<String>, Fault> {
 fn main(rt: HostRuntime) -> ExitCode {
     match words(&rt) {
         Ok(words) => ExitCode::from(run(&rt, &words)),
-        Err(fault) => {
-            fault.print(&rt, "cogtools");
-            ExitCode::from(fault.status())
-        }
+        Err(fault) => ExitCode::from(fault.tell(&rt, "cogtools")),
     }
 }

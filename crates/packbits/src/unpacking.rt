@@ -1,6 +1,7 @@
 //! What packets stand for.
 ghost use Rattle.std.specs.Prelude.{◌≡◌, ◌<◌, ◌≤◌, IfSome, IfNone, OnOk, IfErr, length, take, min, replicate};
 ghost use Rattle.tiff_dir.specs.Packets.{Packs};
+ghost use Rattle.packbits.specs.declared.unpacking.TheConstants.{MOST};
 ghost use Rattle.packbits.specs.Unpacking.{IsFirst, HasNoFirst, IsNotPacked};
 
 use tiff_dir::{FileFault, one_text};
@@ -8,17 +9,23 @@ use tiff_dir::{FileFault, one_text};
 /// The head of a packet that stands for nothing; below it a packet copies, above it one repeats.
 const NO_OP: usize = 128;
 
-/// How many bytes are written at once where there is room: a short run costs no call, nor do a few bytes that are copied.
+/// The most bytes that a packet stands for.
+const MOST: usize = 128;
+
+/// Where there is room, so many bytes are written for a packet of at most as many, and else `MOST`: neither costs a call.
 const AT_ONCE: usize = 16;
 
 /// Writes a byte so many times. What follows in `out` may be overwritten.
 #[inline(always)]
 fn repeat(byte: u8, times: usize, out: &mut [u8])
-    requires { times ≤ length out.old }
+    requires few { times ≤ MOST }
+    requires room { times ≤ length out.old }
     ensures { take times out.new ≡ replicate times byte }
 {
     if times <= AT_ONCE && AT_ONCE <= out.len() {
         out[..AT_ONCE].copy_from_slice(&[byte; AT_ONCE]);
+    } else if MOST <= out.len() {
+        out[..MOST].copy_from_slice(&[byte; MOST]);
     } else {
         out[..times].fill(byte);
     }
@@ -27,12 +34,15 @@ fn repeat(byte: u8, times: usize, out: &mut [u8])
 /// Copies the first `len` bytes. What follows in `out` may be overwritten.
 #[inline(always)]
 fn copy(bytes: &[u8], len: usize, out: &mut [u8])
+    requires few { len ≤ MOST }
     requires there { len ≤ length bytes.now }
     requires room { len ≤ length out.old }
     ensures { take len out.new ≡ take len bytes.now }
 {
     if len <= AT_ONCE && AT_ONCE <= bytes.len() && AT_ONCE <= out.len() {
         out[..AT_ONCE].copy_from_slice(&bytes[..AT_ONCE]);
+    } else if MOST <= bytes.len() && MOST <= out.len() {
+        out[..MOST].copy_from_slice(&bytes[..MOST]);
     } else {
         out[..len].copy_from_slice(&bytes[..len]);
     }

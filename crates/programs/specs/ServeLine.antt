@@ -12,8 +12,12 @@ option name = record (new_rule name) { long = Some name; value_names = 1; requir
 abbrev pub words : List ℕ → Rule
 words name = record (new_rule name) { value_names = 1; required = true; action = Some Append }
 
+-- a command that tells its version
+abbrev pub versioned : App → App
+versioned a = record a { top = record a.top { has_version = true } }
+
 unfoldable pub serve_app : App
-serve_app = with_rule (with_rule (with_rule (with_rule (new_app (codes "cogserve"))
+serve_app = with_rule (with_rule (with_rule (with_rule (versioned (new_app (codes "cogserve")))
     (option (codes "listen"))) (option (codes "epoch"))) (option (codes "connections"))) (words (codes "files"))
 
 -- the line has the values of these matches

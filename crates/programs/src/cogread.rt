@@ -89,7 +89,7 @@ pub fn fetch_report<R: Print + AllocGlobal, T: Transport>(
 }
 
 /// Runs the program on its words, of which the first is its own name.
-pub fn run_line<R>(rt: &R, words: &[String]) -> Result<(), Fault>
+pub fn run_line<R>(rt: &R, words: &[&str]) -> Result<(), Fault>
 where
     R: Print + AllocGlobal + Net<Stream = TcpStream>,
 {

@@ -12,7 +12,7 @@ use std::net::{Net, OpenListener, TcpListener, TcpStream};
 use std::rt::{Clock, Files};
 
 /// Runs the program on its words, of which the first is its own name.
-pub fn run_line<R>(rt: &R, words: &[String]) -> Result<(), Fault>
+pub fn run_line<R>(rt: &R, words: &[&str]) -> Result<(), Fault>
 where
     R: Files + Clock + Print + AllocGlobal + Net<Listener = TcpListener, Stream = TcpStream>,
 {

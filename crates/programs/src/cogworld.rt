@@ -1,6 +1,7 @@
 //! `cogworld SCRIPT`: runs a script and prints its log.
 use crate::disk::Disk;
 use crate::fault::Fault;
+use crate::help::{VERSION, WORLD_NOTES};
 use crate::stored;
 use clap::{Arg, Command};
 use scripts::{Loaded, Source, log_text, script};
@@ -8,10 +9,6 @@ use std::io::Write;
 use std::rt::Files;
 use std::{fs, io};
 use world::{Log, run};
-
-const EXAMPLE: &str = "\
-Example:
-  cogtools cogworld one_window.txt";
 
 /// Runs a script and prints its log; want of memory ends it after the log up to there.
 fn run_script<R: Print + AllocGlobal, S: Source>(
@@ -35,7 +32,7 @@ pub fn run_stored<R: Print + AllocGlobal>(rt: &R) -> Result<(), Fault> {
 }
 
 /// Runs the script that the program's words name, of which the first is its own name.
-pub fn run_line<R: Files + Print + AllocGlobal>(rt: &R, words: &[String]) -> Result<(), Fault> {
+pub fn run_line<R: Files + Print + AllocGlobal>(rt: &R, words: &[&str]) -> Result<(), Fault> {
     let path = Arg::new(rt.alloc(), "SCRIPT")
         .help(
             "The file of the script: lines of events, its paths from the current folder on (no default)",
@@ -43,7 +40,8 @@ pub fn run_line<R: Files + Print + AllocGlobal>(rt: &R, words: &[String]) -> Res
         .required(true);
     let command = Command::new(rt.alloc(), "cogworld")
         .about("Runs a script of events and prints its log")
-        .after_help(EXAMPLE)
+        .version(VERSION)
+        .after_help(WORLD_NOTES)
         .arg(path)?;
     let matches = command.try_get_matches_from(words)?;
     match matches.get_str("SCRIPT") {

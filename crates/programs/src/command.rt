@@ -1,33 +1,101 @@
-//! The command and its words, of which the first is its own name and the second names a program.
+//! The command and its words. It is the program that its own name names, as a link does, or else the one that its first word
+//! names.
 use crate::fault::Fault;
+use crate::help::VERSION;
 use crate::{cogread, cogserve, cogworld};
+use std::alloc::{AllocError, Global};
 use std::net::{Net, TcpListener, TcpStream};
 use std::rt::{Clock, Files};
 
-const HELP: &str = "\
-Usage: cogtools cogserve --listen HOST:PORT --epoch N --connections N NAME=PATH..
-       cogtools cogread window SERVER NAME X Y W H [--level N] [--columns C] [--requests N] [--blocks N]
-       cogtools cogread info SERVER NAME [--requests N] [--blocks N]
-       cogtools cogworld SCRIPT
+/// One of the programs.
+#[derive(Clone, Copy, Debug, PartialEq, Eq)]
+enum Program {
+    Cogread,
+    Cogserve,
+    Cogworld,
+}
+
+impl Program {
+    fn from_name(name: &str) -> Option<Program> {
+        match name {
+            "cogread" => Some(Program::Cogread),
+            "cogserve" => Some(Program::Cogserve),
+            "cogworld" => Some(Program::Cogworld),
+            _ => None,
+        }
+    }
+
+    fn name(self) -> &'static str {
+        match self {
+            Program::Cogread => "cogread",
+            Program::Cogserve => "cogserve",
+            Program::Cogworld => "cogworld",
+        }
+    }
+}
+
+/// The command's own name: the last part of the path by which it was called.
+fn own_name(words: &[String]) -> &str {
+    let path = words.first().map_or("cogtools", |word| word.as_str());
+    path.rsplit('/').next().unwrap_or(path)
+}
+
+/// The name under which a fault of these words is told.
+fn program_of(words: &[String]) -> &'static str {
+    if let Some(program) = Program::from_name(own_name(words)) {
+        return program.name();
+    }
+    match words.get(1) {
+        Some(word) => Program::from_name(word.as_str()).map_or("cogtools", Program::name),
+        None => Program::Cogworld.name(),
+    }
+}
+
+/// What the command's help tells.
+fn help(alloc: Global, name: &str) -> Result<String, AllocError> {
+    format!(in alloc;
+        "\
+Usage: {name} cogserve --listen HOST:PORT --epoch N --connections N NAME=PATH..
+       {name} cogread window SERVER NAME X Y W H [--level N] [--columns C] [--requests N] [--blocks N]
+       {name} cogread info SERVER NAME [--requests N] [--blocks N]
+       {name} cogworld SCRIPT
+       {name} --version
 
 Programs:
   cogserve  Serves files over HTTP by single byte ranges
   cogread   Reads a window or the info of a file over HTTP by single byte ranges
   cogworld  Runs a script of events and prints its log
 
-Without a word a stored script is run. The help of a program tells its units, defaults and an example:
-  cogtools cogserve --help";
+Without a word a stored script is run. A link to the command that has a program's name is that program. The help of
+a program tells its units, defaults, refusals, faults and exit statuses, and an example:
+  {name} cogserve --help"
+    )
+}
 
-/// The name under which a fault of these words is told.
-fn program_of(words: &[String]) -> &'static str {
-    let Some(program) = words.get(1) else {
-        return "cogworld";
-    };
-    match program.as_str() {
-        "cogread" => "cogread",
-        "cogserve" => "cogserve",
-        "cogworld" => "cogworld",
-        _ => "cogtools",
+/// The command as it was typed, and the words behind it.
+fn words_of<'a>(
+    alloc: Global,
+    command: &'a str,
+    rest: &'a [String],
+) -> Result<Vec<&'a str>, AllocError> {
+    let mut words = Vec::new(alloc);
+    words.push(command)?;
+    for word in rest {
+        words.push(word.as_str())?;
+    }
+    Ok(words)
+}
+
+/// Runs a program on its words: the command as it was typed, and those behind it.
+fn run_program<R>(rt: &R, program: Program, command: &str, rest: &[String]) -> Result<(), Fault>
+where
+    R: Files + Clock + Print + AllocGlobal + Net<Listener = TcpListener, Stream = TcpStream>,
+{
+    let words = words_of(rt.alloc(), command, rest)?;
+    match program {
+        Program::Cogread => cogread::run_line(rt, &words),
+        Program::Cogserve => cogserve::run_line(rt, &words),
+        Program::Cogworld => cogworld::run_line(rt, &words),
     }
 }
 
@@ -36,14 +104,20 @@ fn run_words<R>(rt: &R, words: &[String]) -> Result<(), Fault>
 where
     R: Files + Clock + Print + AllocGlobal + Net<Listener = TcpListener, Stream = TcpStream>,
 {
-    let Some(program) = words.get(1) else {
+    let name = own_name(words);
+    if let Some(program) = Program::from_name(name) {
+        return run_program(rt, program, name, words.get(1..).unwrap_or_default());
+    }
+    let Some(word) = words.get(1) else {
         return cogworld::run_stored(rt);
     };
-    match program.as_str() {
-        "cogread" => cogread::run_line(rt, &words[1..]),
-        "cogserve" => cogserve::run_line(rt, &words[1..]),
-        "cogworld" => cogworld::run_line(rt, &words[1..]),
-        "-h" | "--help" => Ok(rt.println(HELP)?),
+    if let Some(program) = Program::from_name(word.as_str()) {
+        let command = format!(in rt.alloc(); "{name} {word}")?;
+        return run_program(rt, program, command.as_str(), &words[2..]);
+    }
+    match word.as_str() {
+        "-h" | "--help" => Ok(rt.println(help(rt.alloc(), name)?)?),
+        "-V" | "--version" => Ok(println!(rt; "{name} {VERSION}")?),
         word => Err(Fault::NotAProgram(String::from_str(rt.alloc(), word)?)),
     }
 }
@@ -60,9 +134,6 @@ where
 {
     match run_words(rt, words) {
         Ok(()) => 0,
-        Err(fault) => {
-            fault.print(rt, program_of(words));
-            fault.status()
-        }
+        Err(fault) => fault.tell(rt, program_of(words)),
     }
 }

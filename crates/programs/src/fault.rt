@@ -69,12 +69,24 @@ impl Fault {
         }
     }
 
-    /// Prints the fault's line, as the program of this name tells it.
-    pub fn print<R: Print + Eprint>(&self, rt: &R, program: &str) {
-        let _ = match self {
+    /// Prints the fault's line, as the program of this name tells it, or the help that was asked for, and gives the exit status:
+    /// 1 where help can't be written.
+    pub fn tell<R: Print + Eprint>(&self, rt: &R, program: &str) -> u8 {
+        match self.print(rt, program) {
+            Err(error) if self.status() == 0 => {
+                let unwritten = Fault::from(error);
+                let _ = unwritten.print(rt, program);
+                unwritten.status()
+            }
+            _ => self.status(),
+        }
+    }
+
+    fn print<R: Print + Eprint>(&self, rt: &R, program: &str) -> io::Result<()> {
+        match self {
             Fault::CommandLine(error) => error.print(rt),
             fault => rt.eprintln(FaultLine { program, fault }),
-        };
+        }
     }
 }
 

@@ -8,6 +8,7 @@ mod command;
 mod command_lines;
 mod disk;
 mod fault;
+mod help;
 mod number;
 mod socket;
 mod stored;

@@ -33,15 +33,23 @@ fn line_of<S: AsStr>(alloc: Global, words: &[S]) -> Result<Vec<String>, AllocErr
     Ok(line)
 }
 
+/// What the command prints and ends with over this runtime, for these words, of which the first is its own name.
+pub fn tell_line<R>(capture: Capture<'_, R>, line: &[String]) -> Told
+where
+    R: Files + Clock + AllocGlobal + Net<Listener = TcpListener, Stream = TcpStream>,
+{
+    let status = run(&capture, line);
+    let (out, err) = capture.into_texts();
+    Told { out, err, status }
+}
+
 /// What the command prints and ends with over this runtime, for these words after its own name.
 pub fn tell_on<R, S: AsStr>(capture: Capture<'_, R>, words: &[S]) -> Result<Told, AllocError>
 where
     R: Files + Clock + AllocGlobal + Net<Listener = TcpListener, Stream = TcpStream>,
 {
     let line = line_of(capture.alloc(), words)?;
-    let status = run(&capture, &line);
-    let (out, err) = capture.into_texts();
-    Ok(Told { out, err, status })
+    Ok(tell_line(capture, &line))
 }
 
 /// What the command prints and ends with, for these words after its own name.

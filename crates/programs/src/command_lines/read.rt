@@ -1,4 +1,5 @@
 //! The command line of `cogread`.
+use crate::help::{READ_NOTES, VERSION};
 use clap::{Arg, ArgAction, ArgMatches, Command, Error};
 use std::alloc::{AllocError, Global};
 use std::convert::AsStr;
@@ -112,7 +113,9 @@ fn read_command<'a>(alloc: Global) -> Result<Command<'a>, AllocError> {
     let info = command(alloc, "info", about, INFO_EXAMPLE)?;
     Command::new(alloc, "cogread")
         .about("Reads a window or the info of a file over HTTP, by single byte ranges")
-        .after_help(INFO_EXAMPLE)
+        .version(VERSION)
+        .propagate_version(true)
+        .after_help(READ_NOTES)
         .subcommand_required(true)
         .subcommand(window_command(alloc)?)?
         .subcommand(info)

@@ -3,6 +3,7 @@ ghost use Rattle.std.specs.Prelude.{◌≡◌, true, false, IfOk, IfErr, codes, 
 ghost use Rattle.clap.specs.Words.{app_of, kind_of, matches_of, rule_of, takes};
 ghost use Rattle.programs.specs.ServeLine.{HasValues, option, serve_app, words as some_words};
 
+use crate::help::{SERVE_NOTES, VERSION};
 use clap::error::ErrorKind;
 use clap::{Arg, ArgAction, Command, Error};
 use std::alloc::{AllocError, Global};
@@ -17,10 +18,6 @@ pub struct ServeLine<'a> {
     pub connections: &'a str,
     pub files: Vec<&'a str>,
 }
-
-const EXAMPLE: &str = "\
-Example:
-  cogtools cogserve --listen 127.0.0.1:8080 --epoch 1 --connections 100 a.tif=/data/a.tif";
 
 /// An option that has to stand. No option of the line has a default.
 fn option<'a>(alloc: Global, name: &'a str, value: &'a str, help: &'a str) -> Arg<'a>
@@ -67,7 +64,8 @@ fn serve_command<'a>(alloc: Global) -> Result<Command<'a>, AllocError>
     Ok(
         Command::new(alloc, "cogserve")
             .about("Serves files over HTTP by single byte ranges")
-            .after_help(EXAMPLE)
+            .version(VERSION)
+            .after_help(SERVE_NOTES)
             .arg(listen)?
             .arg(epoch)?
             .arg(connections)?

@@ -14,9 +14,12 @@ fn is_told(
     line: &str,
     status: u8,
 ) -> bool {
-    fault.print(&capture, program);
+    let told = fault.tell(&capture, program);
     let (out, err) = capture.into_texts();
-    out.is_empty() && err.as_slice() == line.as_bytes() && fault.status() == status
+    out.is_empty()
+        && err.as_slice() == line.as_bytes()
+        && told == status
+        && fault.status() == status
 }
 
 #[test]

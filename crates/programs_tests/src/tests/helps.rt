@@ -1,10 +1,12 @@
 //! Help, and faults of the form of a line.
 use super::words_of;
-use programs_support::{Told, tell};
+use programs_support::{Capture, Told, tell, tell_line, tell_on};
+use std::alloc::{AllocError, Global};
 use std::test::Fail;
+use tiff_dir::FileFault;
 
 const WINDOW_PARTS: &[&str] = &[
-    "Usage: cogread window [OPTIONS] <SERVER> <NAME> <X> <Y> <W> <H>\n",
+    "Usage: cogtools cogread window [OPTIONS] <SERVER> <NAME> <X> <Y> <W> <H>\n",
     "HOST:PORT",
     "in pixels from 0",
     "in pixels\n",
@@ -28,6 +30,7 @@ const HELPS: [(&str, &[&str]); 7] = [
         "cogtools cogread window SERVER NAME X Y W H [--level N] [--columns C] [--requests N] [--blocks N]\n",
         "cogtools cogread info SERVER NAME [--requests N] [--blocks N]\n",
         "cogtools cogworld SCRIPT\n",
+        "cogtools --version\n",
     ]),
     ("cogserve --help", &[
         "--listen <HOST:PORT>",
@@ -99,6 +102,115 @@ fn refuses_a_line_that_is_not_of_its_program(rt: HostRuntime) -> Result<(), Fail
         assert!(rt; told.out.is_empty(), "{line:?}");
         assert!(rt; told.err.starts_with(b"error: "), "{line:?}");
         assert_eq!(rt; told.status, 2, "{line:?}");
+    }
+    Ok(())
+}
+
+/// A command line with the command's own name, and what its output begins with.
+const NAMED: [(&str, &str); 9] = [
+    ("cogtools --version", "cogtools 0.1.0\n"),
+    ("/usr/bin/cogtools cogread --version", "cogread 0.1.0\n"),
+    ("cogtools cogread window -V", "cogread-window 0.1.0\n"),
+    ("/usr/bin/cogserve --version", "cogserve 0.1.0\n"),
+    ("./cogworld -V", "cogworld 0.1.0\n"),
+    ("bin/cog -V", "cog 0.1.0\n"),
+    ("bin/cog --help", "Usage: cog cogserve --listen HOST:PORT"),
+    ("/usr/bin/cogread info --help", "Prints the levels"),
+    ("/usr/bin/cogserve -h", "Serves files"),
+];
+
+fn strings_of(alloc: Global, line: &str) -> Result<Vec<String>, AllocError> {
+    let mut words = Vec::new(alloc);
+    for word in line.split_whitespace() {
+        words.push(String::from_str(alloc, word)?)?;
+    }
+    Ok(words)
+}
+
+#[test]
+fn is_the_program_that_its_own_name_names(rt: HostRuntime) -> Result<(), Fail> {
+    for (line, front) in NAMED {
+        let told = tell_line(Capture::new(&rt), &strings_of(rt.alloc(), line)?);
+        assert!(rt;
+            told.out.starts_with(front.as_bytes()),
+            "{line:?}: {told:?}"
+        );
+        assert!(rt; told.err.is_empty(), "{line:?}");
+        assert_eq!(rt; told.status, 0, "{line:?}");
+    }
+    Ok(())
+}
+
+/// A command line with the command's own name, and the usage that its help tells.
+const USAGES: [(&str, &str); 3] = [
+    (
+        "/usr/bin/cogread info -h",
+        "Usage: cogread info [OPTIONS] <SERVER> <NAME>\n",
+    ),
+    (
+        "x/cog cogread info -h",
+        "Usage: cog cogread info [OPTIONS] <SERVER> <NAME>\n",
+    ),
+    ("cogworld -h", "Usage: cogworld <SCRIPT>\n"),
+];
+
+#[test]
+fn names_the_command_as_it_was_typed(rt: HostRuntime) -> Result<(), Fail> {
+    for (line, usage) in USAGES {
+        let told = tell_line(Capture::new(&rt), &strings_of(rt.alloc(), line)?);
+        let out = str::from_utf8(&told.out).unwrap_or_default();
+        assert!(rt; out.contains(usage), "{line:?}: {told:?}");
+    }
+    Ok(())
+}
+
+/// Lines whose answer is help or a version.
+const TOLD: [(&str, &str); 4] = [
+    ("--help", "cogtools: can't write\n"),
+    ("--version", "cogtools: can't write\n"),
+    ("cogread --help", "cogread: can't write\n"),
+    ("cogserve --version", "cogserve: can't write\n"),
+];
+
+#[test]
+fn ends_with_one_where_help_cannot_be_written(rt: HostRuntime) -> Result<(), Fail> {
+    for (line, err) in TOLD {
+        let told = tell_on(Capture::closed(&rt), &words_of(rt.alloc(), line)?)?;
+        assert!(rt; told.is("", err, 1), "{line:?}: {told:?}");
+    }
+    Ok(())
+}
+
+/// The faults by their names.
+const FAULTS: [(FileFault, &str); 18] = [
+    (FileFault::Header, "Header"),
+    (FileFault::PastEnd, "PastEnd"),
+    (FileFault::DirPlace, "DirPlace"),
+    (FileFault::DirCount, "DirCount"),
+    (FileFault::TagOrder, "TagOrder"),
+    (FileFault::TooManyDirs, "TooManyDirs"),
+    (FileFault::Missing(256), "Missing"),
+    (FileFault::FieldType(256), "FieldType"),
+    (FileFault::Unsupported(259), "Unsupported"),
+    (FileFault::LevelShape, "LevelShape"),
+    (FileFault::TileArray, "TileArray"),
+    (FileFault::TileSize, "TileSize"),
+    (FileFault::Packet, "Packet"),
+    (FileFault::Outside, "Outside"),
+    (FileFault::TooLarge, "TooLarge"),
+    (FileFault::KeyHead, "KeyHead"),
+    (FileFault::KeyOrder, "KeyOrder"),
+    (FileFault::KeyPlace, "KeyPlace"),
+];
+
+#[test]
+fn tells_each_fault_by_its_number_and_name(rt: HostRuntime) -> Result<(), Fail> {
+    let told = tell(&rt, &["cogread", "--help"])?;
+    let help = str::from_utf8(&told.out).unwrap_or_default();
+    for (fault, name) in FAULTS {
+        let number = fault.number();
+        let part = format!(in rt.alloc(); "\n  {number:>2}  {name} ")?;
+        assert!(rt; help.contains(part.as_str()), "{name}");
     }
     Ok(())
 }

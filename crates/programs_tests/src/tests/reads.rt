@@ -51,10 +51,7 @@ fn read<R: AllocGlobal>(
 fn told_of<R: AllocGlobal>(capture: Capture<'_, R>, server: &Server, query: Query) -> Told {
     let status = match read(&capture, server, query) {
         Ok(()) => 0,
-        Err(fault) => {
-            fault.print(&capture, "cogread");
-            fault.status()
-        }
+        Err(fault) => fault.tell(&capture, "cogread"),
     };
     let (out, err) = capture.into_texts();
     Told { out, err, status }

@@ -10,3 +10,12 @@ returns-then-out-ge-AT_ONCE c =
     take-append-le c.args.times new (drop 16 c.args.out.now) few
     ∙ ap (take c.args.times) c.copy_from_slice.ensures.after
     ∙ take-replicate c.args.times 16 c.args.byte c.if-times-le-AT_ONCE.true
+
+pub returns-then-out-ge-MOST : goal.returns-then-out-ge-MOST
+returns-then-out-ge-MOST c =
+    let new = c.copy_from_slice-then-out-ge-MOST.new.self in
+    let size : length new ≡ 128 = c.copy_from_slice-then-out-ge-MOST.ensures.len ∙ length-take-le 128 c.args.out.now c.if-out-ge-MOST.true in
+    let few : c.args.times ≤ length new = omega (arith, size, c.requires.few) in
+    take-append-le c.args.times new (drop 128 c.args.out.now) few
+    ∙ ap (take c.args.times) c.copy_from_slice-then-out-ge-MOST.ensures.after
+    ∙ take-replicate c.args.times 128 c.args.byte c.requires.few

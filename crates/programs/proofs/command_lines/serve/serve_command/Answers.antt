@@ -1,14 +1,15 @@
 use Rattle.std.proofs.Common.{◌≡◌, ◌∙◌, ap, ap₂, codes}
 use Rattle.clap.specs.Words.{app_of, new_app, with_rule}
 use Rattle.clap.specs.Simple.{app_of_fields}
-use Rattle.programs.specs.ServeLine.{serve_app}
+use Rattle.programs.specs.ServeLine.{serve_app, versioned}
 use Rattle.programs.proofs.command_lines.serve.serve_command.Goals as goal
 
 pub returns : goal.returns
 unfolding serve_app
 returns c =
-    let start : app_of c.after_help.result ≡ new_app (codes "cogserve") =
-    ap app_of_fields c.after_help.ensures ∙ ap app_of_fields c.about.ensures ∙ c.new.ensures.app in
+    let start : app_of c.after_help.result ≡ versioned (new_app (codes "cogserve")) =
+    ap app_of_fields c.after_help.ensures ∙ ap app_of_fields c.version.ensures
+    ∙ ap versioned (ap app_of_fields c.about.ensures ∙ c.new.ensures.app) in
     let listen = c.in_ok-arg.ensures.shape c.option-listen.ensures.local ∙ ap₂ with_rule start c.option-listen.ensures.rule in
     let epoch = c.in_ok-arg-2.ensures.shape c.option-epoch.ensures.local ∙ ap₂ with_rule listen c.option-epoch.ensures.rule in
     let connections =
