@@ -1,5 +1,6 @@
 //! The answer to a message, before its text is written.
 ghost use Rattle.std.specs.Prelude.{◌≡◌, Some, length, map};
+ghost use Rattle.std.specs.Rc.{rc_slice_items};
 ghost use Rattle.http_range.specs.Reply.{status_of};
 ghost use Rattle.http_range.specs.Response.{IsAnswer, answer_by, refused, serve_file, serve_head, serve_part, serve_tag};
 ghost use Rattle.cog_server.specs.Catalogue.{publication};
@@ -114,7 +115,7 @@ fn serve<'f>(file: &'f Published, reply: Reply, close: bool, body: &'f [u8]) -> 
 
 /// The part that was asked for, or the whole file.
 fn serve_part<'f>(file: &'f Published, part: Resolved, close: bool) -> Prepared<'f>
-    requires { IsInside part (length file.now.file.items) }
+    requires { IsInside part (length (rc_slice_items file.now.file)) }
     ensures { response_of result ≡ serve_part part (publication file.now) close }
 {
     let length = file.file.len() as u64;

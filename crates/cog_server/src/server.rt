@@ -17,6 +17,7 @@ use http_range::{
 };
 use std::alloc::Global;
 use std::marker::Model;
+use std::rc::RcSlice;
 
 /// An answer: its text, whether the connection ends with it, the name of the file whose tag it carries, its
 /// status, and how many of its bytes are body.
@@ -110,6 +111,9 @@ impl Server {
         let place = place_of(&self.files, name);
         let tag = publication_tag(self.epoch, self.count + 1);
         let Ok(name) = Vec::from_slice(self.alloc, name) else {
+            return Err(PublishError::Memory);
+        };
+        let Ok(file) = RcSlice::from_vec(file) else {
             return Err(PublishError::Memory);
         };
         let kept = tag.copy();
