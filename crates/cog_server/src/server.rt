@@ -1,7 +1,8 @@
 //! The server of one epoch.
-ghost use Rattle.std.specs.Prelude.{◌≡◌, ◌+◌, ◌<◌, [], ℕ, List, None, false, IfOk, IfErr, OnOk, OnErr, option_map, option_copied};
+ghost use Rattle.std.specs.Prelude.{◌≡◌, ◌+◌, ◌<◌, [], ℕ, List, None, false, IfOk, IfErr, OnOk, OnErr, map, option_map, option_copied};
 ghost use Rattle.http_range.specs.Book.{publish, published, publication_tag};
 ghost use Rattle.std.specs.Io.KnownBytes.{append_known};
+ghost use Rattle.cog_server.specs.Catalogue.{publication};
 ghost use Rattle.cog_server.specs.Serve.{Serves, read_failed, write_failed};
 ghost use Rattle.cog_server.specs.Server.{IsAnswered, IsRefusal, OthersStay, refusal_of};
 
@@ -72,6 +73,13 @@ impl Server {
         ensures { result ≡ self.now.epoch }
     {
         self.epoch
+    }
+
+    /// The files, each by its name.
+    pub(crate) fn files(&self) -> &[Published]
+        ensures { map publication result.now ≡ self.now.catalogue }
+    {
+        &self.files
     }
 
     /// The bytes published last under a name.
