@@ -5,3 +5,7 @@ pub mod ServeLemmas
 pub mod PendingLemmas
 pub mod SentLemmas
 pub mod AnswerLemmas
+pub mod RunLemmas
+pub mod OutgoingLemmas
+pub mod HeldLemmas
+pub mod ConnectionLemmas

@@ -8,3 +8,6 @@ pub mod Serve
 pub mod Pending
 pub mod Sent
 pub mod Scripted
+pub mod Outgoing
+pub mod Status
+pub mod Run

@@ -5,10 +5,15 @@
 
 mod cases;
 mod catalogue;
+mod connection;
 mod error;
+mod held;
 mod inlet;
 mod laws;
+mod limits;
+mod outgoing;
 mod pending;
+mod placed;
 mod prepared;
 mod published;
 mod scripted;
@@ -17,9 +22,11 @@ mod served;
 mod server;
 mod stream;
 
+pub use connection::Connection;
 pub use error::PublishError;
 pub use inlet::{Failed, Inlet, Outlet};
-pub use laws::first_answers_begin;
+pub use laws::{first_answers_begin, runs_are_answered};
+pub use limits::DROP_LIMIT;
 pub use scripted::{AfterBytes, AfterPieces, ScriptedInlet, ScriptedOutlet};
 pub use served::{Ended, ServeError, Served};
 pub use server::{Answer, Server};

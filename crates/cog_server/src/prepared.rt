@@ -1,5 +1,6 @@
 //! The answer to a message, before its text is written.
-ghost use Rattle.std.specs.Prelude.{◌≡◌, Some, length, map};
+ghost use Rattle.std.specs.Prelude.{◌≡◌, ◌≤◌, Some, length, map, slice_range};
+ghost use Rattle.std.specs.Rc.{rc_slice_items};
 ghost use Rattle.http_range.specs.Reply.{status_of};
 ghost use Rattle.http_range.specs.Response.{IsAnswer, answer_by, refused, serve_file, serve_head, serve_part, serve_tag};
 ghost use Rattle.cog_server.specs.Catalogue.{publication};
@@ -11,19 +12,10 @@ use crate::cases::{
     is_unmodified, lacks_host, lacks_origin_form, part_to_serve,
 };
 use crate::catalogue::find_file;
+use crate::placed::Prepared;
 use crate::published::Published;
 use http_parts::bytes::past;
 use http_range::{Reply, Request, Resolved, read_request};
-
-/// An answer: its reply, whether the connection ends with it, the name of the file whose tag it carries, and its body
-/// where it stands in the file.
-#[derive(Drop)]
-pub struct Prepared<'f> {
-    pub reply: Reply,
-    pub close: bool,
-    pub name: Option<&'f [u8]>,
-    pub body: &'f [u8],
-}
 
 /// The number of the reply's status.
 pub fn status(reply: &Reply) -> u16
@@ -60,6 +52,9 @@ fn refuse<'f>(reply: Reply, close: bool) -> Prepared<'f>
         close,
         name: None,
         body: &[],
+        file: None,
+        first: 0,
+        end: 0,
     }
 }
 
@@ -90,31 +85,42 @@ fn serve_file<'f>(file: &'f Published, request: &Request<'_>) -> Prepared<'f>
         return refuse(Reply::R412, close);
     }
     if is_unmodified(request, &file.tag) {
-        return serve(file, Reply::R304(file.tag.copy()), close, &[]);
+        return serve(file, Reply::R304(file.tag.copy()), close, 0, 0);
     }
     let length = file.file.len() as u64;
     if is_head(request) {
-        return serve(file, Reply::R200(file.tag.copy(), length), close, &[]);
+        return serve(file, Reply::R200(file.tag.copy(), length), close, 0, 0);
     }
     serve_part(file, part_to_serve(request, &file.tag, length), close)
 }
 
-/// An answer that carries the file's tag.
-fn serve<'f>(file: &'f Published, reply: Reply, close: bool, body: &'f [u8]) -> Prepared<'f>
+/// An answer that carries the file's tag, and its bytes from `first` to `end`.
+fn serve<'f>(
+    file: &'f Published,
+    reply: Reply,
+    close: bool,
+    first: usize,
+    end: usize,
+) -> Prepared<'f>
+    requires some { first ≤ end }
+    requires inside { end ≤ length (rc_slice_items file.now.file) }
     ensures { response_of result
-        ≡ record { reply = reply; close = close; name = Some file.now.name.items; body = body.now } }
+        ≡ record { reply = reply; close = close; name = Some file.now.name.items; body = slice_range (rc_slice_items file.now.file) first end } }
 {
     Prepared {
         reply,
         close,
         name: Some(&file.name),
-        body,
+        body: &file.file[first..end],
+        file: Some(&file.file),
+        first,
+        end,
     }
 }
 
 /// The part that was asked for, or the whole file.
 fn serve_part<'f>(file: &'f Published, part: Resolved, close: bool) -> Prepared<'f>
-    requires { IsInside part (length file.now.file.items) }
+    requires { IsInside part (length (rc_slice_items file.now.file)) }
     ensures { response_of result ≡ serve_part part (publication file.now) close }
 {
     let length = file.file.len() as u64;
@@ -123,17 +129,16 @@ fn serve_part<'f>(file: &'f Published, part: Resolved, close: bool) -> Prepared<
             file,
             Reply::R200(file.tag.copy(), length),
             close,
-            &file.file,
+            0,
+            file.file.len(),
         ),
-        Resolved::Part(first, last) => {
-            let body = &file.file[first as usize..last as usize + 1];
-            serve(
-                file,
-                Reply::R206(file.tag.copy(), first, last, length),
-                close,
-                body,
-            )
-        }
+        Resolved::Part(first, last) => serve(
+            file,
+            Reply::R206(file.tag.copy(), first, last, length),
+            close,
+            first as usize,
+            last as usize + 1,
+        ),
         Resolved::Unsatisfiable => refuse(Reply::R416(length), close),
     }
 }

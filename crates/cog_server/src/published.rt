@@ -1,17 +1,20 @@
 //! A file that the server has.
 ghost use Rattle.std.specs.Prelude.{◌≤◌, IsTrue, length};
+ghost use Rattle.std.specs.Rc.{rc_slice_items};
 ghost use Rattle.http_range.specs.declared.publication.TheConstants.{FILE_LIMIT};
 ghost use Rattle.http_range.specs.Names.{is_name};
 
 use http_range::Tag;
+use std::rc::RcSlice;
 
-/// A file that the server has: its name, the tag under which it is served, and its bytes.
+/// A file that the server has: its name, the tag under which it is served, and its bytes. They stay while an answer with them
+/// is on its way, whatever becomes of the file.
 #[derive(Drop)]
 pub struct Published {
     pub name: Vec<u8>,
     pub tag: Tag,
-    pub file: Vec<u8>,
+    pub file: RcSlice<u8>,
     ghost named: { IsTrue (is_name name.items) },
-    ghost some: { 1 ≤ length file.items },
-    ghost small: { length file.items ≤ FILE_LIMIT },
+    ghost some: { 1 ≤ length (rc_slice_items file) },
+    ghost small: { length (rc_slice_items file) ≤ FILE_LIMIT },
 }

@@ -1,7 +1,8 @@
 //! The server of one epoch.
-ghost use Rattle.std.specs.Prelude.{◌≡◌, ◌+◌, ◌<◌, [], ℕ, List, None, false, IfOk, IfErr, OnOk, OnErr, option_map, option_copied};
+ghost use Rattle.std.specs.Prelude.{◌≡◌, ◌+◌, ◌<◌, [], ℕ, List, None, false, IfOk, IfErr, OnOk, OnErr, map, option_map, option_copied};
 ghost use Rattle.http_range.specs.Book.{publish, published, publication_tag};
 ghost use Rattle.std.specs.Io.KnownBytes.{append_known};
+ghost use Rattle.cog_server.specs.Catalogue.{publication};
 ghost use Rattle.cog_server.specs.Serve.{Serves, read_failed, write_failed};
 ghost use Rattle.cog_server.specs.Server.{IsAnswered, IsRefusal, OthersStay, refusal_of};
 
@@ -17,6 +18,7 @@ use http_range::{
 };
 use std::alloc::Global;
 use std::marker::Model;
+use std::rc::RcSlice;
 
 /// An answer: its text, whether the connection ends with it, the name of the file whose tag it carries, its
 /// status, and how many of its bytes are body.
@@ -73,6 +75,13 @@ impl Server {
         self.epoch
     }
 
+    /// The files, each by its name.
+    pub(crate) fn files(&self) -> &[Published]
+        ensures { map publication result.now ≡ self.now.catalogue }
+    {
+        &self.files
+    }
+
     /// The bytes published last under a name.
     pub fn file(&self, name: &[u8]) -> Option<&[u8]>
         ensures { option_copied result ≡ option_map (λ p. p.file) (published name.now self.now.catalogue) }
@@ -110,6 +119,9 @@ impl Server {
         let place = place_of(&self.files, name);
         let tag = publication_tag(self.epoch, self.count + 1);
         let Ok(name) = Vec::from_slice(self.alloc, name) else {
+            return Err(PublishError::Memory);
+        };
+        let Ok(file) = RcSlice::from_vec(file) else {
             return Err(PublishError::Memory);
         };
         let kept = tag.copy();

@@ -1,0 +1,186 @@
+//! The server's end of one connection, without a socket: bytes in, answers out.
+ghost use Rattle.std.specs.Prelude.{◌≡◌, ◌≤◌, ◌<◌, ◌==◌, ◌||◌, ◌++◌, IfOk, OnOk, OnErr, length};
+ghost use Rattle.http_parts.specs.declared.limits.TheConstants.{ANSWERS_LIMIT, MESSAGE_LIMIT};
+
+use crate::held::Held;
+use crate::limits::DROP_LIMIT;
+use crate::outgoing::{Outgoing, answer_to};
+use crate::served::Ended;
+use crate::server::Server;
+use http_range::{ANSWERS_LIMIT, MESSAGE_LIMIT, Memory};
+use std::alloc::Global;
+use std::marker::Model;
+
+/// Whether no answer follows.
+fn closes(closed: bool, answers: usize) -> bool
+    ensures { result ≡ (closed || answers == ANSWERS_LIMIT) }
+{
+    closed || answers == ANSWERS_LIMIT
+}
+
+/// The server's end of one connection. One answer is on its way at a time, and what comes behind its message waits to be answered.
+/// Behind the message with the last answer, what comes is dropped.
+#[derive(Drop)]
+pub struct Connection {
+    alloc: Global,
+    held: Held,
+    outgoing: Outgoing,
+    closed: bool,
+    answers: usize,
+    over: bool,
+    dropped: usize,
+}
+
+impl Model for Connection {
+    ghost use Rattle.std.specs.Prelude.{◌≤◌};
+    ghost use Rattle.http_parts.specs.declared.limits.TheConstants.{ANSWERS_LIMIT};
+    ghost use Rattle.cog_server.specs.declared.limits.TheConstants.{DROP_LIMIT};
+    ghost use Rattle.cog_server.specs.Status.{Status};
+    ghost use Rattle.cog_server.specs.Outgoing.{waiting_of};
+
+    ghost Value = { Status };
+
+    ghost view = { λ c. record {
+      held = c.held.bytes.items;
+      waiting = waiting_of c.outgoing;
+      is_closed = c.closed;
+      answers = c.answers;
+      is_over = c.over;
+      dropped = c.dropped;
+    } };
+
+    ghost invariant = { λ c. (c.answers ≤ ANSWERS_LIMIT) × (c.dropped ≤ DROP_LIMIT) };
+}
+
+impl Connection {
+    ghost use Rattle.cog_server.specs.Status.{start, room_of, GoesOn, EndsBy, after_bytes, after_end, after_write, is_drained};
+
+    /// A connection on which nothing came.
+    ///
+    /// ```
+    /// let mut connection = Connection::new(rt.alloc());
+    /// connection.came(b"GET /a.tif HTTP/1.1\r\nHost: localhost\r\n\r\n")?;
+    /// connection.go_on(&server)?;
+    /// let (head, body) = connection.waiting();
+    /// ```
+    pub fn new(alloc: Global) -> Self
+        ensures { result ≡ start }
+    {
+        Connection {
+            alloc,
+            held: Held::new(alloc),
+            outgoing: Outgoing::new(alloc),
+            closed: false,
+            answers: 0,
+            over: false,
+            dropped: 0,
+        }
+    }
+
+    /// How many bytes may come next, at most 8,192. With none nothing is to be read.
+    pub fn room(&self) -> usize
+        ensures is { result ≡ room_of self.now }
+        ensures small { result ≤ MESSAGE_LIMIT }
+    {
+        if self.over {
+            0
+        } else if closes(self.closed, self.answers) {
+            MESSAGE_LIMIT.min(DROP_LIMIT - self.dropped)
+        } else {
+            MESSAGE_LIMIT - self.held.bytes.len()
+        }
+    }
+
+    /// Takes bytes that came.
+    pub fn came(&mut self, bytes: &[u8]) -> Result<(), Memory>
+        requires { length bytes.now ≤ room_of self.old }
+        ensures ok { OnOk result (self.new ≡ after_bytes bytes.now self.old) }
+        ensures err { OnErr result (self.new ≡ self.old) }
+    {
+        if closes(self.closed, self.answers) {
+            self.dropped += bytes.len();
+        } else {
+            self.held.add(bytes)?;
+        }
+        Ok(())
+    }
+
+    /// Notes that nothing more comes.
+    pub fn came_to_end(&mut self)
+        ensures { self.new ≡ after_end self.old }
+    {
+        self.over = true;
+    }
+
+    /// Answers the next message from the server as it stands now, where the message is whole and nothing waits to be written, and
+    /// says whether it did. An error changes nothing.
+    pub fn go_on(&mut self, server: &Server) -> Result<bool, Memory>
+        ensures ok { IfOk result (GoesOn server.now.catalogue self.old self.new) }
+        ensures err { OnErr result (self.new ≡ self.old) }
+    {
+        if closes(self.closed, self.answers) || self.outgoing.is_waiting() {
+            return Ok(false);
+        }
+        let Some(n) = self.held.whole() else {
+            return Ok(false);
+        };
+        let outgoing = answer_to(self.alloc, server.files(), &self.held.bytes[..n])?;
+        self.answers += 1;
+        self.closed = outgoing.close;
+        self.outgoing = outgoing;
+        self.held.skip(n);
+        if closes(self.closed, self.answers) {
+            self.dropped = self.held.bytes.len();
+            self.held.clear();
+        }
+        Ok(true)
+    }
+
+    /// What waits to be written, of a head and of a body. The body's bytes stay, whatever is published meanwhile.
+    pub fn waiting(&self) -> (&[u8], &[u8])
+        ensures { result.0.now ++ result.1.now ≡ self.now.waiting }
+    {
+        self.outgoing.parts()
+    }
+
+    /// Notes that bytes of what waits are written.
+    pub fn wrote(&mut self, n: usize)
+        requires { n ≤ length self.old.waiting }
+        ensures { self.new ≡ after_write n self.old }
+    {
+        self.outgoing.wrote(n);
+    }
+
+    /// How many answers were given.
+    pub fn answers(&self) -> usize
+        ensures { result ≡ self.now.answers }
+    {
+        self.answers
+    }
+
+    /// How the answers ended, once all of them are written.
+    pub fn ended(&self) -> Option<Ended>
+        ensures { EndsBy self.now result }
+    {
+        if self.outgoing.is_waiting() {
+            return None;
+        }
+        if self.closed {
+            return Some(Ended::Closed);
+        }
+        if self.answers == ANSWERS_LIMIT {
+            return Some(Ended::Limit);
+        }
+        if self.over && self.held.is_unfinished() {
+            return Some(Ended::EndOfInput);
+        }
+        None
+    }
+
+    /// Whether nothing more may come: the input is at its end, or 65,536 bytes behind the last message are dropped.
+    pub fn is_drained(&self) -> bool
+        ensures { result ≡ is_drained self.now }
+    {
+        self.over || (closes(self.closed, self.answers) && self.dropped >= DROP_LIMIT)
+    }
+}

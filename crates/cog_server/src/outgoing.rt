@@ -1,0 +1,101 @@
+//! An answer on its way out.
+ghost use Rattle.std.specs.Prelude.{◌≡◌, ◌≤◌, ◌++◌, ◌==◌, [], not, IfOk, length, drop, map, slice_range};
+ghost use Rattle.cog_server.specs.Catalogue.{publication};
+ghost use Rattle.cog_server.specs.Outgoing.{IsOutgoing, body_of, waiting_of};
+
+use crate::prepared::prepare;
+use crate::published::Published;
+use http_range::{Memory, write_head};
+use std::alloc::Global;
+use std::rc::RcSlice;
+
+/// The head of an answer, the part of the file that is its body, and how many bytes of both are written. The file's bytes stay
+/// while they are on their way.
+#[derive(Drop)]
+pub struct Outgoing {
+    pub head: Vec<u8>,
+    pub file: Option<RcSlice<u8>>,
+    pub first: usize,
+    pub end: usize,
+    pub sent: usize,
+    pub close: bool,
+}
+
+impl Outgoing {
+    /// Nothing.
+    pub fn new(alloc: Global) -> Self
+        ensures { waiting_of result ≡ [] }
+    {
+        Outgoing {
+            head: Vec::new(alloc),
+            file: None,
+            first: 0,
+            end: 0,
+            sent: 0,
+            close: false,
+        }
+    }
+
+    fn body(&self) -> &[u8]
+        ensures { result.now ≡ body_of self.now }
+    {
+        match &self.file {
+            Some(file) => range(file, self.first, self.end),
+            None => &[],
+        }
+    }
+
+    /// What of the answer isn't written: of its head, and of its body.
+    pub fn parts(&self) -> (&[u8], &[u8])
+        ensures { result.0.now ++ result.1.now ≡ waiting_of self.now }
+    {
+        let head = &self.head[self.sent.min(self.head.len())..];
+        let body = self.body();
+        let skipped = self.sent.saturating_sub(self.head.len());
+        (head, &body[skipped.min(body.len())..])
+    }
+
+    /// Whether something isn't written.
+    pub fn is_waiting(&self) -> bool
+        ensures { result ≡ not (length (waiting_of self.now) == 0) }
+    {
+        let (head, body) = self.parts();
+        !head.is_empty() || !body.is_empty()
+    }
+
+    /// Notes that some bytes are written.
+    pub fn wrote(&mut self, n: usize)
+        requires { n ≤ length (waiting_of self.old) }
+        ensures { waiting_of self.new ≡ drop n (waiting_of self.old) }
+    {
+        self.sent += n;
+    }
+}
+
+/// The bytes from one place to another, as far as they are there.
+fn range(bytes: &[u8], first: usize, end: usize) -> &[u8]
+    ensures { result.now ≡ slice_range bytes.now first end }
+{
+    let rest = &bytes[first.min(bytes.len())..];
+    &rest[..end.saturating_sub(first).min(rest.len())]
+}
+
+/// The answer to the head at the front of a message, whose body stays where it is.
+pub fn answer_to(alloc: Global, files: &[Published], message: &[u8]) -> Result<Outgoing, Memory>
+    ensures { IfOk result (IsOutgoing (map publication files.now) message.now) }
+{
+    let prepared = prepare(files, message);
+    let head = write_head(alloc, &prepared.reply, prepared.close)?;
+    let file = match prepared.file {
+        Some(file) => Some(file.clone()?),
+        None => None,
+    };
+    Ok(Outgoing {
+        head,
+        file,
+        first: prepared.first,
+        end: prepared.end,
+        sent: 0,
+        close: prepared.close,
+    })
+}
