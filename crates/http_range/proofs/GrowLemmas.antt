@@ -311,25 +311,18 @@ shorter front more h is inside =
     }
 
 -- a head that comes with more bytes ends in them
-found_behind : (front more : List ℕ) (head : Announced) (found : Result SeenHead Why) → FindsHead front found
-    → is_headless (found >>= announced_of) ≡ true → ReadsHead (front ++ more) (Ok head) → length front ≤ head.size
-found_behind front more head found finds none reads =
+behind_none : (front more : List ℕ) (head : Announced) → ((r : Result Announced Why) → ReadsHead front r → HasNone r)
+    → ReadsHead (front ++ more) (Ok head) → length front ≤ head.size
+behind_none front more head none reads =
     let whole = whole_of (front ++ more) head reads in
-    let print = print_response whole.response in
+    let h = whole.response in
     let size = size_of (front ++ more) head whole in
-    elim (cases_lt (length print) (length front)) [
+    elim (cases_lt (length (print_response h)) (length front)) [
       | inl inside ↦
-          let there : IsHeadOf front whole.response = shorter front more whole.response whole.is inside in
-          absurd (let wrong : true ≡ false =
-          sym none ∙ ap (λ (f : Result SeenHead Why). is_headless (f >>= announced_of)) (found_whole front whole.response found there finds)
-          ∙ announced_decided (seen_head whole.response) in cc)
+          let there : ReadsHead front (Ok head) = (Ok (seen_head h), (h, shorter front more h whole.is inside, refl), sym whole.told) in
+          absurd (let wrong : false ≡ true = headless_is (Ok head) (none (Ok head) there) in cc)
       | inr beyond ↦ omega (arith, size)
     ]
-
-behind_none : (front more : List ℕ) (head : Announced) (r : Result Announced Why) → HasNone r → ReadsHead front r
-    → ReadsHead (front ++ more) (Ok head) → length front ≤ head.size
-behind_none front more head r none reads later =
-    found_behind front more head reads.0 reads.1 (ap is_headless (sym reads.2) ∙ headless_is r none) later
 
 pub heads_grow : HeadsGrow
 heads_grow = record {

@@ -161,7 +161,7 @@ pub record HeadsGrow : Type 0 where
   -- nothing has no head
   pub empty : (r : Result Announced Why) → ReadsHead [] r → HasNone r
   -- a head that is read only when bytes follow ends in those
-  pub behind : (front more : List ℕ) (head : Announced) (r : Result Announced Why) → HasNone r → ReadsHead front r
+  pub behind : (front more : List ℕ) (head : Announced) → ((r : Result Announced Why) → ReadsHead front r → HasNone r)
       → ReadsHead (front ++ more) (Ok head) → length front ≤ head.size
 
 -- what is read of an answer, or of a front of it
