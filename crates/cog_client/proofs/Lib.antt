@@ -9,3 +9,5 @@ pub mod OwnLemmas
 pub mod TruthLemmas
 pub mod Worked
 pub mod FedLemmas
+pub mod BodyLemmas
+pub mod HeadLemmas

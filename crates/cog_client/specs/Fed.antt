@@ -22,14 +22,18 @@ use Rattle.cog_client.specs.Take.{Holding, asked_or_first, base_of, first_span, 
 
 -- ---- by the head
 
+-- the case of a head where there is a revision: another tag, another length, and else it is taken
+abbrev pub case_of_revision : Revision → Announced → Case
+case_of_revision v head =
+    if not (bytes_eq v.tag head.tag) then (if head.whole then Restarted else Ignored OtherRevision)
+    else if not (v.complete == head.complete) then Ignored OtherLength
+    else Accepted
+
 -- The case that the head alone tells: whether the body is beside what is asked for is known at its end.
 abbrev pub case_of_head : Option Revision → Option Span → Announced → Case
 case_of_head v None head = Ignored NotAsked
 case_of_head None (Some s) head = Adopted
-case_of_head (Some v) (Some s) head =
-    if not (bytes_eq v.tag head.tag) then (if head.whole then Restarted else Ignored OtherRevision)
-    else if not (v.complete == head.complete) then Ignored OtherLength
-    else Accepted
+case_of_head (Some v) (Some s) head = case_of_revision v head
 
 -- the piece that the head announces, with this body
 abbrev pub piece_with : Announced → List ℕ → SeenPiece

@@ -3,6 +3,7 @@ pub mod Take
 pub mod Report
 pub mod Client
 pub mod Going
+pub mod Body
 pub mod Calls
 pub mod Keeps
 pub mod Steps
@@ -11,3 +12,4 @@ pub mod Transport
 pub mod Progress
 pub mod Pieces
 pub mod Fed
+pub mod Head

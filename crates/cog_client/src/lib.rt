@@ -2,12 +2,14 @@
 //! reordered on the way: it makes requests and takes answers, and holds of the file's one revision what it was given.
 #![tactic(auto)]
 
+mod body;
 mod case;
 mod client;
 mod delivered;
 mod error;
 mod fetching;
 mod going;
+mod head;
 mod laws;
 mod pieces;
 mod report;

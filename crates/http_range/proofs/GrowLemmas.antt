@@ -1,11 +1,11 @@
 -- What is read of the head at the front of an answer stays when bytes follow.
-use Rattle.std.proofs.Common.{◌≡◌, ◌≢◌, ℕ, ◌+◌, ◌-◌, ◌≤◌, inl, inr, Bool, true, false, cond, List, [], ◌++◌, length, take, drop, refl, sym, ap, ◌∙◌, subst, arith, append_assoc, append-nil, length-append, length-take, Option, Some, None, Result, Ok, Err}
+use Rattle.std.proofs.Common.{◌≡◌, ◌≢◌, ℕ, ◌+◌, ◌-◌, ◌<◌, ◌≤◌, inl, inr, Bool, true, false, cond, List, [], ◌∷◌, ◌++◌, length, take, drop, refl, sym, ap, ◌∙◌, subst, arith, append_assoc, append-nil, length-append, length-take, Option, Some, None, Result, Ok, Err}
 use Rattle.std.specs.Prelude.{IfOk, unwrap_or, ◌==◌}
-use Rattle.std.proofs.Math.Seq.{take-append-add}
+use Rattle.std.proofs.Math.Seq.{take-append-add, take-append_seam}
 use Rattle.std.proofs.lemmas.Bool.{cases_lt}
-use Rattle.std.proofs.lemmas.List.{take_all, take-append-le, drop-append-le}
-use Rattle.httparse.specs.Grammar.{ResponseHead, ReadsResponse, print_response, HasNoResponse}
-use Rattle.httparse.proofs.GrammarLemmas.{ReadsResponse-append}
+use Rattle.std.proofs.lemmas.List.{take_all, take-append-drop, take-append-le, drop-append-le}
+use Rattle.httparse.specs.Grammar.{ResponseHead, ReadsResponse, print_blank, print_end, print_reason, print_section, print_version, print_response, HasNoResponse}
+use Rattle.httparse.proofs.GrammarLemmas.{print_response-append, ReadsResponse-append}
 use Rattle.http_range.specs.declared.reading.Why.{Why}
 use Rattle.http_range.specs.declared.reading.Why.TheVariants.{Cut, Head, Status, NoTag, WeakTag, TagTooLong, NoRange, NoLength, Coding}
 use Rattle.http_range.specs.declared.reading.ContentRange.{ContentRange}
@@ -13,7 +13,7 @@ use Rattle.http_range.specs.Head.{SeenHead, head_front, IsHeadOf, seen_head, IsC
 use Rattle.http_range.specs.Piece.{◌>>=◌}
 use Rattle.http_range.specs.Announced.{Announced, announced_by, body_behind, FitsFront}
 use Rattle.http_range.specs.Reading.{range_named, length_named, has_other_status, is_coded, etag, lacks_tag, has_weak_tag, has_long_tag, lacks_range, lacks_length, tag_in, announced_in, announced_of, ReadsHead}
-use Rattle.http_range.specs.Laws.{HeadsGrow}
+use Rattle.http_range.specs.Laws.{HasNone, HeadsGrow}
 use Rattle.http_range.proofs.FrontLemmas.{found_whole}
 
 -- ---- lists
@@ -72,39 +72,39 @@ found_decided : (bytes : List ℕ) (found : Result SeenHead Why) → 4096 ≤ le
 found_decided bytes found long finds =
     λ e. let cut : IsCut bytes = subst (FindsHead bytes) e finds in let short = cut.short in absurd (omega arith)
 
--- ---- a whole head isn't cut
+-- ---- a whole head is neither cut nor refused
 
-abbrev is_cut : {A : Type 0} → Result A Why → Bool
-is_cut (Ok x) = false
-is_cut (Err Cut) = true
-is_cut (Err Head) = false
-is_cut (Err (Status code)) = false
-is_cut (Err NoTag) = false
-is_cut (Err WeakTag) = false
-is_cut (Err TagTooLong) = false
-is_cut (Err NoRange) = false
-is_cut (Err NoLength) = false
-is_cut (Err Coding) = false
+abbrev is_headless : {A : Type 0} → Result A Why → Bool
+is_headless (Ok x) = false
+is_headless (Err Cut) = true
+is_headless (Err Head) = true
+is_headless (Err (Status code)) = false
+is_headless (Err NoTag) = false
+is_headless (Err WeakTag) = false
+is_headless (Err TagTooLong) = false
+is_headless (Err NoRange) = false
+is_headless (Err NoLength) = false
+is_headless (Err Coding) = false
 
 tag_rows : (coded lacks weak long : Bool) (tag : List ℕ)
-    → is_cut (cond coded (Err Coding) (cond lacks (Err NoTag) (cond weak (Err WeakTag) (cond long (Err TagTooLong) (Ok tag))))) ≡ false
+    → is_headless (cond coded (Err Coding) (cond lacks (Err NoTag) (cond weak (Err WeakTag) (cond long (Err TagTooLong) (Ok tag))))) ≡ false
 tag_rows true lacks weak long tag = refl
 tag_rows false true weak long tag = refl
 tag_rows false false true long tag = refl
 tag_rows false false false true tag = refl
 tag_rows false false false false tag = refl
 
-tag_decided : (head : SeenHead) → is_cut (tag_in head) ≡ false
+tag_decided : (head : SeenHead) → is_headless (tag_in head) ≡ false
 tag_decided head =
     let value : Option (List ℕ) = etag head in
     tag_rows (is_coded head) (lacks_tag value) (has_weak_tag value) (has_long_tag value) (unwrap_or value [])
 
-place_rows : (range length : Bool) (head : Announced) → is_cut (cond range (Err NoRange) (cond length (Err NoLength) (Ok head))) ≡ false
+place_rows : (range length : Bool) (head : Announced) → is_headless (cond range (Err NoRange) (cond length (Err NoLength) (Ok head))) ≡ false
 place_rows true length head = refl
 place_rows false true head = refl
 place_rows false false head = refl
 
-place_decided : (head : SeenHead) (tag : List ℕ) → is_cut (announced_in head tag) ≡ false
+place_decided : (head : SeenHead) (tag : List ℕ) → is_headless (announced_in head tag) ≡ false
 place_decided head tag =
     let part = head.status == 206 in
     let range : Option ContentRange = range_named head in
@@ -112,10 +112,10 @@ place_decided head tag =
     place_rows (lacks_range part range) (lacks_length part range length)
     (announced_by tag (cond part range None) (unwrap_or length 0) head.size)
 
-bind_decided : (head : SeenHead) (tag : Result (List ℕ) Why) → is_cut tag ≡ false → is_cut (tag >>= announced_in head) ≡ false
+bind_decided : (head : SeenHead) (tag : Result (List ℕ) Why) → is_headless tag ≡ false → is_headless (tag >>= announced_in head) ≡ false
 bind_decided head (Ok tag) d = place_decided head tag
 bind_decided head (Err Cut) d = d
-bind_decided head (Err Head) d = refl
+bind_decided head (Err Head) d = d
 bind_decided head (Err (Status code)) d = refl
 bind_decided head (Err NoTag) d = refl
 bind_decided head (Err WeakTag) d = refl
@@ -124,11 +124,11 @@ bind_decided head (Err NoRange) d = refl
 bind_decided head (Err NoLength) d = refl
 bind_decided head (Err Coding) d = refl
 
-status_rows : (other : Bool) (code : ℕ) (r : Result Announced Why) → is_cut r ≡ false → is_cut (cond other (Err (Status code)) r) ≡ false
+status_rows : (other : Bool) (code : ℕ) (r : Result Announced Why) → is_headless r ≡ false → is_headless (cond other (Err (Status code)) r) ≡ false
 status_rows true code r d = refl
 status_rows false code r d = d
 
-announced_decided : (head : SeenHead) → is_cut (announced_of head) ≡ false
+announced_decided : (head : SeenHead) → is_headless (announced_of head) ≡ false
 announced_decided head =
     status_rows (has_other_status head) head.status (tag_in head >>= announced_in head) (bind_decided head (tag_in head) (tag_decided head))
 
@@ -137,7 +137,7 @@ announced_decided head =
 -- a head that was found is not cut
 head_decided : (found : Result SeenHead Why) → found ≢ Err Cut → (found >>= announced_of) ≢ Err Cut
 head_decided (Ok seen) other =
-    λ e. absurd (let wrong : true ≡ false = sym (ap is_cut e) ∙ announced_decided seen in cc)
+    λ e. absurd (let wrong : true ≡ false = sym (ap is_headless e) ∙ announced_decided seen in cc)
 head_decided (Err why) other = λ e. let same : why ≡ Cut = cc in other (ap Err same)
 
 stays : (front more : List ℕ) (r : Result Announced Why) → r ≢ Err Cut → ReadsHead front r → ReadsHead (front ++ more) r
@@ -234,5 +234,104 @@ body_grows front more head reads =
     ap (take head.length) (drop-append-le head.size front more there) ∙ take_joined head.length behind more
     ∙ ap (λ (t : List ℕ). take head.length behind ++ t) (lacking head.length behind more)
 
+-- ---- where no head is
+
+headless_is : (r : Result Announced Why) → HasNone r → is_headless r ≡ true
+headless_is r (inl cut) = ap is_headless cut
+headless_is r (inr refused) = ap is_headless refused
+
+-- what is found where no head is
+found_none : (bytes : List ℕ) (found : Result SeenHead Why) → FindsHead bytes found → is_headless (found >>= announced_of) ≡ true
+    → (other : Result SeenHead Why) → FindsHead bytes other → HasNone (other >>= announced_of)
+found_none bytes found finds none (Ok seen) other =
+    absurd (let wrong : true ≡ false =
+    sym none ∙ ap (λ (f : Result SeenHead Why). is_headless (f >>= announced_of)) (found_whole bytes other.0 found other.1 finds)
+    ∙ announced_decided (seen_head other.0) in cc)
+found_none bytes found finds none (Err Cut) other = inl refl
+found_none bytes found finds none (Err Head) other = inr refl
+found_none bytes found finds none (Err (Status code)) other = absurd other
+found_none bytes found finds none (Err NoTag) other = absurd other
+found_none bytes found finds none (Err WeakTag) other = absurd other
+found_none bytes found finds none (Err TagTooLong) other = absurd other
+found_none bytes found finds none (Err NoRange) other = absurd other
+found_none bytes found finds none (Err NoLength) other = absurd other
+found_none bytes found finds none (Err Coding) other = absurd other
+
+none_told : (bytes : List ℕ) (r other : Result Announced Why) → HasNone r → ReadsHead bytes r → ReadsHead bytes other → HasNone other
+none_told bytes r other none reads reading =
+    subst HasNone (sym reading.2)
+    (found_none bytes reads.0 reads.1 (ap is_headless (sym reads.2) ∙ headless_is r none) reading.0 reading.1)
+
+-- a head prints as something
+printed_some : (h : ResponseHead) → length (print_response h) ≢ 0
+printed_some h =
+    let later : List ℕ = 32 ∷ (h.digits ++ (print_reason h.reason ++ (print_end h.line_end ++ (print_section h.fields h.last ++ [])))) in
+    let is = ap length (print_response-append h []) in
+    let all = length-append (print_response h) [] in
+    let long = length-append (print_blank h.blank) (print_version h.minor ++ later) in
+    let next = length-append (print_version h.minor) later in
+    λ none. absurd (omega (arith, none, is, all, long, next))
+
+-- nothing is no head
+nothing_found : (found : Result SeenHead Why) → FindsHead [] found → HasNone (found >>= announced_of)
+nothing_found (Ok seen) finds =
+    let is = finds.1 in
+    let empty : [] ≡ print_response finds.0 ++ is.rest = is.reads.1 in
+    absurd (printed_some finds.0 (omega (arith, ap length empty, length-append (print_response finds.0) is.rest)))
+nothing_found (Err Cut) finds = inl refl
+nothing_found (Err Head) finds = inr refl
+nothing_found (Err (Status code)) finds = absurd finds
+nothing_found (Err NoTag) finds = absurd finds
+nothing_found (Err WeakTag) finds = absurd finds
+nothing_found (Err TagTooLong) finds = absurd finds
+nothing_found (Err NoRange) finds = absurd finds
+nothing_found (Err NoLength) finds = absurd finds
+nothing_found (Err Coding) finds = absurd finds
+
+empty_none : (r : Result Announced Why) → ReadsHead [] r → HasNone r
+empty_none r reads = subst HasNone (sym reads.2) (nothing_found reads.0 reads.1)
+
+-- a head that ends in the front stands there
+shorter : (front more : List ℕ) (h : ResponseHead) → IsHeadOf (front ++ more) h → length (print_response h) < length front → IsHeadOf front h
+shorter front more h is inside =
+    let print = print_response h in
+    let n = length print in
+    let xs = head_front front in
+    let ys = take (4096 - length front) more in
+    let parts : xs ++ ys ≡ print ++ is.rest = sym (take_joined 4096 front more) ∙ is.reads.1 in
+    let long : length (head_front (front ++ more)) ≡ n + length is.rest = ap length is.reads.1 ∙ length-append print is.rest in
+    let whole = length-take 4096 (front ++ more) in
+    let short = length-take 4096 front in
+    let printed : print ≡ take n xs =
+    sym (take-append_seam print is.rest) ∙ ap (take n) (sym parts) ∙ take-append-le n xs ys (omega (arith, long, whole, short, inside)) in
+    record {
+      rest = drop n xs;
+      reads = (is.reads.0, sym (take-append-drop n xs) ∙ ap (λ (t : List ℕ). t ++ drop n xs) (sym printed));
+      room = is.room;
+    }
+
+-- a head that comes with more bytes ends in them
+behind_none : (front more : List ℕ) (head : Announced) → ((r : Result Announced Why) → ReadsHead front r → HasNone r)
+    → ReadsHead (front ++ more) (Ok head) → length front ≤ head.size
+behind_none front more head none reads =
+    let whole = whole_of (front ++ more) head reads in
+    let h = whole.response in
+    let size = size_of (front ++ more) head whole in
+    elim (cases_lt (length (print_response h)) (length front)) [
+      | inl inside ↦
+          let there : ReadsHead front (Ok head) = (Ok (seen_head h), (h, shorter front more h whole.is inside, refl), sym whole.told) in
+          absurd (let wrong : false ≡ true = headless_is (Ok head) (none (Ok head) there) in cc)
+      | inr beyond ↦ omega (arith, size)
+    ]
+
 pub heads_grow : HeadsGrow
-heads_grow = record { stays = stays; decided = decided; one = one; fits = fits; body = body_grows }
+heads_grow = record {
+  stays = stays;
+  decided = decided;
+  one = one;
+  fits = fits;
+  body = body_grows;
+  none = none_told;
+  empty = empty_none;
+  behind = behind_none;
+}

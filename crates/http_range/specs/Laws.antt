@@ -10,7 +10,7 @@ use Rattle.http_range.specs.Scan.{is_message}
 use Rattle.http_range.specs.Stream.{AreAnswers, HasNoMessage, IsAnswered, IsFirstMessage, IsMessage, IsUnfinished}
 use Rattle.http_range.specs.Honest.{IsFront, IsHonestFor, IsNamelessFront, IsHonest, IsPieceOf, IsPieceOfBook}
 use Rattle.http_range.specs.declared.reading.Why.{Why}
-use Rattle.http_range.specs.declared.reading.Why.TheVariants.{Cut}
+use Rattle.http_range.specs.declared.reading.Why.TheVariants.{Cut, Head}
 use Rattle.http_range.specs.declared.reply.Reply.{Reply}
 use Rattle.http_range.specs.Reply.{IsSent, head_text}
 use Rattle.http_range.specs.Piece.{SeenPiece}
@@ -137,6 +137,10 @@ pub record HonestyIsKept : Type 0 where
   -- what it is honest for is a lawful publication
   pub lawful : (text : List ℕ) (p : Publication) → IsHonestFor text p → IsPublication p
 
+-- no head is read: it isn't whole, or is refused
+abbrev pub HasNone : Result Announced Why → Type 0
+HasNone r = (r ≡ Err Cut) ⊎ (r ≡ Err Head)
+
 -- what is read of the head at the front of an answer stays when bytes follow
 pub record HeadsGrow : Type 0 where
   -- only *cut* may change
@@ -152,6 +156,13 @@ pub record HeadsGrow : Type 0 where
   pub body : (front more : List ℕ) (head : Announced) → ReadsHead front (Ok head)
       → body_behind head (front ++ more)
       ≡ body_behind head front ++ take (head.length - length (body_behind head front)) more
+  -- where no head is read in one way, none is in another
+  pub none : (bytes : List ℕ) (r other : Result Announced Why) → HasNone r → ReadsHead bytes r → ReadsHead bytes other → HasNone other
+  -- nothing has no head
+  pub empty : (r : Result Announced Why) → ReadsHead [] r → HasNone r
+  -- a head that is read only when bytes follow ends in those
+  pub behind : (front more : List ℕ) (head : Announced) → ((r : Result Announced Why) → ReadsHead front r → HasNone r)
+      → ReadsHead (front ++ more) (Ok head) → length front ≤ head.size
 
 -- what is read of an answer, or of a front of it
 pub record FrontsAreRead : Type 0 where

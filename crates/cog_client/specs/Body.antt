@@ -1,0 +1,89 @@
+-- The body of an answer that comes in pieces, between two of them.
+use Rattle.std.specs.Prelude.{◌≡◌, ◌⊎◌, ℕ, ◌+◌, ◌-◌, ◌*◌, ◌<◌, ◌≤◌, true, false, List, ◌++◌, length, take, drop}
+use Rattle.tiff_dir.specs.declared.span.Span.{Span}
+use Rattle.tiff_dir.specs.Block.{block_size, end_of}
+use Rattle.http_range.specs.Announced.{Announced}
+use Rattle.range_cache.specs.Cache.{Block, Blocks, stored}
+use Rattle.range_cache.specs.Laws.{begun}
+use Rattle.range_cache.specs.Piece.{is_wanted}
+use Rattle.cog_client.specs.declared.body.Body.{Body}
+use Rattle.cog_client.specs.Take.{brought_by, stored_count, stored_front, stored_of}
+use Rattle.cog_client.specs.Client.{IsFew}
+use Rattle.cog_client.specs.Fed.{piece_with}
+
+-- blocks with these stored
+abbrev pub with_stored : List Block → Blocks → Blocks
+with_stored new b = record b { entries = stored b.capacity new b.entries }
+
+-- the next place is in the file, and so are all bytes that are still to come
+pub record IsSoundBody (b : Body) : Type 0 where
+  pub inside : b.next + b.left ≤ b.complete
+  pub few : IsFew b.span
+
+-- Of block n the bytes so far are kept at the front of the part: it begins in the body, isn't whole yet, and is wanted.
+pub record KeepsPart (head : Announced) (body : List ℕ) (b : Body) (part : List ℕ) (now : Blocks) (n : ℕ) : Type 0 where
+  pub begins : head.first ≤ n * block_size
+  pub some : n * block_size < b.next
+  pub lacks : b.next < end_of head.complete n
+  pub wanted : is_wanted now head.complete b.span n ≡ true
+  pub bytes : take (b.next - n * block_size) part ≡ begun head.first body n
+
+-- None of block n is kept: none came of it, it is whole, it began before the body, or it isn't wanted.
+abbrev pub KeepsNone : Announced → Body → Blocks → ℕ → Type 0
+KeepsNone head b now n =
+    (b.next ≡ n * block_size) ⊎ ((head.complete ≤ b.next) ⊎ ((n * block_size < head.first)
+    ⊎ (is_wanted now head.complete b.span n ≡ false)))
+
+-- the block in which the body ends so far, and what is kept of it
+pub record IsCutAt (head : Announced) (body : List ℕ) (b : Body) (part : List ℕ) (now : Blocks) : Type 0 where
+  pub block : ℕ
+  pub begins : block * block_size ≤ b.next
+  pub ends : b.next < block * block_size + block_size
+  pub kept : b.keeps ≡ true → KeepsPart head body b part now block
+  pub none : b.keeps ≡ false → KeepsNone head b now block
+
+-- The body so far, of an answer with this head, brought its blocks to those that there were at its start.
+pub record IsBody (head : Announced) (start : Blocks) (body : List ℕ) (b : Body) (part : List ℕ) (now : Blocks) : Type 0 where
+  pub complete : b.complete ≡ head.complete
+  pub next : b.next ≡ head.first + length body
+  pub left : b.left + length body ≡ head.length
+  pub cut : IsCutAt head body b part now
+  pub counted : b.count ≡ stored_count (piece_with head body) b.span start
+  pub holds : now ≡ stored_of (piece_with head body) b.span start
+
+-- Memory was wanting in the middle of the blocks of this body.
+abbrev pub IsStopped : Announced → Span → Blocks → List ℕ → Blocks → Type 0
+IsStopped head span start body now =
+    (k : ℕ) × (k ≤ length (brought_by (piece_with head body) span)) × (now ≡ stored_front k (piece_with head body) span start)
+
+-- With bytes behind it, whatever came before.
+abbrev pub Extends : Body → List ℕ → Blocks → List ℕ → Body → List ℕ → Blocks → Type 0
+Extends old part before more new rest after =
+    (head : Announced) (start : Blocks) (body : List ℕ) → IsBody head start body old part before
+    → IsBody head start (body ++ more) new rest after
+
+-- Memory was wanting in the blocks of these bytes, whatever came before.
+abbrev pub Stops : Body → List ℕ → Blocks → List ℕ → Blocks → Type 0
+Stops old part before more after =
+    (head : Announced) (start : Blocks) (body : List ℕ) → IsBody head start body old part before
+    → IsStopped head old.span start (body ++ more) after
+
+-- a block begins at the place, or nothing follows
+abbrev pub IsSeam : ℕ → List ℕ → Type 0
+IsSeam at more = ((n : ℕ) × (at ≡ n * block_size)) ⊎ (length more ≡ 0)
+
+-- the last of the bytes are kept, which stand in block n
+pub record KeepsOf (bytes : List ℕ) (b : Body) (part : List ℕ) (now : Blocks) (n : ℕ) : Type 0 where
+  pub some : n * block_size < b.next
+  pub lacks : b.next < b.complete
+  pub wanted : is_wanted now b.complete b.span n ≡ true
+  pub tail : take (b.next - n * block_size) part ≡ drop (length bytes - (b.next - n * block_size)) bytes
+
+-- Of bytes that begin at a block's edge those are kept that follow the last whole block, where that block is wanted.
+pub record KeepsTail (bytes : List ℕ) (b : Body) (part : List ℕ) (now : Blocks) : Type 0 where
+  pub block : ℕ
+  pub begins : block * block_size ≤ b.next
+  pub ends : b.next < block * block_size + block_size
+  pub kept : b.keeps ≡ true → KeepsOf bytes b part now block
+  pub none : b.keeps ≡ false → (b.next ≡ block * block_size)
+      ⊎ ((b.complete ≤ b.next) ⊎ (is_wanted now b.complete b.span block ≡ false))

@@ -1,0 +1,168 @@
+//! The body of an answer that comes in pieces: its blocks are stored as they become whole.
+ghost use Rattle.std.specs.Prelude.{◌≡◌, ◌+◌, ◌-◌, ◌*◌, ◌<◌, ◌≤◌, ◌++◌, ℕ, IfOk, OnOk, OnErr, length, drop, take};
+ghost use Rattle.tiff_dir.specs.Block.{block_size};
+ghost use Rattle.range_cache.specs.Cache.{stores};
+ghost use Rattle.range_cache.specs.Piece.{whole_blocks};
+ghost use Rattle.cog_client.specs.Client.{IsFew};
+ghost use Rattle.cog_client.specs.Body.{with_stored, Extends, IsSeam, IsSoundBody, KeepsTail, Stops};
+
+use http_range::Span;
+use range_cache::{Cache, parts_bring_blocks, pieces_bring_blocks, stores_are_counted};
+use tiff_dir::Memory;
+use tiff_dir::limits::BLOCK_SIZE;
+
+/// A body, as far as it has come.
+#[derive(Clone, Copy, Debug, PartialEq, Eq)]
+pub struct Body {
+    /// The position of its next byte in the file, in bytes from 0.
+    pub next: u64,
+    /// The length of the file in bytes.
+    pub complete: u64,
+    /// How many bytes of it are still to come.
+    pub left: u64,
+    /// What is asked for.
+    pub span: Span,
+    /// Whether bytes of the block are kept in which it ends so far.
+    pub keeps: bool,
+    /// How many blocks were stored.
+    pub count: u32,
+}
+
+/// Stores the blocks that are whole in some bytes of the file, and says how many.
+fn store(
+    cache: &mut Cache,
+    complete: u64,
+    first: u64,
+    bytes: &[u8],
+    span: Span,
+) -> Result<u32, Memory>
+    requires within { first + length bytes.now ≤ complete }
+    requires few { IsFew span }
+    ensures ok { IfOk result (λ count. let new = whole_blocks complete first bytes.now span in
+        (cache.new ≡ with_stored new cache.old) × (count ≡ stores cache.old.capacity new cache.old.entries)) }
+    ensures err { OnErr result (let new = whole_blocks complete first bytes.now span in
+        (k : ℕ) × (k < length new) × (cache.new ≡ with_stored (take k new) cache.old)) }
+{
+    stores_are_counted();
+    pieces_bring_blocks();
+    cache.put(complete, first, bytes, span)
+}
+
+/// Copies bytes into a room, from a place in it on.
+pub fn copy(room: &mut [u8], at: usize, bytes: &[u8])
+    requires { at + length bytes.now ≤ length room.old }
+    ensures copied { take (at + length bytes.now) room.new ≡ take at room.old ++ bytes.now }
+    ensures room { length room.new ≡ length room.old }
+{
+    room[at..at + bytes.len()].copy_from_slice(bytes);
+}
+
+impl Body {
+    /// Takes the bytes that the block lacks in which the body ends so far, and gives the others.
+    fn finish<'b>(
+        &mut self,
+        part: &mut [u8],
+        cache: &mut Cache,
+        bytes: &'b [u8],
+    ) -> Result<&'b [u8], Memory>
+        requires sound { IsSoundBody self.old }
+        requires all { length bytes.now ≤ self.old.left }
+        requires room { length part.old ≡ block_size }
+        ensures sound { IsSoundBody self.new }
+        ensures span { self.new.span ≡ self.old.span }
+        ensures room { length part.new ≡ block_size }
+        ensures ok { IfOk result (λ rest. (m : ℕ) × (rest.now ≡ drop m bytes.now) × (length rest.now ≤ self.new.left) × IsSeam self.new.next rest.now
+            × Extends self.old part.old cache.old (take m bytes.now) self.new part.new cache.new) }
+        ensures err { OnErr result (Stops self.old part.old cache.old bytes.now cache.new) }
+    {
+        parts_bring_blocks();
+        stores_are_counted();
+        pieces_bring_blocks();
+        let begun = self.next % BLOCK_SIZE;
+        if begun == 0 {
+            return Ok(bytes);
+        }
+        let lacking = (BLOCK_SIZE - begun).min(self.complete - self.next);
+        let count = lacking.min(bytes.len() as u64);
+        let (more, rest) = bytes.split_at(count as usize);
+        let start = self.next - begun;
+        self.next += count;
+        self.left -= count;
+        if !self.keeps {
+            return Ok(rest);
+        }
+        copy(part, begun as usize, more);
+        if count == lacking {
+            self.keeps = false;
+            let stored = store(
+                cache,
+                self.complete,
+                start,
+                &part[..(begun + count) as usize],
+                self.span,
+            )?;
+            self.count = self.count.saturating_add(stored);
+        }
+        Ok(rest)
+    }
+
+    /// Stores the whole blocks of bytes that begin at a block's edge, and keeps what follows the last of them, if that block is
+    /// wanted.
+    fn go_on(&mut self, part: &mut [u8], cache: &mut Cache, bytes: &[u8]) -> Result<(), Memory>
+        requires sound { IsSoundBody self.old }
+        requires all { length bytes.now ≤ self.old.left }
+        requires room { length part.old ≡ block_size }
+        requires seam { IsSeam self.old.next bytes.now }
+        ensures sound { IsSoundBody self.new }
+        ensures span { self.new.span ≡ self.old.span }
+        ensures room { length part.new ≡ block_size }
+        ensures ok { OnOk result (Extends self.old part.old cache.old bytes.now self.new part.new cache.new) }
+        ensures err { OnErr result (Stops self.old part.old cache.old bytes.now cache.new) }
+    {
+        parts_bring_blocks();
+        stores_are_counted();
+        pieces_bring_blocks();
+        if bytes.is_empty() {
+            return Ok(());
+        }
+        let count = store(cache, self.complete, self.next, bytes, self.span)?;
+        self.count = self.count.saturating_add(count);
+        self.next += bytes.len() as u64;
+        self.left -= bytes.len() as u64;
+        self.keep(part, cache, bytes);
+        Ok(())
+    }
+
+    /// Keeps the bytes of the block in which the body ends so far, if it is wanted and isn't whole.
+    fn keep(&mut self, part: &mut [u8], cache: &Cache, bytes: &[u8])
+        requires room { length part.old ≡ block_size }
+        requires edge { (n : ℕ) × (self.old.next ≡ n * block_size + length bytes.now) }
+        ensures room { length part.new ≡ block_size }
+        ensures same { self.new ≡ record self.old { keeps = self.new.keeps } }
+        ensures tail { KeepsTail bytes.now self.new part.new cache.now }
+    {
+        let begun = self.next % BLOCK_SIZE;
+        self.keeps = begun > 0
+            && self.next < self.complete
+            && cache.wants(self.complete, self.span, self.next / BLOCK_SIZE);
+        if self.keeps {
+            copy(part, 0, &bytes[bytes.len() - begun as usize..]);
+        }
+    }
+
+    /// Takes the next bytes of the answer, and stores the blocks that become whole. `part`, of 16,384 bytes, is the room for a
+    /// block that is cut. After `Memory`, the only error, a beginning of the blocks is stored.
+    pub fn take(&mut self, part: &mut [u8], cache: &mut Cache, bytes: &[u8]) -> Result<(), Memory>
+        requires sound { IsSoundBody self.old }
+        requires room { length part.old ≡ block_size }
+        ensures sound { IsSoundBody self.new }
+        ensures span { self.new.span ≡ self.old.span }
+        ensures room { length part.new ≡ block_size }
+        ensures ok { OnOk result (Extends self.old part.old cache.old (take self.old.left bytes.now) self.new part.new cache.new) }
+        ensures err { OnErr result (Stops self.old part.old cache.old (take self.old.left bytes.now) cache.new) }
+    {
+        let count = self.left.min(bytes.len() as u64);
+        let rest = self.finish(part, cache, &bytes[..count as usize])?;
+        self.go_on(part, cache, rest)
+    }
+}

@@ -1,0 +1,61 @@
+//! The head of an answer that comes in pieces: its bytes are kept until it is whole.
+ghost use Rattle.std.specs.Prelude.{◌<◌, ◌≡◌, ◌≢◌, Err, false, length, take, true};
+ghost use Rattle.http_range.specs.declared.reading.Why.TheVariants.{Cut, Head as AHead};
+ghost use Rattle.http_range.specs.Laws.{HasNone};
+ghost use Rattle.cog_client.specs.Head.{head_limit, HasNoHead, Looks};
+
+use crate::body::copy;
+use http_range::{Head, HeadReading, Why, heads_grow, read_head};
+
+/// The most bytes of a head.
+pub const HEAD_ROOM: usize = 4096;
+
+/// What is known of an answer's head when more bytes of the answer came.
+#[derive(Debug, Drop)]
+pub enum Look {
+    /// It isn't whole; so many bytes are kept.
+    Waits(usize),
+    /// The answer is not used, whatever follows.
+    Unused(Why),
+    /// It is whole, and the body begins at this place of what came.
+    Found(Head, usize),
+}
+
+/// Whether a reason says only that no head is there so far.
+fn may_change(why: Why) -> bool
+    ensures changes { result ≡ true → HasNone (Err why) }
+    ensures stays { result ≡ false → (why ≢ Cut) × (why ≢ AHead) }
+{
+    match why {
+        Why::Cut | Why::Head => true,
+        _ => false,
+    }
+}
+
+/// Keeps the next bytes of an answer that has no head yet behind the bytes before them, and reads the head. `room`, of 4,096 bytes,
+/// has the bytes before them, `len` of them.
+pub fn read_on(room: &mut [u8], len: usize, bytes: &[u8]) -> Look
+    requires short { len < head_limit }
+    requires room { length room.old ≡ head_limit }
+    requires none { HasNoHead (take len room.old) }
+    ensures room { length room.new ≡ head_limit }
+    ensures looks { Looks (take len room.old) bytes.now room.new result }
+{
+    heads_grow();
+    let count = bytes.len().min(HEAD_ROOM - len);
+    copy(room, len, &bytes[..count]);
+    let have = len + count;
+    match read_head(&room[..have]) {
+        HeadReading::Head(head) => {
+            let from = head.size.saturating_sub(len);
+            Look::Found(head, from)
+        }
+        HeadReading::NotUsed(why) => {
+            if have < HEAD_ROOM && may_change(why) {
+                Look::Waits(have)
+            } else {
+                Look::Unused(why)
+            }
+        }
+    }
+}
