@@ -1,0 +1,19 @@
+use Rattle.std.proofs.Common.{sym}
+use Rattle.cog_server.specs.Status.{after_bytes}
+use Rattle.cog_connections.specs.declared.place.Place.{Place}
+use Rattle.cog_connections.proofs.TableLemmas.{anyway, changes, below_set}
+use Rattle.cog_connections.proofs.table.Connections.came.Goals as goal
+
+pub invariant_of-self-2 : goal.invariant_of-self-2
+invariant_of-self-2 c =
+    record { fresh = below_set c.args.number c.args.self.now.next c.args.self.now.table.entries c.came.new.self c.args.self.now.fresh }
+
+pub returns-in_err-came-clause-err : goal.returns-in_err-came-clause-err
+returns-in_err-came-clause-err c =
+    anyway c.from_residual.result
+    (changes c.args.number (λ p. p) c.args.self.now.table.entries c.in-Some.place.now c.came.new.self (sym c.in-Some.ensures.value) c.in_err-came.ensures.err)
+
+pub returns-clause-ok : goal.returns-clause-ok
+returns-clause-ok c =
+    changes c.args.number (λ (p : Place). record { connection = after_bytes c.args.bytes.now p.connection; progress = p.progress }) c.args.self.now.table.entries
+    c.in-Some.place.now c.came.new.self (sym c.in-Some.ensures.value) c.in_ok-came.ensures.ok

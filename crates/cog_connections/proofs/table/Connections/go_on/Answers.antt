@@ -1,0 +1,17 @@
+use Rattle.std.proofs.Common.{sym}
+use Rattle.cog_connections.proofs.TableLemmas.{anyway, changes, below_set, goes_on_at}
+use Rattle.cog_connections.proofs.table.Connections.go_on.Goals as goal
+
+pub invariant_of-self-2 : goal.invariant_of-self-2
+invariant_of-self-2 c =
+    record { fresh = below_set c.args.number c.args.self.now.next c.args.self.now.table.entries c.go_on.new.self c.args.self.now.fresh }
+
+pub returns-in_err-went-clause-err : goal.returns-in_err-went-clause-err
+returns-in_err-went-clause-err c =
+    anyway c.from_residual.result
+    (changes c.args.number (λ p. p) c.args.self.now.table.entries c.in-Some.place.now c.go_on.new.self (sym c.in-Some.ensures.value) c.in_err-went.ensures.err)
+
+pub returns-clause-ok : goal.returns-clause-ok
+returns-clause-ok c =
+    goes_on_at c.args.server.now.catalogue c.args.number c.args.now c.args.self.now.table.entries c.in-Some.place.now c.go_on.new.self c.in_ok-went.went
+    (sym c.in-Some.ensures.value) c.in_ok-went.ensures.ok c.in_ok-went.ensures.progress

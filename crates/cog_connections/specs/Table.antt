@@ -1,0 +1,42 @@
+-- A table of connections by number.
+use Rattle.std.specs.Prelude.{◌≡◌, ◌≢◌, ◌≤◌, ◌==◌, ℕ, Bool, true, false, if◌then◌else◌, nat_eq, List, Option, Some, None, option_map, is_none}
+use Rattle.std.specs.Map.{lookup}
+use Rattle.http_range.specs.Book.{Catalogue}
+use Rattle.cog_server.specs.Status.{Status, GoesOn, after_write}
+use Rattle.cog_connections.specs.declared.place.Place.{Place}
+
+abbrev pub Table : Type 0
+Table = List (ℕ × Place)
+
+abbrev pub place_at : ℕ → Table → Option Place
+place_at k table = lookup (nat_eq k) table
+
+-- every connection but k is as it was
+abbrev pub OthersStay : ℕ → Table → Table → Type 0
+OthersStay k old new = (other : ℕ) → other ≢ k → place_at other new ≡ place_at other old
+
+-- connection k becomes another, if there is one, and the others stay
+pub record Changes (k : ℕ) (f : Place → Place) (old new : Table) : Type 0 where
+  pub here : place_at k new ≡ option_map f (place_at k old)
+  pub others : OthersStay k old new
+
+-- k stands in the table as this one, and the others stay
+pub record Becomes (k : ℕ) (place : Option Place) (old new : Table) : Type 0 where
+  pub here : place_at k new ≡ place
+  pub others : OthersStay k old new
+
+-- bytes of what waits are written, which is progress where there are any
+abbrev pub place_after_write : ℕ → ℕ → Place → Place
+place_after_write n now p =
+    record { connection = after_write n p.connection; progress = if n == 0 then p.progress else now }
+
+-- connection k goes on, if there is one
+abbrev pub GoesOnAt : Catalogue → ℕ → ℕ → Option Place → Table → Table → Bool → Type 0
+GoesOnAt catalogue k now None old new went = (went ≡ false) × (new ≡ old)
+GoesOnAt catalogue k now (Some p) old new went =
+    (s : Status) × GoesOn catalogue p.connection s went
+    × Becomes k (Some (record { connection = s; progress = if went then now else p.progress })) old new
+
+-- no number from this one on is given
+abbrev pub AreBelow : ℕ → Table → Type 0
+AreBelow n table = (k : ℕ) → n ≤ k → is_none (place_at k table) ≡ true

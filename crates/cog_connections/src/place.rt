@@ -1,0 +1,54 @@
+//! A connection, and when it made progress.
+ghost use Rattle.std.specs.Prelude.{◌≡◌, ◌≤◌, ◌==◌, if◌then◌else◌, IfOk, OnOk, OnErr, length};
+ghost use Rattle.cog_server.specs.Status.{GoesOn, after_bytes, after_end, after_write, room_of};
+
+use cog_server::{Connection, Server};
+use http_range::Memory;
+
+/// A connection, and the moment of its last progress: it was accepted, a message was answered, or a byte of an answer taken.
+#[derive(Drop)]
+pub struct Place {
+    pub connection: Connection,
+    pub progress: u64,
+}
+
+impl Place {
+    pub fn came(&mut self, bytes: &[u8]) -> Result<(), Memory>
+        requires { length bytes.now ≤ room_of self.old.connection }
+        ensures ok { OnOk result (self.new ≡ record self.old { connection = after_bytes bytes.now self.old.connection }) }
+        ensures err { OnErr result (self.new ≡ self.old) }
+    {
+        self.connection.came(bytes)
+    }
+
+    pub fn came_to_end(&mut self)
+        ensures { self.new ≡ record self.old { connection = after_end self.old.connection } }
+    {
+        self.connection.came_to_end();
+    }
+
+    /// Answers the next message, which is progress.
+    pub fn go_on(&mut self, server: &Server, now: u64) -> Result<bool, Memory>
+        ensures ok { IfOk result (λ went. GoesOn server.now.catalogue self.old.connection self.new.connection went) }
+        ensures progress { IfOk result (λ went. self.new.progress ≡ (if went then now else self.old.progress)) }
+        ensures err { OnErr result (self.new ≡ self.old) }
+    {
+        let went = self.connection.go_on(server)?;
+        if went {
+            self.progress = now;
+        }
+        Ok(went)
+    }
+
+    /// Notes that bytes are written, which is progress where there are any.
+    pub fn wrote(&mut self, n: usize, now: u64)
+        requires { n ≤ length self.old.connection.waiting }
+        ensures connection { self.new.connection ≡ after_write n self.old.connection }
+        ensures progress { self.new.progress ≡ (if n == 0 then self.old.progress else now) }
+    {
+        self.connection.wrote(n);
+        if n > 0 {
+            self.progress = now;
+        }
+    }
+}

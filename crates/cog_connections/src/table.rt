@@ -1,0 +1,145 @@
+//! Many connections, by their numbers.
+ghost use Rattle.std.specs.Prelude.{◌≡◌, ◌+◌, ◌<◌, ◌≤◌, [], Some, None, IfOk, IfSome, OnOk, OnErr, is_some, length, nat_eq, option_copied};
+ghost use Rattle.std.specs.Map.{remove_entry};
+ghost use Rattle.std.specs.NonZero.{non_zero_usize_get};
+ghost use Rattle.cog_server.specs.Status.{start, room_of, after_bytes, after_end};
+ghost use Rattle.cog_connections.specs.Table.{AreBelow, Becomes, Changes, GoesOnAt, OthersStay, place_after_write, place_at};
+
+use crate::place::Place;
+use cog_server::{Connection, Server};
+use http_range::Memory;
+use lru::LruCache;
+use std::alloc::Global;
+use std::num::NonZeroUsize;
+
+/// The connections. A number isn't given twice, so what comes late for a connection that is gone finds none.
+#[derive(Drop)]
+pub struct Connections {
+    alloc: Global,
+    pub table: LruCache<u64, Place>,
+    pub next: u64,
+    ghost fresh: { AreBelow next table.entries },
+}
+
+impl Connections {
+    /// No connections. There may be so many.
+    pub fn new(alloc: Global, limit: NonZeroUsize) -> Result<Self, Memory>
+        ensures none { IfOk result (λ c. c.table.entries ≡ []) }
+        ensures limit { IfOk result (λ c. c.table.cap ≡ non_zero_usize_get limit) }
+    {
+        let table = LruCache::sparse(alloc, limit)?;
+        Ok(Connections {
+            alloc,
+            table,
+            next: 0,
+        })
+    }
+
+    /// How many there are, never more than there may be.
+    pub fn count(&self) -> usize
+        ensures count { result ≡ length self.now.table.entries }
+        ensures bound { result ≤ self.now.table.cap }
+    {
+        self.table.len()
+    }
+
+    /// The connection of this number.
+    pub fn get(&self, number: u64) -> Option<&Place>
+        ensures { option_copied result ≡ place_at number self.now.table.entries }
+    {
+        self.table.peek(&number)
+    }
+
+    /// Takes what came on a connection, and says whether there is one of this number. Bytes alone are no progress.
+    pub fn came(&mut self, number: u64, bytes: &[u8]) -> Result<bool, Memory>
+        requires { IfSome (place_at number self.old.table.entries) (λ p. length bytes.now ≤ room_of p.connection) }
+        ensures there { IfOk result (λ there. there ≡ is_some (place_at number self.old.table.entries)) }
+        ensures ok { OnOk result (Changes number (λ p. record p { connection = after_bytes bytes.now p.connection })
+            self.old.table.entries self.new.table.entries) }
+        ensures err { OnErr result (Changes number (λ p. p) self.old.table.entries self.new.table.entries) }
+        ensures cap { self.new.table.cap ≡ self.old.table.cap }
+        ensures next { self.new.next ≡ self.old.next }
+    {
+        let Some(place) = self.table.peek_mut(&number) else {
+            return Ok(false);
+        };
+        place.came(bytes)?;
+        Ok(true)
+    }
+
+    /// Notes that nothing more comes on a connection.
+    pub fn came_to_end(&mut self, number: u64)
+        ensures table { Changes number (λ p. record p { connection = after_end p.connection })
+            self.old.table.entries self.new.table.entries }
+        ensures cap { self.new.table.cap ≡ self.old.table.cap }
+        ensures next { self.new.next ≡ self.old.next }
+    {
+        let Some(place) = self.table.peek_mut(&number) else {
+            return;
+        };
+        place.came_to_end();
+    }
+
+    /// Notes at a moment that bytes of what waits on a connection are written.
+    pub fn wrote(&mut self, number: u64, n: usize, now: u64)
+        requires { IfSome (place_at number self.old.table.entries) (λ p. n ≤ length p.connection.waiting) }
+        ensures table { Changes number (place_after_write n now) self.old.table.entries self.new.table.entries }
+        ensures cap { self.new.table.cap ≡ self.old.table.cap }
+        ensures next { self.new.next ≡ self.old.next }
+    {
+        let Some(place) = self.table.peek_mut(&number) else {
+            return;
+        };
+        place.wrote(n, now);
+    }
+
+    /// Answers the next message of a connection at a moment, and says whether it did.
+    pub fn go_on(&mut self, number: u64, server: &Server, now: u64) -> Result<bool, Memory>
+        ensures ok { IfOk result (GoesOnAt server.now.catalogue number now (place_at number self.old.table.entries)
+            self.old.table.entries self.new.table.entries) }
+        ensures err { OnErr result (Changes number (λ p. p) self.old.table.entries self.new.table.entries) }
+        ensures cap { self.new.table.cap ≡ self.old.table.cap }
+        ensures next { self.new.next ≡ self.old.next }
+    {
+        let Some(place) = self.table.peek_mut(&number) else {
+            return Ok(false);
+        };
+        let went = place.go_on(server, now)?;
+        Ok(went)
+    }
+
+    /// Takes a connection away.
+    pub fn close(&mut self, number: u64)
+        ensures others { OthersStay number self.old.table.entries self.new.table.entries }
+        ensures entries { self.new.table.entries ≡ remove_entry (nat_eq number) self.old.table.entries }
+        ensures cap { self.new.table.cap ≡ self.old.table.cap }
+        ensures next { self.new.next ≡ self.old.next }
+    {
+        self.table.pop(&number);
+    }
+
+    /// A new connection at a moment, and its number, where there is room for one. It fails too where all 2^64 - 1 numbers are given.
+    pub fn accept(&mut self, now: u64) -> Result<u64, Memory>
+        requires { length self.old.table.entries < self.old.table.cap }
+        ensures number { IfOk result (λ number. number ≡ self.old.next) }
+        ensures unused { IfOk result (λ number. place_at number self.old.table.entries ≡ None) }
+        ensures table { IfOk result (λ number. Becomes number (Some (record { connection = start; progress = now }))
+            self.old.table.entries self.new.table.entries) }
+        ensures next { OnOk result (self.new.next ≡ self.old.next + 1) }
+        ensures cap { self.new.table.cap ≡ self.old.table.cap }
+        ensures err { OnErr result (self.new.table.entries ≡ self.old.table.entries) }
+    {
+        if self.next == u64::MAX {
+            return Err(Memory);
+        }
+        let number = self.next;
+        let connection = Connection::new(self.alloc);
+        let place = Place {
+            connection,
+            progress: now,
+        };
+        self.table.push(number, place)?;
+        self.next = number + 1;
+        Ok(number)
+    }
+}
