@@ -1,2 +1,3 @@
+pub mod AtOnce
 pub mod First
 pub mod PacketLemmas

@@ -1,10 +1,10 @@
 //! Faults that no command line of a test meets, told as they are.
+use super::FILE_FAULTS;
 use cog_server::PublishError;
 use programs::Fault;
 use programs_support::Capture;
 use scripts::ScriptError;
 use std::test::Fail;
-use tiff_dir::FileFault;
 
 /// Whether the fault is told by this line on standard error, and ends with this status.
 fn is_told(
@@ -43,31 +43,9 @@ fn tells_a_fault_by_its_program_and_words(rt: HostRuntime) -> Result<(), Fail> {
     Ok(())
 }
 
-/// A fault of the file and its line.
-const OF_FILES: [(FileFault, &str); 18] = [
-    (FileFault::Header, "cogread: fault 1\n"),
-    (FileFault::PastEnd, "cogread: fault 2\n"),
-    (FileFault::DirPlace, "cogread: fault 3\n"),
-    (FileFault::DirCount, "cogread: fault 4\n"),
-    (FileFault::TagOrder, "cogread: fault 5\n"),
-    (FileFault::TooManyDirs, "cogread: fault 6\n"),
-    (FileFault::Missing(256), "cogread: fault 7 256\n"),
-    (FileFault::FieldType(325), "cogread: fault 8 325\n"),
-    (FileFault::Unsupported(339), "cogread: fault 9 339\n"),
-    (FileFault::LevelShape, "cogread: fault 10\n"),
-    (FileFault::TileArray, "cogread: fault 11\n"),
-    (FileFault::TileSize, "cogread: fault 12\n"),
-    (FileFault::Packet, "cogread: fault 13\n"),
-    (FileFault::Outside, "cogread: fault 14\n"),
-    (FileFault::TooLarge, "cogread: fault 15\n"),
-    (FileFault::KeyHead, "cogread: fault 16\n"),
-    (FileFault::KeyOrder, "cogread: fault 17\n"),
-    (FileFault::KeyPlace, "cogread: fault 18\n"),
-];
-
 #[test]
 fn tells_a_fault_of_the_file_by_its_number(rt: HostRuntime) {
-    for (fault, line) in OF_FILES {
+    for (fault, _, line) in FILE_FAULTS {
         assert!(rt;
             is_told(Capture::new(&rt), "cogread", &Fault::OfFile(fault), line, 3),
             "{line}"

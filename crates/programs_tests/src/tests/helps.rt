@@ -1,9 +1,8 @@
 //! Help, and faults of the form of a line.
-use super::words_of;
+use super::{FILE_FAULTS, words_of};
 use programs_support::{Capture, Told, tell, tell_line, tell_on};
 use std::alloc::{AllocError, Global};
 use std::test::Fail;
-use tiff_dir::FileFault;
 
 const WINDOW_PARTS: &[&str] = &[
     "Usage: cogtools cogread window [OPTIONS] <SERVER> <NAME> <X> <Y> <W> <H>\n",
@@ -181,33 +180,11 @@ fn ends_with_one_where_help_cannot_be_written(rt: HostRuntime) -> Result<(), Fai
     Ok(())
 }
 
-/// The faults by their names.
-const FAULTS: [(FileFault, &str); 18] = [
-    (FileFault::Header, "Header"),
-    (FileFault::PastEnd, "PastEnd"),
-    (FileFault::DirPlace, "DirPlace"),
-    (FileFault::DirCount, "DirCount"),
-    (FileFault::TagOrder, "TagOrder"),
-    (FileFault::TooManyDirs, "TooManyDirs"),
-    (FileFault::Missing(256), "Missing"),
-    (FileFault::FieldType(256), "FieldType"),
-    (FileFault::Unsupported(259), "Unsupported"),
-    (FileFault::LevelShape, "LevelShape"),
-    (FileFault::TileArray, "TileArray"),
-    (FileFault::TileSize, "TileSize"),
-    (FileFault::Packet, "Packet"),
-    (FileFault::Outside, "Outside"),
-    (FileFault::TooLarge, "TooLarge"),
-    (FileFault::KeyHead, "KeyHead"),
-    (FileFault::KeyOrder, "KeyOrder"),
-    (FileFault::KeyPlace, "KeyPlace"),
-];
-
 #[test]
 fn tells_each_fault_by_its_number_and_name(rt: HostRuntime) -> Result<(), Fail> {
     let told = tell(&rt, &["cogread", "--help"])?;
     let help = str::from_utf8(&told.out).unwrap_or_default();
-    for (fault, name) in FAULTS {
+    for (fault, name, _) in FILE_FAULTS {
         let number = fault.number();
         let part = format!(in rt.alloc(); "\n  {number:>2}  {name} ")?;
         assert!(rt; help.contains(part.as_str()), "{name}");

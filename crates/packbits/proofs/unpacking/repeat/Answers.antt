@@ -1,21 +1,16 @@
-use Rattle.std.proofs.Common.{◌≡◌, ◌≤◌, length, take, drop, ap, ◌∙◌, arith}
-use Rattle.std.proofs.lemmas.List.{take-append-le, take-replicate, length-take-le}
+use Rattle.std.proofs.Common.{◌∙◌}
+use Rattle.std.proofs.lemmas.List.{take-replicate}
+use Rattle.packbits.proofs.AtOnce.{front}
 use Rattle.packbits.proofs.unpacking.repeat.Goals as goal
 
 pub returns-then-out-ge-AT_ONCE : goal.returns-then-out-ge-AT_ONCE
 returns-then-out-ge-AT_ONCE c =
-    let new = c.copy_from_slice.new.self in
-    let size : length new ≡ 16 = c.copy_from_slice.ensures.len ∙ length-take-le 16 c.args.out.now c.if-out-ge-AT_ONCE.true in
-    let few : c.args.times ≤ length new = omega (arith, size, c.if-times-le-AT_ONCE.true) in
-    take-append-le c.args.times new (drop 16 c.args.out.now) few
-    ∙ ap (take c.args.times) c.copy_from_slice.ensures.after
-    ∙ take-replicate c.args.times 16 c.args.byte c.if-times-le-AT_ONCE.true
+    let few = c.if-times-le-AT_ONCE.true in
+    front c.args.times 16 c.args.out.now c.copy_from_slice.new.self _ few c.if-out-ge-AT_ONCE.true c.copy_from_slice.ensures.len c.copy_from_slice.ensures.after
+    ∙ take-replicate c.args.times 16 c.args.byte few
 
 pub returns-then-out-ge-MOST : goal.returns-then-out-ge-MOST
 returns-then-out-ge-MOST c =
-    let new = c.copy_from_slice-then-out-ge-MOST.new.self in
-    let size : length new ≡ 128 = c.copy_from_slice-then-out-ge-MOST.ensures.len ∙ length-take-le 128 c.args.out.now c.if-out-ge-MOST.true in
-    let few : c.args.times ≤ length new = omega (arith, size, c.requires.few) in
-    take-append-le c.args.times new (drop 128 c.args.out.now) few
-    ∙ ap (take c.args.times) c.copy_from_slice-then-out-ge-MOST.ensures.after
+    let done = c.copy_from_slice-then-out-ge-MOST in
+    front c.args.times 128 c.args.out.now done.new.self _ c.requires.few c.if-out-ge-MOST.true done.ensures.len done.ensures.after
     ∙ take-replicate c.args.times 128 c.args.byte c.requires.few
