@@ -110,46 +110,26 @@ fn tells_the_first_fault_of_a_level(rt: HostRuntime) -> Result<(), Fail> {
     Ok(())
 }
 
-// Three samples, whose BitsPerSample and SampleFormat stand outside their entries; the directory ends at 158.
+/// Where BitsPerSample stands, the count of SampleFormat and where it stands, what follows the directory, which ends at 158, and the
+/// fault.
+#[rattlefmt::skip]
+const OUTSIDE: [(u32, u32, u32, &[u8], Option<FileFault>); 10] = [
+    (158, 3, 164, &[8, 0, 8, 0, 8, 0, 1, 0, 1, 0, 1, 0], None),
+    (158, 2, 400, &[8, 0, 8, 0, 8, 0], Some(FieldType(339))),
+    (400, 2, 65537, &[], Some(FieldType(339))),
+    (400, 3, 401, &[], Some(PastEnd)),
+    (158, 3, 159, &[9, 0, 9, 0, 9, 0], Some(PastEnd)),
+    (158, 3, 164, &[8, 0, 8, 0, 9, 0, 2, 0, 1, 0, 1, 0], Some(Unsupported(258))),
+    (158, 3, 164, &[8, 0, 16, 0, 8, 0, 1, 0, 1, 0, 1, 0], Some(Unsupported(258))),
+    (158, 3, 164, &[8, 0, 8, 0, 8, 0, 2, 0, 1, 0, 1, 0], Some(Unsupported(339))),
+    (158, 3, 164, &[8, 0, 8, 0, 8, 0, 1, 0, 1, 0, 0, 0], Some(Unsupported(339))),
+    (158, 3, 158, &[8, 0, 8, 0, 8, 0], Some(Unsupported(339))),
+];
+
+// Three samples, whose BitsPerSample and SampleFormat stand outside their entries.
 #[test]
 fn tells_the_first_fault_of_outside_values(rt: HostRuntime) -> Result<(), Fail> {
-    let rows: [(u32, u32, u32, &[u8], Option<FileFault>); 10] = [
-        (158, 3, 164, &[8, 0, 8, 0, 8, 0, 1, 0, 1, 0, 1, 0], None),
-        (158, 2, 400, &[8, 0, 8, 0, 8, 0], Some(FieldType(339))),
-        (400, 2, 65537, &[], Some(FieldType(339))),
-        (400, 3, 401, &[], Some(PastEnd)),
-        (158, 3, 159, &[9, 0, 9, 0, 9, 0], Some(PastEnd)),
-        (
-            158,
-            3,
-            164,
-            &[8, 0, 8, 0, 9, 0, 2, 0, 1, 0, 1, 0],
-            Some(Unsupported(258)),
-        ),
-        (
-            158,
-            3,
-            164,
-            &[8, 0, 16, 0, 8, 0, 1, 0, 1, 0, 1, 0],
-            Some(Unsupported(258)),
-        ),
-        (
-            158,
-            3,
-            164,
-            &[8, 0, 8, 0, 8, 0, 2, 0, 1, 0, 1, 0],
-            Some(Unsupported(339)),
-        ),
-        (
-            158,
-            3,
-            164,
-            &[8, 0, 8, 0, 8, 0, 1, 0, 1, 0, 0, 0],
-            Some(Unsupported(339)),
-        ),
-        (158, 3, 158, &[8, 0, 8, 0, 8, 0], Some(Unsupported(339))),
-    ];
-    for (bits, count, formats, tail, want) in rows {
+    for (bits, count, formats, tail, want) in OUTSIDE {
         let changes = [
             (258, 3, 3, bits),
             (262, 3, 1, 2),
