@@ -55,10 +55,10 @@ pub record IsBody (head : Announced) (start : Blocks) (body : List ℕ) (b : Bod
   pub counted : b.count ≡ stored_count (piece_with head body) b.span start
   pub holds : now ≡ stored_of (piece_with head body) b.span start
 
--- Memory was wanting in the middle of the blocks of this body.
+-- Memory was wanting before the last block of this body was stored.
 abbrev pub IsStopped : Announced → Span → Blocks → List ℕ → Blocks → Type 0
 IsStopped head span start body now =
-    (k : ℕ) × (k ≤ length (brought_by (piece_with head body) span)) × (now ≡ stored_front k (piece_with head body) span start)
+    (k : ℕ) × (k < length (brought_by (piece_with head body) span)) × (now ≡ stored_front k (piece_with head body) span start)
 
 -- With bytes behind it, whatever came before.
 abbrev pub Extends : Body → List ℕ → Blocks → List ℕ → Body → List ℕ → Blocks → Type 0
