@@ -190,7 +190,7 @@ module _ (cuts : CutsPart) (edges : EdgesPart) (none : PartsBringNone) (beside :
 module _ (joins : StoredJoin) (head : Announced) (span : Span) (b : Blocks) where
   -- in the blocks that follow those of the body
   pub stopped_in : (body all : List ℕ) (later : List Block) (k : ℕ) (now : Blocks) → brought head span all ≡ brought head span body ++ later
-      → k ≤ length later → now ≡ with_stored (take k later) (stored_of (piece_with head body) span b) → IsStopped head span b all now
+      → k < length later → now ≡ with_stored (take k later) (stored_of (piece_with head body) span b) → IsStopped head span b all now
   stopped_in body all later k now parts short is =
       let ours : List Block = brought head span body in
       let long : length (brought head span all) ≡ length ours + length later = ap length parts ∙ length-append ours later in
@@ -210,7 +210,7 @@ module _ (joins : StoredJoin) (head : Announced) (span : Span) (b : Blocks) wher
       let long : length (brought head span all) ≡ length ours + length later = ap length parts ∙ length-append ours later in (
         k,
         omega (arith, long, short),
-        is ∙ sym (ap (λ (bs : List Block). with_stored bs b) (ap (take k) parts ∙ take-append-le k ours later short)),
+        is ∙ sym (ap (λ (bs : List Block). with_stored bs b) (ap (take k) parts ∙ take-append-le k ours later (omega (arith, short)))),
       )
 
 -- ---- between two pieces
@@ -388,7 +388,7 @@ module _ (cuts : CutsPart) (edges : EdgesPart) (none : PartsBringNone) (beside :
       pub finish_stops : (after : Blocks) (k : ℕ) → k < length whole → after ≡ with_stored (take k whole) now
           → IsStopped head old.span b (body ++ bytes) after
       finish_stops after k short stored =
-          let first = stopped_in joins head old.span b body (body ++ more) whole k after parts (omega (arith, short))
+          let first = stopped_in joins head old.span b body (body ++ more) whole k after parts short
           (stored ∙ ap (with_stored (take k whole)) is.holds) in
           let all : (body ++ more) ++ drop m bytes ≡ body ++ bytes =
           append_assoc body more (drop m bytes) ∙ ap (λ (xs : List ℕ). body ++ xs) (take-append-drop m bytes) in
@@ -422,7 +422,7 @@ module _ (edges : EdgesPart) (joins : StoredJoin) (counts : StoresJoin) (head : 
   pub edge_stops : (after : Blocks) (k : ℕ) → k < length blocks → after ≡ with_stored (take k blocks) now
       → IsStopped head old.span b (body ++ bytes) after
   edge_stops after k short stored =
-      stopped_in joins head old.span b body (body ++ bytes) blocks k after blocks_part (omega (arith, short))
+      stopped_in joins head old.span b body (body ++ bytes) blocks k after blocks_part short
       (stored ∙ ap (with_stored (take k blocks)) is.holds)
 
   module _ (count : ℕ) (keeps : Bool) (room : List ℕ) (after : Blocks) where

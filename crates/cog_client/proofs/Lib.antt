@@ -11,3 +11,4 @@ pub mod Worked
 pub mod FedLemmas
 pub mod BodyLemmas
 pub mod HeadLemmas
+pub mod FeedLemmas

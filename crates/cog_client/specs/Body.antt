@@ -1,5 +1,5 @@
 -- The body of an answer that comes in pieces, between two of them.
-use Rattle.std.specs.Prelude.{◌≡◌, ◌⊎◌, ℕ, ◌+◌, ◌-◌, ◌*◌, ◌<◌, ◌≤◌, true, false, List, ◌++◌, length, take, drop}
+use Rattle.std.specs.Prelude.{if◌then◌else◌, ◌/◌, [], ◌≡◌, ◌⊎◌, ℕ, ◌+◌, ◌-◌, ◌*◌, ◌<◌, ◌≤◌, true, false, List, ◌++◌, length, take, drop}
 use Rattle.tiff_dir.specs.declared.span.Span.{Span}
 use Rattle.tiff_dir.specs.Block.{block_size, end_of}
 use Rattle.http_range.specs.Announced.{Announced}
@@ -9,7 +9,7 @@ use Rattle.range_cache.specs.Piece.{is_wanted}
 use Rattle.cog_client.specs.declared.body.Body.{Body}
 use Rattle.cog_client.specs.Take.{brought_by, stored_count, stored_front, stored_of}
 use Rattle.cog_client.specs.Client.{IsFew}
-use Rattle.cog_client.specs.Fed.{piece_with}
+use Rattle.cog_client.specs.Fed.{part_of, piece_with}
 
 -- blocks with these stored
 abbrev pub with_stored : List Block → Blocks → Blocks
@@ -34,6 +34,10 @@ KeepsNone head b now n =
     (b.next ≡ n * block_size) ⊎ ((head.complete ≤ b.next) ⊎ ((n * block_size < head.first)
     ⊎ (is_wanted now head.complete b.span n ≡ false)))
 
+-- the bytes that are kept in the part
+abbrev pub kept_of : Body → List ℕ → List ℕ
+kept_of b part = if b.keeps then take (b.next - b.next / block_size * block_size) part else []
+
 -- the block in which the body ends so far, and what is kept of it
 pub record IsCutAt (head : Announced) (body : List ℕ) (b : Body) (part : List ℕ) (now : Blocks) : Type 0 where
   pub block : ℕ
@@ -51,10 +55,10 @@ pub record IsBody (head : Announced) (start : Blocks) (body : List ℕ) (b : Bod
   pub counted : b.count ≡ stored_count (piece_with head body) b.span start
   pub holds : now ≡ stored_of (piece_with head body) b.span start
 
--- Memory was wanting in the middle of the blocks of this body.
+-- Memory was wanting before the last block of this body was stored.
 abbrev pub IsStopped : Announced → Span → Blocks → List ℕ → Blocks → Type 0
 IsStopped head span start body now =
-    (k : ℕ) × (k ≤ length (brought_by (piece_with head body) span)) × (now ≡ stored_front k (piece_with head body) span start)
+    (k : ℕ) × (k < length (brought_by (piece_with head body) span)) × (now ≡ stored_front k (piece_with head body) span start)
 
 -- With bytes behind it, whatever came before.
 abbrev pub Extends : Body → List ℕ → Blocks → List ℕ → Body → List ℕ → Blocks → Type 0
@@ -87,3 +91,8 @@ pub record KeepsTail (bytes : List ℕ) (b : Body) (part : List ℕ) (now : Bloc
   pub kept : b.keeps ≡ true → KeepsOf bytes b part now block
   pub none : b.keeps ≡ false → (b.next ≡ block * block_size)
       ⊎ ((b.complete ≤ b.next) ⊎ (is_wanted now b.complete b.span block ≡ false))
+
+-- What is kept is the part of the definition: the bytes so far of a wanted block that isn't whole yet.
+abbrev pub PartsAreKept : Type 0
+PartsAreKept = (head : Announced) (start : Blocks) (body : List ℕ) (b : Body) (part : List ℕ) (now : Blocks)
+    → IsBody head start body b part now → kept_of b part ≡ part_of head now b.span body

@@ -1,12 +1,13 @@
 //! The body of an answer that comes in pieces: its blocks are stored as they become whole.
-ghost use Rattle.std.specs.Prelude.{◌≡◌, ◌+◌, ◌-◌, ◌*◌, ◌<◌, ◌≤◌, ◌++◌, ℕ, IfOk, OnOk, OnErr, length, drop, take};
+ghost use Rattle.std.specs.Prelude.{◌≡◌, ◌+◌, ◌-◌, ◌*◌, ◌<◌, ◌≤◌, ◌++◌, ℕ, List, [], IfOk, OnOk, OnErr, length, drop, take};
 ghost use Rattle.tiff_dir.specs.Block.{block_size};
-ghost use Rattle.range_cache.specs.Cache.{stores};
+ghost use Rattle.http_range.specs.Announced.{announced, FitsFile};
+ghost use Rattle.range_cache.specs.Cache.{stores, Blocks};
 ghost use Rattle.range_cache.specs.Piece.{whole_blocks};
 ghost use Rattle.cog_client.specs.Client.{IsFew};
-ghost use Rattle.cog_client.specs.Body.{with_stored, Extends, IsSeam, IsSoundBody, KeepsTail, Stops};
+ghost use Rattle.cog_client.specs.Body.{with_stored, Extends, IsBody, IsSeam, IsSoundBody, KeepsTail, PartsAreKept, Stops};
 
-use http_range::Span;
+use http_range::{Head, Span};
 use range_cache::{Cache, parts_bring_blocks, pieces_bring_blocks, stores_are_counted};
 use tiff_dir::Memory;
 use tiff_dir::limits::BLOCK_SIZE;
@@ -57,7 +58,31 @@ pub fn copy(room: &mut [u8], at: usize, bytes: &[u8])
     room[at..at + bytes.len()].copy_from_slice(bytes);
 }
 
+/// What is kept of a body is the part of the definition.
+pub fn parts_are_kept()
+    ensures { PartsAreKept }
+{}
+
 impl Body {
+    /// The body that a head announces, of which nothing came yet, for what is asked for.
+    pub fn new(head: &Head, span: Span) -> Body
+        requires fits { FitsFile (announced head.now) }
+        requires few { IsFew span }
+        ensures sound { IsSoundBody result }
+        ensures span { result.span ≡ span }
+        ensures begins { (start : Blocks) (part : List ℕ) → IsBody (announced head.now) start [] result part start }
+    {
+        parts_bring_blocks();
+        Body {
+            next: head.first,
+            complete: head.complete,
+            left: head.length,
+            span,
+            keeps: false,
+            count: 0,
+        }
+    }
+
     /// Takes the bytes that the block lacks in which the body ends so far, and gives the others.
     fn finish<'b>(
         &mut self,

@@ -1,14 +1,15 @@
 //! The case of the table by which a piece of a file is taken.
-ghost use Rattle.std.specs.Prelude.{◌≡◌, if◌then◌else◌};
+ghost use Rattle.std.specs.Prelude.{◌≡◌, ◌+◌, ◌<◌, ◌^◌, ℕ, List, Some, if◌then◌else◌, max, min, nat_le};
 ghost use Rattle.cog_client.specs.declared.case.Case.TheVariants.{Restarted, Ignored as AnIgnored};
 ghost use Rattle.cog_client.specs.declared.delivered.Ignored.TheVariants.{OtherRevision};
 ghost use Rattle.http_range.specs.Announced.{announced};
 ghost use Rattle.http_range.specs.Piece.{piece_seen, IsInside};
 ghost use Rattle.cog_client.specs.Case.{case_of, case_of_piece, is_beside};
 ghost use Rattle.cog_client.specs.Client.{revision_in, revision_at};
-ghost use Rattle.cog_client.specs.Fed.{case_of_head, case_of_revision};
+ghost use Rattle.cog_client.specs.Fed.{case_of_head, case_of_revision, told_at_end};
+ghost use Rattle.cog_client.specs.Fed.Feed.{follows};
 
-use crate::delivered::Ignored;
+use crate::delivered::{Delivered, Ignored};
 use crate::source::Source;
 use http_range::{Head, Piece, Span};
 
@@ -35,13 +36,21 @@ fn case_of_other(whole: bool) -> Case
     }
 }
 
+/// Whether no byte of a body of that length is asked for.
+fn is_beside_at(span: Span, first: u64, came: u64) -> bool
+    requires { first + came < 2 ^ 64 }
+    ensures { result ≡ nat_le (min (first + came) (span.last + 1)) (max first span.first) }
+{
+    let from = first.max(span.first);
+    first + came <= from || span.last < from
+}
+
 /// Whether no byte of the piece's body is asked for.
 fn is_beside(span: Span, piece: &Piece<'_>) -> bool
     requires { IsInside (piece_seen piece.now) }
     ensures { result ≡ is_beside span (piece_seen piece.now) }
 {
-    let end = piece.first + piece.body.len() as u64;
-    end <= piece.first.max(span.first) || span.last < piece.first.max(span.first)
+    is_beside_at(span, piece.first, piece.body.len() as u64)
 }
 
 /// The case of a piece, where there is a revision and something is asked.
@@ -98,5 +107,25 @@ pub fn case_of_head(source: &Option<Source>, asked: Option<Span>, head: &Head) -
     match source {
         None => Case::Adopted,
         Some(source) => case_of_revision(source, head),
+    }
+}
+
+/// What is told at the end of an answer whose head had this case, of whose body so many bytes came and so many blocks were
+/// stored, where this was asked for.
+pub fn told_at_end(case: Case, head: &Head, came: u64, count: u32, span: Span) -> Delivered
+    requires { head.now.first + came < 2 ^ 64 }
+    ensures { (part : List ℕ) → result ≡ told_at_end (follows (announced head.now) case came part count) (Some span) }
+{
+    match case {
+        Case::Ignored(why) => Delivered::Ignored(why),
+        Case::Adopted => Delivered::Took(count),
+        Case::Restarted => Delivered::Restarted,
+        Case::Accepted => {
+            if is_beside_at(span, head.first, came) {
+                Delivered::Ignored(Ignored::NotAsked)
+            } else {
+                Delivered::Took(count)
+            }
+        }
     }
 }
