@@ -18,7 +18,7 @@ use Rattle.range_cache.specs.Numbers.{missing}
 use Rattle.cog_reader.specs.Reader as reader
 use Rattle.cog_client.specs.declared.source.Source.{Source}
 use Rattle.cog_client.specs.Case.{Revision}
-use Rattle.http_range.specs.Book.{Publication, Book, In}
+use Rattle.http_range.specs.Book.{Publication, In}
 use Rattle.cog_client.specs.Client.{AgreementIsSeen, ClientAgrees, ClientState, IsOf, Knows, KnowsBy, KnowsOne, IsReadingOf, asked_of, blocks_of, query_of, report_of, revision_at, revision_of, to_come}
 use Rattle.cog_client.specs.Keeps.{AsksFor, ComesFirst, Lacks, Misses}
 use Rattle.cog_client.specs.Going.{AreSame}

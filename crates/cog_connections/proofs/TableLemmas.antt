@@ -1,16 +1,16 @@
 -- The table of connections.
-use Rattle.std.proofs.Common.{◌≡◌, ◌≢◌, ℕ, zero, suc, ◌+◌, ◌-◌, ◌<◌, Bool, true, false, cond, nat_eq, List, [], ◌∷◌, length, take, Option, Some, None, Result, Ok, Err, refl, sym, ap, ◌∙◌, subst, arith, inl, inr}
-use Rattle.std.specs.Prelude.{if◌then◌else◌, OnErr, option_map, is_some, is_none, ◌≤◌}
+use Rattle.std.proofs.Common.{◌≡◌, ◌≢◌, ℕ, ◌+◌, ◌-◌, ◌<◌, Bool, true, false, cond, nat_eq, [], ◌∷◌, length, take, Option, Some, None, Result, Ok, Err, refl, sym, ap, ◌∙◌, subst, arith, inl, inr}
+use Rattle.std.specs.Prelude.{if◌then◌else◌, OnErr, option_map, is_some, is_none}
 use Rattle.std.specs.Map.{lookup_entry, remove_entry, set_value}
 use Rattle.std.proofs.lemmas.Bool.{cases_Bool}
 use Rattle.std.proofs.lemmas.Bool.Decides.{nat_tests}
-use Rattle.std.proofs.lemmas.Option.{same_Some, none-some}
+use Rattle.std.proofs.lemmas.Option.{none-some}
 use Rattle.std.proofs.lemmas.List.{take_all}
 use Rattle.lru.specs.LruCache.{LruCache, put_entries}
 use Rattle.http_range.specs.Book.{Catalogue}
-use Rattle.cog_server.specs.Status.{Status, GoesOn}
-use Rattle.cog_connections.specs.declared.place.Place.{Place}
-use Rattle.cog_connections.specs.Table.{Table, place_at, OthersStay, Changes, Becomes, GoesOnAt, AreBelow}
+use Rattle.cog_server.specs.Status.{GoesOn}
+use Rattle.cog_connections.specs.declared.timed.Timed.{Timed}
+use Rattle.cog_connections.specs.Table.{Table, timed_at, OthersStay, Changes, Becomes, GoesOnAt, AreBelow}
 
 pub anyway : {A E : Type 0} {P : Type 0} (r : Result A E) → P → OnErr r P
 anyway (Ok a) p = tt
@@ -27,7 +27,7 @@ other_number k j ne = grind (arith, nat_tests)
 
 -- ---- changes in place
 
-set_here : (k : ℕ) (table : Table) (p w : Place) → place_at k table ≡ Some p → place_at k (set_value (nat_eq k) table w) ≡ Some w
+set_here : (k : ℕ) (table : Table) (p w : Timed) → timed_at k table ≡ Some p → timed_at k (set_value (nat_eq k) table w) ≡ Some w
 set_here k [] p w e = absurd (none-some p e)
 set_here k (x ∷ table) p w e =
     elim (cases_Bool (nat_eq k x.0)) [
@@ -35,7 +35,7 @@ set_here k (x ∷ table) p w e =
       | inr other ↦ rw (other, other) (set_here k table p w (rw other at e))
     ]
 
-pub others_kept : (k : ℕ) (table : Table) (w : Place) → OthersStay k table (set_value (nat_eq k) table w)
+pub others_kept : (k : ℕ) (table : Table) (w : Timed) → OthersStay k table (set_value (nat_eq k) table w)
 others_kept k [] w other ne = refl
 others_kept k (x ∷ table) w other ne =
     elim (cases_Bool (nat_eq k x.0)) [
@@ -43,41 +43,41 @@ others_kept k (x ∷ table) w other ne =
       | inr different ↦ rw different (ap (cond (nat_eq other x.0) (Some x.1)) (others_kept k table w other ne))
     ]
 
-pub becomes : (k : ℕ) (table : Table) (p w : Place) → place_at k table ≡ Some p → Becomes k (Some w) table (set_value (nat_eq k) table w)
+pub becomes : (k : ℕ) (table : Table) (p w : Timed) → timed_at k table ≡ Some p → Becomes k (Some w) table (set_value (nat_eq k) table w)
 becomes k table p w found = record { here = set_here k table p w found; others = others_kept k table w }
 
-pub changes : (k : ℕ) (f : Place → Place) (table : Table) (p w : Place) → place_at k table ≡ Some p → w ≡ f p
+pub changes : (k : ℕ) (f : Timed → Timed) (table : Table) (p w : Timed) → timed_at k table ≡ Some p → w ≡ f p
     → Changes k f table (set_value (nat_eq k) table w)
 changes k f table p w found is = record {
   here = set_here k table p w found ∙ ap Some is ∙ sym (ap (option_map f) found);
   others = others_kept k table w;
 }
 
-pub nothing_changes : (k : ℕ) (f : Place → Place) (table : Table) → place_at k table ≡ None → Changes k f table table
+pub nothing_changes : (k : ℕ) (f : Timed → Timed) (table : Table) → timed_at k table ≡ None → Changes k f table table
 nothing_changes k f table none = record { here = none ∙ sym (ap (option_map f) none); others = λ other ne. refl }
 
-pub is_there : (o : Option Place) (p : Place) → o ≡ Some p → true ≡ is_some o
+pub is_there : (o : Option Timed) (p : Timed) → o ≡ Some p → true ≡ is_some o
 is_there o p found = sym (ap is_some found)
 
-pub none_there : (o : Option Place) → o ≡ None → false ≡ is_some o
+pub none_there : (o : Option Timed) → o ≡ None → false ≡ is_some o
 none_there o none = sym (ap is_some none)
 
-pub goes_nowhere : (catalogue : Catalogue) (k now : ℕ) (o : Option Place) (table : Table) → o ≡ None → GoesOnAt catalogue k now o table table false
-goes_nowhere catalogue k now o table none = subst (λ (x : Option Place). GoesOnAt catalogue k now x table table false) (sym none) (refl, refl)
+pub goes_nowhere : (catalogue : Catalogue) (k now : ℕ) (o : Option Timed) (table : Table) → o ≡ None → GoesOnAt catalogue k now o table table false
+goes_nowhere catalogue k now o table none = subst (λ (x : Option Timed). GoesOnAt catalogue k now x table table false) (sym none) (refl, refl)
 
-pub goes_on_at : (catalogue : Catalogue) (k now : ℕ) (table : Table) (p w : Place) (went : Bool) → place_at k table ≡ Some p
+pub goes_on_at : (catalogue : Catalogue) (k now : ℕ) (table : Table) (p w : Timed) (went : Bool) → timed_at k table ≡ Some p
     → GoesOn catalogue p.connection w.connection went → w.progress ≡ (if went then now else p.progress)
-    → GoesOnAt catalogue k now (place_at k table) table (set_value (nat_eq k) table w) went
+    → GoesOnAt catalogue k now (timed_at k table) table (set_value (nat_eq k) table w) went
 goes_on_at catalogue k now table p w went found goes progress =
     let same : w ≡ record { connection = w.connection; progress = if went then now else p.progress } =
     ap (λ (n : ℕ). record { connection = w.connection; progress = n }) progress in
     let b = becomes k table p w found in
-    subst (λ (x : Option Place). GoesOnAt catalogue k now x table (set_value (nat_eq k) table w) went) (sym found)
+    subst (λ (x : Option Timed). GoesOnAt catalogue k now x table (set_value (nat_eq k) table w) went) (sym found)
     (w.connection, goes, record { here = b.here ∙ ap Some same; others = b.others })
 
 -- ---- numbers
 
-same_presence : (k j : ℕ) (table : Table) (w : Place) → is_none (place_at j (set_value (nat_eq k) table w)) ≡ is_none (place_at j table)
+same_presence : (k j : ℕ) (table : Table) (w : Timed) → is_none (timed_at j (set_value (nat_eq k) table w)) ≡ is_none (timed_at j table)
 same_presence k j [] w = refl
 same_presence k j (x ∷ table) w =
     elim (cases_Bool (nat_eq k x.0)) [
@@ -91,15 +91,15 @@ same_presence k j (x ∷ table) w =
       ]
     ]
 
-pub below_set : (k n : ℕ) (table : Table) (w : Place) → AreBelow n table → AreBelow n (set_value (nat_eq k) table w)
+pub below_set : (k n : ℕ) (table : Table) (w : Timed) → AreBelow n table → AreBelow n (set_value (nat_eq k) table w)
 below_set k n table w h j le = same_presence k j table w ∙ h j le
 
-none_removed : (k j : ℕ) (table : Table) → is_none (place_at j table) ≡ true → is_none (place_at j (remove_entry (nat_eq k) table)) ≡ true
+none_removed : (k j : ℕ) (table : Table) → is_none (timed_at j table) ≡ true → is_none (timed_at j (remove_entry (nat_eq k) table)) ≡ true
 none_removed k j [] e = refl
 none_removed k j (x ∷ table) e =
     elim (cases_Bool (nat_eq j x.0)) [
       | inl here ↦ (let clash : false ≡ true = rw here at e in absurd (let f : true ≡ false = sym clash in cc))
-      | inr there ↦ (let rest : is_none (place_at j table) ≡ true = rw there at e in
+      | inr there ↦ (let rest : is_none (timed_at j table) ≡ true = rw there at e in
           elim (cases_Bool (nat_eq k x.0)) [
             | inl same ↦ rw same rest
             | inr other ↦ rw (other, there) (none_removed k j table rest)
@@ -109,7 +109,7 @@ none_removed k j (x ∷ table) e =
 pub below_removed : (k n : ℕ) (table new : Table) → new ≡ remove_entry (nat_eq k) table → AreBelow n table → AreBelow n new
 below_removed k n table new is h = subst (AreBelow n) (sym is) (λ j le. none_removed k j table (h j le))
 
-absent : (n : ℕ) (table : Table) → is_none (place_at n table) ≡ true → (lookup_entry (nat_eq n) table ≡ None) × (place_at n table ≡ None)
+absent : (n : ℕ) (table : Table) → is_none (timed_at n table) ≡ true → (lookup_entry (nat_eq n) table ≡ None) × (timed_at n table ≡ None)
 absent n [] e = (refl, refl)
 absent n (x ∷ table) e =
     elim (cases_Bool (nat_eq n x.0)) [
@@ -117,29 +117,29 @@ absent n (x ∷ table) e =
       | inr there ↦ rw there (absent n table (rw there at e))
     ]
 
-pub new_number : (n : ℕ) (table : Table) → AreBelow n table → place_at n table ≡ None
+pub new_number : (n : ℕ) (table : Table) → AreBelow n table → timed_at n table ≡ None
 new_number n table h = (absent n table (h n (omega arith))).1
 
-pub accepted : (c : LruCache ℕ Place) (n : ℕ) (p : Place) → AreBelow n c.entries → length c.entries < c.cap
+pub accepted : (c : LruCache ℕ Timed) (n : ℕ) (p : Timed) → AreBelow n c.entries → length c.entries < c.cap
     → put_entries nat_eq c n p ≡ (n, p) ∷ c.entries
 accepted c n p h room =
     let all : take (c.cap - 1) c.entries ≡ c.entries = take_all (c.cap - 1) c.entries (omega (arith, room)) in
     rw (absent n c.entries (h n (omega arith))).0 (ap (λ (t : Table). (n, p) ∷ t) all)
 
-pub becomes_new : (n : ℕ) (p : Place) (table new : Table) → new ≡ (n, p) ∷ table → Becomes n (Some p) table new
+pub becomes_new : (n : ℕ) (p : Timed) (table new : Table) → new ≡ (n, p) ∷ table → Becomes n (Some p) table new
 becomes_new n p table new is =
     subst (Becomes n (Some p) table) (sym is) (record {
       here = rw (same_number n) refl;
       others = λ other ne. (let no : nat_eq other n ≡ false = other_number other n ne in rw no refl);
     })
 
-pub below_accepted : (n : ℕ) (p : Place) (table new : Table) → AreBelow n table → new ≡ (n, p) ∷ table → AreBelow (n + 1) new
+pub below_accepted : (n : ℕ) (p : Timed) (table new : Table) → AreBelow n table → new ≡ (n, p) ∷ table → AreBelow (n + 1) new
 below_accepted n p table new h is =
     subst (AreBelow (n + 1)) (sym is) (λ k le. (let no : nat_eq k n ≡ false = other_number k n (omega (arith, le)) in rw no (h k (omega (arith, le)))))
 
 -- ---- the one that is taken away
 
-still : (k other : ℕ) (table : Table) → other ≢ k → place_at other (remove_entry (nat_eq k) table) ≡ place_at other table
+still : (k other : ℕ) (table : Table) → other ≢ k → timed_at other (remove_entry (nat_eq k) table) ≡ timed_at other table
 still k other [] ne = refl
 still k other (x ∷ table) ne =
     elim (cases_Bool (nat_eq k x.0)) [
@@ -148,4 +148,4 @@ still k other (x ∷ table) ne =
     ]
 
 pub others_still : (k : ℕ) (table new : Table) → new ≡ remove_entry (nat_eq k) table → OthersStay k table new
-others_still k table new is other ne = ap (place_at other) is ∙ still k other table ne
+others_still k table new is other ne = ap (timed_at other) is ∙ still k other table ne

@@ -3,35 +3,35 @@ use Rattle.std.specs.Prelude.{◌≡◌, ◌≢◌, ◌≤◌, ◌==◌, ℕ, Bo
 use Rattle.std.specs.Map.{lookup}
 use Rattle.http_range.specs.Book.{Catalogue}
 use Rattle.cog_server.specs.Status.{Status, GoesOn, after_write}
-use Rattle.cog_connections.specs.declared.place.Place.{Place}
+use Rattle.cog_connections.specs.declared.timed.Timed.{Timed}
 
 abbrev pub Table : Type 0
-Table = List (ℕ × Place)
+Table = List (ℕ × Timed)
 
-abbrev pub place_at : ℕ → Table → Option Place
-place_at k table = lookup (nat_eq k) table
+abbrev pub timed_at : ℕ → Table → Option Timed
+timed_at k table = lookup (nat_eq k) table
 
 -- every connection but k is as it was
 abbrev pub OthersStay : ℕ → Table → Table → Type 0
-OthersStay k old new = (other : ℕ) → other ≢ k → place_at other new ≡ place_at other old
+OthersStay k old new = (other : ℕ) → other ≢ k → timed_at other new ≡ timed_at other old
 
 -- connection k becomes another, if there is one, and the others stay
-pub record Changes (k : ℕ) (f : Place → Place) (old new : Table) : Type 0 where
-  pub here : place_at k new ≡ option_map f (place_at k old)
+pub record Changes (k : ℕ) (f : Timed → Timed) (old new : Table) : Type 0 where
+  pub here : timed_at k new ≡ option_map f (timed_at k old)
   pub others : OthersStay k old new
 
 -- k stands in the table as this one, and the others stay
-pub record Becomes (k : ℕ) (place : Option Place) (old new : Table) : Type 0 where
-  pub here : place_at k new ≡ place
+pub record Becomes (k : ℕ) (timed : Option Timed) (old new : Table) : Type 0 where
+  pub here : timed_at k new ≡ timed
   pub others : OthersStay k old new
 
 -- bytes of what waits are written, which is progress where there are any
-abbrev pub place_after_write : ℕ → ℕ → Place → Place
-place_after_write n now p =
+abbrev pub timed_after_write : ℕ → ℕ → Timed → Timed
+timed_after_write n now p =
     record { connection = after_write n p.connection; progress = if n == 0 then p.progress else now }
 
 -- connection k goes on, if there is one
-abbrev pub GoesOnAt : Catalogue → ℕ → ℕ → Option Place → Table → Table → Bool → Type 0
+abbrev pub GoesOnAt : Catalogue → ℕ → ℕ → Option Timed → Table → Table → Bool → Type 0
 GoesOnAt catalogue k now None old new went = (went ≡ false) × (new ≡ old)
 GoesOnAt catalogue k now (Some p) old new went =
     (s : Status) × GoesOn catalogue p.connection s went
@@ -39,4 +39,4 @@ GoesOnAt catalogue k now (Some p) old new went =
 
 -- no number from this one on is given
 abbrev pub AreBelow : ℕ → Table → Type 0
-AreBelow n table = (k : ℕ) → n ≤ k → is_none (place_at k table) ≡ true
+AreBelow n table = (k : ℕ) → n ≤ k → is_none (timed_at k table) ≡ true

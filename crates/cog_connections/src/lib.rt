@@ -1,8 +1,8 @@
 //! Many connections of one server, by their numbers: each as if it were alone, and no more than there is room for.
 #![tactic(auto)]
 
-mod place;
 mod table;
+mod timed;
 
-pub use place::Place;
 pub use table::Connections;
+pub use timed::Timed;

@@ -3,9 +3,9 @@ ghost use Rattle.std.specs.Prelude.{◌≡◌, ◌+◌, ◌<◌, ◌≤◌, [], 
 ghost use Rattle.std.specs.Map.{remove_entry};
 ghost use Rattle.std.specs.NonZero.{non_zero_usize_get};
 ghost use Rattle.cog_server.specs.Status.{start, room_of, after_bytes, after_end};
-ghost use Rattle.cog_connections.specs.Table.{AreBelow, Becomes, Changes, GoesOnAt, OthersStay, place_after_write, place_at};
+ghost use Rattle.cog_connections.specs.Table.{AreBelow, Becomes, Changes, GoesOnAt, OthersStay, timed_after_write, timed_at};
 
-use crate::place::Place;
+use crate::timed::Timed;
 use cog_server::{Connection, Server};
 use http_range::Memory;
 use lru::LruCache;
@@ -16,7 +16,7 @@ use std::num::NonZeroUsize;
 #[derive(Drop)]
 pub struct Connections {
     alloc: Global,
-    pub table: LruCache<u64, Place>,
+    pub table: LruCache<u64, Timed>,
     pub next: u64,
     ghost fresh: { AreBelow next table.entries },
 }
@@ -44,26 +44,26 @@ impl Connections {
     }
 
     /// The connection of this number.
-    pub fn get(&self, number: u64) -> Option<&Place>
-        ensures { option_copied result ≡ place_at number self.now.table.entries }
+    pub fn get(&self, number: u64) -> Option<&Timed>
+        ensures { option_copied result ≡ timed_at number self.now.table.entries }
     {
         self.table.peek(&number)
     }
 
     /// Takes what came on a connection, and says whether there is one of this number. Bytes alone are no progress.
     pub fn came(&mut self, number: u64, bytes: &[u8]) -> Result<bool, Memory>
-        requires { IfSome (place_at number self.old.table.entries) (λ p. length bytes.now ≤ room_of p.connection) }
-        ensures there { IfOk result (λ there. there ≡ is_some (place_at number self.old.table.entries)) }
+        requires { IfSome (timed_at number self.old.table.entries) (λ p. length bytes.now ≤ room_of p.connection) }
+        ensures there { IfOk result (λ there. there ≡ is_some (timed_at number self.old.table.entries)) }
         ensures ok { OnOk result (Changes number (λ p. record p { connection = after_bytes bytes.now p.connection })
             self.old.table.entries self.new.table.entries) }
         ensures err { OnErr result (Changes number (λ p. p) self.old.table.entries self.new.table.entries) }
         ensures cap { self.new.table.cap ≡ self.old.table.cap }
         ensures next { self.new.next ≡ self.old.next }
     {
-        let Some(place) = self.table.peek_mut(&number) else {
+        let Some(timed) = self.table.peek_mut(&number) else {
             return Ok(false);
         };
-        place.came(bytes)?;
+        timed.came(bytes)?;
         Ok(true)
     }
 
@@ -74,37 +74,37 @@ impl Connections {
         ensures cap { self.new.table.cap ≡ self.old.table.cap }
         ensures next { self.new.next ≡ self.old.next }
     {
-        let Some(place) = self.table.peek_mut(&number) else {
+        let Some(timed) = self.table.peek_mut(&number) else {
             return;
         };
-        place.came_to_end();
+        timed.came_to_end();
     }
 
     /// Notes at a moment that bytes of what waits on a connection are written.
     pub fn wrote(&mut self, number: u64, n: usize, now: u64)
-        requires { IfSome (place_at number self.old.table.entries) (λ p. n ≤ length p.connection.waiting) }
-        ensures table { Changes number (place_after_write n now) self.old.table.entries self.new.table.entries }
+        requires { IfSome (timed_at number self.old.table.entries) (λ p. n ≤ length p.connection.waiting) }
+        ensures table { Changes number (timed_after_write n now) self.old.table.entries self.new.table.entries }
         ensures cap { self.new.table.cap ≡ self.old.table.cap }
         ensures next { self.new.next ≡ self.old.next }
     {
-        let Some(place) = self.table.peek_mut(&number) else {
+        let Some(timed) = self.table.peek_mut(&number) else {
             return;
         };
-        place.wrote(n, now);
+        timed.wrote(n, now);
     }
 
     /// Answers the next message of a connection at a moment, and says whether it did.
     pub fn go_on(&mut self, number: u64, server: &Server, now: u64) -> Result<bool, Memory>
-        ensures ok { IfOk result (GoesOnAt server.now.catalogue number now (place_at number self.old.table.entries)
+        ensures ok { IfOk result (GoesOnAt server.now.catalogue number now (timed_at number self.old.table.entries)
             self.old.table.entries self.new.table.entries) }
         ensures err { OnErr result (Changes number (λ p. p) self.old.table.entries self.new.table.entries) }
         ensures cap { self.new.table.cap ≡ self.old.table.cap }
         ensures next { self.new.next ≡ self.old.next }
     {
-        let Some(place) = self.table.peek_mut(&number) else {
+        let Some(timed) = self.table.peek_mut(&number) else {
             return Ok(false);
         };
-        let went = place.go_on(server, now)?;
+        let went = timed.go_on(server, now)?;
         Ok(went)
     }
 
@@ -122,7 +122,7 @@ impl Connections {
     pub fn accept(&mut self, now: u64) -> Result<u64, Memory>
         requires { length self.old.table.entries < self.old.table.cap }
         ensures number { IfOk result (λ number. number ≡ self.old.next) }
-        ensures unused { IfOk result (λ number. place_at number self.old.table.entries ≡ None) }
+        ensures unused { IfOk result (λ number. timed_at number self.old.table.entries ≡ None) }
         ensures table { IfOk result (λ number. Becomes number (Some (record { connection = start; progress = now }))
             self.old.table.entries self.new.table.entries) }
         ensures next { OnOk result (self.new.next ≡ self.old.next + 1) }
@@ -134,11 +134,11 @@ impl Connections {
         }
         let number = self.next;
         let connection = Connection::new(self.alloc);
-        let place = Place {
+        let timed = Timed {
             connection,
             progress: now,
         };
-        self.table.push(number, place)?;
+        self.table.push(number, timed)?;
         self.next = number + 1;
         Ok(number)
     }

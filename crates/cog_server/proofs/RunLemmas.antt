@@ -1,7 +1,7 @@
 -- Runs of a connection.
-use Rattle.std.proofs.Common.{◌≡◌, ◌==◌, ◌||◌, ℕ, zero, suc, ◌+◌, ◌-◌, ◌<◌, ◌≤◌, Bool, true, false, List, [], ◌∷◌, ◌++◌, length, map, take, drop, refl, sym, ap, ◌∙◌, subst, arith, inl, inr, append_assoc, append-nil, length-append, take-append-drop}
+use Rattle.std.proofs.Common.{◌≡◌, ◌==◌, ◌||◌, ℕ, suc, ◌+◌, ◌-◌, ◌≤◌, Bool, true, false, List, [], ◌∷◌, ◌++◌, length, map, take, drop, refl, sym, ap, ◌∙◌, subst, arith, inl, inr, append_assoc, append-nil, length-append, take-append-drop}
 use Rattle.std.specs.Prelude.{◌⊎◌}
-use Rattle.std.specs.List.{list_any, flat_map}
+use Rattle.std.specs.List.{list_any}
 use Rattle.std.proofs.lemmas.Bool.{cases_Bool}
 use Rattle.std.proofs.lemmas.Bool.Decides.{nat_tests}
 use Rattle.std.proofs.lemmas.Grind.{flat_map-append}
@@ -13,8 +13,8 @@ use Rattle.http_range.specs.Laws.{MessagesStay}
 use Rattle.http_range.specs.Response.{Response, IsAnswer, text_of}
 use Rattle.http_range.specs.Stream.{AreAnswers, IsFirstMessage, IsMessage, IsUnfinished, IsAnswered, answers_text}
 use Rattle.http_range.specs.Stream.AreAnswers.{full, unfinished, closed, more}
-use Rattle.cog_server.specs.Status.{Status, is_closing, IsNext, after_message, after_answer}
-use Rattle.cog_server.specs.Run.{Exchange, IsExchange, AreExchanges, messages_of, responses_of, Past, IsAnsweredAlone, none_yet, Event, CanHappen, happened, run, CanRun, RunsAreAnswered, AreFrom, IsServedAlone, RunsAreServed}
+use Rattle.cog_server.specs.Status.{is_closing, IsNext, after_message}
+use Rattle.cog_server.specs.Run.{Exchange, IsExchange, AreExchanges, messages_of, responses_of, Past, IsAnsweredAlone, none_yet, Event, CanHappen, happened, run, CanRun, RunsAreAnswered, AreFrom, RunsAreServed}
 use Rattle.cog_server.specs.Run.Event.{Came, Came_to_end, Answered, Wrote}
 
 -- ---- tests and lists

@@ -1,5 +1,5 @@
 -- Whole runs of a connection: what came, what is written, and which message was answered from which catalogue.
-use Rattle.std.specs.Prelude.{◌≡◌, ◌≤◌, ◌⊎◌, ℕ, ◌+◌, Bool, true, false, List, [], ◌∷◌, ◌++◌, length, map, take, ⊤}
+use Rattle.std.specs.Prelude.{◌≡◌, ◌≤◌, ◌⊎◌, ℕ, true, false, List, [], ◌∷◌, ◌++◌, length, map, take, ⊤}
 use Rattle.std.specs.List.{list_any, flat_map}
 use Rattle.http_parts.specs.declared.limits.TheConstants.{ANSWERS_LIMIT}
 use Rattle.http_range.specs.Book.{Catalogue}

@@ -1,6 +1,6 @@
-use Rattle.std.proofs.Common.{ℕ, ap, ◌∙◌, subst, Some}
+use Rattle.std.proofs.Common.{ap, ◌∙◌, subst, Some}
 use Rattle.cog_server.specs.Status.{Status}
-use Rattle.cog_connections.specs.declared.place.Place.{Place}
+use Rattle.cog_connections.specs.declared.timed.Timed.{Timed}
 use Rattle.cog_connections.specs.Table.{Becomes}
 use Rattle.cog_connections.proofs.TableLemmas.{accepted, becomes_new, below_accepted}
 use Rattle.cog_connections.proofs.table.Connections.accept.Goals as goal
@@ -8,7 +8,7 @@ use Rattle.cog_connections.proofs.table.Connections.accept.Goals as goal
 pub invariant_of-self-2 : goal.invariant_of-self-2
 invariant_of-self-2 c =
     let s = c.args.self.now in
-    let p : Place = record { connection = c.new-connection.result; progress = c.args.now } in
+    let p : Timed = record { connection = c.new-connection.result; progress = c.args.now } in
     record {
       fresh = below_accepted s.next p s.table.entries _ s.fresh
           (ap (λ x. x.entries) c.in_ok-push.ensures.entries ∙ accepted s.table s.next p s.fresh c.requires);
@@ -17,6 +17,6 @@ invariant_of-self-2 c =
 pub returns-clause-table : goal.returns-clause-table
 returns-clause-table c =
     let s = c.args.self.now in
-    let p : Place = record { connection = c.new-connection.result; progress = c.args.now } in
+    let p : Timed = record { connection = c.new-connection.result; progress = c.args.now } in
     subst (λ (t : Status). Becomes s.next (Some (record { connection = t; progress = c.args.now })) s.table.entries c.push.new.self.entries) c.new-connection.ensures
     (becomes_new s.next p s.table.entries _ (ap (λ x. x.entries) c.in_ok-push.ensures.entries ∙ accepted s.table s.next p s.fresh c.requires))

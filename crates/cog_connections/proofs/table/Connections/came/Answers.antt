@@ -1,6 +1,6 @@
 use Rattle.std.proofs.Common.{sym}
 use Rattle.cog_server.specs.Status.{after_bytes}
-use Rattle.cog_connections.specs.declared.place.Place.{Place}
+use Rattle.cog_connections.specs.declared.timed.Timed.{Timed}
 use Rattle.cog_connections.proofs.TableLemmas.{anyway, changes, below_set}
 use Rattle.cog_connections.proofs.table.Connections.came.Goals as goal
 
@@ -11,9 +11,9 @@ invariant_of-self-2 c =
 pub returns-in_err-came-clause-err : goal.returns-in_err-came-clause-err
 returns-in_err-came-clause-err c =
     anyway c.from_residual.result
-    (changes c.args.number (λ p. p) c.args.self.now.table.entries c.in-Some.place.now c.came.new.self (sym c.in-Some.ensures.value) c.in_err-came.ensures.err)
+    (changes c.args.number (λ p. p) c.args.self.now.table.entries c.in-Some.timed.now c.came.new.self (sym c.in-Some.ensures.value) c.in_err-came.ensures.err)
 
 pub returns-clause-ok : goal.returns-clause-ok
 returns-clause-ok c =
-    changes c.args.number (λ (p : Place). record { connection = after_bytes c.args.bytes.now p.connection; progress = p.progress }) c.args.self.now.table.entries
-    c.in-Some.place.now c.came.new.self (sym c.in-Some.ensures.value) c.in_ok-came.ensures.ok
+    changes c.args.number (λ (p : Timed). record { connection = after_bytes c.args.bytes.now p.connection; progress = p.progress }) c.args.self.now.table.entries
+    c.in-Some.timed.now c.came.new.self (sym c.in-Some.ensures.value) c.in_ok-came.ensures.ok

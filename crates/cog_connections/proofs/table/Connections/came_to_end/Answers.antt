@@ -1,6 +1,6 @@
 use Rattle.std.proofs.Common.{sym}
 use Rattle.cog_server.specs.Status.{after_end}
-use Rattle.cog_connections.specs.declared.place.Place.{Place}
+use Rattle.cog_connections.specs.declared.timed.Timed.{Timed}
 use Rattle.cog_connections.proofs.TableLemmas.{changes, below_set}
 use Rattle.cog_connections.proofs.table.Connections.came_to_end.Goals as goal
 
@@ -10,5 +10,5 @@ invariant_of-self-2 c =
 
 pub returns-clause-table : goal.returns-clause-table
 returns-clause-table c =
-    changes c.args.number (λ (p : Place). record { connection = after_end p.connection; progress = p.progress }) c.args.self.now.table.entries
-    c.in-Some.place.now c.came_to_end.new.self (sym c.in-Some.ensures.value) c.came_to_end.ensures
+    changes c.args.number (λ (p : Timed). record { connection = after_end p.connection; progress = p.progress }) c.args.self.now.table.entries
+    c.in-Some.timed.now c.came_to_end.new.self (sym c.in-Some.ensures.value) c.came_to_end.ensures

@@ -9,9 +9,9 @@ invariant_of-self-2 c =
 pub returns-in_err-went-clause-err : goal.returns-in_err-went-clause-err
 returns-in_err-went-clause-err c =
     anyway c.from_residual.result
-    (changes c.args.number (λ p. p) c.args.self.now.table.entries c.in-Some.place.now c.go_on.new.self (sym c.in-Some.ensures.value) c.in_err-went.ensures.err)
+    (changes c.args.number (λ p. p) c.args.self.now.table.entries c.in-Some.timed.now c.go_on.new.self (sym c.in-Some.ensures.value) c.in_err-went.ensures.err)
 
 pub returns-clause-ok : goal.returns-clause-ok
 returns-clause-ok c =
-    goes_on_at c.args.server.now.catalogue c.args.number c.args.now c.args.self.now.table.entries c.in-Some.place.now c.go_on.new.self c.in_ok-went.went
+    goes_on_at c.args.server.now.catalogue c.args.number c.args.now c.args.self.now.table.entries c.in-Some.timed.now c.go_on.new.self c.in_ok-went.went
     (sym c.in-Some.ensures.value) c.in_ok-went.ensures.ok c.in_ok-went.ensures.progress

@@ -1,5 +1,5 @@
 use Rattle.std.proofs.Common.{sym}
-use Rattle.cog_connections.specs.Table.{place_after_write}
+use Rattle.cog_connections.specs.Table.{timed_after_write}
 use Rattle.cog_connections.proofs.TableLemmas.{changes, below_set}
 use Rattle.cog_connections.proofs.table.Connections.wrote.Goals as goal
 
@@ -9,5 +9,5 @@ invariant_of-self-2 c =
 
 pub returns-clause-table : goal.returns-clause-table
 returns-clause-table c =
-    changes c.args.number (place_after_write c.args.n c.args.now) c.args.self.now.table.entries c.in-Some.place.now c.wrote.new.self
+    changes c.args.number (timed_after_write c.args.n c.args.now) c.args.self.now.table.entries c.in-Some.timed.now c.wrote.new.self
     (sym c.in-Some.ensures.value) (λ i. record { connection = c.wrote.ensures.connection i; progress = c.wrote.ensures.progress i })

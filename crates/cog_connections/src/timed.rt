@@ -7,12 +7,12 @@ use http_range::Memory;
 
 /// A connection, and the moment of its last progress: it was accepted, a message was answered, or a byte of an answer taken.
 #[derive(Drop)]
-pub struct Place {
+pub struct Timed {
     pub connection: Connection,
     pub progress: u64,
 }
 
-impl Place {
+impl Timed {
     pub fn came(&mut self, bytes: &[u8]) -> Result<(), Memory>
         requires { length bytes.now ≤ room_of self.old.connection }
         ensures ok { OnOk result (self.new ≡ record self.old { connection = after_bytes bytes.now self.old.connection }) }
