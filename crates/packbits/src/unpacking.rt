@@ -12,22 +12,20 @@ const NO_OP: usize = 128;
 /// The most bytes that a packet stands for.
 const MOST: usize = 128;
 
-/// Where there is room, so many bytes are written for a packet of at most as many, and else `MOST`: neither costs a call.
+/// So many bytes are written at once for a packet of at most as many, and `MOST` for one of more: neither costs a call.
 const AT_ONCE: usize = 16;
 
 /// Writes a byte so many times. What follows in `out` may be overwritten.
 #[inline(always)]
 fn repeat(byte: u8, times: usize, out: &mut [u8])
     requires few { times ≤ MOST }
-    requires room { times ≤ length out.old }
+    requires room { MOST ≤ length out.old }
     ensures { take times out.new ≡ replicate times byte }
 {
-    if times <= AT_ONCE && AT_ONCE <= out.len() {
+    if times <= AT_ONCE {
         out[..AT_ONCE].copy_from_slice(&[byte; AT_ONCE]);
-    } else if MOST <= out.len() {
-        out[..MOST].copy_from_slice(&[byte; MOST]);
     } else {
-        out[..times].fill(byte);
+        out[..MOST].copy_from_slice(&[byte; MOST]);
     }
 }
 
@@ -35,23 +33,69 @@ fn repeat(byte: u8, times: usize, out: &mut [u8])
 #[inline(always)]
 fn copy(bytes: &[u8], len: usize, out: &mut [u8])
     requires few { len ≤ MOST }
+    requires there { MOST ≤ length bytes.now }
+    requires room { MOST ≤ length out.old }
+    ensures { take len out.new ≡ take len bytes.now }
+{
+    if len <= AT_ONCE {
+        out[..AT_ONCE].copy_from_slice(&bytes[..AT_ONCE]);
+    } else {
+        out[..MOST].copy_from_slice(&bytes[..MOST]);
+    }
+}
+
+/// Writes a byte so many times, and nothing behind.
+#[inline(always)]
+fn repeat_last(byte: u8, times: usize, out: &mut [u8])
+    requires { times ≤ length out.old }
+    ensures { take times out.new ≡ replicate times byte }
+{
+    out[..times].fill(byte);
+}
+
+/// Copies the first `len` bytes, and nothing behind.
+#[inline(always)]
+fn copy_last(bytes: &[u8], len: usize, out: &mut [u8])
     requires there { len ≤ length bytes.now }
     requires room { len ≤ length out.old }
     ensures { take len out.new ≡ take len bytes.now }
 {
-    if len <= AT_ONCE && AT_ONCE <= bytes.len() && AT_ONCE <= out.len() {
-        out[..AT_ONCE].copy_from_slice(&bytes[..AT_ONCE]);
-    } else if MOST <= bytes.len() && MOST <= out.len() {
-        out[..MOST].copy_from_slice(&bytes[..MOST]);
+    out[..len].copy_from_slice(&bytes[..len]);
+}
+
+/// Writes what the first packet stands for, where it has room in its row: how many bytes the packet has, and how many it stands
+/// for. There are bytes for any packet, and `out` has room for what any stands for.
+#[inline(always)]
+fn unpack_next(bytes: &[u8], room: usize, out: &mut [u8]) -> Option<(usize, usize)>
+    requires there { MOST < length bytes.now }
+    requires fits { MOST ≤ length out.old }
+    ensures first { IfSome result (λ n. (n.0 ≤ length bytes.now) × (n.1 ≤ room) × (n.1 ≤ length out.old)
+        × IsFirst bytes.now n.0 (take n.1 out.new)) }
+    ensures none { IfNone result (HasNoFirst bytes.now (min room (length out.old))) }
+{
+    let head = usize::from(bytes[0]);
+    if head < NO_OP {
+        let len = head + 1;
+        if len > room {
+            return None;
+        }
+        copy(&bytes[1..], len, out);
+        Some((len + 1, len))
+    } else if head > NO_OP {
+        let times = 257 - head;
+        if times > room {
+            return None;
+        }
+        repeat(bytes[1], times, out);
+        Some((2, times))
     } else {
-        out[..len].copy_from_slice(&bytes[..len]);
+        Some((1, 0))
     }
 }
 
-/// Writes what the first packet stands for, where it has room in its row and in `out`: how many bytes the packet has,
-/// and how many it stands for.
+/// The same of the last bytes, where it has room in `out`, too.
 #[inline(always)]
-fn unpack_first(bytes: &[u8], room: usize, out: &mut [u8]) -> Option<(usize, usize)>
+fn unpack_last(bytes: &[u8], room: usize, out: &mut [u8]) -> Option<(usize, usize)>
     requires { 0 < length bytes.now }
     ensures first { IfSome result (λ n. (n.0 ≤ length bytes.now) × (n.1 ≤ room) × (n.1 ≤ length out.old)
         × IsFirst bytes.now n.0 (take n.1 out.new)) }
@@ -64,17 +108,33 @@ fn unpack_first(bytes: &[u8], room: usize, out: &mut [u8]) -> Option<(usize, usi
         if len > room || len >= bytes.len() {
             return None;
         }
-        copy(&bytes[1..], len, out);
+        copy_last(&bytes[1..], len, out);
         Some((len + 1, len))
     } else if head > NO_OP {
         let times = 257 - head;
         if times > room || bytes.len() < 2 {
             return None;
         }
-        repeat(bytes[1], times, out);
+        repeat_last(bytes[1], times, out);
         Some((2, times))
     } else {
         Some((1, 0))
+    }
+}
+
+/// Writes what the first packet stands for, where it has room in its row and in `out`: how many bytes the packet has, and how
+/// many it stands for.
+#[inline(always)]
+fn unpack_first(bytes: &[u8], room: usize, out: &mut [u8]) -> Option<(usize, usize)>
+    requires { 0 < length bytes.now }
+    ensures first { IfSome result (λ n. (n.0 ≤ length bytes.now) × (n.1 ≤ room) × (n.1 ≤ length out.old)
+        × IsFirst bytes.now n.0 (take n.1 out.new)) }
+    ensures none { IfNone result (HasNoFirst bytes.now (min room (length out.old))) }
+{
+    if MOST < bytes.len() && MOST <= out.len() {
+        unpack_next(bytes, room, out)
+    } else {
+        unpack_last(bytes, room, out)
     }
 }
 

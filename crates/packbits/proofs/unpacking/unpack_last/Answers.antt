@@ -1,7 +1,7 @@
 use Rattle.std.proofs.Common.{◌+◌, ◌-◌, ◌≤◌, length, take, sym, ap, ◌∙◌, arith}
 use Rattle.std.proofs.lemmas.List.{take_rest}
 use Rattle.packbits.proofs.First.{copied_first, repeated_first}
-use Rattle.packbits.proofs.unpacking.unpack_first.Goals as goal
+use Rattle.packbits.proofs.unpacking.unpack_last.Goals as goal
 
 pub returns-else-len-bytes-clause-first : goal.returns-else-len-bytes-clause-first
 returns-else-len-bytes-clause-first c =
@@ -11,7 +11,7 @@ returns-else-len-bytes-clause-first c =
       omega (arith, c.min-room.ensures, c.if-len-room.false),
       room,
       copied_first c.args.bytes.now _ head (sym c.from-head.ensures) c.if-head-lt-NO_OP.true c.if-len-bytes.false
-          (c.copy.ensures ∙ ap (take (head + 1)) (take_rest c.args.bytes.now 1)),
+          (c.copy_last.ensures ∙ ap (take (head + 1)) (take_rest c.args.bytes.now 1)),
     )
 
 pub returns-else-bytes-lt2-clause-first : goal.returns-else-bytes-lt2-clause-first
@@ -22,5 +22,5 @@ returns-else-bytes-lt2-clause-first c =
       omega (arith, c.min-room.ensures, c.if-times-room.false),
       room,
       repeated_first c.args.bytes.now _ head (sym c.from-head.ensures) c.if-head-gt-NO_OP.true (omega (arith, c.type_inv.bytes 0, c.from-head.ensures)) c.if-bytes-lt2.false
-          c.repeat.ensures,
+          c.repeat_last.ensures,
     )
