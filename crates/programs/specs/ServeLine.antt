@@ -1,5 +1,5 @@
 -- The command `cogserve`, and what its words give by clap's definition of a simple command.
-use Rattle.std.specs.Prelude.{◌≡◌, true, ℕ, List, Some, codes, map}
+use Rattle.std.specs.Prelude.{◌≡◌, true, false, ℕ, List, Some, codes, map, option_map}
 use Rattle.clap.specs.Words.{App, Row, Rule, all_of, first_of, new_app, new_rule, with_rule}
 use Rattle.clap.specs.declared.builder.action.ArgAction.TheVariants.{Set, Append}
 use Rattle.programs.specs.declared.command_lines.serve.ServeLine.{ServeLine}
@@ -7,6 +7,10 @@ use Rattle.programs.specs.declared.command_lines.serve.ServeLine.{ServeLine}
 -- an option that has to stand, with one value
 abbrev pub option : List ℕ → Rule
 option name = record (new_rule name) { long = Some name; value_names = 1; required = true; action = Some Set }
+
+-- an option with one value, which may be left out
+abbrev pub choice : List ℕ → Rule
+choice name = record (option name) { required = false }
 
 -- words of which at least one has to stand
 abbrev pub words : List ℕ → Rule
@@ -17,12 +21,15 @@ abbrev pub versioned : App → App
 versioned a = record a { top = record a.top { has_version = true } }
 
 unfoldable pub serve_app : App
-serve_app = with_rule (with_rule (with_rule (with_rule (versioned (new_app (codes "cogserve")))
-    (option (codes "listen"))) (option (codes "epoch"))) (option (codes "connections"))) (words (codes "files"))
+serve_app = with_rule (with_rule (with_rule (with_rule (with_rule (with_rule (versioned (new_app (codes "cogserve")))
+    (option (codes "listen"))) (option (codes "epoch"))) (option (codes "connections"))) (words (codes "files")))
+    (choice (codes "at-once"))) (choice (codes "patience"))
 
 -- the line has the values of these matches
 pub record HasValues (matches : List Row) (line : ServeLine) : Type 0 where
   pub listen : first_of (codes "listen") matches ≡ Some line.listen.now
   pub epoch : first_of (codes "epoch") matches ≡ Some line.epoch.now
   pub connections : first_of (codes "connections") matches ≡ Some line.connections.now
+  pub at_once : first_of (codes "at-once") matches ≡ option_map (λ word. word.now) line.at_once
+  pub patience : first_of (codes "patience") matches ≡ option_map (λ word. word.now) line.patience
   pub files : all_of (codes "files") matches ≡ Some (map (λ file. file.now) line.files.items)

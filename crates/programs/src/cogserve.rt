@@ -1,15 +1,18 @@
-//! `cogserve`: publishes files of the disk and serves them, one connection after another.
+//! `cogserve`: publishes files of the disk and serves them over many connections at once.
 ghost use Rattle.std.specs.Prelude.{◌<◌, length};
 
-use crate::command_lines::serve_line;
+use crate::command_lines::{ServeLine, serve_line};
 use crate::fault::Fault;
 use crate::number::number;
 use crate::watched::Watched;
-use cog_server::{ServeError, Served, Server, Stream};
+use cog_server::Server;
 use http_range::Tag;
+use serving::{Limits, Serving};
 use std::alloc::AllocError;
-use std::net::{Net, OpenListener, TcpListener, TcpStream};
+use std::net::{Net, TcpListener, TcpStream};
+use std::num::NonZeroUsize;
 use std::rt::{Clock, Files};
+use std::time::Duration;
 
 /// Runs the program on its words, of which the first is its own name.
 pub fn run_line<R>(rt: &R, words: &[&str]) -> Result<(), Fault>
@@ -18,7 +21,7 @@ where
 {
     let line = serve_line(rt.alloc(), words)?;
     let epoch = number(rt, line.epoch, 0, u32::MAX)?;
-    let connections = number(rt, line.connections, 1, u32::MAX)?;
+    let limits = limits_of(rt, &line)?;
     let mut files = files_of(rt, &line.files)?;
     let mut server = Server::new(rt.alloc(), epoch);
     publish_all(rt, &mut server, &mut files)?;
@@ -26,7 +29,19 @@ where
         return Err(Fault::CantListen);
     };
     println!(rt; "listening {}", line.listen)?;
-    serve_connections(rt, &mut server, &mut files, &listener, connections)
+    serve_connections(rt, &mut server, &mut files, listener, limits)
+}
+
+/// What the words say of connections: 256 at once, and a patience of 60 seconds, where they don't.
+fn limits_of<R: AllocGlobal>(rt: &R, line: &ServeLine<'_>) -> Result<Limits, Fault> {
+    let connections = number(rt, line.connections, 1, u32::MAX)?;
+    let at_once = number(rt, line.at_once.unwrap_or("256"), 1, 10_000)?;
+    let patience = number(rt, line.patience.unwrap_or("60"), 1, 3_600)?;
+    Ok(Limits {
+        connections,
+        at_once: NonZeroUsize::new(at_once as usize).unwrap_or(NonZeroUsize::MIN),
+        patience: u64::from(patience) * 1_000,
+    })
 }
 
 /// The files that the words name as `NAME=PATH`, cut at the first `=`.
@@ -86,33 +101,61 @@ fn look_again<R: Files + Clock + Print + AllocGlobal>(
     Ok(())
 }
 
-/// Serves a connection until it ends, and closes it. Without a delay, the rest of a body goes out behind its head.
-fn serve_connection(server: &Server, stream: TcpStream) -> Result<Served, ServeError> {
-    let _ = stream.set_nodelay(true);
-    server.serve(&mut Stream::new(&stream), &mut Stream::new(&stream))
+/// The moment, in milliseconds since an arbitrary start.
+fn moment<R: Clock>(rt: &R) -> u64 {
+    let since = rt.monotonic().unwrap_or(Duration::ZERO);
+    u64::try_from(since.as_millis()).unwrap_or(u64::MAX)
 }
 
-/// Serves so many connections, looking at the files before each.
-pub fn serve_connections<R, L>(
+/// Tells of each connection that has ended, from the next one on, and gives how many were told.
+fn print_served<R: Print>(rt: &R, told: u32, ended: u32) -> Result<u32, Fault> {
+    for k in told..ended {
+        println!(rt; "served {}", k + 1)?;
+    }
+    Ok(told.max(ended))
+}
+
+/// Accepts newcomers, looks at the files where one came, and gives each connection its turn.
+fn turn<R: Files + Clock + Print + AllocGlobal>(
     rt: &R,
     server: &mut Server,
     files: &mut [Watched<'_>],
-    listener: &L,
-    connections: u32,
+    serving: &mut Serving,
+) -> Result<(), Fault> {
+    let now = moment(rt);
+    let Ok(newcomers) = serving.accept(now) else {
+        return Err(Fault::CantAccept);
+    };
+    if newcomers > 0 {
+        look_again(rt, server, files)?;
+    }
+    serving.turns(server, now);
+    Ok(())
+}
+
+/// Serves so many connections until each has ended. The files are looked at when connections came, once for all that came together.
+pub fn serve_connections<R>(
+    rt: &R,
+    server: &mut Server,
+    files: &mut [Watched<'_>],
+    listener: TcpListener,
+    limits: Limits,
 ) -> Result<(), Fault>
 where
-    R: Files + Clock + Print + AllocGlobal,
-    L: OpenListener<Stream = TcpStream>,
+    R: Files + Clock + Print + AllocGlobal + Net,
 {
-    for k in 0..connections {
-        let Ok((stream, _)) = listener.accept() else {
+    let Ok(mut serving) = Serving::new(rt, listener, limits) else {
+        return Err(Fault::CantListen);
+    };
+    let mut told = 0;
+    for _ in 0..u64::MAX {
+        turn(rt, server, files, &mut serving)?;
+        told = print_served(rt, told, serving.ended())?;
+        if serving.is_over() {
+            break;
+        }
+        if serving.wait(moment(rt)).is_err() {
             return Err(Fault::CantAccept);
-        };
-        look_again(rt, server, files)?;
-        let served = serve_connection(server, stream);
-        println!(rt; "served {}", k + 1)?;
-        if let Err(ServeError::Memory) = served {
-            return Err(Fault::Memory);
         }
     }
     Ok(())

@@ -1,7 +1,7 @@
 //! The command line of `cogserve`.
 ghost use Rattle.std.specs.Prelude.{◌≡◌, true, false, IfOk, IfErr, codes, map};
 ghost use Rattle.clap.specs.Words.{app_of, kind_of, matches_of, rule_of, takes};
-ghost use Rattle.programs.specs.ServeLine.{HasValues, option, serve_app, words as some_words};
+ghost use Rattle.programs.specs.ServeLine.{HasValues, choice, option, serve_app, words as some_words};
 
 use crate::help::{SERVE_NOTES, VERSION};
 use clap::error::ErrorKind;
@@ -9,17 +9,19 @@ use clap::{Arg, ArgAction, Command, Error};
 use std::alloc::{AllocError, Global};
 use std::convert::AsStr;
 
-/// The words of `cogserve`'s command line: where it listens, its epoch, how many connections it serves, and its files as
-/// `NAME=PATH`.
+/// The words of `cogserve`'s command line: where it listens, its epoch, how many connections it serves in all and at once, how many
+/// seconds one without progress keeps its place, and its files as `NAME=PATH`.
 #[derive(Drop)]
 pub struct ServeLine<'a> {
     pub listen: &'a str,
     pub epoch: &'a str,
     pub connections: &'a str,
+    pub at_once: Option<&'a str>,
+    pub patience: Option<&'a str>,
     pub files: Vec<&'a str>,
 }
 
-/// An option that has to stand. No option of the line has a default.
+/// An option that has to stand.
 fn option<'a>(alloc: Global, name: &'a str, value: &'a str, help: &'a str) -> Arg<'a>
     ensures rule { rule_of result ≡ option name.entry.now }
     ensures local { result.global ≡ false }
@@ -29,6 +31,18 @@ fn option<'a>(alloc: Global, name: &'a str, value: &'a str, help: &'a str) -> Ar
         .value_name(value)
         .help(help)
         .required(true)
+        .action(ArgAction::Set)
+}
+
+/// An option that may be left out.
+fn choice<'a>(alloc: Global, name: &'a str, value: &'a str, help: &'a str) -> Arg<'a>
+    ensures rule { rule_of result ≡ choice name.entry.now }
+    ensures local { result.global ≡ false }
+{
+    Arg::new(alloc, name)
+        .long(name)
+        .value_name(value)
+        .help(help)
         .action(ArgAction::Set)
 }
 
@@ -59,7 +73,19 @@ fn serve_command<'a>(alloc: Global) -> Result<Command<'a>, AllocError>
         alloc,
         "connections",
         "N",
-        "How many connections to serve, one after another, 1 to 4294967295 (no default)",
+        "How many connections to serve in all, 1 to 4294967295 (no default)",
+    );
+    let at_once = choice(
+        alloc,
+        "at-once",
+        "N",
+        "How many connections at once, 1 to 10000 (default 256)",
+    );
+    let patience = choice(
+        alloc,
+        "patience",
+        "SECONDS",
+        "How long a connection without progress keeps its place while another waits, 1 to 3600 (default 60)",
     );
     Ok(
         Command::new(alloc, "cogserve")
@@ -69,7 +95,9 @@ fn serve_command<'a>(alloc: Global) -> Result<Command<'a>, AllocError>
             .arg(listen)?
             .arg(epoch)?
             .arg(connections)?
-            .arg(files(alloc))?,
+            .arg(files(alloc))?
+            .arg(at_once)?
+            .arg(patience)?,
     )
 }
 
@@ -88,6 +116,8 @@ pub fn serve_line<'a, S: AsStr>(alloc: Global, words: &'a [S]) -> Result<ServeLi
         listen,
         epoch,
         connections,
+        at_once: matches.get_str("at-once"),
+        patience: matches.get_str("patience"),
         files,
     })
 }

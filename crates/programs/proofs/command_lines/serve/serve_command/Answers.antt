@@ -14,4 +14,6 @@ returns c =
     let epoch = c.in_ok-arg-2.ensures.shape c.option-epoch.ensures.local ∙ ap₂ with_rule listen c.option-epoch.ensures.rule in
     let connections =
     c.in_ok-arg-3.ensures.shape c.option-connections.ensures.local ∙ ap₂ with_rule epoch c.option-connections.ensures.rule in
-    c.in_ok-arg-4.ensures.shape c.files.ensures.local ∙ ap₂ with_rule connections c.files.ensures.rule
+    let files = c.in_ok-arg-4.ensures.shape c.files.ensures.local ∙ ap₂ with_rule connections c.files.ensures.rule in
+    let at_once = c.in_ok-arg-5.ensures.shape c.choice-at_once.ensures.local ∙ ap₂ with_rule files c.choice-at_once.ensures.rule in
+    c.in_ok-arg-6.ensures.shape c.choice-patience.ensures.local ∙ ap₂ with_rule at_once c.choice-patience.ensures.rule

@@ -3,7 +3,7 @@ use Rattle.std.specs.Borrow.{Bor}
 use Rattle.clap.specs.Words.{App, found_of, is_simple, matches_of, raw_values, rows_of, takes}
 use Rattle.clap.proofs.CallerLemmas.{some_of_text}
 use Rattle.programs.specs.ServeLine.{serve_app}
-use Rattle.programs.proofs.LineLemmas.{all_values, connections_there, epoch_there, files_there, listen_there, option_value, passed_on, simple, some_mapped}
+use Rattle.programs.proofs.LineLemmas.{all_values, choice_value, connections_there, epoch_there, files_there, listen_there, option_value, passed_on, simple, some_mapped}
 use Rattle.programs.proofs.command_lines.serve.serve_line.Goals as goal
 
 pub unwrap-listen-requires : goal.unwrap-listen-requires
@@ -46,6 +46,8 @@ returns-clause-ok g c =
       epoch = option_value found matches (codes "epoch") c.get_str-2.result c.unwrap-epoch.result rows c.get_str-2.ensures c.unwrap-epoch.ensures;
       connections = option_value found matches (codes "connections") c.get_str-3.result c.unwrap-connections.result rows c.get_str-3.ensures
           c.unwrap-connections.ensures;
+      at_once = choice_value found matches (codes "at-once") c.get_str-4.result rows c.get_str-4.ensures;
+      patience = choice_value found matches (codes "patience") c.get_str-5.result rows c.get_str-5.ensures;
       files = all_values found matches (codes "files") c.get_strs.result c.unwrap.result rows c.get_strs.ensures c.unwrap.ensures
           ∙ ap (λ (l : List (Bor (List ℕ))). Some (map (λ (w : Bor (List ℕ)). w.now) l)) (sym c.in_ok-files.ensures.items);
     }

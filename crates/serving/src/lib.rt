@@ -1,0 +1,10 @@
+//! The sockets of a server of many connections, on one thread: which connection can go on, who gets a place, and whose socket is
+//! closed. What is answered is the table's (`cog_connections`).
+#![tactic(auto)]
+
+mod open;
+mod serving;
+mod socket;
+mod turn;
+
+pub use serving::{AcceptError, Limits, Serving};

@@ -1,0 +1,151 @@
+//! The connections that have a place, with their sockets.
+ghost use Rattle.std.specs.Prelude.{◌↔◌, ◌<◌, IsTrue, length};
+
+use crate::turn::{Turn, drain_turn, serve_turn};
+use cog_connections::Connections;
+use cog_server::Server;
+use http_range::Memory;
+use mio::net::TcpStream;
+use mio::{Interest, Poll, Token};
+use std::alloc::Global;
+use std::collections::HashMap;
+use std::io;
+use std::net::Shutdown;
+use std::num::NonZeroUsize;
+
+/// The socket of a connection.
+#[derive(Drop)]
+struct Socket {
+    stream: TcpStream,
+    /// Whether all its answers are written.
+    is_draining: bool,
+}
+
+/// Whether there is a place for a connection more.
+fn has_place(connections: &Connections) -> bool
+    ensures { IsTrue result ↔ (length connections.now.table.entries < connections.now.table.cap) }
+{
+    connections.count() < connections.table.cap().get()
+}
+
+/// The connections that have a place, with their sockets, and how many have ended.
+#[derive(Drop)]
+pub struct Open {
+    connections: Connections,
+    sockets: HashMap<u64, Socket>,
+    ended: u32,
+}
+
+impl Open {
+    /// None, with so many places.
+    pub fn new(alloc: Global, places: NonZeroUsize) -> Result<Self, Memory> {
+        Ok(Open {
+            connections: Connections::new(alloc, places)?,
+            sockets: HashMap::new(alloc),
+            ended: 0,
+        })
+    }
+
+    /// How many have ended.
+    pub fn ended(&self) -> u32 {
+        self.ended
+    }
+
+    /// Whether there is none.
+    pub fn is_empty(&self) -> bool {
+        self.sockets.is_empty()
+    }
+
+    /// Whether there is a place.
+    pub fn has_place(&self) -> bool {
+        has_place(&self.connections)
+    }
+
+    /// The connection whose place a newcomer takes.
+    pub fn yields(&self, now: u64, patience: u64) -> Option<u64> {
+        self.connections.yields(now, patience)
+    }
+
+    /// When the next connection may lose its place. The only one never does.
+    pub fn wakes_at(&self, patience: u64) -> Option<u64> {
+        if self.connections.table.cap().get() == 1 {
+            None
+        } else {
+            self.connections.wakes_at(patience)
+        }
+    }
+
+    /// Adds a connection. One for which the system or memory has no room has ended at once.
+    pub fn add(&mut self, poll: &Poll, stream: TcpStream, now: u64) {
+        if self.try_add(poll, stream, now).is_err() {
+            self.ended = self.ended.saturating_add(1);
+        }
+    }
+
+    fn try_add(&mut self, poll: &Poll, mut stream: TcpStream, now: u64) -> io::Result<()> {
+        if !has_place(&self.connections) {
+            return Err(io::Error::from(io::ErrorKind::Other));
+        }
+        stream.set_nodelay(true)?;
+        let Ok(number) = self.connections.accept(now) else {
+            return Err(io::Error::from(io::ErrorKind::OutOfMemory));
+        };
+        let added = poll.registry().register(
+            &mut stream,
+            Token(number as usize),
+            Interest::READABLE | Interest::WRITABLE,
+        );
+        let is_draining = false;
+        let socket = Socket {
+            stream,
+            is_draining,
+        };
+        if added.is_err() || self.sockets.insert(number, socket).is_err() {
+            self.connections.close(number);
+            return Err(io::Error::from(io::ErrorKind::OutOfMemory));
+        }
+        Ok(())
+    }
+
+    /// Takes a connection's place away.
+    pub fn close(&mut self, number: u64) {
+        if let Some(socket) = self.sockets.remove(&number)
+            && !socket.is_draining
+        {
+            self.ended = self.ended.saturating_add(1);
+        }
+        self.connections.close(number);
+    }
+
+    /// A connection whose last answer is written has ended, and its peer is told so. No, where it had before.
+    pub fn drain(&mut self, number: u64) -> bool {
+        let Some(socket) = self.sockets.get_mut(&number) else {
+            return false;
+        };
+        if socket.is_draining {
+            return false;
+        }
+        socket.is_draining = true;
+        self.ended = self.ended.saturating_add(1);
+        socket.stream.shutdown(Shutdown::Write).is_ok()
+    }
+
+    /// A connection's turn.
+    pub fn turn(&mut self, number: u64, server: &Server, buffer: &mut [u8], now: u64) -> Turn {
+        let Some(socket) = self.sockets.get(&number) else {
+            return Turn::Waits;
+        };
+        if socket.is_draining {
+            drain_turn(&mut self.connections, number, &socket.stream, buffer)
+        } else {
+            serve_turn(
+                &mut self.connections,
+                number,
+                &socket.stream,
+                server,
+                buffer,
+                now,
+            )
+        }
+    }
+}

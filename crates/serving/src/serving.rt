@@ -1,0 +1,246 @@
+//! The sockets of a server: who gets a place, whose turn it is, and how long to wait.
+use crate::open::Open;
+use crate::turn::Turn;
+use cog_server::Server;
+use http_range::MESSAGE_LIMIT;
+use mio::net::{TcpListener, TcpStream};
+use mio::{Events, Interest, Poll, Token};
+use std::collections::VecDeque;
+use std::io::ErrorKind;
+use std::net::Net;
+use std::num::NonZeroUsize;
+use std::time::Duration;
+use std::{io, net};
+
+/// The listener's token. No connection's number is so great.
+const LISTENER: Token = Token(usize::MAX);
+
+/// The most events of one wait.
+const EVENTS: usize = 1024;
+
+/// The most newcomers that are accepted before others have their turn.
+const NEWCOMERS: u32 = 1024;
+
+/// So many milliseconds a connection whose answers are written waits for its peer's end.
+const DRAIN: u64 = 2_000;
+
+/// What the system says where the process, or itself, has no descriptor left (`EMFILE`, `ENFILE`).
+const NO_DESCRIPTOR: [i32; 2] = [24, 23];
+
+/// How many connections there may be, and how long one keeps its place.
+#[derive(Clone, Copy, Debug, PartialEq, Eq)]
+pub struct Limits {
+    /// In all.
+    pub connections: u32,
+    /// At once.
+    pub at_once: NonZeroUsize,
+    /// So many milliseconds a connection that makes no progress keeps its place while a newcomer waits.
+    pub patience: u64,
+}
+
+/// No connection can be accepted any more.
+#[derive(Clone, Copy, Debug, PartialEq, Eq)]
+pub struct AcceptError;
+
+/// A server's sockets. Each moment is given in milliseconds of one clock.
+#[derive(Drop)]
+pub struct Serving {
+    poll: Poll,
+    events: Events,
+    listener: TcpListener,
+    limits: Limits,
+    open: Open,
+    /// The numbers of those that may go on.
+    ready: VecDeque<u64>,
+    /// The moments at which drains end, in order, with the numbers of their connections.
+    drains: VecDeque<(u64, u64)>,
+    buffer: Vec<u8>,
+    /// Whether a newcomer may wait.
+    knocks: bool,
+    accepted: u32,
+}
+
+impl Serving {
+    /// Listens, without a connection.
+    pub fn new<R: Net + AllocGlobal>(
+        rt: &R,
+        listener: net::TcpListener,
+        limits: Limits,
+    ) -> io::Result<Self> {
+        listener.set_nonblocking(true)?;
+        let mut listener = TcpListener::from_std(listener);
+        let poll = Poll::new(rt)?;
+        poll.registry()
+            .register(&mut listener, LISTENER, Interest::READABLE)?;
+        let alloc = rt.alloc();
+        let Ok(open) = Open::new(alloc, limits.at_once) else {
+            return Err(io::Error::from(ErrorKind::OutOfMemory));
+        };
+        Ok(Serving {
+            poll,
+            events: Events::with_capacity(alloc, EVENTS)?,
+            listener,
+            limits,
+            open,
+            ready: VecDeque::new(alloc),
+            drains: VecDeque::new(alloc),
+            buffer: vec![in alloc; 0u8; MESSAGE_LIMIT]?,
+            knocks: true,
+            accepted: 0,
+        })
+    }
+
+    /// How many connections have ended: all their answers are written, or they failed, or lost their place.
+    pub fn ended(&self) -> u32 {
+        self.open.ended()
+    }
+
+    /// Whether all connections were accepted, and each is closed.
+    pub fn is_over(&self) -> bool {
+        self.accepted >= self.limits.connections && self.open.is_empty()
+    }
+
+    /// Accepts the newcomers that get a place, and tells how many.
+    pub fn accept(&mut self, now: u64) -> Result<u32, AcceptError> {
+        for accepted in 0..NEWCOMERS {
+            if !self.is_awaited() || !(self.open.has_place() || self.displace(now)) {
+                return Ok(accepted);
+            }
+            match self.listener.accept() {
+                Ok((stream, _)) => self.welcome(stream, now)?,
+                Err(error) => {
+                    self.look_at(&error, now)?;
+                    return Ok(accepted);
+                }
+            }
+        }
+        Ok(NEWCOMERS)
+    }
+
+    /// Gives each connection that may go on its turn, and closes those whose drain ends.
+    pub fn turns(&mut self, server: &Server, now: u64) {
+        for _ in 0..self.ready.len() {
+            if let Some(number) = self.ready.pop_front() {
+                self.turn(number, server, now);
+            }
+        }
+        self.end_drains(now);
+    }
+
+    /// Waits until something may go on.
+    pub fn wait(&mut self, now: u64) -> io::Result<()> {
+        let timeout = self.timeout(now);
+        self.poll.poll(&mut self.events, timeout)?;
+        for event in &self.events {
+            let token = event.token();
+            if token == LISTENER {
+                self.knocks = true;
+            } else if self.ready.push_back(token.0 as u64).is_err() {
+                self.open.close(token.0 as u64);
+            }
+        }
+        Ok(())
+    }
+
+    /// Whether a newcomer may wait that is to be accepted.
+    fn is_awaited(&self) -> bool {
+        self.knocks && self.accepted < self.limits.connections
+    }
+
+    /// Makes a place for a newcomer, and says whether it did.
+    fn displace(&mut self, now: u64) -> bool {
+        match self.open.yields(now, self.limits.patience) {
+            Some(number) => {
+                self.open.close(number);
+                true
+            }
+            None => false,
+        }
+    }
+
+    /// Gives a newcomer its place. With the last place, the system is asked again whether a newcomer waits, so that nobody is
+    /// displaced for none.
+    fn welcome(&mut self, stream: TcpStream, now: u64) -> Result<(), AcceptError> {
+        self.accepted = self.accepted.saturating_add(1);
+        self.open.add(&self.poll, stream, now);
+        if !self.open.has_place() {
+            self.knocks = false;
+            let registry = self.poll.registry();
+            registry
+                .reregister(&mut self.listener, LISTENER, Interest::READABLE)
+                .map_err(|_| AcceptError)?;
+        }
+        Ok(())
+    }
+
+    /// No newcomer waits, or there is no descriptor for one: it waits until a connection ends, or is displaced.
+    fn look_at(&mut self, error: &io::Error, now: u64) -> Result<(), AcceptError> {
+        if error.kind() == ErrorKind::WouldBlock {
+            self.knocks = false;
+            return Ok(());
+        }
+        match error.raw_os_error() {
+            Some(number) if NO_DESCRIPTOR.contains(&number) => {
+                self.displace(now);
+                Ok(())
+            }
+            _ => Err(AcceptError),
+        }
+    }
+
+    /// A connection goes on.
+    fn turn(&mut self, number: u64, server: &Server, now: u64) {
+        match self.open.turn(number, server, &mut self.buffer, now) {
+            Turn::Waits => {}
+            Turn::GoesOn => self.make_ready(number),
+            Turn::Ended => {
+                let ends = now.saturating_add(DRAIN);
+                if self.open.drain(number) && self.drains.push_back((ends, number)).is_ok() {
+                    self.make_ready(number);
+                } else {
+                    self.open.close(number);
+                }
+            }
+            Turn::Failed => self.open.close(number),
+        }
+    }
+
+    /// A connection may go on. Without memory it is closed.
+    fn make_ready(&mut self, number: u64) {
+        if self.ready.push_back(number).is_err() {
+            self.open.close(number);
+        }
+    }
+
+    /// Closes the connections whose drain ends.
+    fn end_drains(&mut self, now: u64) {
+        for _ in 0..self.drains.len() {
+            let Some((ends, number)) = self.drains.front().copied() else {
+                return;
+            };
+            if ends > now {
+                return;
+            }
+            self.drains.pop_front();
+            self.open.close(number);
+        }
+    }
+
+    /// How long to wait: until a drain ends, or where a newcomer waits, until a connection may lose its place.
+    fn timeout(&self, now: u64) -> Option<Duration> {
+        if !self.ready.is_empty() {
+            return Some(Duration::ZERO);
+        }
+        let drain = self.drains.front().map(|(ends, _)| *ends);
+        let place = if self.is_awaited() {
+            self.open.wakes_at(self.limits.patience)
+        } else {
+            None
+        };
+        let moment = match (drain, place) {
+            (Some(drain), Some(place)) => drain.min(place),
+            (drain, place) => drain.or(place)?,
+        };
+        Some(Duration::from_millis(moment.saturating_sub(now)))
+    }
+}

@@ -1,0 +1,69 @@
+//! Bytes between a connection and its socket.
+use cog_connections::Connections;
+use cog_server::Server;
+use http_range::Memory;
+use mio::net::TcpStream;
+use std::io;
+use std::io::{ErrorKind, IoSlice, Read, Write};
+
+/// Want of memory, as an error of the socket.
+fn memory(_error: Memory) -> io::Error {
+    io::Error::from(ErrorKind::OutOfMemory)
+}
+
+/// Writes at most so many bytes of what waits on a connection, and tells how many: the head and the body by one call, and no byte
+/// copied.
+pub fn write_some(
+    connections: &mut Connections,
+    number: u64,
+    mut stream: &TcpStream,
+    most: usize,
+    now: u64,
+) -> io::Result<usize> {
+    let Some(timed) = connections.get(number) else {
+        return Ok(0);
+    };
+    let (head, body) = timed.connection.waiting();
+    let head = &head[..head.len().min(most)];
+    let body = &body[..body.len().min(most - head.len())];
+    let n = if body.is_empty() {
+        stream.write(head)?
+    } else {
+        stream.write_vectored(&[IoSlice::new(head), IoSlice::new(body)])?
+    };
+    if n == 0 {
+        return Err(io::Error::from(ErrorKind::WriteZero));
+    }
+    connections.wrote(number, n, now);
+    Ok(n)
+}
+
+/// Takes what has come on a connection, at most what it and the buffer have room for.
+pub fn read_some(
+    connections: &mut Connections,
+    number: u64,
+    mut stream: &TcpStream,
+    buffer: &mut [u8],
+) -> io::Result<()> {
+    let Some(timed) = connections.get(number) else {
+        return Ok(());
+    };
+    let room = timed.connection.room().min(buffer.len());
+    let n = stream.read(&mut buffer[..room])?;
+    if n == 0 {
+        connections.came_to_end(number);
+    } else {
+        connections.came(number, &buffer[..n]).map_err(memory)?;
+    }
+    Ok(())
+}
+
+/// Answers the next message of a connection, and says whether there was one.
+pub fn answer(
+    connections: &mut Connections,
+    number: u64,
+    server: &Server,
+    now: u64,
+) -> io::Result<bool> {
+    connections.go_on(number, server, now).map_err(memory)
+}

@@ -1,0 +1,130 @@
+//! A connection's turn: it goes on until its socket would block, and no longer than is fair to others.
+use crate::socket::{answer, read_some, write_some};
+use cog_connections::Connections;
+use cog_server::Server;
+use mio::net::TcpStream;
+use std::io;
+use std::io::ErrorKind;
+
+/// The most bytes that one turn writes.
+const WRITE_LIMIT: usize = 1_048_576;
+
+/// The most steps of one turn: reads, writes and answers.
+const STEP_LIMIT: usize = 256;
+
+/// What a turn came to.
+#[derive(Clone, Copy, Debug, PartialEq, Eq)]
+pub enum Turn {
+    /// The socket has to be ready again.
+    Waits,
+    /// It would have gone on.
+    GoesOn,
+    /// All is done.
+    Ended,
+    /// The socket failed, or memory did.
+    Failed,
+}
+
+/// Whether a connection has bytes to write.
+fn is_waiting(connections: &Connections, number: u64) -> bool {
+    let Some(timed) = connections.get(number) else {
+        return false;
+    };
+    let (head, body) = timed.connection.waiting();
+    !head.is_empty() || !body.is_empty()
+}
+
+/// Whether all answers of a connection are written, or there is none of this number.
+fn has_ended(connections: &Connections, number: u64) -> bool {
+    match connections.get(number) {
+        Some(timed) => timed.connection.ended().is_some(),
+        None => true,
+    }
+}
+
+/// Whether nothing more may come on a connection.
+pub fn is_drained(connections: &Connections, number: u64) -> bool {
+    match connections.get(number) {
+        Some(timed) => timed.connection.is_drained(),
+        None => true,
+    }
+}
+
+/// What an error of a socket makes of a turn; none where the call is made once more.
+fn turn_of(error: &io::Error) -> Option<Turn> {
+    match error.kind() {
+        ErrorKind::Interrupted => None,
+        ErrorKind::WouldBlock => Some(Turn::Waits),
+        _ => Some(Turn::Failed),
+    }
+}
+
+/// Writes what waits, at most so many bytes, or answers the next message, or reads: how many bytes were written, none where all
+/// answers are.
+fn step(
+    connections: &mut Connections,
+    number: u64,
+    stream: &TcpStream,
+    server: &Server,
+    buffer: &mut [u8],
+    (most, now): (usize, u64),
+) -> io::Result<Option<usize>> {
+    if is_waiting(connections, number) {
+        return Ok(Some(write_some(connections, number, stream, most, now)?));
+    }
+    if answer(connections, number, server, now)? {
+        return Ok(Some(0));
+    }
+    if has_ended(connections, number) {
+        return Ok(None);
+    }
+    read_some(connections, number, stream, buffer)?;
+    Ok(Some(0))
+}
+
+/// Reads messages and writes their answers. It has ended where the last answer is written.
+pub fn serve_turn(
+    connections: &mut Connections,
+    number: u64,
+    stream: &TcpStream,
+    server: &Server,
+    buffer: &mut [u8],
+    now: u64,
+) -> Turn {
+    let mut most = WRITE_LIMIT;
+    for _ in 0..STEP_LIMIT {
+        match step(connections, number, stream, server, buffer, (most, now)) {
+            Ok(Some(n)) => most = most.saturating_sub(n),
+            Ok(None) => return Turn::Ended,
+            Err(error) => {
+                if let Some(turn) = turn_of(&error) {
+                    return turn;
+                }
+            }
+        }
+        if most == 0 {
+            break;
+        }
+    }
+    Turn::GoesOn
+}
+
+/// Drops what still comes behind the last message. It has ended where nothing more may come.
+pub fn drain_turn(
+    connections: &mut Connections,
+    number: u64,
+    stream: &TcpStream,
+    buffer: &mut [u8],
+) -> Turn {
+    for _ in 0..STEP_LIMIT {
+        if is_drained(connections, number) {
+            return Turn::Ended;
+        }
+        if let Err(error) = read_some(connections, number, stream, buffer)
+            && let Some(turn) = turn_of(&error)
+        {
+            return turn;
+        }
+    }
+    Turn::GoesOn
+}
