@@ -1,11 +1,14 @@
 //! Many connections, by their numbers.
-ghost use Rattle.std.specs.Prelude.{◌≡◌, ◌+◌, ◌<◌, ◌≤◌, [], Some, None, IfOk, IfSome, OnOk, OnErr, is_some, length, nat_eq, option_copied};
+ghost use Rattle.std.specs.Prelude.{◌≡◌, ◌≢◌, ◌+◌, ◌<◌, ◌≤◌, [], Some, None, IfOk, IfSome, OnOk, OnErr, is_some, length, nat_eq, option_copied};
 ghost use Rattle.std.specs.Map.{remove_entry};
 ghost use Rattle.std.specs.NonZero.{non_zero_usize_get};
 ghost use Rattle.cog_server.specs.Status.{start, room_of, after_bytes, after_end};
 ghost use Rattle.cog_connections.specs.Table.{AreBelow, Becomes, Changes, GoesOnAt, OthersStay, timed_after_write, timed_at};
+ghost use Rattle.cog_connections.specs.Yielding.{WakesAt, Yields};
 
+use crate::sought::Sought;
 use crate::timed::Timed;
+use crate::yielding::longest;
 use cog_server::{Connection, Server};
 use http_range::Memory;
 use lru::LruCache;
@@ -141,5 +144,35 @@ impl Connections {
         self.table.push(number, timed)?;
         self.next = number + 1;
         Ok(number)
+    }
+
+    /// The connection whose place a newcomer takes at a moment; with None it waits. A connection drains where its last answer is
+    /// written, and is idle where nothing of a message came and no answer is unfinished. The one place of a table of one is never
+    /// taken.
+    pub fn yields(&self, now: u64, patience: u64) -> Option<u64>
+        ensures one { self.now.table.cap ≡ 1 → result ≡ None }
+        ensures many { self.now.table.cap ≢ 1 → Yields now patience self.now.table.entries result }
+    {
+        if self.table.cap().get() == 1 {
+            return None;
+        }
+        if let Some((number, _moment)) = longest(&self.table, Sought::Draining) {
+            return Some(number);
+        }
+        if let Some((number, _moment)) = longest(&self.table, Sought::Idle) {
+            return Some(number);
+        }
+        match longest(&self.table, Sought::Stuck { now, patience }) {
+            Some((number, _moment)) => Some(number),
+            None => None,
+        }
+    }
+
+    /// The first moment at which a connection will have made no progress for as long as the patience.
+    pub fn wakes_at(&self, patience: u64) -> Option<u64>
+        ensures { WakesAt patience self.now.table.entries result }
+    {
+        let (_number, moment) = longest(&self.table, Sought::Any)?;
+        moment.checked_add(patience)
     }
 }

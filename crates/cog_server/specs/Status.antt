@@ -92,3 +92,11 @@ EndsBy s None =
 -- nothing more may come
 abbrev pub is_drained : Status → Bool
 is_drained s = s.is_over || (is_closing s && nat_le DROP_LIMIT s.dropped)
+
+-- no message has begun, and no answer is unfinished
+abbrev pub is_idle : Status → Bool
+is_idle s = length s.held == 0 && length s.waiting == 0
+
+-- the last answer is written
+abbrev pub is_draining : Status → Bool
+is_draining s = is_closing s && length s.waiting == 0

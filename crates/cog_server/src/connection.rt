@@ -53,7 +53,7 @@ impl Model for Connection {
 }
 
 impl Connection {
-    ghost use Rattle.cog_server.specs.Status.{start, room_of, GoesOn, EndsBy, after_bytes, after_end, after_write, is_drained};
+    ghost use Rattle.cog_server.specs.Status.{start, room_of, GoesOn, EndsBy, after_bytes, after_end, after_write, is_drained, is_draining, is_idle};
 
     /// A connection on which nothing came.
     ///
@@ -175,6 +175,20 @@ impl Connection {
             return Some(Ended::EndOfInput);
         }
         None
+    }
+
+    /// Whether no message has begun and no answer is unfinished, so that nothing is lost where the connection is let go.
+    pub fn is_idle(&self) -> bool
+        ensures { result ≡ is_idle self.now }
+    {
+        self.held.bytes.is_empty() && !self.outgoing.is_waiting()
+    }
+
+    /// Whether the last answer is written, and only the peer's end is waited for.
+    pub fn is_draining(&self) -> bool
+        ensures { result ≡ is_draining self.now }
+    {
+        closes(self.closed, self.answers) && !self.outgoing.is_waiting()
     }
 
     /// Whether nothing more may come: the input is at its end, or 65,536 bytes behind the last message are dropped.
