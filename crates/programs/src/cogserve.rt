@@ -115,7 +115,8 @@ fn print_served<R: Print>(rt: &R, told: u32, ended: u32) -> Result<u32, Fault> {
     Ok(told.max(ended))
 }
 
-/// Accepts newcomers, looks at the files where one came, and gives each connection its turn.
+/// Gives each connection that is ready its turn, accepts newcomers, and looks at the files where one came. Turns come first: a
+/// connection whose message is there isn't idle.
 fn turn<R: Files + Clock + Print + AllocGlobal>(
     rt: &R,
     server: &mut Server,
@@ -123,13 +124,13 @@ fn turn<R: Files + Clock + Print + AllocGlobal>(
     serving: &mut Serving,
 ) -> Result<(), Fault> {
     let now = moment(rt);
+    serving.turns(server, now);
     let Ok(newcomers) = serving.accept(now) else {
         return Err(Fault::CantAccept);
     };
     if newcomers > 0 {
         look_again(rt, server, files)?;
     }
-    serving.turns(server, now);
     Ok(())
 }
 

@@ -55,7 +55,7 @@ fn program_of(words: &[String]) -> &'static str {
 fn help(alloc: Global, name: &str) -> Result<String, AllocError> {
     format!(in alloc;
         "\
-Usage: {name} cogserve --listen HOST:PORT --epoch N --connections N NAME=PATH..
+Usage: {name} cogserve --listen HOST:PORT --epoch N --connections N [--at-once N] [--patience SECONDS] NAME=PATH..
        {name} cogread window SERVER NAME X Y W H [--level N] [--columns C] [--requests N] [--blocks N]
        {name} cogread info SERVER NAME [--requests N] [--blocks N]
        {name} cogworld SCRIPT

@@ -10,6 +10,7 @@ use http_range::Tag;
 use scripts::{LoadError, Source};
 use std::fs;
 use std::fs::Metadata;
+use std::io::ErrorKind;
 use std::os::unix::fs::MetadataExt;
 use std::rt::{Clock, Files};
 use std::time::Duration;
@@ -65,6 +66,16 @@ fn stamp_of<R: Files + Clock>(rt: &R, path: &str) -> Option<Stamp> {
     })
 }
 
+/// The bytes of a file of the disk, and of nothing else there: to open a pipe might wait for its writer.
+fn bytes_of<R: Files + AllocGlobal>(rt: &R, path: &str) -> Result<Vec<u8>, LoadError> {
+    match fs::metadata(rt, path) {
+        Ok(metadata) if metadata.is_file() => (Disk { rt }).load(path.as_bytes()),
+        Ok(_) => Err(LoadError::CantRead),
+        Err(error) if error.kind() == ErrorKind::OutOfMemory => Err(LoadError::Memory),
+        Err(_) => Err(LoadError::CantRead),
+    }
+}
+
 /// Publishes a file, unless the one under its name has the same bytes.
 fn publish_other(
     server: &mut Server,
@@ -105,7 +116,7 @@ impl<'a> Watched<'a> {
         ensures err { OnErr result (server.new ≡ server.old) }
     {
         let seen = stamp_of(rt, self.path);
-        let bytes = match (Disk { rt }).load(self.path.as_bytes()) {
+        let bytes = match bytes_of(rt, self.path) {
             Ok(bytes) => bytes,
             Err(LoadError::Memory) => return Err(Fault::Memory),
             Err(LoadError::CantRead) => {
@@ -138,7 +149,7 @@ impl<'a> Watched<'a> {
         if seen.is_some() && seen == self.seen {
             return None;
         }
-        let bytes = (Disk { rt }).load(self.path.as_bytes()).ok()?;
+        let bytes = bytes_of(rt, self.path).ok()?;
         match publish_other(server, self.name.as_bytes(), bytes) {
             Ok(tag) => {
                 self.seen = seen;

@@ -1,3 +1,4 @@
 //! Tests over sockets of one process.
 mod loopback;
+mod places;
 mod serving;

@@ -66,30 +66,35 @@ fn reads_the_options_of_cogread_anywhere(rt: HostRuntime) -> Result<(), Fail> {
     Ok(())
 }
 
-/// Words of `cogserve`: the address, the epoch, the number of connections, and the files.
+/// Words of `cogserve`: the address, the epoch, the number of connections, how many at once, the patience, and the files.
 type ServedRow = (
     &'static str,
-    &'static str,
-    &'static str,
-    &'static str,
+    [&'static str; 3],
+    [Option<&'static str>; 2],
     &'static [&'static str],
 );
 
 #[rattlefmt::skip]
-const SERVED: [ServedRow; 3] = [
-    ("cogserve --listen h:1 --epoch 1 --connections 2 a=p", "h:1", "1", "2", &["a=p"]),
-    ("cogserve a=p --connections=3 b=q=r --epoch x --listen=[::1]:80 c", "[::1]:80", "x", "3", &["a=p", "b=q=r", "c"]),
-    ("cogserve --listen '' --epoch '' --connections '' -- --a=p", "", "", "", &["--a=p"]),
+const SERVED: [ServedRow; 4] = [
+    ("cogserve --listen h:1 --epoch 1 --connections 2 a=p", ["h:1", "1", "2"], [None, None], &["a=p"]),
+    (
+        "cogserve a=p --connections=3 b=q=r --epoch x --at-once 7 --listen=[::1]:80 c",
+        ["[::1]:80", "x", "3"], [Some("7"), None], &["a=p", "b=q=r", "c"],
+    ),
+    ("cogserve --listen '' --epoch '' --connections '' -- --a=p", ["", "", ""], [None, None], &["--a=p"]),
+    (
+        "cogserve --patience=x --listen h:1 --at-once '' --epoch 1 --connections 2 a=p",
+        ["h:1", "1", "2"], [Some(""), Some("x")], &["a=p"],
+    ),
 ];
 
 fn is_served(alloc: Global, row: ServedRow) -> Result<bool, AllocError> {
-    let (line, listen, epoch, connections, files) = row;
+    let (line, values, choices, files) = row;
     let words = words_of(alloc, line)?;
     let is_served = match serve_line(alloc, &words) {
         Ok(found) => {
-            found.listen == listen
-                && found.epoch == epoch
-                && found.connections == connections
+            [found.listen, found.epoch, found.connections] == values
+                && [found.at_once, found.patience] == choices
                 && found.files.as_slice() == files
         }
         Err(_) => false,
@@ -107,7 +112,7 @@ fn reads_the_options_and_files_of_cogserve_anywhere(rt: HostRuntime) -> Result<(
 
 /// Words that are refused, or ask for help, and how clap names that.
 #[rattlefmt::skip]
-const REFUSED: [(&str, ErrorKind); 19] = [
+const REFUSED: [(&str, ErrorKind); 20] = [
     ("cogread --help", ErrorKind::DisplayHelp),
     ("cogread window --help", ErrorKind::DisplayHelp),
     ("cogread info -h", ErrorKind::DisplayHelp),
@@ -127,6 +132,7 @@ const REFUSED: [(&str, ErrorKind); 19] = [
     ("cogserve --port h:1", ErrorKind::UnknownArgument),
     ("cogserve --listen h:1 --listen h:2 a=p", ErrorKind::ArgumentConflict),
     ("cogserve a=p --epoch", ErrorKind::InvalidValue),
+    ("cogserve --listen h:1 --epoch 1 --connections 2 --at-once 1 --at-once 2 a=p", ErrorKind::ArgumentConflict),
 ];
 
 /// How clap names the refusal, if there is one.

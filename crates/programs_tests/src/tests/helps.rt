@@ -25,7 +25,7 @@ const WINDOW_PARTS: &[&str] = &[
 #[rattlefmt::skip]
 const HELPS: [(&str, &[&str]); 7] = [
     ("--help", &[
-        "cogtools cogserve --listen HOST:PORT --epoch N --connections N NAME=PATH..\n",
+        "cogtools cogserve --listen HOST:PORT --epoch N --connections N [--at-once N] [--patience SECONDS] NAME=PATH..\n",
         "cogtools cogread window SERVER NAME X Y W H [--level N] [--columns C] [--requests N] [--blocks N]\n",
         "cogtools cogread info SERVER NAME [--requests N] [--blocks N]\n",
         "cogtools cogworld SCRIPT\n",
@@ -37,6 +37,10 @@ const HELPS: [(&str, &[&str]); 7] = [
         "0 to 4294967295 (no default)",
         "--connections <N>",
         "1 to 4294967295 (no default)",
+        "--at-once <N>",
+        "1 to 10000 (default 256)",
+        "--patience <SECONDS>",
+        "1 to 3600 (default 60)",
         "NAME=PATH",
         "files of 1 to 67108864 bytes",
         "Example:\n  cogtools cogserve --listen 127.0.0.1:8080 --epoch 1 --connections 100 a.tif=/data/a.tif\n",

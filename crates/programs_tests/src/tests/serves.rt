@@ -55,10 +55,47 @@ fn refuses_the_first_word_of_another_form(rt: HostRuntime) -> Result<(), Fail> {
     Ok(())
 }
 
+/// An option that may be left out, and the word of it that is no number of its range.
+const OF_CHOICES: [(&str, &str, &str); 6] = [
+    ("--at-once", "0", "cogserve: not a number: 0\n"),
+    ("--at-once", "10001", "cogserve: not a number: 10001\n"),
+    ("--at-once", "all", "cogserve: not a number: all\n"),
+    ("--patience", "0", "cogserve: not a number: 0\n"),
+    ("--patience", "3601", "cogserve: not a number: 3601\n"),
+    ("--patience", "", "cogserve: not a number: \n"),
+];
+
+/// The values beside each limit are numbers: then the next fault is told.
+const WITHIN: [(&str, &str); 4] = [
+    ("--at-once", "1"),
+    ("--at-once", "10000"),
+    ("--patience", "1"),
+    ("--patience", "3600"),
+];
+
+#[test]
+fn refuses_numbers_past_the_limits_of_options(rt: HostRuntime) -> Result<(), Fail> {
+    for (option, word, err) in OF_CHOICES {
+        let mut words = words_of(rt.alloc(), "1", "1", NO_FILE)?;
+        words.push(String::from_str(rt.alloc(), option)?)?;
+        words.push(String::from_str(rt.alloc(), word)?)?;
+        expect_told(&rt, err, &words, ("", err, 2))?;
+    }
+    for (option, word) in WITHIN {
+        let mut words = words_of(rt.alloc(), "1", "1", NO_FILE)?;
+        words.push(String::from_str(rt.alloc(), option)?)?;
+        words.push(String::from_str(rt.alloc(), word)?)?;
+        expect_told(&rt, option, &words, ("", "cogserve: not a file: a\n", 2))?;
+    }
+    Ok(())
+}
+
 /// An epoch and files, and what is printed of them to standard output and told on standard error.
 #[rattlefmt::skip]
-const OF_FILES: [(&str, &[&str], &str, &str); 7] = [
+const OF_FILES: [(&str, &[&str], &str, &str); 8] = [
     ("1", &["a=programs_tests_nowhere"], "", "cogserve: can't read programs_tests_nowhere\n"),
+    // A folder.
+    ("1", &["a=."], "", "cogserve: can't read .\n"),
     ("1", &["a b=programs_tests_some"], "", "cogserve: refused 1 a b\n"),
     ("1", &["a=programs_tests_empty"], "", "cogserve: refused 2 a\n"),
     ("1", &["a=programs_tests_large"], "", "cogserve: refused 3 a\n"),

@@ -1,16 +1,28 @@
-//! Connections of `cogserve`, in turn: before each the file of the disk is written anew.
+//! Connections of `cogserve` with the lines that it prints: the file of the disk is written anew between them.
 use cog_server::Server;
 use fixtures_support::f1;
 use programs::{Fault, Watched, publish_all, serve_connections};
 use programs_support::Capture;
+use serving::Limits;
 use std::io::{Read, Write};
-use std::net::{Net, OpenListener, Shutdown, SocketAddr, TcpListener, TcpStream};
+use std::net::{Net, Shutdown, SocketAddr, TcpListener, TcpStream};
+use std::num::NonZeroUsize;
+use std::os::fd::OwnedFd;
 use std::process::Abort;
 use std::rt::{Clock, Files};
 use std::test::Fail;
 use std::{fs, io};
 
 const ASK: &str = "GET /a HTTP/1.1\r\nHost: h\r\nRange: bytes=1-4\r\n\r\n";
+
+/// So many connections in all, and as many at once as there may be.
+fn limits(connections: u32) -> Limits {
+    Limits {
+        connections,
+        at_once: NonZeroUsize::MAX,
+        patience: 60_000,
+    }
+}
 
 /// A connection on which this is sent.
 fn connect<R: Net<Stream = TcpStream>>(
@@ -35,7 +47,7 @@ where
     R: Files + Clock + Print + AllocGlobal + Net<Listener = TcpListener, Stream = TcpStream>,
 {
     let client = connect(rt, listener.local_addr()?, ASK)?;
-    if serve_connections(rt, server, files, listener, 1).is_err() {
+    if serve_connections(rt, server, files, listener.try_clone()?, limits(1)).is_err() {
         return Err(Fail::new("a fault"));
     }
     Ok(io::read_to_string(rt.alloc(), client)?)
@@ -139,7 +151,7 @@ fn counts_each_connection(rt: HostRuntime) -> Result<(), Fail> {
     let _refused = connect(&rt, address, "\r\n?\r\n\r\n")?;
     let _asking = connect(&rt, address, ASK)?;
     let capture = Capture::new(&rt);
-    assert!(rt; serve_connections(&capture, &mut server, &mut [], &listener, 3).is_ok());
+    assert!(rt; serve_connections(&capture, &mut server, &mut [], listener, limits(3)).is_ok());
     assert_eq!(rt;
         capture.into_texts().0.as_slice(),
         b"served 1\nserved 2\nserved 3\n".as_slice()
@@ -182,25 +194,18 @@ fn publishes_the_bytes_of_the_file(rt: HostRuntime) -> Result<(), Fail> {
     Ok(())
 }
 
-/// A listener that fails.
-#[derive(Drop)]
-struct Deaf;
-
-impl OpenListener for Deaf {
-    type Stream = TcpStream;
-
-    fn accept(&self) -> io::Result<(TcpStream, SocketAddr)> {
-        Err(io::Error::from(io::ErrorKind::ConnectionAborted))
-    }
-}
-
+/// A stream is no listener.
 #[test]
-fn ends_where_no_connection_is_accepted(rt: HostRuntime) {
+fn ends_where_no_connection_is_accepted(rt: HostRuntime) -> Result<(), Fail> {
+    let listener = TcpListener::bind(&rt, "127.0.0.1:0")?;
+    let stream = TcpStream::connect(&rt, listener.local_addr()?)?;
+    let deaf = TcpListener::from(OwnedFd::from(stream));
     let capture = Capture::new(&rt);
     let mut server = Server::new(rt.alloc(), 1);
-    let served = serve_connections(&capture, &mut server, &mut [], &Deaf, 1);
+    let served = serve_connections(&capture, &mut server, &mut [], deaf, limits(1));
     assert!(rt; matches!(served, Err(Fault::CantAccept)));
     let (out, _) = capture.into_texts();
     assert!(rt; out.is_empty());
     assert_eq!(rt; Fault::CantAccept.status(), 1);
+    Ok(())
 }

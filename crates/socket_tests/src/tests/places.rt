@@ -1,0 +1,144 @@
+//! Who has a place at a server of few places, and who gets one; each moment is handed in.
+use cog_server::Server;
+use fixtures_support::f1;
+use serving::{Limits, Serving};
+use std::io::{Read, Write};
+use std::net::{SocketAddr, TcpListener, TcpStream};
+use std::num::NonZeroUsize;
+use std::test::Fail;
+
+const ASK: &str = "GET /a HTTP/1.1\r\nHost: h\r\nRange: bytes=0-3\r\n\r\n";
+
+/// How the head of the answer to that begins.
+const ANSWER: &str = "HTTP/1.1 206 Partial Content\r\n";
+
+/// A server of this file with so many places, where a connection without progress keeps its place for a second.
+fn serving(rt: &HostRuntime, places: usize) -> Result<(Serving, Server, SocketAddr), Fail> {
+    let listener = TcpListener::bind(rt, "127.0.0.1:0")?;
+    let address = listener.local_addr()?;
+    let Some(at_once) = NonZeroUsize::new(places) else {
+        return Err(Fail::new("no place"));
+    };
+    let limits = Limits {
+        connections: 9,
+        at_once,
+        patience: 1_000,
+    };
+    let mut server = Server::new(rt.alloc(), 1);
+    if server.publish(b"a", f1(rt.alloc())?).is_err() {
+        return Err(Fail::new("not published"));
+    }
+    Ok((Serving::new(rt, listener, limits)?, server, address))
+}
+
+/// A connection on which this is sent.
+fn connect(rt: &HostRuntime, address: SocketAddr, text: &str) -> Result<TcpStream, Fail> {
+    let mut client = TcpStream::connect(rt, address)?;
+    client.write_all(text.as_bytes())?;
+    Ok(client)
+}
+
+/// Accepts who gets a place at a moment and gives each connection its turn: how many were accepted, and how many have ended.
+fn turn(serving: &mut Serving, server: &Server, now: u64) -> Result<(u32, u32), Fail> {
+    let Ok(accepted) = serving.accept(now) else {
+        return Err(Fail::new("not accepted"));
+    };
+    if accepted > 0 {
+        serving.wait(now)?;
+    }
+    serving.turns(server, now);
+    Ok((accepted, serving.ended()))
+}
+
+/// Asks on a connection, and expects an answer at this moment.
+fn expect_answer(
+    rt: &HostRuntime,
+    client: &mut TcpStream,
+    serving: &mut Serving,
+    server: &Server,
+    now: u64,
+) -> Result<(), Fail> {
+    client.write_all(ASK.as_bytes())?;
+    serving.wait(now)?;
+    serving.turns(server, now);
+    let mut head = [0u8; ANSWER.len()];
+    client.read_exact(&mut head)?;
+    assert_eq!(rt; str::from_utf8(&head), Ok(ANSWER));
+    Ok(())
+}
+
+#[test]
+fn answers_beside_those_who_say_nothing(rt: HostRuntime) -> Result<(), Fail> {
+    let (mut serving, server, address) = serving(&rt, 3)?;
+    let _silent = connect(&rt, address, "")?;
+    let _begun = connect(&rt, address, "GET /a HTTP/1.1\r\n")?;
+    let mut client = connect(&rt, address, "")?;
+    assert_eq!(rt; turn(&mut serving, &server, 0)?, (3, 0));
+    for now in 1..9 {
+        expect_answer(&rt, &mut client, &mut serving, &server, now)?;
+    }
+    assert!(rt; !serving.is_over());
+    Ok(())
+}
+
+/// The first of the idle ones gives its place away at once, one that began a message after the patience alone.
+#[test]
+fn gives_a_newcomer_a_place(rt: HostRuntime) -> Result<(), Fail> {
+    let (mut serving, server, address) = serving(&rt, 2)?;
+    let _begun = connect(&rt, address, "GET")?;
+    let mut idle = connect(&rt, address, "")?;
+    assert_eq!(rt; turn(&mut serving, &server, 10)?, (2, 0));
+    let mut second = connect(&rt, address, "G")?;
+    serving.wait(20)?;
+    assert_eq!(rt; turn(&mut serving, &server, 20)?, (1, 1));
+    assert_eq!(rt; idle.read(&mut [0])?, 0);
+    let mut third = connect(&rt, address, "")?;
+    serving.wait(30)?;
+    assert_eq!(rt; turn(&mut serving, &server, 1_009)?, (0, 1));
+    assert_eq!(rt; turn(&mut serving, &server, 1_010)?, (1, 2));
+    expect_answer(&rt, &mut third, &mut serving, &server, 1_010)?;
+    second.write_all(&ASK.as_bytes()[1..])?;
+    serving.wait(1_011)?;
+    serving.turns(&server, 1_011);
+    let mut head = [0u8; ANSWER.len()];
+    second.read_exact(&mut head)?;
+    assert_eq!(rt; str::from_utf8(&head), Ok(ANSWER));
+    Ok(())
+}
+
+/// With one place a newcomer waits until the connection before it has ended.
+#[test]
+fn serves_one_after_another_with_one_place(rt: HostRuntime) -> Result<(), Fail> {
+    let (mut serving, server, address) = serving(&rt, 1)?;
+    let first = connect(&rt, address, "")?;
+    assert_eq!(rt; turn(&mut serving, &server, 0)?, (1, 0));
+    let mut second = connect(&rt, address, "")?;
+    serving.wait(1)?;
+    assert_eq!(rt; turn(&mut serving, &server, 3_600_000)?, (0, 0));
+    drop(first);
+    serving.wait(3_600_001)?;
+    serving.turns(&server, 3_600_001);
+    serving.turns(&server, 3_600_001);
+    assert_eq!(rt; turn(&mut serving, &server, 3_600_001)?, (1, 1));
+    expect_answer(&rt, &mut second, &mut serving, &server, 3_600_001)?;
+    Ok(())
+}
+
+/// What comes behind the last message is dropped, and the connection closed after two seconds.
+#[test]
+fn drains_for_two_seconds(rt: HostRuntime) -> Result<(), Fail> {
+    let (mut serving, server, address) = serving(&rt, 2)?;
+    let mut client = connect(&rt, address, "no head\r\n\r\n")?;
+    assert_eq!(rt; turn(&mut serving, &server, 5)?, (1, 1));
+    client.write_all(b"more")?;
+    serving.turns(&server, 2_004);
+    let mut next = connect(&rt, address, "")?;
+    assert_eq!(rt; turn(&mut serving, &server, 2_004)?, (0, 1));
+    serving.wait(2_004)?;
+    assert_eq!(rt; turn(&mut serving, &server, 2_004)?, (1, 1));
+    serving.turns(&server, 2_005);
+    let answer = std::io::read_to_string(rt.alloc(), client)?;
+    assert!(rt; answer.as_str().starts_with("HTTP/1.1 400 Bad Request\r\n"));
+    expect_answer(&rt, &mut next, &mut serving, &server, 2_005)?;
+    Ok(())
+}
