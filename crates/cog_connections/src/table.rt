@@ -1,5 +1,5 @@
 //! Many connections, by their numbers.
-ghost use Rattle.std.specs.Prelude.{◌≡◌, ◌≢◌, ◌+◌, ◌<◌, ◌≤◌, [], Some, None, IfOk, IfSome, OnOk, OnErr, is_some, length, nat_eq, option_copied};
+ghost use Rattle.std.specs.Prelude.{◌≡◌, ◌≢◌, ◌+◌, ◌<◌, ◌≤◌, [], true, false, Some, None, IfOk, IfSome, OnOk, OnErr, is_some, length, nat_eq, option_copied};
 ghost use Rattle.std.specs.Map.{remove_entry};
 ghost use Rattle.std.specs.NonZero.{non_zero_usize_get};
 ghost use Rattle.cog_server.specs.Status.{start, room_of, after_bytes, after_end};
@@ -44,6 +44,14 @@ impl Connections {
         ensures bound { result ≤ self.now.table.cap }
     {
         self.table.len()
+    }
+
+    /// Whether there are as many as there may be.
+    pub fn is_full(&self) -> bool
+        ensures full { result ≡ true → length self.now.table.entries ≡ self.now.table.cap }
+        ensures room { result ≡ false → length self.now.table.entries < self.now.table.cap }
+    {
+        self.count() == self.table.cap().get()
     }
 
     /// The connection of this number.

@@ -2,7 +2,6 @@ pub mod CatalogueLemmas
 pub mod PlaceLemmas
 pub mod PublishLemmas
 pub mod ServeLemmas
-pub mod PendingLemmas
 pub mod SentLemmas
 pub mod AnswerLemmas
 pub mod RunLemmas

@@ -19,7 +19,7 @@ use Rattle.cog_server.specs.Run.Event.{Came, Came_to_end, Answered, Wrote}
 
 -- ---- tests and lists
 
-neither : (a b : Bool) → (a || b) ≡ false → (a ≡ false) × (b ≡ false)
+pub neither : (a b : Bool) → (a || b) ≡ false → (a ≡ false) × (b ≡ false)
 neither true b e = let clash : true ≡ false = e in cc
 neither false b e = (refl, e)
 
@@ -27,7 +27,7 @@ or_end : (b : Bool) → (b || false) ≡ b
 or_end true = refl
 or_end false = refl
 
-apart : {A : Type 0} (b : Bool) → b ≡ true → b ≡ false → A
+pub apart : {A : Type 0} (b : Bool) → b ≡ true → b ≡ false → A
 apart b is isnt = let clash : true ≡ false = sym is ∙ isnt in cc
 
 map_end : {A B : Type 0} (f : A → B) (xs : List A) (x : A) → map f (xs ++ x ∷ []) ≡ map f xs ++ f x ∷ []
@@ -133,7 +133,7 @@ bytes_written p n h = record {
   kept = h.kept;
 }
 
-one_fewer : (n : ℕ) → n ≤ 100 → (n == 100) ≡ false → n + 1 ≤ 100
+pub one_fewer : (n : ℕ) → n ≤ 100 → (n == 100) ≡ false → n + 1 ≤ 100
 one_fewer n few other = grind (arith, nat_tests)
 
 pub answer_given : MessagesStay → (p : Past) (e : Exchange) → IsNext e.catalogue p.status e.message e.response → IsAnsweredAlone p
@@ -185,13 +185,13 @@ answer_given law p e is h =
 -- ---- one catalogue
 
 -- the stream begins with the message
-first_of : MessagesStay → (message later : List ℕ) (es : List Exchange) → IsFirstMessage message message
+pub first_of : MessagesStay → (message later : List ℕ) (es : List Exchange) → IsFirstMessage message message
     → IsFirstMessage ((message ++ messages_of es) ++ later) message
 first_of law message later es whole =
     subst (λ (xs : List ℕ). IsFirstMessage xs message) (sym (append_assoc message (messages_of es) later))
     (law.found message message (messages_of es ++ later) whole)
 
-behind : (message later : List ℕ) (es : List Exchange) → drop (length message) ((message ++ messages_of es) ++ later) ≡ messages_of es ++ later
+pub behind : (message later : List ℕ) (es : List Exchange) → drop (length message) ((message ++ messages_of es) ++ later) ≡ messages_of es ++ later
 behind message later es =
     ap (λ (xs : List ℕ). drop (length message) xs) (append_assoc message (messages_of es) later) ∙ drop-append_seam message (messages_of es ++ later)
 
@@ -220,7 +220,7 @@ answered law catalogue (e ∷ es) later left total is lawful from last =
 hundred : (n : ℕ) → (n == 100) ≡ true → n ≡ 100
 hundred n e = grind (arith, nat_tests)
 
-second : (a b : Bool) → (a || b) ≡ true → a ≡ false → b ≡ true
+pub second : (a b : Bool) → (a || b) ≡ true → a ≡ false → b ≡ true
 second true b e isnt = let clash : true ≡ false = isnt in cc
 second false b e isnt = e
 
@@ -278,7 +278,7 @@ all_events : MessagesStay → (es : List Event) (p : Past) → CanRun es p → I
 all_events law [] p can h = h
 all_events law (e ∷ es) p can h = all_events law es (happened e p) can.1 (one_event law e p can.0 h)
 
-none_answered : IsAnsweredAlone none_yet
+pub none_answered : IsAnsweredAlone none_yet
 none_answered = record {
   lost = [];
   lawful = tt;

@@ -1,209 +1,270 @@
--- Serving a stream, message by message.
-use Rattle.std.proofs.Common.{◌≡◌, ℕ, zero, suc, ◌+◌, ◌-◌, ◌<◌, ◌≤◌, Bool, true, false, List, [], ◌∷◌, ◌++◌, length, take, drop, Option, Some, None, Result, Ok, Err, refl, sym, ap, ◌∙◌, subst, arith, append_assoc, length-append, length-take, inl, inr, ◌==◌}
-use Rattle.std.specs.Prelude.{IsErrAnd}
+-- Serving a stream: what the loop over a connection keeps.
+use Rattle.std.proofs.Common.{◌≡◌, ◌==◌, ℕ, ◌+◌, ◌-◌, ◌*◌, ◌<◌, ◌≤◌, Bool, true, false, cond, List, [], ◌∷◌, ◌++◌, length, take, drop, Option, Some, None, Result, Ok, Err, refl, sym, ap, ◌∙◌, subst, arith, append_assoc, append-nil, length-append, inl, inr}
+use Rattle.std.specs.Prelude.{IsErrAnd, ◌⊎◌}
 use Rattle.std.specs.List.{list_any}
 use Rattle.std.specs.Io.KnownBytes.{append_known}
-use Rattle.std.proofs.lemmas.Grind.{flat_map-append}
-use Rattle.std.proofs.lemmas.List.{drop-append-le}
-use Rattle.std.proofs.lemmas.List.Folds.{list_any-append}
+use Rattle.std.proofs.lemmas.List.{drop_all, length-map, take_all}
 use Rattle.std.proofs.lemmas.Bool.{cases_Bool}
-use Rattle.std.proofs.lemmas.Bool.Decides.{nat_tests}
 use Rattle.http_range.specs.Book.{Catalogue}
 use Rattle.http_range.specs.Laws.{MessagesStay}
-use Rattle.http_range.specs.Response.{Response, IsAnswer, text_of}
-use Rattle.http_range.specs.Stream.{AreAnswers, IsFirstMessage, IsUnfinished, answers_text, ending_of}
-use Rattle.http_range.specs.Stream.AreAnswers.{full, unfinished, closed, more}
+use Rattle.http_range.specs.Response.{Response}
+use Rattle.http_range.specs.Stream.{IsUnfinished, answers_text, ending_of}
 use Rattle.http_range.specs.Stream.Ending.{Closed, Limit, EndOfInput}
+use Rattle.http_parts.specs.declared.limits.TheConstants.{MESSAGE_LIMIT}
 use Rattle.cog_server.specs.declared.served.Ended.{Ended}
 use Rattle.cog_server.specs.declared.served.Ended.TheVariants.{Closed as told_closed, Limit as told_limit, EndOfInput as told_end}
 use Rattle.cog_server.specs.declared.served.Served.{Served}
 use Rattle.cog_server.specs.declared.served.ServeError.{ServeError}
 use Rattle.cog_server.specs.declared.served.ServeError.TheVariants.{Read, Write, Memory}
-use Rattle.cog_server.specs.Pending.{ReadsOn}
-use Rattle.cog_server.specs.Sent.{IsBroken, Writes}
-use Rattle.http_parts.specs.declared.limits.TheConstants.{MESSAGE_LIMIT}
+use Rattle.cog_server.specs.Received.{Gives, IsReceived, Receives, after_read}
+use Rattle.cog_server.specs.Run.{AreExchanges, AreFrom, Exchange, IsAnsweredAlone, Past, messages_of, responses_of}
+use Rattle.cog_server.specs.Sent.{IsBroken, IsWritten, Writes}
 use Rattle.cog_server.specs.Serve.{IsBehind, IsLittleAhead, Serves, ending_told, read_failed, write_failed}
+use Rattle.cog_server.specs.Status.{EndsBy, GoesOn, IsNext, Rests, Status, after_answer, after_bytes, after_message, after_write, is_closing, room_of, start}
+use Rattle.cog_server.proofs.RunLemmas.{all_from_one, answer_given, apart, behind, bytes_came, bytes_written, end_came, first_of, neither, none_answered, one_fewer}
 
--- ---- lists
-
-append_none : {A : Type 0} (xs : List A) → xs ++ [] ≡ xs
-append_none [] = refl
-append_none (x ∷ xs) = ap (λ ys. x ∷ ys) (append_none xs)
+clash : {A : Type 0} → false ≡ true → A
+clash e = let f : true ≡ false = sym e in cc
 
 -- ---- bytes that are told
 
 pub known_none : (known : Option (List ℕ)) → append_known known [] ≡ known
 known_none None = refl
-known_none (Some xs) = ap Some (append_none xs)
+known_none (Some xs) = ap Some (append-nil xs)
 
 pub known_append : (known : Option (List ℕ)) (a b : List ℕ) → append_known (append_known known a) b ≡ append_known known (a ++ b)
 known_append None a b = refl
 known_append (Some xs) a b = ap Some (append_assoc xs a b)
 
--- ---- answers so far
+known_more : (known known' known'' : Option (List ℕ)) (a b : List ℕ) → known' ≡ append_known known a → known'' ≡ append_known known' b
+    → known'' ≡ append_known known (a ++ b)
+known_more known known' known'' a b first next =
+    next ∙ ap (λ (k : Option (List ℕ)). append_known k b) first ∙ known_append known a b
 
--- rs answer the first messages of the stream, none of them closes, and rest stands behind those messages
-abbrev pub Goes : Catalogue → List ℕ → List Response → List ℕ → Type 0
-Goes catalogue stream [] rest = stream ≡ rest
-Goes catalogue stream (r ∷ rs) rest =
-    (message : List ℕ) × IsFirstMessage stream message × IsAnswer catalogue message r × (r.close ≡ false)
-    × Goes catalogue (drop (length message) stream) rs rest
+-- ---- so far
 
-first_within : (law : MessagesStay) (stream message : List ℕ) → IsFirstMessage stream message → length message ≤ length stream
-first_within law stream message is =
-    omega (arith, ap length (law.short stream message is).2, length-append message (drop (length message) stream))
+abbrev pub past : List ℕ → List ℕ → List Exchange → Status → Past
+past stream text exchanges s = record { given = stream; written = text; exchanges = exchanges; status = s }
 
-goes_more : (law : MessagesStay) (catalogue : Catalogue) (stream : List ℕ) (rs : List Response) (rest later : List ℕ)
-    → Goes catalogue stream rs rest → Goes catalogue (stream ++ later) rs (rest ++ later)
-goes_more law catalogue stream [] rest later same = ap (λ (s : List ℕ). s ++ later) same
-goes_more law catalogue stream (r ∷ rs) rest later h =
-    let behind = drop-append-le (length h.0) stream later (first_within law stream h.0 h.1) in (
-      h.0,
-      law.found stream h.0 later h.1,
-      h.2,
-      h.3,
-      subst (λ (s : List ℕ). Goes catalogue s rs (rest ++ later)) (sym behind)
-          (goes_more law catalogue (drop (length h.0) stream) rs rest later h.4),
-    )
+-- how many bytes came behind the messages that are answered
+abbrev pub ahead : Status → ℕ
+ahead s = length s.held + s.dropped
 
-goes_on : (catalogue : Catalogue) (stream : List ℕ) (rs : List Response) (rest message : List ℕ) (r : Response)
-    → Goes catalogue stream rs rest → IsFirstMessage rest message → IsAnswer catalogue message r → r.close ≡ false
-    → Goes catalogue stream (rs ++ r ∷ []) (drop (length message) rest)
-goes_on catalogue stream [] rest message r same first answers stays = (
-  message,
-  subst (λ (s : List ℕ). IsFirstMessage s message) (sym same) first,
-  answers,
-  stays,
-  ap (λ (s : List ℕ). drop (length message) s) same,
-)
-goes_on catalogue stream (q ∷ rs) rest message r h first answers stays =
-    (h.0, h.1, h.2, h.3, goes_on catalogue (drop (length h.0) stream) rs rest message r h.4 first answers stays)
+-- a stream came, and a text is written; is_over is that nothing more comes
+pub record Going (catalogue : Catalogue) (given given' taken taken' : Option (List ℕ)) (is_over : Type 0) (s : Status) : Type 0 where
+  pub stream : List ℕ
+  pub text : List ℕ
+  pub exchanges : List Exchange
+  pub gave : given' ≡ append_known given stream
+  pub took : taken' ≡ append_known taken text
+  pub alone : IsAnsweredAlone (past stream text exchanges s)
+  pub from : AreFrom catalogue exchanges
+  pub over : s.is_over ≡ true → is_over
+  pub few : ahead s ≤ MESSAGE_LIMIT
+  pub little : is_closing s ≡ true → ahead s < MESSAGE_LIMIT
 
--- the answers to what stands behind complete them
-goes_answers : (catalogue : Catalogue) (stream : List ℕ) (rs : List Response) (rest : List ℕ) (n m : ℕ) (last : List Response)
-    → Goes catalogue stream rs rest → m ≡ length rs + n → AreAnswers catalogue n rest last
-    → AreAnswers catalogue m stream (rs ++ last)
-goes_answers catalogue stream [] rest n m last same count later =
-    let is : n ≡ m = omega arith in
-    subst (λ (k : ℕ). AreAnswers catalogue k stream last) is
-    (subst (λ (s : List ℕ). AreAnswers catalogue n s last) (sym same) later)
-goes_answers catalogue stream (r ∷ rs) rest n m last h count later =
-    let is : suc (length rs + n) ≡ m = omega arith in
-    subst (λ (k : ℕ). AreAnswers catalogue k stream (r ∷ (rs ++ last))) is
-    (more (length rs + n) stream h.0 r (rs ++ last) h.1 h.2 h.3
-    (goes_answers catalogue (drop (length h.0) stream) rs rest n (length rs + n) last h.4 refl later))
+pub begins : (catalogue : Catalogue) (given taken : Option (List ℕ)) (is_over : Type 0) → Going catalogue given given taken taken is_over start
+begins catalogue given taken is_over = record {
+  stream = [];
+  text = [];
+  exchanges = [];
+  gave = sym (known_none given);
+  took = sym (known_none taken);
+  alone = none_answered;
+  from = tt;
+  over = λ e. clash e;
+  few = omega arith;
+  little = λ e. clash e;
+}
 
-behind : (catalogue : Catalogue) (stream : List ℕ) (rs : List Response) (rest : List ℕ) → Goes catalogue stream rs rest
-    → IsBehind (length rs) stream rest
-behind catalogue stream [] rest same = same
-behind catalogue stream (r ∷ rs) rest h = (h.0, h.1, behind catalogue (drop (length h.0) stream) rs rest h.4)
+none_lost : (p : Past) → IsAnsweredAlone p → is_closing p.status ≡ false → p.status.dropped ≡ 0
+none_lost p h unclosed = h.dropped ∙ ap length (h.kept unclosed)
 
--- one message more
-behind_one : (n : ℕ) (stream rest message : List ℕ) → IsBehind n stream rest → IsFirstMessage rest message
-    → IsBehind (suc n) stream (drop (length message) rest)
-behind_one zero stream rest message same first = (
-  message,
-  subst (λ (s : List ℕ). IsFirstMessage s message) (sym same) first,
-  ap (λ (s : List ℕ). drop (length message) s) same,
-)
-behind_one (suc n) stream rest message h first =
-    (h.0, h.1, behind_one n (drop (length h.0) stream) rest message h.2 first)
+pub stays : {catalogue : Catalogue} {given given' taken taken' : Option (List ℕ)} {is_over : Type 0} {s : Status} (s' : Status) → s' ≡ s
+    → Going catalogue given given' taken taken' is_over s → Going catalogue given given' taken taken' is_over s'
+stays {catalogue} {given} {given'} {taken} {taken'} {is_over} s' same h =
+    subst (λ (x : Status). Going catalogue given given' taken taken' is_over x) (sym same) h
 
--- what is left of a full buffer behind a message
-pub fewer : (law : MessagesStay) (rest message : List ℕ) → IsFirstMessage rest message → length rest ≤ MESSAGE_LIMIT
-    → length (drop (length message) rest) < MESSAGE_LIMIT
-fewer law rest message first all =
-    let short = law.short rest message first in
-    omega (arith, short.0, ap length short.2, length-append message (drop (length message) rest))
+-- ---- what comes
 
-little_ahead : (catalogue : Catalogue) (stream : List ℕ) (rs : List Response) (rest : List ℕ) → Goes catalogue stream rs rest
-    → length rest < MESSAGE_LIMIT → IsLittleAhead (length rs) stream
-little_ahead catalogue stream rs rest goes little =
-    record { rest = rest; behind = behind catalogue stream rs rest goes; little = little }
+taken_in : (bytes : List ℕ) (s : Status) → is_closing s ≡ false → after_bytes bytes s ≡ record s { held = s.held ++ bytes }
+taken_in bytes s unclosed = rw unclosed refl
 
--- the same with one answer more
-little_ahead_one : (law : MessagesStay) (catalogue : Catalogue) (stream : List ℕ) (rs : List Response) (rest message : List ℕ) (r : Response)
-    → Goes catalogue stream rs rest → IsFirstMessage rest message → length rest ≤ MESSAGE_LIMIT
-    → IsLittleAhead (length (rs ++ r ∷ [])) stream
-little_ahead_one law catalogue stream rs rest message r goes first all =
-    let is : suc (length rs) ≡ length (rs ++ r ∷ []) = omega (arith, length-append rs (r ∷ [])) in
-    let last = drop (length message) rest in
+room_open : (s : Status) → s.is_over ≡ false → is_closing s ≡ false → room_of s ≡ MESSAGE_LIMIT - length s.held
+room_open s on unclosed = rw (on, unclosed) refl
+
+pub received : {catalogue : Catalogue} {given given' given'' taken taken' : Option (List ℕ)} {is_over : Type 0} {s : Status}
+    (is_over' : Type 0) (bytes : List ℕ) → Going catalogue given given' taken taken' is_over s → is_closing s ≡ false → s.is_over ≡ false
+    → length bytes ≤ room_of s → given'' ≡ append_known given' bytes → (bytes ≡ [] → is_over')
+    → Going catalogue given given'' taken taken' is_over' (after_read bytes s)
+received {given = given} {given' = given'} {s = s} is_over' [] h unclosed on room gave ends = record {
+  stream = h.stream;
+  text = h.text;
+  exchanges = h.exchanges;
+  gave = gave ∙ known_none given' ∙ h.gave;
+  took = h.took;
+  alone = end_came (past h.stream h.text h.exchanges s) h.alone;
+  from = h.from;
+  over = λ e. ends refl;
+  few = h.few;
+  little = h.little;
+}
+received {given = given} {given' = given'} {given'' = given''} {s = s} is_over' (b ∷ rest) h unclosed on room gave ends =
+    let bytes : List ℕ = b ∷ rest in
+    let same = taken_in bytes s unclosed in
+    let fits : length bytes ≤ MESSAGE_LIMIT - length s.held = subst (λ (n : ℕ). length bytes ≤ n) (room_open s on unclosed) room in
+    let none = none_lost (past h.stream h.text h.exchanges s) h.alone unclosed in
+    let few = h.few in
+    let all = length-append s.held bytes in
     record {
-      rest = last;
-      behind = subst (λ (k : ℕ). IsBehind k stream last) is
-          (behind_one (length rs) stream rest message (behind catalogue stream rs rest goes) first);
-      little = fewer law rest message first all;
+      stream = h.stream ++ bytes;
+      text = h.text;
+      exchanges = h.exchanges;
+      gave = known_more given given' given'' h.stream bytes h.gave gave;
+      took = h.took;
+      alone = bytes_came (past h.stream h.text h.exchanges s) bytes h.alone;
+      from = h.from;
+      over = λ e. apart s.is_over (sym (ap (λ (x : Status). x.is_over) same) ∙ e) on;
+      few = subst (λ (x : Status). ahead x ≤ MESSAGE_LIMIT) (sym same) (omega arith);
+      little = λ e. apart (is_closing s) (sym (ap is_closing same) ∙ e) unclosed;
     }
 
-none_closes : (catalogue : Catalogue) (stream : List ℕ) (rs : List Response) (rest : List ℕ) → Goes catalogue stream rs rest
-    → list_any (λ r. r.close) rs ≡ false
-none_closes catalogue stream [] rest same = refl
-none_closes catalogue stream (r ∷ rs) rest h = rw h.3 (none_closes catalogue (drop (length h.0) stream) rs rest h.4)
+-- ---- the next answer
 
--- ---- serving so far
+from_more : (catalogue : Catalogue) (es : List Exchange) (e : Exchange) → AreFrom catalogue es → e.catalogue ≡ catalogue
+    → AreFrom catalogue (es ++ e ∷ [])
+from_more catalogue [] e from is = (is, tt)
+from_more catalogue (x ∷ es) e from is = (from.0, from_more catalogue es e from.1 is)
 
--- so many answers are written, none closes, and rest is what was read behind their messages
-pub record Going (catalogue : Catalogue) (given given' taken taken' : Option (List ℕ)) (rest : List ℕ) (count : ℕ) : Type 0 where
-  pub stream : List ℕ
-  pub rs : List Response
-  pub gave : given' ≡ append_known given stream
-  pub goes : Goes catalogue stream rs rest
-  pub took : taken' ≡ append_known taken (answers_text rs)
-  pub counted : length rs ≡ count
+over_kept : (message : List ℕ) (r : Response) (s : Status) → (after_answer message r s).is_over ≡ s.is_over
+over_kept message r s =
+    elim (cases_Bool (is_closing (after_message message r s))) [
+      | inl shut ↦ rw shut refl
+      | inr stays ↦ rw stays refl
+    ]
 
-pub begins : (catalogue : Catalogue) (given taken : Option (List ℕ)) → Going catalogue given given taken taken [] 0
-begins catalogue given taken = record {
-  stream = [];
-  rs = [];
-  gave = sym (known_none given);
-  goes = refl;
-  took = sym (known_none taken);
-  counted = refl;
-}
+ahead_after : (message : List ℕ) (r : Response) (s : Status) → s.dropped ≡ 0 → ahead (after_answer message r s) ≡ length (drop (length message) s.held)
+ahead_after message r s none =
+    elim (cases_Bool (is_closing (after_message message r s))) [
+      | inl shut ↦ rw shut (omega arith)
+      | inr stays ↦ rw stays (omega (arith, none))
+    ]
 
-pub reads : {catalogue : Catalogue} {given given' given'' taken taken' : Option (List ℕ)} {rest rest' : List ℕ} {count : ℕ}
-    → MessagesStay → Going catalogue given given' taken taken' rest count → ReadsOn given' given'' rest rest'
-    → Going catalogue given given'' taken taken' rest' count
-reads {catalogue} {given} {rest} law going read = record {
-  stream = going.stream ++ read.more;
-  rs = going.rs;
-  gave = read.gave ∙ ap (λ (k : Option (List ℕ)). append_known k read.more) going.gave ∙ known_append given going.stream read.more;
-  goes = subst (λ (s : List ℕ). Goes catalogue (going.stream ++ read.more) going.rs s) (sym read.came)
-      (goes_more law catalogue going.stream going.rs rest read.more going.goes);
-  took = going.took;
-  counted = going.counted;
-}
+-- an answer is given, which waits to be written
+pub record Answering (catalogue : Catalogue) (given given' taken taken' : Option (List ℕ)) (is_over : Type 0) (s : Status) : Type 0 where
+  pub going : Going catalogue given given' taken taken' is_over s
+  pub little : ahead s < MESSAGE_LIMIT
 
-texts : (rs : List Response) (r : Response) → answers_text (rs ++ r ∷ []) ≡ answers_text rs ++ text_of r
-texts rs r = flat_map-append text_of rs (r ∷ []) ∙ ap (λ (t : List ℕ). answers_text rs ++ t) (append_none (text_of r))
+pub answers : {catalogue : Catalogue} {given given' taken taken' : Option (List ℕ)} {is_over : Type 0} {s : Status} → MessagesStay
+    → (message : List ℕ) (r : Response) → Going catalogue given given' taken taken' is_over s → IsNext catalogue s message r
+    → Answering catalogue given given' taken taken' is_over (after_answer message r s)
+answers {catalogue} {s = s} law message r h is =
+    let p = past h.stream h.text h.exchanges s in
+    let e : Exchange = record { catalogue = catalogue; message = message; response = r } in
+    let few = h.few in
+    let short = law.short s.held message is.first in
+    let some = short.0 in
+    let split = ap length short.2 ∙ refl in
+    let parts = length-append message (drop (length message) s.held) in
+    let count = ahead_after message r s (none_lost p h.alone is.goes_on) in
+    let less : ahead (after_answer message r s) < MESSAGE_LIMIT = subst (λ (n : ℕ). n < MESSAGE_LIMIT) (sym count) (omega arith) in
+    record {
+      going = record {
+        stream = h.stream;
+        text = h.text;
+        exchanges = h.exchanges ++ e ∷ [];
+        gave = h.gave;
+        took = h.took;
+        alone = answer_given law p e is h.alone;
+        from = from_more catalogue h.exchanges e h.from refl;
+        over = λ closed. h.over (sym (over_kept message r s) ∙ closed);
+        few = omega (arith, less);
+        little = λ closed. less;
+      };
+      little = less;
+    }
 
-took_more : (taken taken' taken'' : Option (List ℕ)) (rs : List Response) (r : Response) → taken' ≡ append_known taken (answers_text rs)
-    → taken'' ≡ append_known taken' (text_of r) → taken'' ≡ append_known taken (answers_text (rs ++ r ∷ []))
-took_more taken taken' taken'' rs r before now =
-    now ∙ ap (λ (k : Option (List ℕ)). append_known k (text_of r)) before ∙ known_append taken (answers_text rs) (text_of r)
-    ∙ ap (λ (t : List ℕ). append_known taken t) (sym (texts rs r))
+pub went : {catalogue : Catalogue} {given given' taken taken' : Option (List ℕ)} {is_over : Type 0} {s : Status} → MessagesStay
+    → (s' : Status) → Going catalogue given given' taken taken' is_over s → GoesOn catalogue s s' true
+    → Answering catalogue given given' taken taken' is_over s'
+went {catalogue} {given} {given'} {taken} {taken'} {is_over} law s' h goes =
+    subst (λ (x : Status). Answering catalogue given given' taken taken' is_over x) (sym goes.3) (answers law goes.0 goes.1 h goes.2)
 
-pub answers_one : {catalogue : Catalogue} {given given' taken taken' taken'' : Option (List ℕ)} {rest rest' : List ℕ} {count : ℕ}
-    (message : List ℕ) (r : Response) → Going catalogue given given' taken taken' rest count → IsFirstMessage rest message
-    → IsAnswer catalogue message r → r.close ≡ false → taken'' ≡ append_known taken' (text_of r)
-    → drop (length message) rest ≡ rest' → Going catalogue given given' taken taken'' rest' (count + 1)
-answers_one {catalogue} {taken} {taken'} {taken''} {rest} message r going first answers stays took behind = record {
-  stream = going.stream;
-  rs = going.rs ++ r ∷ [];
-  gave = going.gave;
-  goes = subst (λ (xs : List ℕ). Goes catalogue going.stream (going.rs ++ r ∷ []) xs) behind
-      (goes_on catalogue going.stream going.rs rest message r going.goes first answers stays);
-  took = took_more taken taken' taken'' going.rs r going.took took;
-  counted = let n = going.counted in omega (arith, length-append going.rs (r ∷ []));
-}
+-- ---- what is written
 
--- the first message, which was found to have n bytes
-pub first_found : (rest held : List ℕ) (n : ℕ) → held ≡ rest → (n ≤ length rest) × IsFirstMessage rest (take n rest)
-    → (length (take n held) ≡ n) × IsFirstMessage rest (take n held)
-first_found rest held n same found = (
-  omega (arith, length-take n held, found.0, ap length same),
-  subst (λ (xs : List ℕ). IsFirstMessage rest (take n xs)) (sym same) found.1,
-)
+pub nothing_waits : (s t : Status) → t ≡ after_write (length s.waiting) s → t.waiting ≡ []
+nothing_waits s t same = ap (λ (x : Status). x.waiting) same ∙ drop_all (length s.waiting) s.waiting (omega arith)
+
+pub written : {catalogue : Catalogue} {given given' taken taken' taken'' : Option (List ℕ)} {is_over : Type 0} {s : Status} {has_failed : Bool}
+    → Going catalogue given given' taken taken' is_over s → IsWritten taken' taken'' has_failed s.waiting
+    → Going catalogue given given' taken taken'' is_over (after_write (length s.waiting) s)
+written {taken = taken} {taken' = taken'} {taken'' = taken''} {s = s} h sent =
+    let all : take (length s.waiting) s.waiting ≡ s.waiting = take_all (length s.waiting) s.waiting (omega arith) in
+    record {
+      stream = h.stream;
+      text = h.text ++ s.waiting;
+      exchanges = h.exchanges;
+      gave = h.gave;
+      took = known_more taken taken' taken'' h.text s.waiting h.took sent.took;
+      alone = subst (λ (xs : List ℕ). IsAnsweredAlone (past h.stream (h.text ++ xs) h.exchanges (after_write (length s.waiting) s))) all
+          (bytes_written (past h.stream h.text h.exchanges s) (length s.waiting) h.alone);
+      from = h.from;
+      over = h.over;
+      few = h.few;
+      little = h.little;
+    }
+
+pub sent_whole : {catalogue : Catalogue} {given given' taken taken' taken'' : Option (List ℕ)} {is_over : Type 0} {s : Status} {has_failed : Bool}
+    (t : Status) → Answering catalogue given given' taken taken' is_over s → IsWritten taken' taken'' has_failed s.waiting
+    → t ≡ after_write (length s.waiting) s → Going catalogue given given' taken taken'' is_over t
+sent_whole t answering sent same = stays t same (written answering.going sent)
+
+-- ---- where the loop stands
+
+-- no message is whole, and more may come
+pub record IsOpen (s : Status) : Type 0 where
+  pub unclosed : is_closing s ≡ false
+  pub on : s.is_over ≡ false
+  pub unfinished : IsUnfinished s.held
+
+pub still_open : MessagesStay → (s : Status) → s.waiting ≡ [] → Rests s → EndsBy s None → IsOpen s
+still_open law s silent rests none = elim none [
+  | inl waits ↦ absurd (waits silent)
+  | inr unclosed ↦ elim rests [
+    | inl shut ↦ apart (is_closing s) shut unclosed.0
+    | inr other ↦ elim other [
+      | inl waits ↦ absurd (waits silent)
+      | inr unfinished ↦ elim unclosed.1 [
+        | inl on ↦ record { unclosed = unclosed.0; on = on; unfinished = unfinished }
+        | inr whole ↦ absurd (law.apart s.held whole.0 unfinished whole.1)
+      ]
+    ]
+  ]
+]
+
+-- nothing is answered, and it hasn't ended
+pub stands : (catalogue : Catalogue) (s s' : Status) → MessagesStay → GoesOn catalogue s s' false → s.waiting ≡ [] → EndsBy s' None → IsOpen s'
+stands catalogue s s' law goes silent none =
+    subst IsOpen (sym goes.0) (still_open law s silent goes.1 (subst (λ (x : Status). EndsBy x None) goes.0 none))
+
+pub reads : {catalogue : Catalogue} {given given' given'' taken taken' : Option (List ℕ)} {is_over : Type 0} {s : Status} {has_failed : Bool}
+    (is_over' : Type 0) (t : Status) → Going catalogue given given' taken taken' is_over s → IsOpen s
+    → IsReceived s t given' given'' is_over' has_failed → Going catalogue given given'' taken taken' is_over' t
+reads is_over' t h is came =
+    stays t came.status (received is_over' came.bytes h is.unclosed is.on came.gives.room came.gives.gave came.ends)
+
+silent_read : (bytes : List ℕ) (s : Status) → is_closing s ≡ false → (after_read bytes s).waiting ≡ s.waiting
+silent_read [] s unclosed = refl
+silent_read (b ∷ rest) s unclosed = ap (λ (x : Status). x.waiting) (taken_in (b ∷ rest) s unclosed)
+
+pub still_silent : {given given' : Option (List ℕ)} {is_over : Type 0} {has_failed : Bool} (s t : Status) → s.waiting ≡ [] → IsOpen s
+    → IsReceived s t given given' is_over has_failed → t.waiting ≡ []
+still_silent s t silent is came = ap (λ (x : Status). x.waiting) came.status ∙ silent_read came.bytes s is.unclosed ∙ silent
+
+pub some_room : MessagesStay → (s : Status) → IsOpen s → 0 < room_of s
+some_room law s h =
+    let few = (law.unfinished s.held [] h.unfinished).0 in
+    subst (λ (n : ℕ). 0 < n) (sym (room_open s h.on h.unclosed)) (omega arith)
 
 -- ---- the ends
 
@@ -214,186 +275,205 @@ Outcome catalogue given given' taken taken' is_over result =
     (stream : List ℕ) × (text : List ℕ) × (given' ≡ append_known given stream) × (taken' ≡ append_known taken text)
     × Serves catalogue stream text is_over result
 
--- the answers so far and the last ones, which are told by their ending
-served : {catalogue : Catalogue} {given given' taken taken' : Option (List ℕ)} {rest : List ℕ} {count : ℕ} (is_over : Type 0)
-    (going : Going catalogue given given' taken taken' rest count) (left : ℕ) → count + left ≡ 100 → AreAnswers catalogue left rest []
-    → (ended : Ended) → ending_told ended ≡ ending_of going.rs → (ending_of going.rs ≡ EndOfInput → is_over)
-    → length rest < MESSAGE_LIMIT
-    → Outcome catalogue given given' taken taken' is_over (Ok (record { answers = count; ended = ended }))
-served {catalogue} {rest} is_over going left all last ended is over little = (
-  going.stream,
-  answers_text going.rs,
-  going.gave,
-  going.took,
-  record {
-    rs = going.rs;
-    answers = (let n = going.counted in
-        subst (λ (rs : List Response). AreAnswers catalogue 100 going.stream rs) (append_none going.rs)
-        (goes_answers catalogue going.stream going.rs rest left 100 [] going.goes (omega arith) last));
-    written = refl;
-    counted = sym going.counted;
-    ending = is;
-    over = over;
-    ahead = little_ahead catalogue going.stream going.rs rest going.goes little;
-  },
+are_behind : MessagesStay → (es : List Exchange) (later : List ℕ) → AreExchanges es → IsBehind (length es) (messages_of es ++ later) later
+are_behind law [] later lawful = refl
+are_behind law (e ∷ es) later lawful = (
+  e.message,
+  first_of law e.message later es lawful.0.whole,
+  subst (λ (xs : List ℕ). IsBehind (length es) xs later) (sym (behind e.message later es)) (are_behind law es later lawful.2),
 )
 
--- fewer than a hundred answers, none of which closes
-still_open : (catalogue : Catalogue) (stream : List ℕ) (rs : List Response) (rest : List ℕ) → Goes catalogue stream rs rest
-    → length rs < 100 → ending_of rs ≡ EndOfInput
-still_open catalogue stream rs rest goes few =
-    let other : (length rs == 100) ≡ false = grind (arith, nat_tests) in rw (none_closes catalogue stream rs rest goes, other) refl
+count_of : (es : List Exchange) → length (responses_of es) ≡ length es
+count_of es = length-map es (λ (e : Exchange). e.response)
 
-at_limit : (catalogue : Catalogue) (stream : List ℕ) (rs : List Response) (rest : List ℕ) → Goes catalogue stream rs rest
-    → length rs ≡ 100 → ending_of rs ≡ Limit
-at_limit catalogue stream rs rest goes all = rw (none_closes catalogue stream rs rest goes, all) refl
+little_ahead : MessagesStay → (p : Past) → IsAnsweredAlone p → ahead p.status < MESSAGE_LIMIT
+    → IsLittleAhead (length (responses_of p.exchanges)) p.given
+little_ahead law p h little =
+    let rest = p.status.held ++ h.lost in
+    let count = length-append p.status.held h.lost in
+    let lost = h.dropped in
+    record {
+      rest = rest;
+      behind = subst (λ (n : ℕ). IsBehind n p.given rest) (sym (count_of p.exchanges))
+          (subst (λ (xs : List ℕ). IsBehind (length p.exchanges) xs rest) (sym h.came) (are_behind law p.exchanges rest h.lawful));
+      little = omega arith;
+    }
 
-at_close : (catalogue : Catalogue) (stream : List ℕ) (rs : List Response) (rest : List ℕ) (r : Response)
-    → Goes catalogue stream rs rest → r.close ≡ true → ending_of (rs ++ r ∷ []) ≡ Closed
-at_close catalogue stream rs rest r goes closes =
-    rw (list_any-append (λ (q : Response). q.close) rs (r ∷ []), none_closes catalogue stream rs rest goes, closes) refl
+-- nothing waits, so all answers are written
+all_written : (p : Past) → IsAnsweredAlone p → p.status.waiting ≡ [] → p.written ≡ answers_text (responses_of p.exchanges)
+all_written p h silent = sym (append-nil p.written) ∙ ap (λ (xs : List ℕ). p.written ++ xs) (sym silent) ∙ h.went
 
--- nothing more comes, and no whole message is left
-pub ends_over : {catalogue : Catalogue} {given given' taken taken' : Option (List ℕ)} {rest : List ℕ} {count : ℕ} (is_over : Type 0)
-    → MessagesStay → Going catalogue given given' taken taken' rest count → count < 100 → IsUnfinished rest → is_over
-    → Outcome catalogue given given' taken taken' is_over (Ok (record { answers = count; ended = told_end }))
-ends_over {catalogue} {rest} {count} is_over law going few none over =
-    let n = going.counted in
-    let is = still_open catalogue going.stream going.rs rest going.goes (omega arith) in
-    served is_over going (suc (99 - count)) (omega arith) (unfinished (99 - count) rest none) told_end (sym is) (λ _. over) (law.unfinished rest [] none).0
+ending_by : (p : Past) (ended : Ended) → IsAnsweredAlone p → EndsBy p.status (Some ended) → ending_told ended ≡ ending_of (responses_of p.exchanges)
+ending_by p told_closed h by =
+    let closes : list_any (λ (r : Response). r.close) (responses_of p.exchanges) ≡ true = sym h.closed ∙ by.1 in rw closes refl
+ending_by p told_limit h by =
+    let stays : list_any (λ (r : Response). r.close) (responses_of p.exchanges) ≡ false = sym h.closed ∙ by.1 in
+    let all : length (responses_of p.exchanges) ≡ 100 = count_of p.exchanges ∙ sym h.counted ∙ by.2 in rw (stays, all) refl
+ending_by p told_end h by =
+    let both = neither p.status.is_closed (p.status.answers == 100) by.1 in
+    let stays : list_any (λ (r : Response). r.close) (responses_of p.exchanges) ≡ false = sym h.closed ∙ both.0 in
+    let count : p.status.answers ≡ length (responses_of p.exchanges) = h.counted ∙ sym (count_of p.exchanges) in
+    let other : (length (responses_of p.exchanges) == 100) ≡ false = ap (λ (n : ℕ). n == 100) (sym count) ∙ both.1 in
+    rw (stays, other) refl
 
--- a hundred answers, none of which closes
-pub ends_limit : {catalogue : Catalogue} {given given' taken taken' : Option (List ℕ)} {rest : List ℕ} {count : ℕ} (is_over : Type 0)
-    → Going catalogue given given' taken taken' rest count → count ≡ 100
-    → length rest < MESSAGE_LIMIT
-    → Outcome catalogue given given' taken taken' is_over (Ok (record { answers = 100; ended = told_limit }))
-ends_limit {catalogue} {given} {given'} {taken} {taken'} {rest} is_over so_far hundred little =
-    let going : Going catalogue given given' taken taken' rest 100 =
-    subst (λ (k : ℕ). Going catalogue given given' taken taken' rest k) hundred so_far in
-    let is = at_limit catalogue going.stream going.rs rest going.goes going.counted in
-    served is_over going 0 refl (full rest) told_limit (sym is) (λ e. absurd (let no : Limit ≡ EndOfInput = sym is ∙ e in cc)) little
+-- why no further message is answered
+why_ended : (s : Status) (ended : Ended) → EndsBy s (Some ended) → (is_closing s ≡ true) ⊎ IsUnfinished s.held
+why_ended s told_closed by = inl (rw by.1 refl)
+why_ended s told_limit by = inl (let all = by.2 in rw (by.1, all) refl)
+why_ended s told_end by = inr by.3
 
--- the last answer closes
-pub ends_closed : {catalogue : Catalogue} {given given' taken taken' taken'' : Option (List ℕ)} {rest : List ℕ} {count : ℕ}
-    (message : List ℕ) (r : Response) (is_over : Type 0) → MessagesStay → Going catalogue given given' taken taken' rest count → count < 100
-    → length rest ≤ MESSAGE_LIMIT → IsFirstMessage rest message → IsAnswer catalogue message r → r.close ≡ true → taken'' ≡ append_known taken' (text_of r)
-    → Outcome catalogue given given' taken taken'' is_over (Ok (record { answers = count + 1; ended = told_closed }))
-ends_closed {catalogue} {taken} {taken'} {taken''} {rest} {count} message r is_over law going few all first answers closes took =
-    let is = at_close catalogue going.stream going.rs rest r going.goes closes in
-    let n = going.counted in (
-      going.stream,
-      answers_text (going.rs ++ r ∷ []),
-      going.gave,
-      took_more taken taken' taken'' going.rs r going.took took,
+little_ended : MessagesStay → (p : Past) → IsAnsweredAlone p → (is_closing p.status ≡ true → ahead p.status < MESSAGE_LIMIT)
+    → (is_closing p.status ≡ true) ⊎ IsUnfinished p.status.held → ahead p.status < MESSAGE_LIMIT
+little_ended law p h little why =
+    elim (cases_Bool (is_closing p.status)) [
+      | inl shut ↦ little shut
+      | inr unclosed ↦ elim why [
+        | inl shut ↦ apart (is_closing p.status) shut unclosed
+        | inr unfinished ↦ (let few = (law.unfinished p.status.held [] unfinished).0 in let none = none_lost p h unclosed in omega arith)
+      ]
+    ]
+
+over_by : {is_over : Type 0} (p : Past) (ended : Ended) → IsAnsweredAlone p → EndsBy p.status (Some ended)
+    → (p.status.is_over ≡ true → is_over) → ending_of (responses_of p.exchanges) ≡ EndOfInput → is_over
+over_by p told_closed h by over is = absurd (let no : Closed ≡ EndOfInput = ending_by p told_closed h by ∙ is in cc)
+over_by p told_limit h by over is = absurd (let no : Limit ≡ EndOfInput = ending_by p told_limit h by ∙ is in cc)
+over_by p told_end h by over is = over by.2
+
+silent_by : (s : Status) (ended : Ended) → EndsBy s (Some ended) → s.waiting ≡ []
+silent_by s told_closed by = by.0
+silent_by s told_limit by = by.0
+silent_by s told_end by = by.0
+
+pub ends : {catalogue : Catalogue} {given given' taken taken' : Option (List ℕ)} {is_over : Type 0} {s : Status} → MessagesStay → (ended : Ended)
+    (count : ℕ) → Going catalogue given given' taken taken' is_over s → EndsBy s (Some ended) → count ≡ s.answers
+    → Outcome catalogue given given' taken taken' is_over (Ok (record { answers = count; ended = ended }))
+ends {catalogue} {s = s} law ended count h by is =
+    let p = past h.stream h.text h.exchanges s in
+    let why = why_ended s ended by in (
+      h.stream,
+      h.text,
+      h.gave,
+      h.took,
       record {
-        rs = going.rs ++ r ∷ [];
-        answers = goes_answers catalogue going.stream going.rs rest (suc (99 - count)) 100 (r ∷ []) going.goes (omega arith)
-            (closed (99 - count) rest message r first answers closes);
-        written = refl;
-        counted = omega (arith, length-append going.rs (r ∷ []));
-        ending = sym is;
-        over = λ e. absurd (let no : Closed ≡ EndOfInput = sym is ∙ e in cc);
-        ahead = little_ahead_one law catalogue going.stream going.rs rest message r going.goes first all;
+        rs = responses_of h.exchanges;
+        answers = (all_from_one law catalogue p h.alone h.from).all why;
+        written = all_written p h.alone (silent_by s ended by);
+        counted = is ∙ h.alone.counted ∙ sym (count_of h.exchanges);
+        ending = ending_by p ended h.alone by;
+        over = over_by p ended h.alone by h.over;
+        ahead = little_ahead law p h.alone (little_ended law p h.alone h.little why);
       },
     )
 
--- a read failed, and no whole message is left
-pub ends_read : {catalogue : Catalogue} {given given' taken taken' : Option (List ℕ)} {rest : List ℕ} {count : ℕ} (is_over : Type 0)
-    → MessagesStay → Going catalogue given given' taken taken' rest count → count < 100 → IsUnfinished rest
-    → Outcome catalogue given given' taken taken' is_over (Err Read)
-ends_read {catalogue} {rest} {count} is_over law going few none =
-    let n = going.counted in (
-      going.stream,
-      answers_text going.rs,
-      going.gave,
-      going.took,
+-- a read failed
+pub ends_read : {catalogue : Catalogue} {given given' given'' taken taken' : Option (List ℕ)} {is_over : Type 0} {s : Status} (is_over' : Type 0)
+    → MessagesStay → Going catalogue given given' taken taken' is_over s → s.waiting ≡ [] → IsOpen s → given'' ≡ append_known given' []
+    → Outcome catalogue given given'' taken taken' is_over' (Err Read)
+ends_read {catalogue} {given' = given'} {s = s} is_over' law h silent is same =
+    let p = past h.stream h.text h.exchanges s in
+    let both = neither s.is_closed (s.answers == 100) is.unclosed in
+    let stays : list_any (λ (r : Response). r.close) (responses_of h.exchanges) ≡ false = sym h.alone.closed ∙ both.0 in
+    let count : s.answers ≡ length (responses_of h.exchanges) = h.alone.counted ∙ sym (count_of h.exchanges) in
+    let other : (length (responses_of h.exchanges) == 100) ≡ false = ap (λ (n : ℕ). n == 100) (sym count) ∙ both.1 in (
+      h.stream,
+      h.text,
+      same ∙ known_none given' ∙ h.gave,
+      h.took,
       record {
-        rs = going.rs;
-        answers = subst (λ (rs : List Response). AreAnswers catalogue 100 going.stream rs) (append_none going.rs)
-            (goes_answers catalogue going.stream going.rs rest (suc (99 - count)) 100 [] going.goes (omega arith)
-            (unfinished (99 - count) rest none));
-        written = refl;
-        ending = still_open catalogue going.stream going.rs rest going.goes (omega arith);
-        ahead = little_ahead catalogue going.stream going.rs rest going.goes (law.unfinished rest [] none).0;
+        rs = responses_of h.exchanges;
+        answers = (all_from_one law catalogue p h.alone h.from).all (inr is.unfinished);
+        written = all_written p h.alone silent;
+        ending = rw (stays, other) refl;
+        ahead = little_ahead law p h.alone (little_ended law p h.alone h.little (inr is.unfinished));
       },
     )
 
--- there is no memory for the next answer
-pub ends_memory : {catalogue : Catalogue} {given given' taken taken' : Option (List ℕ)} {rest : List ℕ} {count : ℕ}
-    (is_over : Type 0) → Going catalogue given given' taken taken' rest count → count ≤ 100
-    → Outcome catalogue given given' taken taken' is_over (Err Memory)
-ends_memory {catalogue} {rest} is_over going few =
-    let n = going.counted in (
-      going.stream,
-      answers_text going.rs,
-      going.gave,
-      going.took,
+-- there is no memory
+pub ends_memory : {catalogue : Catalogue} {given given' taken taken' taken'' : Option (List ℕ)} {is_over : Type 0} {s : Status} (is_over' : Type 0)
+    → MessagesStay → Going catalogue given given' taken taken' is_over s → s.waiting ≡ [] → taken'' ≡ taken'
+    → Outcome catalogue given given' taken taken'' is_over' (Err Memory)
+ends_memory {catalogue} {s = s} is_over' law h silent same =
+    let p = past h.stream h.text h.exchanges s in (
+      h.stream,
+      h.text,
+      h.gave,
+      same ∙ h.took,
       record {
-        rs = going.rs;
-        answers = record {
-          few = omega arith;
-          answers = subst (λ (rs : List Response). AreAnswers catalogue (length going.rs) going.stream rs) (append_none going.rs)
-              (goes_answers catalogue going.stream going.rs rest 0 (length going.rs) [] going.goes (omega arith) (full rest));
-        };
-        written = refl;
+        rs = responses_of h.exchanges;
+        answers = (all_from_one law catalogue p h.alone h.from).first;
+        written = all_written p h.alone silent;
       },
     )
 
-one_answer : (catalogue : Catalogue) (rest message : List ℕ) (r : Response) → IsFirstMessage rest message
-    → IsAnswer catalogue message r → AreAnswers catalogue 1 rest (r ∷ [])
-one_answer catalogue rest message r first answers = elim (cases_Bool r.close) [
-  | inl shut ↦ closed 0 rest message r first answers shut
-  | inr stays ↦ more 0 rest message r [] first answers stays (full (drop (length message) rest))
-]
+-- there is no memory for what came
+lost_bytes : {catalogue : Catalogue} {given given' given'' taken taken' : Option (List ℕ)} {is_over : Type 0} {s : Status} (is_over' : Type 0)
+    (bytes : List ℕ) {has_failed : Bool} → MessagesStay → Going catalogue given given' taken taken' is_over s → s.waiting ≡ []
+    → Gives s given' given'' has_failed bytes → Outcome catalogue given given'' taken taken' is_over' (Err Memory)
+lost_bytes {catalogue} {given} {given'} {given''} {s = s} is_over' bytes law h silent gives =
+    let alone = bytes_came (past h.stream h.text h.exchanges s) bytes h.alone in (
+      h.stream ++ bytes,
+      h.text,
+      known_more given given' given'' h.stream bytes h.gave gives.gave,
+      h.took,
+      record {
+        rs = responses_of h.exchanges;
+        answers = (all_from_one law catalogue (past (h.stream ++ bytes) h.text h.exchanges (after_bytes bytes s)) alone h.from).first;
+        written = all_written (past h.stream h.text h.exchanges s) h.alone silent;
+      },
+    )
 
--- the next answer was begun, and then writing failed
-ends_write : {catalogue : Catalogue} {given given' taken taken' taken'' : Option (List ℕ)} {rest : List ℕ} {count : ℕ}
-    (message : List ℕ) (r : Response) (is_over : Type 0) {has_failed : Bool} → MessagesStay → Going catalogue given given' taken taken' rest count
-    → count < 100 → length rest ≤ MESSAGE_LIMIT → IsFirstMessage rest message → IsAnswer catalogue message r → IsBroken taken' taken'' has_failed (text_of r)
+-- what came wasn't taken
+pub ends_unread : {catalogue : Catalogue} {given given' given'' taken taken' : Option (List ℕ)} {is_over : Type 0} {s : Status} (is_over' : Type 0)
+    (s' : Status) (has_failed : Bool) (e : ServeError) → MessagesStay → Going catalogue given given' taken taken' is_over s → s.waiting ≡ [] → IsOpen s
+    → Receives {A = Unit {0}} s s' given' given'' is_over' has_failed (Err e) → Outcome catalogue given given'' taken taken' is_over' (Err e)
+ends_unread is_over' s' has_failed Read law h silent is said = ends_read is_over' law h silent is said.same
+ends_unread is_over' s' has_failed Write law h silent is said = absurd said
+ends_unread is_over' s' has_failed Memory law h silent is said = lost_bytes is_over' said.bytes law h silent said.gives
+
+-- the answer was begun, and then writing failed
+ends_write : {catalogue : Catalogue} {given given' taken taken' taken'' : Option (List ℕ)} {is_over : Type 0} {s : Status} {has_failed : Bool}
+    → MessagesStay → Answering catalogue given given' taken taken' is_over s → IsBroken taken' taken'' has_failed s.waiting
     → Outcome catalogue given given' taken taken'' is_over (Err Write)
-ends_write {catalogue} {taken} {rest} message r is_over law going few all first answers broken =
-    let n = going.counted in
-    let rs = going.rs ++ r ∷ [] in
-    let some : length rs ≡ length going.rs + 1 = omega (arith, length-append going.rs (r ∷ [])) in (
-      going.stream,
-      answers_text going.rs ++ broken.written,
-      going.gave,
-      broken.took ∙ ap (λ (k : Option (List ℕ)). append_known k broken.written) going.took
-          ∙ known_append taken (answers_text going.rs) broken.written,
+ends_write {catalogue} {taken = taken} {taken' = taken'} {taken'' = taken''} {s = s} law answering broken =
+    let h = answering.going in
+    let p = past h.stream h.text h.exchanges s in (
+      h.stream,
+      h.text ++ broken.written,
+      h.gave,
+      known_more taken taken' taken'' h.text broken.written h.took broken.took,
       record {
-        rs = rs;
-        answers = record {
-          few = omega arith;
-          answers = goes_answers catalogue going.stream going.rs rest 1 (length rs) (r ∷ []) going.goes some
-              (one_answer catalogue rest message r first answers);
-        };
+        rs = responses_of h.exchanges;
+        answers = (all_from_one law catalogue p h.alone h.from).first;
         written = (
           broken.front.0,
-          append_assoc (answers_text going.rs) broken.written broken.front.0
-              ∙ ap (λ (t : List ℕ). answers_text going.rs ++ t) broken.front.1 ∙ sym (texts going.rs r),
+          append_assoc h.text broken.written broken.front.0 ∙ ap (λ (xs : List ℕ). h.text ++ xs) broken.front.1 ∙ h.alone.went,
         );
-        ahead = little_ahead_one law catalogue going.stream going.rs rest message r going.goes first all;
+        ahead = little_ahead law p h.alone answering.little;
       },
     )
 
 -- the next answer wasn't sent whole
-pub ends_unsent : {catalogue : Catalogue} {given given' taken taken' taken'' : Option (List ℕ)} {rest : List ℕ} {count : ℕ}
-    (message : List ℕ) (r : Response) (is_over : Type 0) (has_failed : Bool) (e : ServeError) → MessagesStay → Going catalogue given given' taken taken' rest count
-    → count < 100 → length rest ≤ MESSAGE_LIMIT → IsFirstMessage rest message → IsAnswer catalogue message r
-    → Writes {A = Bool} taken' taken'' has_failed (text_of r) (Err e)
+pub ends_unsent : {catalogue : Catalogue} {given given' taken taken' taken'' : Option (List ℕ)} {is_over : Type 0} {s s' : Status} (has_failed : Bool)
+    (e : ServeError) → MessagesStay → Going catalogue given given' taken taken' is_over s → s.waiting ≡ []
+    → Answering catalogue given given' taken taken' is_over s' → Writes {A = Unit {0}} taken' taken'' has_failed s'.waiting (Err e)
     → Outcome catalogue given given' taken taken'' is_over (Err e)
-ends_unsent message r is_over has_failed Read law going few all first answers sent = absurd sent
-ends_unsent message r is_over has_failed Write law going few all first answers sent = ends_write message r is_over law going few all first answers sent
-ends_unsent {catalogue} {given} {given'} {taken} message r is_over has_failed Memory law going few all first answers sent =
-    subst (λ (t : Option (List ℕ)). Outcome catalogue given given' taken t is_over (Err Memory)) (sym sent.same)
-    (ends_memory is_over going (omega arith))
+ends_unsent has_failed Read law h silent answering sent = absurd sent
+ends_unsent has_failed Write law h silent answering sent = ends_write law answering sent
+ends_unsent {is_over = is_over} has_failed Memory law h silent answering sent = ends_memory is_over law h silent sent.same
+
+-- ---- failures
 
 pub unsent_flag : (taken' taken'' : Option (List ℕ)) (text : List ℕ) (has_failed : Bool) (e : ServeError)
-    → Writes {A = Bool} taken' taken'' has_failed text (Err e)
-    → (has_failed ≡ write_failed (Err e)) × (read_failed (Err e) ≡ false)
+    → Writes {A = Unit {0}} taken' taken'' has_failed text (Err e) → (has_failed ≡ write_failed (Err e)) × (read_failed (Err e) ≡ false)
 unsent_flag taken' taken'' text has_failed Read sent = absurd sent
 unsent_flag taken' taken'' text has_failed Write sent = (sent.failed, refl)
 unsent_flag taken' taken'' text has_failed Memory sent = (sent.unfailed, refl)
+
+pub unread_flag : (s s' : Status) (given given' : Option (List ℕ)) (is_over : Type 0) (has_failed : Bool) (e : ServeError)
+    → Receives {A = Unit {0}} s s' given given' is_over has_failed (Err e) → (has_failed ≡ read_failed (Err e)) × (write_failed (Err e) ≡ false)
+unread_flag s s' given given' is_over has_failed Read said = (said.failed, refl)
+unread_flag s s' given given' is_over has_failed Write said = absurd said
+unread_flag s s' given given' is_over has_failed Memory said = (said.gives.unfailed, refl)
 
 -- the failure is passed on
 pub ends_with : (catalogue : Catalogue) (given given' taken taken' : Option (List ℕ)) (is_over : Type 0)
@@ -402,3 +482,48 @@ pub ends_with : (catalogue : Catalogue) (given given' taken taken' : Option (Lis
 ends_with catalogue given given' taken taken' is_over (Ok served) e f is same ends = absurd is
 ends_with catalogue given given' taken taken' is_over (Err x) e f is same ends =
     subst (λ (y : ServeError). Outcome catalogue given given' taken taken' is_over (Err y)) (sym (is ∙ same)) ends
+
+-- ---- the measure
+
+-- how much may still happen: answers, and between two of them bytes and the end
+abbrev pub left : Status → ℕ
+left s = (100 - s.answers) * 8194 + (8192 - length s.held) + cond s.is_over 0 1
+
+answers_after : (message : List ℕ) (r : Response) (s : Status) → (after_answer message r s).answers ≡ s.answers + 1
+answers_after message r s =
+    elim (cases_Bool (is_closing (after_message message r s))) [
+      | inl shut ↦ rw shut refl
+      | inr stays ↦ rw stays refl
+    ]
+
+less_left : (a b x y o : ℕ) → b ≡ a + 1 → a + 1 ≤ 100 → y ≤ 8192 → (100 - b) * 8194 + y + o < (100 - a) * 8194 + x + o
+less_left a b x y o is room small = omega arith
+
+answer_smaller : (message : List ℕ) (r : Response) (s : Status) → s.answers + 1 ≤ 100
+    → left (after_write (length (after_answer message r s).waiting) (after_answer message r s)) < left s
+answer_smaller message r s room =
+    let t = after_answer message r s in
+    subst (λ (b : Bool). (100 - t.answers) * 8194 + (8192 - length t.held) + cond b 0 1 < left s) (sym (over_kept message r s))
+    (less_left s.answers t.answers (8192 - length s.held) (8192 - length t.held) (cond s.is_over 0 1) (answers_after message r s) room (omega arith))
+
+pub less_to_answer : {catalogue : Catalogue} {given given' taken taken' : Option (List ℕ)} {is_over : Type 0} {s : Status} (s' t : Status)
+    → Going catalogue given given' taken taken' is_over s → GoesOn catalogue s s' true → t ≡ after_write (length s'.waiting) s' → left t < left s
+less_to_answer {s = s} s' t h goes same =
+    let other = (neither s.is_closed (s.answers == 100) goes.2.goes_on).1 in
+    let room = one_fewer s.answers (subst (λ (n : ℕ). n ≤ 100) (sym h.alone.counted) h.alone.few) other in
+    subst (λ (x : Status). left x < left s) (sym (same ∙ ap (λ (x : Status). after_write (length x.waiting) x) goes.3))
+    (answer_smaller goes.0 goes.1 s room)
+
+read_smaller : MessagesStay → (bytes : List ℕ) (s : Status) → IsOpen s → left (after_read bytes s) < left s
+read_smaller law [] s h = rw h.on (omega arith)
+read_smaller law (b ∷ rest) s h =
+    let bytes : List ℕ = b ∷ rest in
+    let few = (law.unfinished s.held [] h.unfinished).0 in
+    let all = length-append s.held bytes in
+    subst (λ (x : Status). left x < left s) (sym (taken_in bytes s h.unclosed)) (omega arith)
+
+pub less_to_read : {given given' : Option (List ℕ)} {is_over : Type 0} {has_failed : Bool} (s s' t : Status) → MessagesStay → s' ≡ s → IsOpen s'
+    → IsReceived s' t given given' is_over has_failed → left t < left s
+less_to_read s s' t law same is came =
+    subst (λ (x : Status). left t < left x) same
+    (subst (λ (x : Status). left x < left s') (sym came.status) (read_smaller law came.bytes s' is))

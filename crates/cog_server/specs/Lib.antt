@@ -5,7 +5,7 @@ pub mod Server
 pub mod Inside
 pub mod Moved
 pub mod Serve
-pub mod Pending
+pub mod Received
 pub mod Sent
 pub mod Scripted
 pub mod Outgoing

@@ -1,9 +1,7 @@
 -- Writing an answer, where want of memory and failures of the outlet may end it.
-use Rattle.std.specs.Prelude.{◌≡◌, Bool, true, false, ℕ, List, Option, Result, Ok, Err, IfOk}
+use Rattle.std.specs.Prelude.{◌≡◌, Bool, true, false, ℕ, List, Option, Result, Ok, Err}
 use Rattle.std.specs.Io.KnownBytes.{append_known}
-use Rattle.http_range.specs.Book.{Catalogue}
 use Rattle.http_range.specs.Honest.{IsFront}
-use Rattle.http_range.specs.Response.{Response, IsAnswer, text_of}
 use Rattle.cog_server.specs.declared.served.ServeError.{ServeError}
 use Rattle.cog_server.specs.declared.served.ServeError.TheVariants.{Read, Write, Memory}
 
@@ -30,11 +28,3 @@ Writes taken taken' has_failed text (Ok a) = IsWritten taken taken' has_failed t
 Writes taken taken' has_failed text (Err Read) = ⊥
 Writes taken taken' has_failed text (Err Write) = IsBroken taken taken' has_failed text
 Writes taken taken' has_failed text (Err Memory) = IsUnwritten taken taken' has_failed
-
--- the answer to the message was written, or a beginning of it; Ok says whether the connection ends with it
-pub record Sends (catalogue : Catalogue) (message : List ℕ) (taken taken' : Option (List ℕ)) (has_failed : Bool)
-    (result : Result Bool ServeError) : Type 0 where
-  pub response : Response
-  pub answers : IsAnswer catalogue message response
-  pub writes : Writes taken taken' has_failed (text_of response) result
-  pub closes : IfOk result (λ close. close ≡ response.close)

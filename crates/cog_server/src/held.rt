@@ -34,6 +34,7 @@ impl Held {
         ensures found { IfSome result (λ n. (n ≤ length self.new.bytes.items)
             × IsFirstMessage self.new.bytes.items (take n self.new.bytes.items)) }
         ensures none { IfNone result (IsUnfinished self.new.bytes.items) }
+        ensures searched { IfNone result (self.new.scanned ≡ length self.new.bytes.items) }
     {
         let found = message_length(&self.bytes, self.scanned);
         if found.is_none() {

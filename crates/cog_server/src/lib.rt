@@ -12,7 +12,6 @@ mod inlet;
 mod laws;
 mod limits;
 mod outgoing;
-mod pending;
 mod placed;
 mod prepared;
 mod published;

@@ -1,21 +1,37 @@
-//! Answers on a stream.
-ghost use Rattle.std.specs.Prelude.{◌≡◌, ◌≤◌, ◌<◌, ◌++◌, false, true, ℕ, List, [], IfOk, IfErr, OnOk, length, map, max, take};
+//! What the loop over a connection does: it reads what comes, and writes what waits.
+ghost use Rattle.std.specs.Prelude.{◌≡◌, ◌≤◌, ◌<◌, ◌++◌, false, true, ℕ, List, [], IfOk, IfErr, OnOk, length, max, take};
 ghost use Rattle.std.specs.Io.KnownBytes.{append_known};
-ghost use Rattle.http_range.specs.Reply.{head_text};
-ghost use Rattle.cog_server.specs.Catalogue.{publication};
-ghost use Rattle.cog_server.specs.Serve.{Serves, read_failed, write_failed};
-ghost use Rattle.cog_server.specs.Sent.{IsBroken, IsWritten, Sends};
+ghost use Rattle.http_parts.specs.declared.limits.TheConstants.{MESSAGE_LIMIT};
+ghost use Rattle.cog_server.specs.Received.{Receives};
+ghost use Rattle.cog_server.specs.Sent.{IsBroken, IsWritten, Writes};
+ghost use Rattle.cog_server.specs.Status.{after_write, room_of};
 
+use crate::connection::Connection;
 use crate::inlet::{Failed, Inlet, Outlet};
-use crate::pending::Pending;
-use crate::prepared::prepare;
-use crate::published::Published;
-use crate::served::{Ended, ServeError, Served};
-use http_range::{ANSWERS_LIMIT, Memory, Reply, append_head, messages_stay};
+use crate::served::ServeError;
+use http_range::{MESSAGE_LIMIT, Memory};
 use std::alloc::Global;
 
 /// The most bytes of the write that has the head of an answer.
 const FIRST_WRITE: usize = 16384;
+
+/// Where bytes are read into, and where the first write of each answer is put together.
+#[derive(Drop)]
+pub struct Buffers {
+    pub room: Vec<u8>,
+    pub text: Vec<u8>,
+}
+
+impl Buffers {
+    pub fn new(alloc: Global) -> Result<Self, Memory>
+        ensures { IfOk result (λ b. MESSAGE_LIMIT ≤ length b.room.items) }
+    {
+        Ok(Buffers {
+            room: vec![in alloc; 0u8; MESSAGE_LIMIT]?,
+            text: Vec::with_capacity(alloc, FIRST_WRITE)?,
+        })
+    }
+}
 
 /// Writes some bytes.
 fn send<W: Outlet>(w: &mut W, bytes: &[u8]) -> Result<(), ServeError>
@@ -38,84 +54,73 @@ fn send<W: Outlet>(w: &mut W, bytes: &[u8]) -> Result<(), ServeError>
     Ok(())
 }
 
-/// Room for the first write of each answer.
-fn room(alloc: Global) -> Result<Vec<u8>, Memory>
-    ensures { IfOk result (λ text. text.items ≡ []) }
-{
-    Ok(Vec::with_capacity(alloc, FIRST_WRITE)?)
-}
-
 /// Puts the head of an answer, with as much of its body as fits into the first write, in the place of what the text held, and
 /// gives the rest of the body.
-fn first_write<'f>(
-    text: &mut Vec<u8>,
-    reply: &Reply,
-    close: bool,
-    body: &'f [u8],
-) -> Result<&'f [u8], Memory>
-    ensures whole { IfOk result (λ rest. text.new.items ++ rest.now ≡ head_text reply.now close ++ body.now) }
-    ensures few { OnOk result (length text.new.items ≤ max FIRST_WRITE (length (head_text reply.now close))) }
+fn first_write<'f>(text: &mut Vec<u8>, head: &[u8], body: &'f [u8]) -> Result<&'f [u8], Memory>
+    ensures whole { IfOk result (λ rest. text.new.items ++ rest.now ≡ head.now ++ body.now) }
+    ensures few { OnOk result (length text.new.items ≤ max FIRST_WRITE (length head.now)) }
     ensures full { IfOk result (λ rest. 0 < length rest.now → FIRST_WRITE ≤ length text.new.items) }
 {
     text.clear();
-    append_head(text, reply, close)?;
+    text.extend_from_slice(head)?;
     let (front, rest) = body.split_at(FIRST_WRITE.saturating_sub(text.len()).min(body.len()));
     text.extend_from_slice(front)?;
     Ok(rest)
 }
 
-/// Writes the answer to a message, by way of a text that is used for each, and says whether the connection ends with it.
-fn send_answer<W: Outlet>(
-    files: &[Published],
-    message: &[u8],
+/// Writes all that waits on a connection, by way of a text that is used for each answer.
+pub fn send_waiting<W: Outlet>(
+    connection: &mut Connection,
     text: &mut Vec<u8>,
     w: &mut W,
-) -> Result<bool, ServeError>
+) -> Result<(), ServeError>
     requires { W.has_failed w.old ≡ false }
-    ensures { Sends (map publication files.now) message.now (W.taken w.old) (W.taken w.new) (W.has_failed w.new) result }
+    ensures sent { Writes (W.taken w.old) (W.taken w.new) (W.has_failed w.new) connection.old.waiting result }
+    ensures written { OnOk result (connection.new ≡ after_write (length connection.old.waiting) connection.old) }
 {
-    let answer = prepare(files, message);
-    let rest = first_write(text, &answer.reply, answer.close, answer.body)?;
+    let (head, body) = connection.waiting();
+    let n = head.len() + body.len();
+    let rest = first_write(text, head, body)?;
     send(w, text)?;
     send(w, rest)?;
-    Ok(answer.close)
+    connection.wrote(n);
+    Ok(())
 }
 
-/// Answers the messages of a stream in order, up to and with the first answer that closes or the hundredth.
-pub fn serve_files<R: Inlet, W: Outlet>(
-    alloc: Global,
-    files: &[Published],
-    r: &mut R,
-    w: &mut W,
-) -> Result<Served, ServeError>
-    requires reads { R.has_failed r.old ≡ false }
-    requires writes { W.has_failed w.old ≡ false }
-    ensures served { (stream : List ℕ) × (text : List ℕ) × (R.given r.new ≡ append_known (R.given r.old) stream)
-        × (W.taken w.new ≡ append_known (W.taken w.old) text)
-        × Serves (map publication files.now) stream text (R.is_over r.new) result }
-    ensures read { R.has_failed r.new ≡ read_failed result }
-    ensures write { W.has_failed w.new ≡ write_failed result }
+/// Reads at most so many bytes into the front of a buffer, and says how many.
+fn read_some<R: Inlet>(r: &mut R, buffer: &mut [u8], room: usize) -> Result<usize, ServeError>
+    requires some { 0 < room }
+    requires within { room ≤ length buffer.old }
+    requires unfailed { R.has_failed r.old ≡ false }
+    ensures ok { IfOk result (λ n. (n ≤ room) × (n ≡ 0 → R.is_over r.new)
+        × (R.given r.new ≡ append_known (R.given r.old) (take n buffer.new))) }
+    ensures unfailed { OnOk result (R.has_failed r.new ≡ false) }
+    ensures err { IfErr result (λ e. (e ≡ ServeError.Read) × (R.has_failed r.new ≡ true)
+        × (R.given r.new ≡ append_known (R.given r.old) [])) }
 {
-    messages_stay();
-    let mut pending = Pending::new(alloc)?;
-    let mut text = room(alloc)?;
-    for answers in 0..ANSWERS_LIMIT {
-        let Some(n) = pending.next_message(r)? else {
-            let ended = Ended::EndOfInput;
-            return Ok(Served { answers, ended });
-        };
-        let close = send_answer(files, &pending.held()[..n], &mut text, w)?;
-        if close {
-            let ended = Ended::Closed;
-            return Ok(Served {
-                answers: answers + 1,
-                ended,
-            });
-        }
-        pending.skip(n);
+    match r.read(&mut buffer[..room]) {
+        Ok(n) => Ok(n),
+        Err(Failed) => Err(ServeError::Read),
     }
-    Ok(Served {
-        answers: ANSWERS_LIMIT,
-        ended: Ended::Limit,
-    })
+}
+
+/// Reads what comes next on a connection.
+pub fn receive<R: Inlet>(
+    connection: &mut Connection,
+    buffer: &mut [u8],
+    r: &mut R,
+) -> Result<(), ServeError>
+    requires some { 0 < room_of connection.old }
+    requires buffer { MESSAGE_LIMIT ≤ length buffer.old }
+    requires unfailed { R.has_failed r.old ≡ false }
+    ensures { Receives connection.old connection.new (R.given r.old) (R.given r.new) (R.is_over r.new) (R.has_failed r.new) result }
+{
+    let room = connection.room();
+    let n = read_some(r, buffer, room)?;
+    if n == 0 {
+        connection.came_to_end();
+    } else {
+        connection.came(&buffer[..n])?;
+    }
+    Ok(())
 }

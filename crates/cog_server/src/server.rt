@@ -7,14 +7,16 @@ ghost use Rattle.cog_server.specs.Serve.{Serves, read_failed, write_failed};
 ghost use Rattle.cog_server.specs.Server.{IsAnswered, IsRefusal, OthersStay, refusal_of};
 
 use crate::catalogue::{find_file, is_crowded, place_of, put};
+use crate::connection::Connection;
 use crate::error::PublishError;
 use crate::inlet::{Inlet, Outlet};
 use crate::prepared::{prepare, status};
 use crate::published::Published;
-use crate::serve::serve_files;
+use crate::serve::{Buffers, receive, send_waiting};
 use crate::served::{ServeError, Served};
 use http_range::{
-    FILE_LIMIT, Memory, Tag, is_name, publication_tag, publications_replace, write_head,
+    FILE_LIMIT, Memory, Tag, is_name, messages_stay, publication_tag, publications_replace,
+    write_head,
 };
 use std::alloc::Global;
 use std::marker::Model;
@@ -189,6 +191,19 @@ impl Server {
         ensures read { R.has_failed r.new ≡ read_failed result }
         ensures write { W.has_failed w.new ≡ write_failed result }
     {
-        serve_files(self.alloc, &self.files, r, w)
+        messages_stay();
+        let mut connection = Connection::new(self.alloc);
+        let mut buffers = Buffers::new(self.alloc)?;
+        'answers: loop {
+            if connection.go_on(self)? {
+                send_waiting(&mut connection, &mut buffers.text, w)?;
+                continue;
+            }
+            if let Some(ended) = connection.ended() {
+                let answers = connection.answers();
+                return Ok(Served { answers, ended });
+            }
+            receive(&mut connection, &mut buffers.room, r)?;
+        }
     }
 }

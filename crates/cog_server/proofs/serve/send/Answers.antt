@@ -1,7 +1,7 @@
 use Rattle.std.proofs.Common.{◌-◌, ℕ, List, refl, ap, ◌∙◌, length, take, drop, arith, length-take, length-drop, take-append-drop}
 use Rattle.std.specs.Io.KnownBytes.{append_known}
 use Rattle.std.proofs.lemmas.List.{take_rest}
-use Rattle.cog_server.proofs.PendingLemmas.{failed_now, stopped, took_both, went_on}
+use Rattle.cog_server.proofs.SentLemmas.{failed_now, stopped, took_both, went_on}
 use Rattle.cog_server.proofs.ServeLemmas.{known_none}
 use Rattle.cog_server.proofs.serve.send.Goals as goal
 

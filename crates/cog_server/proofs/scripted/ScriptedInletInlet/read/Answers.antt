@@ -1,6 +1,6 @@
 use Rattle.std.proofs.Common.{◌≡◌, ℕ, List, Some, length, take, drop, ◌++◌, ◌+◌, ◌-◌, sym, ap, ◌∙◌, arith, length-take}
 use Rattle.std.proofs.lemmas.List.{take_at}
-use Rattle.cog_server.proofs.PendingLemmas.{take_both}
+use Rattle.cog_server.proofs.SentLemmas.{take_both}
 use Rattle.cog_server.proofs.scripted.ScriptedInletInlet.read.Goals as goal
 
 pub returns-clause-bytes : goal.returns-clause-bytes
