@@ -3,17 +3,23 @@ use cog_server::Server;
 use fixtures_support::f1;
 use serving::{Limits, Serving};
 use std::io::{Read, Write};
-use std::net::{SocketAddr, TcpListener, TcpStream};
+use std::net::{Net, SocketAddr, TcpListener, TcpStream};
 use std::num::NonZeroUsize;
+use std::process::Abort;
 use std::test::Fail;
 
 const ASK: &str = "GET /a HTTP/1.1\r\nHost: h\r\nRange: bytes=0-3\r\n\r\n";
 
-/// How the head of the answer to that begins.
-const ANSWER: &str = "HTTP/1.1 206 Partial Content\r\n";
+/// The answer to that.
+const ANSWER: &str =
+    "HTTP/1.1 206 Partial Content\r\nETag: \"1-1\"\r\nAccept-Ranges: bytes\r\nContent-Type: image/tiff\r\n\
+    Content-Range: bytes 0-3/378\r\nContent-Length: 4\r\n\r\nII*\0";
 
 /// A server of this file with so many places, where a connection without progress keeps its place for a second.
-fn serving(rt: &HostRuntime, places: usize) -> Result<(Serving, Server, SocketAddr), Fail> {
+fn serving<R: AllocGlobal + Net<Listener = TcpListener, Stream = TcpStream>>(
+    rt: &R,
+    places: usize,
+) -> Result<(Serving, Server, SocketAddr), Fail> {
     let listener = TcpListener::bind(rt, "127.0.0.1:0")?;
     let address = listener.local_addr()?;
     let Some(at_once) = NonZeroUsize::new(places) else {
@@ -32,7 +38,11 @@ fn serving(rt: &HostRuntime, places: usize) -> Result<(Serving, Server, SocketAd
 }
 
 /// A connection on which this is sent.
-fn connect(rt: &HostRuntime, address: SocketAddr, text: &str) -> Result<TcpStream, Fail> {
+fn connect<R: Net<Stream = TcpStream>>(
+    rt: &R,
+    address: SocketAddr,
+    text: &str,
+) -> Result<TcpStream, Fail> {
     let mut client = TcpStream::connect(rt, address)?;
     client.write_all(text.as_bytes())?;
     Ok(client)
@@ -51,8 +61,8 @@ fn turn(serving: &mut Serving, server: &Server, now: u64) -> Result<(u32, u32), 
 }
 
 /// Asks on a connection, and expects an answer at this moment.
-fn expect_answer(
-    rt: &HostRuntime,
+fn expect_answer<R: Abort>(
+    rt: &R,
     client: &mut TcpStream,
     serving: &mut Serving,
     server: &Server,
@@ -61,9 +71,9 @@ fn expect_answer(
     client.write_all(ASK.as_bytes())?;
     serving.wait(now)?;
     serving.turns(server, now);
-    let mut head = [0u8; ANSWER.len()];
-    client.read_exact(&mut head)?;
-    assert_eq!(rt; str::from_utf8(&head), Ok(ANSWER));
+    let mut answer = [0u8; ANSWER.len()];
+    client.read_exact(&mut answer)?;
+    assert_eq!(rt; str::from_utf8(&answer), Ok(ANSWER));
     Ok(())
 }
 
@@ -100,9 +110,9 @@ fn gives_a_newcomer_a_place(rt: HostRuntime) -> Result<(), Fail> {
     second.write_all(&ASK.as_bytes()[1..])?;
     serving.wait(1_011)?;
     serving.turns(&server, 1_011);
-    let mut head = [0u8; ANSWER.len()];
-    second.read_exact(&mut head)?;
-    assert_eq!(rt; str::from_utf8(&head), Ok(ANSWER));
+    let mut answer = [0u8; ANSWER.len()];
+    second.read_exact(&mut answer)?;
+    assert_eq!(rt; str::from_utf8(&answer), Ok(ANSWER));
     Ok(())
 }
 
