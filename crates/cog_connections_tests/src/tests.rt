@@ -1,0 +1,6 @@
+//! Tests of connections.
+mod driving;
+mod orders;
+mod random;
+mod single;
+mod yielding;
