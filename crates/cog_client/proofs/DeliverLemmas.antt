@@ -28,13 +28,14 @@ use Rattle.cog_client.specs.declared.report.Report.{Report}
 use Rattle.cog_client.specs.declared.source.Source.{Source}
 use Rattle.cog_client.specs.Case.{Revision, case_of, is_beside}
 use Rattle.cog_client.specs.Take.{Holding, Taken, IsIgnored, asked_or_first, base_of, keep, stored_count, emptied, first_span, revision_of_piece, stored_front, stored_of, take as taken, take_by}
-use Rattle.cog_client.specs.Client.{ClientState, Knows, KnowsOne, ClientAgrees, KnowsBy, IsReadingOf, IsStanding, asked_of, blocks_of, holding, name_of, report_of, revision_at, revision_in, revision_of, to_come}
+use Rattle.cog_client.specs.Client.{ClientState, Knows, KnowsOne, ClientAgrees, KnowsBy, IsReadingOf, IsStanding, asked_of, blocks_of, feed_of, holding, host_of, name_of, query_of, report_of, revision_at, revision_in, revision_of, to_come}
+use Rattle.cog_client.specs.Feeding.{nothing_fed}
 use Rattle.cog_client.specs.Calls.{unless_reported}
 use Rattle.cog_client.specs.Keeps.{DeliversKeeping, StaysOf, StopsDelivery}
 use Rattle.cog_client.specs.Going.{AreSame}
 use Rattle.cog_client.specs.Steps.{Adopts, StopsStoring, AcceptsPiece}
 use Rattle.cog_client.proofs.GoingLemmas.{end_refl, same_refl}
-use Rattle.cog_client.proofs.ClientLemmas.{same_trans}
+use Rattle.cog_client.proofs.ClientLemmas.{agrees_by, refed, same_trans}
 
 -- ---- what the cases say of the client
 
@@ -138,7 +139,7 @@ module _ (law : FrontsAreRead) (p : SeenPiece) (text : List ℕ) (reads : ReadsA
 
   pub begins_delivers : (old mid new : ClientState) (a : Span) (what : Delivered) (count : ℕ) → what ≡ (taken (holding old) (Ok p)).says
       → (taken (holding old) (Ok p)).leaves ≡ keep (revision_of_piece p) a (emptied (blocks_of old)) p → (IsIgnored what → ⊥)
-      → (revision_of old ≡ Some (revision_of_piece p) → ⊥) → Adopts p (Some a) old mid → AcceptsPiece p mid new count → DeliversKeeping old text what new
+      → (revision_of old ≡ Some (revision_of_piece p) → ⊥) → Adopts (revision_of_piece p) (Some a) old mid → AcceptsPiece p mid new count → DeliversKeeping old text what new
   begins_delivers old mid new a what count says leaves used other adopts takes =
       let revision : revision_of new ≡ Some (revision_of_piece p) = takes.revision ∙ adopts.revision in
       let same = same_trans old mid new adopts.same takes.same in
@@ -152,6 +153,7 @@ module _ (law : FrontsAreRead) (p : SeenPiece) (text : List ℕ) (reads : ReadsA
           asked = takes.asked ∙ ap (unless_reported (report_of new)) (adopts.asks ∙ sym (ap (λ (h : Holding). h.asked) leaves));
           blocks = subst (λ (b : Blocks). AreSame b (blocks_of new))
               (ap (λ x. stored_of p (asked_or_first x) (blocks_of mid)) adopts.asks ∙ ap (stored_of p a) adopts.blocks ∙ sym (ap (λ (h : Holding). h.blocks) leaves)) takes.blocks;
+          feed = takes.feed;
           ignored = λ i. absurd (used i);
         };
         rests = inr takes.rests;
@@ -161,7 +163,7 @@ module _ (law : FrontsAreRead) (p : SeenPiece) (text : List ℕ) (reads : ReadsA
 
   pub begins_stops : (old mid new : ClientState) (a : Span) (k : Case) → case_of (revision_of old) (asked_of old) p ≡ k → base_of k (blocks_of old) ≡ emptied (blocks_of old)
       → (taken (holding old) (Ok p)).leaves ≡ keep (revision_of_piece p) a (emptied (blocks_of old)) p → (IsIgnored (taken (holding old) (Ok p)).says → ⊥)
-      → Adopts p (Some a) old mid → StopsStoring p mid new → StopsDelivery old text new
+      → Adopts (revision_of_piece p) (Some a) old mid → StopsStoring p mid new → StopsDelivery old text new
   begins_stops old mid new a k is base leaves used adopts stops =
       let revision : revision_of new ≡ Some (revision_of_piece p) = stops.revision ∙ adopts.revision in
       let asked : asked_of new ≡ Some a = stops.asked ∙ adopts.asks in
@@ -174,6 +176,7 @@ module _ (law : FrontsAreRead) (p : SeenPiece) (text : List ℕ) (reads : ReadsA
         revision = revision ∙ sym (ap (λ (h : Holding). h.revision) leaves);
         asked = asked ∙ sym (ap (λ (h : Holding). h.asked) leaves);
         report = stops.report;
+        feed = stops.feed;
         blocks = (
           stops.blocks.0,
           subst (λ (b : Blocks). AreSame b (blocks_of new))
@@ -199,6 +202,7 @@ module _ (law : FrontsAreRead) (p : SeenPiece) (text : List ℕ) (reads : ReadsA
           revision = takes.revision ∙ ap (λ (x : Taken). x.leaves.revision) (sym t);
           asked = takes.asked ∙ ap (λ (x : Taken). unless_reported (report_of new) x.leaves.asked) (sym t);
           blocks = subst (λ (x : Taken). AreSame x.leaves.blocks (blocks_of new)) (sym t) takes.blocks;
+          feed = takes.feed;
           ignored = λ i. absurd i;
         };
         rests = inr takes.rests;
@@ -218,6 +222,7 @@ module _ (law : FrontsAreRead) (p : SeenPiece) (text : List ℕ) (reads : ReadsA
         revision = stops.revision ∙ ap (λ (x : Taken). x.leaves.revision) (sym t);
         asked = stops.asked ∙ ap (λ (x : Taken). x.leaves.asked) (sym t);
         report = stops.report;
+        feed = stops.feed;
         blocks = (
           stops.blocks.0,
           subst (λ (b : Blocks). AreSame b (blocks_of new))
@@ -233,23 +238,40 @@ pub asks_still : (q : Option Query) (a : Option Span) (r : Option Report) → If
 asks_still q a None h = refl
 asks_still q a (Some r) h = h.1
 
-pub ignores : (old : ClientState) (text : List ℕ) (w : why.Ignored) (reading : Result SeenPiece Why) → ReadsAnswer text reading
-    → taken (holding old) reading ≡ record { says = Ignored w; leaves = holding old } → asked_of old ≡ unless_reported (report_of old) (asked_of old) → DeliversKeeping old text (Ignored w) old
-ignores old text w reading reads is asked = record {
-  seen = record {
-    same = record { host = refl; name = refl; query = refl };
-    reading = reading;
-    reads = reads;
-    answers = sym (ap (λ (t : Taken). t.says) is);
-    revision = sym (ap (λ (t : Taken). t.leaves.revision) is);
-    asked = asked ∙ ap (λ (t : Taken). unless_reported (report_of old) t.leaves.asked) (sym is);
-    blocks = subst (λ (t : Taken). AreSame t.leaves.blocks (blocks_of old)) (sym is) (same_refl (blocks_of old));
-    ignored = λ i. refl;
-  };
-  rests = inl tt;
-  file = λ f still piece knows. record { knows = knows; come = end_refl (to_come old f) };
-  agrees = λ book distinct agrees honest. agrees;
-}
+module _ (old new : ClientState) (dropped : new ≡ record old { feed = nothing_fed }) where
+  still_knows : (f : List ℕ) → Knows f old → Knows f (record old { feed = nothing_fed })
+  still_knows f knows = refed old nothing_fed f knows
+
+  still_agrees : (book : Book) → ClientAgrees old book → ClientAgrees (record old { feed = nothing_fed }) book
+  unfolding name_of revision_of
+  still_agrees book agrees = agrees_by old (record old { feed = nothing_fed }) refl refl still_knows book agrees
+
+  ignores_at : (text : List ℕ) (w : why.Ignored) (reading : Result SeenPiece Why) → ReadsAnswer text reading
+      → taken (holding old) reading ≡ record { says = Ignored w; leaves = holding old } → asked_of old ≡ unless_reported (report_of old) (asked_of old)
+      → DeliversKeeping old text (Ignored w) (record old { feed = nothing_fed })
+  unfolding host_of name_of query_of asked_of revision_of report_of blocks_of feed_of to_come
+  ignores_at text w reading reads is asked = record {
+    seen = record {
+      same = record { host = refl; name = refl; query = refl };
+      reading = reading;
+      reads = reads;
+      answers = sym (ap (λ (t : Taken). t.says) is);
+      revision = sym (ap (λ (t : Taken). t.leaves.revision) is);
+      asked = asked ∙ ap (λ (t : Taken). unless_reported (report_of old) t.leaves.asked) (sym is);
+      blocks = subst (λ (t : Taken). AreSame t.leaves.blocks (blocks_of old)) (sym is) (same_refl (blocks_of old));
+      feed = refl;
+      ignored = λ i. refl;
+    };
+    rests = inl tt;
+    file = λ f still piece knows. record { knows = still_knows f knows; come = end_refl (to_come old f) };
+    agrees = λ book distinct agrees honest. still_agrees book agrees;
+  }
+
+  pub ignores : (text : List ℕ) (w : why.Ignored) (reading : Result SeenPiece Why) → ReadsAnswer text reading
+      → taken (holding old) reading ≡ record { says = Ignored w; leaves = holding old } → asked_of old ≡ unless_reported (report_of old) (asked_of old)
+      → DeliversKeeping old text (Ignored w) new
+  ignores text w reading reads is asked =
+      subst (DeliversKeeping old text (Ignored w)) (sym dropped) (ignores_at text w reading reads is asked)
 
 -- ---- the three cases of a piece that is used
 
@@ -275,29 +297,29 @@ module _ (law : FrontsAreRead) (p : SeenPiece) (text : List ℕ) (reads : ReadsA
   pub adopted_asks : case_of (revision_of old) (asked_of old) p ≡ cases.Adopted → asked_of old ≡ Some (asked_or_first (asked_of old))
   adopted_asks is = some_or_first (asked_of old) (was_asked (revision_of old) (asked_of old) p cases.Adopted is (λ w e. cc))
 
-  pub adopted_delivers : (count : ℕ) → case_of (revision_of old) (asked_of old) p ≡ cases.Adopted → Adopts p (asked_of old) old mid → AcceptsPiece p mid new count → DeliversKeeping old text (Took count) new
+  pub adopted_delivers : (count : ℕ) → case_of (revision_of old) (asked_of old) p ≡ cases.Adopted → Adopts (revision_of_piece p) (asked_of old) old mid → AcceptsPiece p mid new count → DeliversKeeping old text (Took count) new
   adopted_delivers count is adopts takes =
       let a = asked_or_first (asked_of old) in
       let t : taken (holding old) (Ok p) ≡ take_by cases.Adopted (holding old) p = ap (λ k. take_by k (holding old) p) is in
-      let e : Adopts p (Some a) old mid = subst (λ o. Adopts p o old mid) (adopted_asks is) adopts in
+      let e : Adopts (revision_of_piece p) (Some a) old mid = subst (λ o. Adopts (revision_of_piece p) o old mid) (adopted_asks is) adopts in
       begins_delivers law p text reads old mid new a (Took count) count
       (ap Took (takes.counted ∙ ap (λ x. stored_count p (asked_or_first x) (blocks_of mid)) e.asks ∙ ap (stored_count p a) e.blocks) ∙ ap (λ (x : Taken). x.says) (sym t))
       (ap (λ (x : Taken). x.leaves) t) (λ i. i)
       (λ some. none-some (revision_of_piece p) (sym (nothing_asked (revision_of old) (asked_of old) p is) ∙ some)) e takes
 
-  pub adopted_stops : case_of (revision_of old) (asked_of old) p ≡ cases.Adopted → Adopts p (asked_of old) old mid → StopsStoring p mid new → StopsDelivery old text new
+  pub adopted_stops : case_of (revision_of old) (asked_of old) p ≡ cases.Adopted → Adopts (revision_of_piece p) (asked_of old) old mid → StopsStoring p mid new → StopsDelivery old text new
   adopted_stops is adopts stops =
       let t : taken (holding old) (Ok p) ≡ take_by cases.Adopted (holding old) p = ap (λ k. take_by k (holding old) p) is in
       begins_stops law p text reads old mid new (asked_or_first (asked_of old)) cases.Adopted is refl (ap (λ (x : Taken). x.leaves) t) (λ i. subst (λ (x : Taken). IsIgnored x.says) t i)
-      (subst (λ o. Adopts p o old mid) (adopted_asks is) adopts) stops
+      (subst (λ o. Adopts (revision_of_piece p) o old mid) (adopted_asks is) adopts) stops
 
-  pub restarted_delivers : (count : ℕ) → case_of (revision_of old) (asked_of old) p ≡ cases.Restarted → Adopts p (Some first_span) old mid → AcceptsPiece p mid new count → DeliversKeeping old text Restarted new
+  pub restarted_delivers : (count : ℕ) → case_of (revision_of old) (asked_of old) p ≡ cases.Restarted → Adopts (revision_of_piece p) (Some first_span) old mid → AcceptsPiece p mid new count → DeliversKeeping old text Restarted new
   restarted_delivers count is adopts takes =
       let t : taken (holding old) (Ok p) ≡ take_by cases.Restarted (holding old) p = ap (λ k. take_by k (holding old) p) is in
       begins_delivers law p text reads old mid new first_span Restarted count (ap (λ (x : Taken). x.says) (sym t)) (ap (λ (x : Taken). x.leaves) t) (λ i. i)
       (λ some. other_tag (revision_of_piece p) (asked_of old) p (subst (λ v. case_of v (asked_of old) p ≡ cases.Restarted) some is) refl) adopts takes
 
-  pub restarted_stops : case_of (revision_of old) (asked_of old) p ≡ cases.Restarted → Adopts p (Some first_span) old mid → StopsStoring p mid new → StopsDelivery old text new
+  pub restarted_stops : case_of (revision_of old) (asked_of old) p ≡ cases.Restarted → Adopts (revision_of_piece p) (Some first_span) old mid → StopsStoring p mid new → StopsDelivery old text new
   restarted_stops is adopts stops =
       let t : taken (holding old) (Ok p) ≡ take_by cases.Restarted (holding old) p = ap (λ k. take_by k (holding old) p) is in
       begins_stops law p text reads old mid new first_span cases.Restarted is refl (ap (λ (x : Taken). x.leaves) t) (λ i. subst (λ (x : Taken). IsIgnored x.says) t i) adopts stops

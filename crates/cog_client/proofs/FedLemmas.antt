@@ -14,7 +14,6 @@ use Rattle.cog_client.specs.declared.delivered.Ignored.TheVariants.{OtherRevisio
 use Rattle.cog_client.specs.Case.{Revision, is_beside}
 use Rattle.cog_client.specs.Take.{take, base_of, stored_count, Holding, asked_or_first, brought_by, stored_of, take_by}
 use Rattle.cog_client.specs.declared.delivered.Delivered.TheVariants.{Took, Ignored as AnIgnored}
-use Rattle.cog_client.specs.Fed.Feed.{follows}
 use Rattle.cog_client.specs.Fed.{case_of_head, piece_with, piece_at, asked_by, told_at_end, is_beside_at, CaseIsOfHead, EndTells, LeavesByHead, CutsAreStored, EdgesAreStored, PartsAreNotStored}
 
 -- ---- the case
@@ -38,40 +37,40 @@ case_is_of_head (Some v) (Some s) head body =
 
 -- ---- what is told
 
-tells_rows : (v : Option Revision) (s : Span) (b : Blocks) (head : Announced) (body part : List ℕ) (count : ℕ) (tag whole same beside : Bool)
+tells_rows : (v : Option Revision) (s : Span) (b : Blocks) (head : Announced) (body : List ℕ) (count : ℕ) (tag whole same beside : Bool)
     → is_beside_at head (length body) s ≡ beside
     → count ≡ stored_count (piece_with head body)
     (asked_by (cond tag (cond whole Restarted (Ignored OtherRevision)) (cond same (Ignored OtherLength) Accepted)) (Some s))
     (base_of (cond tag (cond whole Restarted (Ignored OtherRevision)) (cond same (Ignored OtherLength) Accepted)) b)
-    → told_at_end (follows head (cond tag (cond whole Restarted (Ignored OtherRevision)) (cond same (Ignored OtherLength) Accepted)) (length body) part count) (Some s)
+    → told_at_end (cond tag (cond whole Restarted (Ignored OtherRevision)) (cond same (Ignored OtherLength) Accepted)) head (length body) count (Some s)
     ≡ (take_by (cond tag (cond whole Restarted (Ignored OtherRevision)) (cond same (Ignored OtherLength) (cond beside (Ignored NotAsked) Accepted)))
     (record { revision = v; asked = Some s; blocks = b }) (piece_with head body)).says
-tells_rows v s b head body part count true true same beside is counted = refl
-tells_rows v s b head body part count true false same beside is counted = refl
-tells_rows v s b head body part count false whole true beside is counted = refl
-tells_rows v s b head body part count false whole false true is counted =
+tells_rows v s b head body count true true same beside is counted = refl
+tells_rows v s b head body count true false same beside is counted = refl
+tells_rows v s b head body count false whole true beside is counted = refl
+tells_rows v s b head body count false whole false true is counted =
     ap (λ t. cond t (AnIgnored NotAsked) (Took count)) is
-tells_rows v s b head body part count false whole false false is counted =
+tells_rows v s b head body count false whole false false is counted =
     ap (λ t. cond t (AnIgnored NotAsked) (Took count)) is ∙ ap Took counted
 
-tells : (v : Option Revision) (asked : Option Span) (b : Blocks) (head : Announced) (body part : List ℕ) (count : ℕ)
+tells : (v : Option Revision) (asked : Option Span) (b : Blocks) (head : Announced) (body : List ℕ) (count : ℕ)
     → count ≡ stored_count (piece_with head body) (asked_by (case_of_head v asked head) asked) (base_of (case_of_head v asked head) b)
-    → told_at_end (follows head (case_of_head v asked head) (length body) part count) asked
+    → told_at_end (case_of_head v asked head) head (length body) count asked
     ≡ (take (record { revision = v; asked = asked; blocks = b }) (Ok (piece_with head body))).says
-tells v None b head body part count counted = refl
-tells None (Some s) b head body part count counted = ap Took counted
-tells (Some v) (Some s) b head body part count counted =
-    tells_rows (Some v) s b head body part count (not (bytes_eq v.tag head.tag)) head.whole (not (nat_eq v.complete head.complete))
+tells v None b head body count counted = refl
+tells None (Some s) b head body count counted = ap Took counted
+tells (Some v) (Some s) b head body count counted =
+    tells_rows (Some v) s b head body count (not (bytes_eq v.tag head.tag)) head.whole (not (nat_eq v.complete head.complete))
     (is_beside s (piece_with head body)) refl counted
 
 pub end_tells : EndTells
-end_tells s head body part count counted = tells s.revision s.asked s.blocks head body part count counted
+end_tells s head body count counted = tells s.revision s.asked s.blocks head body count counted
 
 -- ---- what is left
 
 -- what is left where a body that is beside what is asked for is taken
 module _ (beside : BesideBringNone) where
-  nothing_more : (h : Holding) (p : SeenPiece) (s : Span) → is_beside s p ≡ true → stored_of p s h.blocks ≡ h.blocks
+  pub nothing_more : (h : Holding) (p : SeenPiece) (s : Span) → is_beside s p ≡ true → stored_of p s h.blocks ≡ h.blocks
   unfolding stored
   nothing_more h p s is =
       let nothing = beside p.complete p.first p.body s (leb-true _ _ is) in

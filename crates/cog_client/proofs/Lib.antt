@@ -12,3 +12,7 @@ pub mod FedLemmas
 pub mod BodyLemmas
 pub mod HeadLemmas
 pub mod FeedLemmas
+pub mod ArrivalLemmas
+pub mod FollowLemmas
+pub mod StopLemmas
+pub mod EndLemmas

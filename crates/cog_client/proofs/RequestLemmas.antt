@@ -1,6 +1,6 @@
 -- Asking: what is asked for is no part of what is known.
 use Rattle.std.proofs.Common.{◌≡◌, ℕ, ◌≤◌, List, Option, Some, None, true, false, refl, sym, ap, ◌∙◌, subst, arith, inl, inr}
-use Rattle.std.specs.Prelude.{IfSome, is_some}
+use Rattle.std.specs.Prelude.{IfSome, IsSome, is_some}
 use Rattle.std.proofs.lemmas.Option.{none-some}
 use Rattle.std.proofs.lemmas.Bool.{false≢true}
 use Rattle.tiff_dir.specs.declared.query.Query.{Query}
@@ -13,8 +13,9 @@ use Rattle.range_cache.specs.Cache.{Blocks}
 use Rattle.cog_client.specs.declared.report.Report.{Report}
 use Rattle.cog_client.specs.declared.source.Source.{Source}
 use Rattle.cog_client.specs.Case.{Revision}
-use Rattle.cog_client.specs.Client.{ClientState, Knows, IsClient, IsFew, IsStanding, asked_of, blocks_of, host_of, name_of, query_of, report_of, revision_of, tag_of, to_come}
-use Rattle.cog_client.specs.Calls.{IsAsked, request_for, unless_reported}
+use Rattle.cog_client.specs.Feeding.{Feed, TakesNoBody, nothing_fed}
+use Rattle.cog_client.specs.Client.{ClientState, Knows, IsAlone, IsClient, IsFew, IsStanding, asked_of, blocks_of, feed_of, host_of, name_of, query_of, report_of, revision_of, tag_of, to_come}
+use Rattle.cog_client.specs.Calls.{IsAsked, IsIdle, request_for, unless_reported}
 use Rattle.cog_client.specs.Keeps.{AsksFor, GoesOnKeeping, ComesFirst, Lacks, RequestsKeeping}
 use Rattle.cog_client.specs.Going.{IsMissing}
 use Rattle.cog_client.proofs.GoingLemmas.{end_refl, few_blocks, same_refl}
@@ -34,17 +35,17 @@ few_missing b complete r span m =
 
 -- ---- what is asked for changes nothing that is known
 
-module _ (h n : List ℕ) (q : Option Query) (a asked : Option Span) (b : Blocks) (r : Option Report) where
-  reasked_knows : (s : Option Source) → IsClient (known h n q asked s b r) → (f : List ℕ) → Knows f (known h n q a s b r) → Knows f (known h n q asked s b r)
+module _ (e e' : Feed) (h n : List ℕ) (q : Option Query) (a asked : Option Span) (b : Blocks) (r : Option Report) where
+  reasked_knows : (s : Option Source) → IsClient (known e' h n q asked s b r) → (f : List ℕ) → Knows f (known e h n q a s b r) → Knows f (known e' h n q asked s b r)
   unfolding Knows
   reasked_knows None c f k = tt
   reasked_knows (Some s) c f k = record { reader = k.reader; blocks = k.blocks; report = k.report; sound = c }
 
-  pub reasked : (s : Option Source) → IsClient (known h n q asked s b r) → GoesOnKeeping (known h n q a s b r) (known h n q asked s b r)
+  pub reasked : (s : Option Source) → IsClient (known e' h n q asked s b r) → GoesOnKeeping (known e h n q a s b r) (known e' h n q asked s b r)
   unfolding host_of name_of query_of revision_of blocks_of to_come
   reasked s c =
-      goes_by (known h n q a s b r) (known h n q asked s b r) (record { host = refl; name = refl; query = refl }) refl (same_refl b)
-      (λ f k. record { knows = reasked_knows s c f k; come = end_refl (to_come (known h n q a s b r) f) })
+      goes_by (known e h n q a s b r) (known e' h n q asked s b r) (record { host = refl; name = refl; query = refl }) refl (same_refl b)
+      (λ f k. record { knows = reasked_knows s c f k; come = end_refl (to_come (known e h n q a s b r) f) })
 
 -- nothing is asked
 
@@ -52,12 +53,17 @@ standing_still : (q : Option Query) (a : Option Span) (r : Option Report) → If
 standing_still q a None h = tt
 standing_still q a (Some r) h = (h.0, refl)
 
-module _ (h n : List ℕ) (q : Option Query) (a : Option Span) (s : Option Source) (b : Blocks) (r : Option Report) where
-  unasked_sound : IsClient (known h n q a s b r) → IsClient (known h n q None s b r)
-  unasked_sound c = record { hosted = c.hosted; named = c.named; alone = c.alone; reading = c.reading; standing = standing_still q a r c.standing; few = tt }
+-- and of an answer nothing is kept
+pub alone_still : (s : Option Source) (b : Blocks) (r : Option Report) (e e' : Feed) → e' ≡ nothing_fed → IsAlone s b r e → IsAlone s b r e'
+alone_still None b r e e' dropped alone = (alone.0, (alone.1.0, subst TakesNoBody (sym dropped) tt))
+alone_still (Some s) b r e e' dropped alone = tt
 
-  pub unasked : IsClient (known h n q a s b r) → GoesOnKeeping (known h n q a s b r) (known h n q None s b r)
-  unasked c = reasked h n q a None b r s (unasked_sound c)
+module _ (e e' : Feed) (dropped : e' ≡ nothing_fed) (h n : List ℕ) (q : Option Query) (a : Option Span) (s : Option Source) (b : Blocks) (r : Option Report) where
+  unasked_sound : IsClient (known e h n q a s b r) → IsClient (known e' h n q None s b r)
+  unasked_sound c = record { hosted = c.hosted; named = c.named; alone = alone_still s b r e e' dropped c.alone; reading = c.reading; standing = standing_still q a r c.standing; few = tt }
+
+  pub unasked : IsClient (known e h n q a s b r) → GoesOnKeeping (known e h n q a s b r) (known e' h n q None s b r)
+  unasked c = reasked e e' h n q a None b r s (unasked_sound c)
 
 pub none_asked : (r : Option Report) (a b : Option Span) → a ≡ unless_reported r b → b ≡ None → a ≡ None
 none_asked None a b is none = is ∙ none
@@ -98,13 +104,13 @@ few_asked : (c : ClientState) (v : Option Revision) (span : Span) → AsksFor c 
 few_asked c None span is = let first = ap (λ (s : Span). s.first) is in let last = ap (λ (s : Span). s.last) is in omega arith
 few_asked c (Some v) span l = few_missing (blocks_of c) v.complete l.range span l.missing
 
-module _ (h n : List ℕ) (q : Option Query) (a : Option Span) (s : Option Source) (b : Blocks) (r : Option Report) (span : Span) where
+module _ (e : Feed) (h n : List ℕ) (q : Option Query) (a : Option Span) (s : Option Source) (b : Blocks) (r : Option Report) (span : Span) where
   -- the same client, before and after it asks for this
   abbrev pub mid : ClientState
-  mid = known h n q a s b r
+  mid = known e h n q a s b r
 
   abbrev pub new : ClientState
-  new = known h n q (Some span) s b r
+  new = known e h n q (Some span) s b r
 
   pub asking_sound : IsClient mid → report_of mid ≡ None → AsksFor mid (revision_of mid) span → IsClient new
   unfolding report_of
@@ -118,11 +124,11 @@ module _ (h n : List ℕ) (q : Option Query) (a : Option Span) (s : Option Sourc
   }
 
   pub requested : (old : ClientState) (text : List ℕ) → GoesOnKeeping old mid → IsClient mid → IsClient new → is_some (query_of old) ≡ true → is_some (report_of old) ≡ false → report_of mid ≡ None
-      → Some text ≡ request_for mid (Some span) → CanAsk (host_of mid) (name_of mid) span.first span.last (tag_of mid) → AsksFor mid (revision_of mid) span → RequestsKeeping old (Some text) new
-  unfolding host_of name_of query_of asked_of revision_of report_of blocks_of to_come
-  requested old text goes c d query quiet none is can asks =
-      let on = goes_trans old mid new goes (reasked h n q a (Some span) b r s d) in
-      let asking = asks_back mid new (revision_of mid) span refl (λ f k. ((reasked h n q (Some span) a b r s c).file f k).knows) (λ f. refl) asks in
+      → feed_of mid ≡ nothing_fed → Some text ≡ request_for mid (Some span) → CanAsk (host_of mid) (name_of mid) span.first span.last (tag_of mid) → AsksFor mid (revision_of mid) span → RequestsKeeping old (Some text) new
+  unfolding host_of name_of query_of asked_of revision_of report_of blocks_of feed_of to_come
+  requested old text goes c d query quiet none dropped is can asks =
+      let on = goes_trans old mid new goes (reasked e e h n q a (Some span) b r s d) in
+      let asking = asks_back mid new (revision_of mid) span refl (λ f k. ((reasked e e h n q (Some span) a b r s c).file f k).knows) (λ f. refl) asks in
       record {
         seen = record {
           goes = on.seen;
@@ -135,7 +141,42 @@ module _ (h n : List ℕ) (q : Option Query) (a : Option Span) (s : Option Sourc
             | inr some ↦ false≢true (sym (ap is_some none) ∙ some)
           ]);
           report = λ some. absurd (false≢true (sym quiet ∙ some));
+          feed = dropped;
         };
         goes = on;
         asks = asking;
       }
+
+-- where nothing is to do, there is no request
+pub requests_none : (old new : ClientState) → GoesOnKeeping old new → asked_of new ≡ None → IsIdle new → (IsSome (report_of old) → report_of new ≡ report_of old)
+    → feed_of new ≡ nothing_fed → RequestsKeeping old None new
+requests_none old new goes none idle report dropped = record {
+  seen = record {
+    goes = goes.seen;
+    text = sym (ap (request_for old) none);
+    asks = subst (λ a. IfSome a (IsAsked new (revision_of new))) (sym none) tt;
+    lawful = subst (λ a. IfSome a (λ s. CanAsk (host_of old) (name_of old) s.first s.last (tag_of old))) (sym none) tt;
+    silent = λ _. idle;
+    idle = λ _. none;
+    report = report;
+    feed = dropped;
+  };
+  goes = goes;
+  asks = subst (λ a. IfSome a (AsksFor new (revision_of new))) (sym none) tt;
+}
+
+pub none_of : {A : Type 0} (o : Option A) → is_some o ≡ false → o ≡ None
+none_of None h = refl
+none_of (Some a) h = cc
+
+-- what is kept of an answer is dropped
+pub cleared : (e e' : Feed) (h n : List ℕ) (q : Option Query) (a : Option Span) (s : Option Source) (b : Blocks) (r : Option Report) → e' ≡ nothing_fed
+    → IsClient (known e h n q a s b r) → IsClient (known e' h n q a s b r)
+cleared e e' h n q a s b r dropped c = record {
+  hosted = c.hosted;
+  named = c.named;
+  alone = alone_still s b r e e' dropped c.alone;
+  reading = c.reading;
+  standing = c.standing;
+  few = c.few;
+}

@@ -11,8 +11,9 @@ use Rattle.http_range.specs.Reading.{ReadsAnswer}
 use Rattle.cog_client.specs.declared.delivered.Delivered.{Delivered}
 use Rattle.cog_client.specs.declared.report.Report.{Report}
 use Rattle.cog_client.specs.Case.{Revision}
+use Rattle.cog_client.specs.Feeding.{nothing_fed}
 use Rattle.cog_client.specs.Take.{IsIgnored, emptied, first_span, take}
-use Rattle.cog_client.specs.Client.{ClientState, asked_of, blocks_of, holding, host_of, name_of, query_of, report_of, revision_of, tag_of}
+use Rattle.cog_client.specs.Client.{ClientState, asked_of, blocks_of, feed_of, holding, host_of, name_of, query_of, report_of, revision_of, tag_of}
 use Rattle.cog_client.specs.Going.{AreSame, IsMissing}
 
 -- host, name and query stay
@@ -21,12 +22,13 @@ pub record SameClient (old new : ClientState) : Type 0 where
   pub name : name_of new ≡ name_of old
   pub query : query_of new ≡ query_of old
 
--- nothing is asked, and there is neither a revision nor a block nor a report
+-- nothing is asked, and there is neither a revision nor a block nor a report, nor anything of an answer
 pub record HoldsNothing (c : ClientState) : Type 0 where
   pub asked : asked_of c ≡ None
   pub revision : revision_of c ≡ None
   pub blocks : blocks_of c ≡ emptied (blocks_of c)
   pub report : report_of c ≡ None
+  pub feed : feed_of c ≡ nothing_fed
 
 -- ---- new, open, forget
 
@@ -37,7 +39,7 @@ pub record Starts (host name : List ℕ) (blocks : ℕ) (new : ClientState) : Ty
   pub capacity : (blocks_of new).capacity ≡ blocks
   pub empty : HoldsNothing new
 
--- The query is asked; revision and blocks stay.
+-- The query is asked; revision and blocks stay, and an unfinished answer is dropped, as in each call from here on.
 pub record Opens (query : Query) (old new : ClientState) : Type 0 where
   pub host : host_of new ≡ host_of old
   pub name : name_of new ≡ name_of old
@@ -46,6 +48,7 @@ pub record Opens (query : Query) (old new : ClientState) : Type 0 where
   pub revision : revision_of new ≡ revision_of old
   pub blocks : blocks_of new ≡ blocks_of old
   pub report : report_of new ≡ None
+  pub feed : feed_of new ≡ nothing_fed
 
 pub record Forgets (old new : ClientState) : Type 0 where
   pub same : SameClient old new
@@ -84,6 +87,7 @@ pub record Requests (old : ClientState) (request : Option (List ℕ)) (new : Cli
   pub silent : asked_of new ≡ None → IsIdle new
   pub idle : IsIdle new → asked_of new ≡ None
   pub report : IsSome (report_of old) → report_of new ≡ report_of old
+  pub feed : feed_of new ≡ nothing_fed
 
 -- ---- deliver
 
@@ -100,5 +104,6 @@ pub record Delivers (old : ClientState) (text : List ℕ) (what : Delivered) (ne
   pub revision : revision_of new ≡ (take (holding old) reading).leaves.revision
   pub asked : asked_of new ≡ unless_reported (report_of new) (take (holding old) reading).leaves.asked
   pub blocks : AreSame (take (holding old) reading).leaves.blocks (blocks_of new)
-  -- what is ignored changes nothing
-  pub ignored : IsIgnored what → new ≡ old
+  pub feed : feed_of new ≡ nothing_fed
+  -- what is ignored changes nothing else
+  pub ignored : IsIgnored what → new ≡ record old { feed = nothing_fed }

@@ -15,6 +15,7 @@ use Rattle.cog_client.specs.declared.error.ClientError.TheVariants.{Host, Name, 
 use Rattle.cog_client.specs.declared.report.Report.{Report}
 use Rattle.cog_client.specs.declared.source.Source.{Source}
 use Rattle.cog_client.specs.Case.{Revision}
+use Rattle.cog_client.specs.Feeding.{Feed, TakesNoBody}
 use Rattle.cog_client.specs.Take.{Holding}
 
 -- ---- making a client
@@ -41,7 +42,8 @@ IsClientRefusal refusal error = refusal ≡ Some error
 
 -- ---- what callers know of it
 
--- host and name; the query, what is asked for, the revision that is read, the blocks and the report
+-- host and name; the query, what is asked for, the revision that is read, the blocks, the report, and what is kept of an answer
+-- that comes in pieces
 pub record ClientState : Type 0 where
   pub host : List ℕ
   pub name : List ℕ
@@ -50,6 +52,7 @@ pub record ClientState : Type 0 where
   pub source : Option Source
   pub cache : Blocks
   pub report : Option Report
+  pub feed : Feed
 
 unfoldable pub host_of : ClientState → List ℕ
 host_of c = c.host
@@ -83,6 +86,10 @@ blocks_of c = c.cache
 unfoldable pub report_of : ClientState → Option Report
 report_of c = c.report
 
+-- What is kept of an answer that comes in pieces.
+unfoldable pub feed_of : ClientState → Feed
+feed_of c = c.feed
+
 -- The ranges of the file that the query still needs, none without a revision.
 unfoldable pub to_come : ClientState → List ℕ → List Extent
 to_come c f = option_map_or (λ (s : Source). reader.to_come s.reader f) c.source []
@@ -100,10 +107,10 @@ holding c = record { revision = revision_of c; asked = asked_of c; blocks = bloc
 
 -- ---- what is true of it
 
--- where nothing is read, nothing is held
-abbrev pub IsAlone : Option Source → Blocks → Option Report → Type 0
-IsAlone None b r = (b.entries ≡ []) × (r ≡ None)
-IsAlone (Some s) b r = ⊤
+-- where nothing is read, nothing is held, and no body is taken
+abbrev pub IsAlone : Option Source → Blocks → Option Report → Feed → Type 0
+IsAlone None b r e = (b.entries ≡ []) × ((r ≡ None) × TakesNoBody e)
+IsAlone (Some s) b r e = ⊤
 
 -- the reader is asked the query, until its answer is the report that stands
 abbrev pub IsReadingOf : Option Query → Option Report → Source → Type 0
@@ -124,7 +131,7 @@ IsFew s = s.last < s.first + max_blocks * block_size
 pub record IsClient (c : ClientState) : Type 0 where
   pub hosted : IsTrue (is_host c.host)
   pub named : IsTrue (is_name c.name)
-  pub alone : IsAlone c.source c.cache c.report
+  pub alone : IsAlone c.source c.cache c.report c.feed
   pub reading : IfSome c.source (IsReadingOf c.query c.report)
   pub standing : IfSome c.report (IsStanding c.query c.asked)
   pub few : IfSome c.asked IsFew

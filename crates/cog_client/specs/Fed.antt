@@ -1,20 +1,18 @@
 -- How an answer that comes in pieces is taken: by its head, and by the body as far as it has come.
-use Rattle.std.specs.Prelude.{◌≡◌, ◌≢◌, ◌⊎◌, ℕ, ◌+◌, ◌*◌, ◌/◌, ◌<◌, ◌≤◌, not, ◌==◌, ◌&&◌, nat_le, nat_lt, min, max, Bool, if◌then◌else◌, true, List, [], ◌++◌, length, take as front, drop, Option, Some, None, IfSome, Result, Ok, Err, ⊤}
+use Rattle.std.specs.Prelude.{◌≡◌, ◌≢◌, ◌⊎◌, ℕ, ◌+◌, ◌*◌, ◌/◌, ◌≤◌, not, ◌==◌, ◌&&◌, nat_le, nat_lt, min, max, Bool, if◌then◌else◌, true, List, [], ◌++◌, length, take as front, drop, Option, Some, None, IfSome, Ok, ⊤}
 use Rattle.std.specs.Str.{bytes_eq}
 use Rattle.tiff_dir.specs.declared.span.Span.{Span}
 use Rattle.tiff_dir.specs.Block.{block_size, end_of}
 use Rattle.http_range.specs.declared.reading.Why.{Why}
 use Rattle.http_range.specs.declared.reading.Why.TheVariants.{Cut, Head}
 use Rattle.http_range.specs.Piece.{SeenPiece}
-use Rattle.http_range.specs.Announced.{Announced, body_behind}
-use Rattle.http_range.specs.Reading.{ReadsHead}
+use Rattle.http_range.specs.Announced.{Announced}
 use Rattle.range_cache.specs.Cache.{Blocks}
 use Rattle.range_cache.specs.Laws.{IsCutIn, IsEdge, IsPartOf, begun, lacking}
 use Rattle.range_cache.specs.Piece.{is_wanted}
 use Rattle.cog_client.specs.declared.case.Case.{Case}
 use Rattle.cog_client.specs.declared.case.Case.TheVariants.{Ignored, Adopted, Restarted, Accepted}
-use Rattle.cog_client.specs.declared.delivered.Ignored as why
-use Rattle.cog_client.specs.declared.delivered.Ignored.TheVariants.{NotUsed, OtherRevision, OtherLength, NotAsked}
+use Rattle.cog_client.specs.declared.delivered.Ignored.TheVariants.{OtherRevision, OtherLength, NotAsked}
 use Rattle.cog_client.specs.declared.delivered.Delivered.{Delivered}
 use Rattle.cog_client.specs.declared.delivered.Delivered.TheVariants.{Took, Restarted as ARestart, Ignored as AnIgnored}
 use Rattle.cog_client.specs.Case.{Revision, case_of, is_beside}
@@ -89,14 +87,6 @@ PartsAreNotStored = (head : Announced) (place : ℕ) (bytes : List ℕ) (span : 
 
 -- ---- between two pieces
 
--- What is kept of an answer: the bytes of a head that isn't whole; why what follows matters no more; or the head, its case, how
--- many bytes of the body came, the bytes of a wanted block that isn't whole yet, and how many blocks were stored.
-pub data Feed : Type 0 where
-  waits : List ℕ → Feed
-  unused : Why → Feed
-  passed : why.Ignored → Feed
-  follows : Announced → Case → ℕ → List ℕ → ℕ → Feed
-
 -- the block in which the bytes end that came so far
 abbrev pub cut_block : Announced → List ℕ → ℕ
 cut_block head body = (head.first + length body) / block_size
@@ -127,68 +117,24 @@ UsesBody Accepted = ⊤
 abbrev pub IsSettled : List ℕ → Why → Type 0
 IsSettled bytes w = (w ≢ Cut) × ((w ≡ Head) → 4096 ≤ length bytes)
 
--- The front p of an answer has no head yet: it is kept, and nothing else changed.
-pub record FedHead (s : Holding) (p : List ℕ) (now : Holding) (feed : Feed) : Type 0 where
-  pub short : length p < 4096
-  pub open_head : (r : Result Announced Why) → ReadsHead p r → (r ≡ Err Cut) ⊎ (r ≡ Err Head)
-  pub keeps : feed ≡ waits p
-  pub same : now ≡ s
-
--- The head says that the answer is not used.
-pub record FedUnused (s : Holding) (p : List ℕ) (now : Holding) (feed : Feed) : Type 0 where
-  pub reading : Why
-  pub reads : ReadsHead p (Err reading)
-  pub settled : IsSettled p reading
-  pub keeps : feed ≡ unused reading
-  pub same : now ≡ s
-
--- The case of the head passes the body over.
-pub record FedPassed (s : Holding) (p : List ℕ) (now : Holding) (feed : Feed) : Type 0 where
-  pub head : Announced
-  pub reads : ReadsHead p (Ok head)
-  pub reason : why.Ignored
-  pub is : case_of_head s.revision s.asked head ≡ Ignored reason
-  pub keeps : feed ≡ passed reason
-  pub same : now ≡ s
-
--- The body so far is taken: the client holds what the case of the head leaves of it, by the start.
-pub record FedBody (s : Holding) (p : List ℕ) (now : Holding) (feed : Feed) : Type 0 where
-  pub head : Announced
-  pub reads : ReadsHead p (Ok head)
-  pub uses : UsesBody (case_of_head s.revision s.asked head)
-  pub count : ℕ
-  pub counted : count
-      ≡ stored_count (piece_with head (body_behind head p)) (asked_by (case_of_head s.revision s.asked head) s.asked)
-      (base_of (case_of_head s.revision s.asked head) s.blocks)
-  pub keeps : feed
-      ≡ follows head (case_of_head s.revision s.asked head) (length (body_behind head p))
-      (part_of head now.blocks (asked_by (case_of_head s.revision s.asked head) s.asked) (body_behind head p)) count
-  pub holds : now ≡ (take_by (case_of_head s.revision s.asked head) s (piece_with head (body_behind head p))).leaves
-
--- What a client holds now, and keeps of an answer, that held s when it began and to which the front p of it came.
-abbrev pub Fed : Holding → List ℕ → Holding → Feed → Type 0
-Fed s p now feed = FedHead s p now feed ⊎ (FedUnused s p now feed ⊎ (FedPassed s p now feed ⊎ FedBody s p now feed))
-
 -- ---- at the end
 
 -- no byte of a body of that length is asked for
 abbrev pub is_beside_at : Announced → ℕ → Span → Bool
 is_beside_at head came s = nat_le (min (head.first + came) (s.last + 1)) (max head.first s.first)
 
--- what is told of the answer: a body that followed may have been beside what was asked for
-abbrev pub told_at_end : Feed → Option Span → Delivered
-told_at_end (waits bytes) asked = AnIgnored (NotUsed Cut)
-told_at_end (unused w) asked = AnIgnored (NotUsed w)
-told_at_end (passed w) asked = AnIgnored w
-told_at_end (follows head Adopted came part count) asked = Took count
-told_at_end (follows head Restarted came part count) asked = ARestart
-told_at_end (follows head (Ignored w) came part count) asked = AnIgnored w
-told_at_end (follows head Accepted came part count) asked =
+-- what is told of an answer whose head had this case, of whose body so many bytes came and so many blocks were stored: it may have
+-- been beside what was asked for
+abbrev pub told_at_end : Case → Announced → ℕ → ℕ → Option Span → Delivered
+told_at_end Adopted head came count asked = Took count
+told_at_end Restarted head came count asked = ARestart
+told_at_end (Ignored w) head came count asked = AnIgnored w
+told_at_end Accepted head came count asked =
     if is_beside_at head came (asked_or_first asked) then AnIgnored NotAsked else Took count
 
 -- What is told at the end of an answer is what *take* says of the whole of it.
 abbrev pub EndTells : Type 0
-EndTells = (s : Holding) (head : Announced) (body part : List ℕ) (count : ℕ) →
+EndTells = (s : Holding) (head : Announced) (body : List ℕ) (count : ℕ) →
     let case = case_of_head s.revision s.asked head in
     count ≡ stored_count (piece_with head body) (asked_by case s.asked) (base_of case s.blocks) →
-    told_at_end (follows head case (length body) part count) s.asked ≡ (take s (Ok (piece_with head body))).says
+    told_at_end case head (length body) count s.asked ≡ (take s (Ok (piece_with head body))).says

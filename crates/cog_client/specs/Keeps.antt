@@ -13,9 +13,10 @@ use Rattle.range_cache.specs.Piece.{IsPieceOf}
 use Rattle.cog_client.specs.declared.delivered.Delivered.{Delivered}
 use Rattle.cog_client.specs.declared.report.Report.{Report}
 use Rattle.cog_client.specs.Case.{Revision, case_of}
+use Rattle.cog_client.specs.Feeding.{nothing_fed}
 use Rattle.cog_client.specs.Take.{IsIgnored, asked_or_first, base_of, first_span, stored_front, take}
 use Rattle.cog_client.specs.Report.{IsTrueReport}
-use Rattle.cog_client.specs.Client.{ClientState, Knows, ClientAgrees, asked_of, blocks_of, holding, name_of, query_of, report_of, revision_of, to_come, unread}
+use Rattle.cog_client.specs.Client.{ClientState, Knows, ClientAgrees, asked_of, blocks_of, feed_of, holding, name_of, query_of, report_of, revision_of, to_come, unread}
 use Rattle.cog_client.specs.Going.{AreSame, IsMissing}
 use Rattle.cog_client.specs.Calls.{Delivers, GoesOn, IsIdle, Opens, Requests, SameClient}
 
@@ -76,6 +77,7 @@ pub record StopsAsking (old new : ClientState) : Type 0 where
   pub goes : GoesOnKeeping old new
   pub asked : asked_of new ≡ None
   pub report : report_of new ≡ None
+  pub feed : feed_of new ≡ nothing_fed
 
 -- ---- deliver
 
@@ -97,6 +99,7 @@ pub record StopsDelivery (old : ClientState) (text : List ℕ) (new : ClientStat
   pub revision : revision_of new ≡ (take (holding old) reading).leaves.revision
   pub asked : asked_of new ≡ (take (holding old) reading).leaves.asked
   pub report : report_of new ≡ None
+  pub feed : feed_of new ≡ nothing_fed
   pub blocks : IfOk reading (λ p. (k : ℕ) × AreSame (stored_front k p (asked_or_first (asked_of new))
       (base_of (case_of (revision_of old) (asked_of old) p) (blocks_of old))) (blocks_of new))
   pub agrees : (book : Book) → HasDistinctTags book → ClientAgrees old book → IsHonest text (name_of old) book → ClientAgrees new book

@@ -13,3 +13,6 @@ pub mod Progress
 pub mod Pieces
 pub mod Fed
 pub mod Head
+pub mod Feeding
+pub mod Arrival
+pub mod FedClient

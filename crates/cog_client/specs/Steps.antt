@@ -8,8 +8,10 @@ use Rattle.cog_reader.specs.Outcome.{IsTrueOf}
 use Rattle.cog_reader.specs.Reader as reader
 use Rattle.cog_client.specs.declared.report.Report.{Report}
 use Rattle.cog_client.specs.declared.source.Source.{Source}
-use Rattle.cog_client.specs.Take.{asked_or_first, stored_count, emptied, revision_of_piece, stored_front, stored_of}
-use Rattle.cog_client.specs.Client.{ClientState, Knows, asked_of, blocks_of, report_of, revision_of}
+use Rattle.cog_client.specs.Case.{Revision}
+use Rattle.cog_client.specs.Take.{asked_or_first, stored_count, emptied, stored_front, stored_of}
+use Rattle.cog_client.specs.Client.{ClientState, Knows, asked_of, blocks_of, feed_of, report_of, revision_of}
+use Rattle.cog_client.specs.Feeding.{nothing_fed}
 use Rattle.cog_client.specs.Going.{AreSame}
 use Rattle.cog_client.specs.Calls.{SameClient, unless_reported}
 use Rattle.cog_client.specs.Keeps.{Rests, StaysOf}
@@ -32,13 +34,13 @@ pub record Concludes (query : Query) (old : Source) (r : Option Report) (new : S
   pub agrees : (f : List ℕ) → reader.ReaderAgrees old.reader f → reader.ReaderAgrees new.reader f
 
 -- A revision is read that nothing is known of but tag and length.
-pub record Adopts (p : SeenPiece) (asked : Option Span) (old new : ClientState) : Type 0 where
+pub record Adopts (v : Revision) (asked : Option Span) (old new : ClientState) : Type 0 where
   pub same : SameClient old new
   pub asks : asked_of new ≡ asked
-  pub revision : revision_of new ≡ Some (revision_of_piece p)
+  pub revision : revision_of new ≡ Some v
   pub blocks : blocks_of new ≡ emptied (blocks_of old)
   pub report : report_of new ≡ None
-  pub knows : (f : List ℕ) → length f ≡ p.complete → Knows f new
+  pub knows : (f : List ℕ) → length f ≡ v.complete → Knows f new
 
 -- The first k of the blocks that a piece brings of what is asked for are stored.
 pub record Stores (p : SeenPiece) (span : Span) (k : ℕ) (old new : ClientState) : Type 0 where
@@ -56,6 +58,7 @@ pub record AcceptsPiece (p : SeenPiece) (old new : ClientState) (count : ℕ) : 
   pub revision : revision_of new ≡ revision_of old
   pub blocks : AreSame (stored_of p (asked_or_first (asked_of old)) (blocks_of old)) (blocks_of new)
   pub counted : count ≡ stored_count p (asked_or_first (asked_of old)) (blocks_of old)
+  pub feed : feed_of new ≡ nothing_fed
   pub rests : Rests new
   pub file : (f : List ℕ) → p.complete ≡ length f → IsPieceOf f p.first p.body → Knows f old → StaysOf f old new
 
@@ -65,5 +68,6 @@ pub record StopsStoring (p : SeenPiece) (old new : ClientState) : Type 0 where
   pub asked : asked_of new ≡ asked_of old
   pub revision : revision_of new ≡ revision_of old
   pub report : report_of new ≡ None
+  pub feed : feed_of new ≡ nothing_fed
   pub blocks : (k : ℕ) × AreSame (stored_front k p (asked_or_first (asked_of old)) (blocks_of old)) (blocks_of new)
   pub file : (f : List ℕ) → p.complete ≡ length f → IsPieceOf f p.first p.body → Knows f old → StaysOf f old new

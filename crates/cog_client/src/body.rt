@@ -12,8 +12,11 @@ use range_cache::{Cache, parts_bring_blocks, pieces_bring_blocks, stores_are_cou
 use tiff_dir::Memory;
 use tiff_dir::limits::BLOCK_SIZE;
 
+/// The bytes of a room for a block that is cut.
+pub const PART_ROOM: usize = 16384;
+
 /// A body, as far as it has come.
-#[derive(Clone, Copy, Debug, PartialEq, Eq)]
+#[derive(Clone, Copy)]
 pub struct Body {
     /// The position of its next byte in the file, in bytes from 0.
     pub next: u64,

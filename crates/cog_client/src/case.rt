@@ -1,20 +1,17 @@
-//! The case of the table by which a piece of a file is taken.
-ghost use Rattle.std.specs.Prelude.{◌≡◌, ◌+◌, ◌<◌, ◌^◌, ℕ, List, Some, if◌then◌else◌, max, min, nat_le};
+//! The case of the table by which an answer is taken, as its head tells it.
+ghost use Rattle.std.specs.Prelude.{◌≡◌, ◌+◌, ◌<◌, ◌^◌, Some, if◌then◌else◌, max, min, nat_le};
 ghost use Rattle.cog_client.specs.declared.case.Case.TheVariants.{Restarted, Ignored as AnIgnored};
 ghost use Rattle.cog_client.specs.declared.delivered.Ignored.TheVariants.{OtherRevision};
 ghost use Rattle.http_range.specs.Announced.{announced};
-ghost use Rattle.http_range.specs.Piece.{piece_seen, IsInside};
-ghost use Rattle.cog_client.specs.Case.{case_of, case_of_piece, is_beside};
 ghost use Rattle.cog_client.specs.Client.{revision_in, revision_at};
 ghost use Rattle.cog_client.specs.Fed.{case_of_head, case_of_revision, told_at_end};
-ghost use Rattle.cog_client.specs.Fed.Feed.{follows};
 
 use crate::delivered::{Delivered, Ignored};
 use crate::source::Source;
-use http_range::{Head, Piece, Span};
+use http_range::{Head, Span};
 
 /// What a piece of a file is to a client.
-#[derive(Clone, Copy, Debug, PartialEq, Eq)]
+#[derive(Clone, Copy)]
 pub enum Case {
     Ignored(Ignored),
     /// It is of the client's first revision.
@@ -43,45 +40,6 @@ fn is_beside_at(span: Span, first: u64, came: u64) -> bool
 {
     let from = first.max(span.first);
     first + came <= from || span.last < from
-}
-
-/// Whether no byte of the piece's body is asked for.
-fn is_beside(span: Span, piece: &Piece<'_>) -> bool
-    requires { IsInside (piece_seen piece.now) }
-    ensures { result ≡ is_beside span (piece_seen piece.now) }
-{
-    is_beside_at(span, piece.first, piece.body.len() as u64)
-}
-
-/// The case of a piece, where there is a revision and something is asked.
-fn case_of_piece(source: &Source, span: Span, piece: &Piece<'_>) -> Case
-    requires { IsInside (piece_seen piece.now) }
-    ensures { result ≡ case_of_piece (revision_in source.now) span (piece_seen piece.now) }
-{
-    if source.tag != piece.tag {
-        return case_of_other(piece.whole);
-    }
-    if source.complete != piece.complete {
-        return Case::Ignored(Ignored::OtherLength);
-    }
-    if is_beside(span, piece) {
-        return Case::Ignored(Ignored::NotAsked);
-    }
-    Case::Accepted
-}
-
-/// The first case that applies to a piece.
-pub fn case_of(source: &Option<Source>, asked: Option<Span>, piece: &Piece<'_>) -> Case
-    requires { IsInside (piece_seen piece.now) }
-    ensures { result ≡ case_of (revision_at source.now) asked (piece_seen piece.now) }
-{
-    let Some(span) = asked else {
-        return Case::Ignored(Ignored::NotAsked);
-    };
-    match source {
-        None => Case::Adopted,
-        Some(source) => case_of_piece(source, span, piece),
-    }
 }
 
 /// The case that the head of an answer tells where there is a revision and something is asked.
@@ -114,7 +72,7 @@ pub fn case_of_head(source: &Option<Source>, asked: Option<Span>, head: &Head) -
 /// stored, where this was asked for.
 pub fn told_at_end(case: Case, head: &Head, came: u64, count: u32, span: Span) -> Delivered
     requires { head.now.first + came < 2 ^ 64 }
-    ensures { (part : List ℕ) → result ≡ told_at_end (follows (announced head.now) case came part count) (Some span) }
+    ensures { result ≡ told_at_end case (announced head.now) came count (Some span) }
 {
     match case {
         Case::Ignored(why) => Delivered::Ignored(why),

@@ -2,18 +2,20 @@
 ghost use Rattle.std.specs.Prelude.{◌≡◌};
 ghost use Rattle.cog_client.specs.Take.{first_span};
 
-use crate::case::{Case, case_of};
-use crate::delivered::{Current, Delivered, Ignored, Unknown};
+mod feeds;
+
+use crate::arrival::Arrival;
+use crate::delivered::{Current, Unknown};
 use crate::error::ClientError;
 use crate::going;
 use crate::report::Report;
 use crate::source::Source;
-use cog_reader::{end_is_wanted, lengths_are_known, nothing_comes};
+use cog_reader::{end_is_wanted, nothing_comes};
 use http_range::{
-    CheckReading, Piece, Reading, Span, Tag, fronts_are_read, is_host, is_name, read_answer,
-    read_check, write_check, write_request,
+    CheckReading, Head, Span, Tag, fronts_are_read, is_host, is_name, read_check, write_check,
+    write_request,
 };
-use range_cache::{Cache, CacheError, pieces_bring_blocks, stored_are_held, stores_are_counted};
+use range_cache::{Cache, CacheError};
 use std::alloc::Global;
 use std::marker::Model;
 use tiff_dir::{Memory, Query};
@@ -42,6 +44,7 @@ pub struct Client {
     cache: Cache,
     buffer: Vec<u8>,
     report: Option<Report>,
+    arrival: Arrival,
 }
 
 impl Model for Client {
@@ -57,6 +60,7 @@ impl Model for Client {
       source = c.source;
       cache = c.cache;
       report = c.report;
+      feed = c.arrival;
     } };
 
     ghost invariant = { λ c. IsClient (record {
@@ -67,23 +71,24 @@ impl Model for Client {
       source = c.source;
       cache = c.cache;
       report = c.report;
+      feed = c.arrival;
     }) };
 }
 
-#[tactic(auto, unfolding(crate::specs::Client::host_of, crate::specs::Client::name_of, crate::specs::Client::query_of, crate::specs::Client::asked_of, crate::specs::Client::revision_of, crate::specs::Client::blocks_of, crate::specs::Client::report_of, crate::specs::Client::to_come, crate::specs::Client::Knows, crate::specs::Client::ClientAgrees))]
+#[tactic(auto, unfolding(crate::specs::Client::host_of, crate::specs::Client::name_of, crate::specs::Client::query_of, crate::specs::Client::asked_of, crate::specs::Client::revision_of, crate::specs::Client::blocks_of, crate::specs::Client::report_of, crate::specs::Client::feed_of, crate::specs::Client::to_come, crate::specs::Client::Knows, crate::specs::Client::ClientAgrees))]
 impl Client {
-    ghost use Rattle.std.specs.Prelude.{◌≡◌, ℕ, None, Some, IfErr, IfOk, IfSome, IsSome, IsTrue, OnErr, OnOk, length, option_copied};
+    ghost use Rattle.std.specs.Prelude.{◌≡◌, None, Some, IfErr, IfOk, IfSome, IsSome, IsTrue, OnErr, OnOk, option_copied};
     ghost use Rattle.std.specs.Option.{option_map};
     ghost use Rattle.http_range.specs.Ask.{CanAsk, CanCheck};
-    ghost use Rattle.http_range.specs.Piece.{piece_seen, IsInside};
+    ghost use Rattle.http_range.specs.Announced.{announced};
     ghost use Rattle.http_range.specs.Tag.{is_kept_tag};
     ghost use Rattle.cog_client.specs.declared.delivered.Current.TheVariants.{Same};
-    ghost use Rattle.cog_client.specs.Client.{client_refusal, IsFew, IsClientRefusal, asked_of, host_of, name_of, blocks_of, query_of, report_of, revision_of, tag_of};
-    ghost use Rattle.cog_client.specs.Take.{brought_by, stored_count, revision_of_piece};
+    ghost use Rattle.cog_client.specs.Client.{client_refusal, IsFew, IsClientRefusal, asked_of, feed_of, host_of, name_of, blocks_of, query_of, report_of, revision_of, tag_of};
+    ghost use Rattle.cog_client.specs.FedClient.{revision_of_head};
     ghost use Rattle.cog_client.specs.Calls.{Forgets, Starts, request_for, unless_reported};
-    ghost use Rattle.cog_client.specs.Keeps.{DeliversKeeping, GoesOnKeeping, Misses, OpensKeeping, RequestsKeeping, Stands, StopsAsking, StopsDelivery};
+    ghost use Rattle.cog_client.specs.Keeps.{GoesOnKeeping, Misses, OpensKeeping, RequestsKeeping, Stands, StopsAsking};
     ghost use Rattle.cog_reader.specs.Reader.{outcome_of};
-    ghost use Rattle.cog_client.specs.Steps.{Adopts, Stores, StopsStoring, AcceptsPiece};
+    ghost use Rattle.cog_client.specs.Steps.{Adopts};
     ghost use Rattle.cog_client.specs.Check.{IsCurrent, IsStillThere, check_of};
 
     /// A client of a file's name at a host, with a cache of `blocks` blocks of 16,384 bytes. The errors, the first that holds:
@@ -113,6 +118,7 @@ impl Client {
             Err(CacheError::Blocks) => return Err(ClientError::Blocks),
             Err(CacheError::Memory) => return Err(ClientError::Memory),
         };
+        let arrival = Arrival::new(alloc)?;
         Ok(Client {
             alloc,
             host: Vec::from_slice(alloc, host)?,
@@ -123,6 +129,7 @@ impl Client {
             cache,
             buffer: Vec::new(alloc),
             report: None,
+            arrival,
         })
     }
 
@@ -132,6 +139,7 @@ impl Client {
         ensures { OpensKeeping query self.old self.new }
     {
         end_is_wanted();
+        self.arrival.clear();
         self.query = Some(query);
         self.asked = None;
         self.report = None;
@@ -145,6 +153,7 @@ impl Client {
     pub fn forget(&mut self)
         ensures { Forgets self.old self.new }
     {
+        self.arrival.clear();
         self.asked = None;
         self.source = None;
         self.report = None;
@@ -193,6 +202,7 @@ impl Client {
         ensures ok { IfOk result (λ o. RequestsKeeping self.old (option_map (λ v. v.items) o) self.new) }
         ensures err { OnErr result (StopsAsking self.old self.new) }
     {
+        self.arrival.clear();
         self.asked = None;
         if self.query.is_none() || self.report.is_some() {
             return Ok(None);
@@ -214,6 +224,7 @@ impl Client {
         ensures ok { IfOk result (Misses self.new) }
         ensures silent { IfOk result (λ o. IsSome o → report_of self.new ≡ None) }
         ensures err { OnErr result (report_of self.new ≡ None) }
+        ensures feed { feed_of self.new ≡ feed_of self.old }
     {
         if self.source.is_none() {
             return Ok(Some(first_span()));
@@ -240,6 +251,7 @@ impl Client {
         ensures ok { IfOk result (Misses self.new) }
         ensures silent { IfOk result (λ o. IsSome o → report_of self.new ≡ None) }
         ensures err { OnErr result (report_of self.new ≡ None) }
+        ensures feed { feed_of self.new ≡ feed_of self.old }
     {
         let Some(source) = &mut self.source else {
             unreachable!()
@@ -264,6 +276,7 @@ impl Client {
         requires { report_of self.old ≡ None }
         ensures goes { GoesOnKeeping self.old self.new }
         ensures asked { asked_of self.new ≡ unless_reported (report_of self.new) (asked_of self.old) }
+        ensures feed { feed_of self.new ≡ feed_of self.old }
         ensures reports { IsSome (query_of self.old)
             → IfSome self.old.source (λ s. IsSome (outcome_of s.reader) → IsSome (report_of self.new)) }
     {
@@ -283,83 +296,16 @@ impl Client {
         }
     }
 
-    /// Takes an answer, or a front of one, and goes on as far as the blocks reach. Says what the answer did: it was ignored and
-    /// changed nothing, so many blocks of it were stored, or another revision is read from now on. After `Memory`, the only
-    /// error, some of its blocks may be stored.
-    pub fn deliver(&mut self, answer: &[u8]) -> Result<Delivered, Memory>
-        ensures ok { IfOk result (λ what. DeliversKeeping self.old answer.now what self.new) }
-        ensures err { OnErr result (StopsDelivery self.old answer.now self.new) }
-    {
-        fronts_are_read();
-        lengths_are_known();
-        let asked = self.asked;
-        let piece = match read_answer(answer) {
-            Reading::NotUsed(why) => return Ok(Delivered::Ignored(Ignored::NotUsed(why))),
-            Reading::Piece(piece) => piece,
-        };
-        match case_of(&self.source, asked, &piece) {
-            Case::Ignored(why) => Ok(Delivered::Ignored(why)),
-            Case::Adopted => {
-                self.adopt(&piece, asked);
-                let count = self.accept(&piece)?;
-                Ok(Delivered::Took(count))
-            }
-            Case::Restarted => {
-                let first = first_span();
-                self.adopt(&piece, Some(first));
-                self.accept(&piece)?;
-                Ok(Delivered::Restarted)
-            }
-            Case::Accepted => {
-                let count = self.accept(&piece)?;
-                Ok(Delivered::Took(count))
-            }
-        }
-    }
-
-    /// Reads the piece's revision from now on, of which nothing is known.
-    fn adopt(&mut self, piece: &Piece<'_>, asked: Option<Span>)
+    /// Reads the head's revision from now on, of which nothing is known.
+    fn adopt(&mut self, head: &Head, asked: Option<Span>)
         requires report { report_of self.old ≡ None }
         requires few { IfSome asked IsFew }
-        ensures { Adopts (piece_seen piece.now) asked self.old self.new }
+        ensures adopts { Adopts (revision_of_head (announced head.now)) asked self.old self.new }
+        ensures feed { feed_of self.new ≡ feed_of self.old }
     {
         self.asked = asked;
         self.cache.clear();
-        self.source = Some(Source::new(self.alloc, piece, self.query));
-    }
-
-    /// Stores the blocks that a piece brings of what is asked for, and says how many.
-    fn store(&mut self, piece: &Piece<'_>, span: Span) -> Result<u32, Memory>
-        requires inside { IsInside (piece_seen piece.now) }
-        requires few { IsFew span }
-        requires reads { IsSome (revision_of self.old) }
-        ensures ok { IfOk result (λ count. let p = piece_seen piece.now in
-            Stores p span (length (brought_by p span)) self.old self.new × (count ≡ stored_count p span (blocks_of self.old))) }
-        ensures err { OnErr result ((k : ℕ) × Stores (piece_seen piece.now) span k self.old self.new) }
-    {
-        stores_are_counted();
-        pieces_bring_blocks();
-        stored_are_held();
-        let count = self
-            .cache
-            .put(piece.complete, piece.first, piece.body, span)?;
-        Ok(count)
-    }
-
-    /// Accepts a piece of the revision that is read: stores its blocks, and goes on.
-    fn accept(&mut self, piece: &Piece<'_>) -> Result<u32, Memory>
-        requires inside { IsInside (piece_seen piece.now) }
-        requires asked { IsSome (asked_of self.old) }
-        requires revision { revision_of self.old ≡ Some (revision_of_piece (piece_seen piece.now)) }
-        ensures ok { IfOk result (AcceptsPiece (piece_seen piece.now) self.old self.new) }
-        ensures err { OnErr result (StopsStoring (piece_seen piece.now) self.old self.new) }
-    {
-        let Some(span) = self.asked else {
-            unreachable!()
-        };
-        let count = self.store(piece, span)?;
-        self.go_on()?;
-        Ok(count)
+        self.source = Some(Source::new(self.alloc, head, self.query));
     }
 
     /// The check whether the file still has the revision's tag: a HEAD request with If-None-Match (RFC 9110, section 13.1.2).

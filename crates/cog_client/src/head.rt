@@ -11,7 +11,7 @@ use http_range::{Head, HeadReading, Why, heads_grow, read_head};
 pub const HEAD_ROOM: usize = 4096;
 
 /// What is known of an answer's head when more bytes of the answer came.
-#[derive(Debug, Drop)]
+#[derive(Drop)]
 pub enum Look {
     /// It isn't whole; so many bytes are kept.
     Waits(usize),

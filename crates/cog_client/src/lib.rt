@@ -2,11 +2,13 @@
 //! reordered on the way: it makes requests and takes answers, and holds of the file's one revision what it was given.
 #![tactic(auto)]
 
+mod arrival;
 mod body;
 mod case;
 mod client;
 mod delivered;
 mod error;
+mod feeding;
 mod fetching;
 mod going;
 mod head;

@@ -1,7 +1,7 @@
 //! The revision that a client reads.
 use crate::report::Report;
 use cog_reader::Reader;
-use http_range::{Piece, Tag};
+use http_range::{Head, Tag};
 use std::alloc::Global;
 use tiff_dir::Query;
 
@@ -19,22 +19,22 @@ impl Source {
     ghost use Rattle.cog_reader.specs.Reader.{complete_of, query_of, ReaderAgrees};
     ghost use Rattle.cog_client.specs.Steps.{Concludes};
 
-    /// The piece's revision, of which nothing is known yet. It is asked the query, if there is one.
-    pub fn new(alloc: Global, piece: &Piece<'_>, query: Option<Query>) -> Source
-        ensures tag { result.tag ≡ piece.now.tag }
-        ensures complete { result.complete ≡ piece.now.complete }
-        ensures agrees { (f : List ℕ) → length f ≡ piece.now.complete → ReaderAgrees result.reader f }
-        ensures length { complete_of result.reader ≡ piece.now.complete }
+    /// The head's revision, of which nothing is known yet. It is asked the query, if there is one.
+    pub fn new(alloc: Global, head: &Head, query: Option<Query>) -> Source
+        ensures tag { result.tag ≡ head.now.tag }
+        ensures complete { result.complete ≡ head.now.complete }
+        ensures agrees { (f : List ℕ) → length f ≡ head.now.complete → ReaderAgrees result.reader f }
+        ensures length { complete_of result.reader ≡ head.now.complete }
         ensures query { query_of result.reader ≡ query }
     {
-        let mut reader = Reader::new(alloc, piece.complete);
+        let mut reader = Reader::new(alloc, head.complete);
         match query {
             None => {}
             Some(query) => reader.open(query),
         }
         Source {
-            tag: piece.tag.copy(),
-            complete: piece.complete,
+            tag: head.tag.copy(),
+            complete: head.complete,
             reader,
         }
     }

@@ -1,0 +1,26 @@
+-- What a client keeps of an answer that comes in pieces, between two of them.
+use Rattle.std.specs.Prelude.{ℕ, List, [], ⊤}
+use Rattle.http_range.specs.declared.reading.Why.{Why}
+use Rattle.http_range.specs.Announced.{Announced}
+use Rattle.cog_client.specs.declared.body.Body.{Body}
+use Rattle.cog_client.specs.declared.case.Case.{Case}
+use Rattle.cog_client.specs.declared.delivered.Ignored as why
+
+-- The bytes of a head that isn't whole; why what follows matters no more; or the head, its case, how far the body has come, and
+-- the room for the block that is cut.
+pub data Feed : Type 0 where
+  waits : List ℕ → Feed
+  unused : Why → Feed
+  passed : why.Ignored → Feed
+  follows : Announced → Case → Body → List ℕ → Feed
+
+-- no byte of an answer
+abbrev pub nothing_fed : Feed
+nothing_fed = waits []
+
+-- no body is taken
+abbrev pub TakesNoBody : Feed → Type 0
+TakesNoBody (waits bytes) = ⊤
+TakesNoBody (unused why) = ⊤
+TakesNoBody (passed why) = ⊤
+TakesNoBody (follows head case body part) = ⊥

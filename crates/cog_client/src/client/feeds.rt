@@ -1,0 +1,130 @@
+//! The client takes an answer, piece by piece as it arrives, or whole.
+ghost use Rattle.std.specs.Prelude.{◌≡◌, ◌≤◌, ◌++◌, ℕ, List, [], IfOk, OnErr, OnOk, drop, length};
+ghost use Rattle.http_range.specs.Announced.{announced, FitsFile};
+ghost use Rattle.cog_client.specs.Arrival.{IsBounded};
+ghost use Rattle.cog_client.specs.Client.{ClientState, feed_of};
+ghost use Rattle.cog_client.specs.FedClient.{Fed, FedBefore, FedBy};
+ghost use Rattle.cog_client.specs.Feeding.{nothing_fed};
+ghost use Rattle.cog_client.specs.Keeps.{DeliversKeeping, StopsDelivery};
+
+use crate::case::{Case, case_of_head};
+use crate::client::{Client, first_span};
+use crate::delivered::Delivered;
+use cog_reader::lengths_are_known;
+use http_range::{Head, fronts_are_read, heads_grow};
+use range_cache::{parts_bring_blocks, stored_are_held};
+use tiff_dir::Memory;
+
+#[tactic(auto, unfolding(crate::specs::Client::asked_of, crate::specs::Client::revision_of, crate::specs::Client::blocks_of, crate::specs::Client::report_of, crate::specs::Client::feed_of))]
+impl Client {
+    /// Begins an answer. An unfinished one is dropped. It takes no memory.
+    pub fn begin(&mut self)
+        ensures { Fed self.old [] self.new }
+    {
+        heads_grow();
+        self.arrival.clear();
+    }
+
+    /// Takes the next bytes of an answer, and stores the blocks that become whole. After `Memory`, the only error, the rest of
+    /// the answer is dropped, and some of its blocks may be stored. Without `begin` an answer begins here.
+    pub fn feed(&mut self, piece: &[u8]) -> Result<(), Memory>
+        ensures ok { OnOk result ((s : ClientState) (p : List ℕ) → Fed s p self.old → Fed s (p ++ piece.now) self.new) }
+        ensures err { OnErr result ((s : ClientState) (p : List ℕ) → Fed s p self.old → StopsDelivery s (p ++ piece.now) self.new) }
+        ensures bounded { IsBounded (feed_of self.new) }
+    {
+        let from = self.feed_head(piece);
+        let fed = self.feed_body(&piece[from..]);
+        self.arrival.is_bounded();
+        fed
+    }
+
+    /// Ends an answer, and goes on as far as the blocks reach. Says what the answer did: it was ignored and changed nothing, so
+    /// many blocks of it were stored, or another revision is read from now on. `Memory` is the only error.
+    pub fn end(&mut self) -> Result<Delivered, Memory>
+        ensures ok { IfOk result (λ what. (s : ClientState) (p : List ℕ) → Fed s p self.old → DeliversKeeping s p what self.new) }
+        ensures err { OnErr result ((s : ClientState) (p : List ℕ) → Fed s p self.old → StopsDelivery s p self.new) }
+        ensures dropped { feed_of self.new ≡ nothing_fed }
+    {
+        fronts_are_read();
+        lengths_are_known();
+        stored_are_held();
+        parts_bring_blocks();
+        let told = self.arrival.told();
+        self.arrival.clear();
+        if let Delivered::Ignored(_) = told {
+            return Ok(told);
+        }
+        if self.report.is_none() {
+            self.missing()?;
+        }
+        Ok(told)
+    }
+
+    /// Takes an answer, or a front of one, and goes on as far as the blocks reach. Says what the answer did: it was ignored and
+    /// changed nothing, so many blocks of it were stored, or another revision is read from now on. After `Memory`, the only
+    /// error, some of its blocks may be stored.
+    pub fn deliver(&mut self, answer: &[u8]) -> Result<Delivered, Memory>
+        ensures ok { IfOk result (λ what. DeliversKeeping self.old answer.now what self.new) }
+        ensures err { OnErr result (StopsDelivery self.old answer.now self.new) }
+    {
+        self.begin();
+        self.feed(answer)?;
+        self.end()
+    }
+
+    /// Reads on in the head, if it isn't whole, and says from where on the bytes are of the body.
+    fn feed_head(&mut self, piece: &[u8]) -> usize
+        ensures within { result ≤ length piece.now }
+        ensures before { (s : ClientState) (p : List ℕ) → Fed s p self.old → FedBefore s (p ++ piece.now) (drop result piece.now) self.new }
+    {
+        heads_grow();
+        match self.arrival.look(piece) {
+            None => 0,
+            Some(found) => {
+                let from = found.from;
+                self.follow(found.head);
+                from
+            }
+        }
+    }
+
+    /// Begins to follow the case of a head.
+    fn follow(&mut self, head: Head)
+        requires fits { FitsFile (announced head) }
+        ensures { FedBy (announced head) self.old [] self.new }
+    {
+        let asked = self.asked;
+        let case = case_of_head(&self.source, asked, &head);
+        match case {
+            Case::Ignored(why) => {
+                self.arrival.pass(why);
+                return;
+            }
+            Case::Adopted => self.adopt(&head, asked),
+            Case::Restarted => {
+                let first = first_span();
+                self.adopt(&head, Some(first));
+            }
+            Case::Accepted => {}
+        }
+        let Some(span) = self.asked else {
+            unreachable!()
+        };
+        self.arrival.follow(head, case, span);
+    }
+
+    /// Takes bytes of the body, if it is taken.
+    fn feed_body(&mut self, bytes: &[u8]) -> Result<(), Memory>
+        ensures ok { OnOk result ((s : ClientState) (p : List ℕ) → FedBefore s p bytes.now self.old → Fed s p self.new) }
+        ensures err { OnErr result ((s : ClientState) (p : List ℕ) → FedBefore s p bytes.now self.old → StopsDelivery s p self.new) }
+    {
+        fronts_are_read();
+        stored_are_held();
+        parts_bring_blocks();
+        let taken = self.arrival.take(&mut self.cache, bytes);
+        if taken.is_err() {
+            self.arrival.clear();
+        }
+        taken
+    }
+}
