@@ -21,9 +21,7 @@ use tiff_dir::Memory;
 fn room(alloc: Global, len: usize) -> Result<Vec<u8>, AllocError>
     ensures { IfOk result (λ room. length room.items ≡ len) }
 {
-    let mut room = Vec::new(alloc);
-    room.resize(len, 0)?;
-    Ok(room)
+    vec![in alloc; 0u8; len]
 }
 
 /// The head of an answer, and the place in the bytes that came at which the body begins.

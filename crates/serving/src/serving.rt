@@ -18,9 +18,6 @@ const LISTENER: Token = Token(usize::MAX);
 /// The most events of one wait.
 const EVENTS: usize = 1024;
 
-/// The most newcomers that are accepted before others have their turn.
-const NEWCOMERS: u32 = 1024;
-
 /// So many milliseconds a connection whose answers are written waits for its peer's end.
 const DRAIN: u64 = 2_000;
 
@@ -57,6 +54,8 @@ pub struct Serving {
     buffer: Vec<u8>,
     /// Whether a newcomer may wait.
     knocks: bool,
+    /// Whether there was no descriptor for one.
+    is_starved: bool,
     accepted: u32,
 }
 
@@ -86,6 +85,7 @@ impl Serving {
             drains: VecDeque::new(alloc),
             buffer: vec![in alloc; 0u8; MESSAGE_LIMIT]?,
             knocks: true,
+            is_starved: false,
             accepted: 0,
         })
     }
@@ -102,19 +102,21 @@ impl Serving {
 
     /// Accepts the newcomers that get a place, and tells how many.
     pub fn accept(&mut self, now: u64) -> Result<u32, AcceptError> {
-        for accepted in 0..NEWCOMERS {
+        let before = self.accepted;
+        for _ in 0..u32::MAX {
             if !self.is_awaited() || !(self.open.has_place() || self.displace(now)) {
-                return Ok(accepted);
+                break;
             }
             match self.listener.accept() {
                 Ok((stream, _)) => self.welcome(stream, now)?,
                 Err(error) => {
-                    self.look_at(&error, now)?;
-                    return Ok(accepted);
+                    if !self.may_try_again(&error, now)? {
+                        break;
+                    }
                 }
             }
         }
-        Ok(NEWCOMERS)
+        Ok(self.accepted.saturating_sub(before))
     }
 
     /// Gives each connection that may go on its turn, and closes those whose drain ends.
@@ -158,31 +160,41 @@ impl Serving {
         }
     }
 
-    /// Gives a newcomer its place. With the last place, the system is asked again whether a newcomer waits, so that nobody is
-    /// displaced for none.
+    /// Asks the system whether a newcomer waits. Until it says so, nobody is displaced for one.
+    fn ask(&mut self) -> Result<(), AcceptError> {
+        self.knocks = false;
+        let registry = self.poll.registry();
+        registry
+            .reregister(&mut self.listener, LISTENER, Interest::READABLE)
+            .map_err(|_| AcceptError)
+    }
+
+    /// Gives a newcomer its place.
     fn welcome(&mut self, stream: TcpStream, now: u64) -> Result<(), AcceptError> {
         self.accepted = self.accepted.saturating_add(1);
         self.open.add(&self.poll, stream, now);
-        if !self.open.has_place() {
-            self.knocks = false;
-            let registry = self.poll.registry();
-            registry
-                .reregister(&mut self.listener, LISTENER, Interest::READABLE)
-                .map_err(|_| AcceptError)?;
+        if self.is_starved || !self.open.has_place() {
+            self.ask()?;
         }
         Ok(())
     }
 
-    /// No newcomer waits, or there is no descriptor for one: it waits until a connection ends, or is displaced.
-    fn look_at(&mut self, error: &io::Error, now: u64) -> Result<(), AcceptError> {
-        if error.kind() == ErrorKind::WouldBlock {
-            self.knocks = false;
-            return Ok(());
-        }
+    /// Whether to try again at once: where there is no descriptor for a newcomer and one was displaced for it. Else no newcomer
+    /// waits, or it waits until a connection ends or can be displaced.
+    fn may_try_again(&mut self, error: &io::Error, now: u64) -> Result<bool, AcceptError> {
         match error.raw_os_error() {
+            _ if error.kind() == ErrorKind::WouldBlock => {
+                self.knocks = false;
+                self.is_starved = false;
+                Ok(false)
+            }
+            Some(number) if NO_DESCRIPTOR.contains(&number) && self.is_starved => {
+                Ok(self.displace(now))
+            }
             Some(number) if NO_DESCRIPTOR.contains(&number) => {
-                self.displace(now);
-                Ok(())
+                self.is_starved = true;
+                self.ask()?;
+                Ok(false)
             }
             _ => Err(AcceptError),
         }
