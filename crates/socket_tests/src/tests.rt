@@ -1,4 +1,4 @@
 //! Tests over sockets of one process.
+mod lines;
 mod loopback;
 mod places;
-mod serving;
