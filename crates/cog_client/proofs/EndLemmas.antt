@@ -32,7 +32,7 @@ use Rattle.cog_client.proofs.AcceptLemmas.{accept_goes, accept_stops, all_stored
 use Rattle.cog_client.proofs.ClientLemmas.{refed, stays_refed}
 use Rattle.cog_client.proofs.DeliverLemmas.{accepted_delivers, adopted_delivers, asks_still, ignores, restarted_delivers}
 use Rattle.cog_client.proofs.FedLemmas.{case_is_of_head, nothing_more}
-use Rattle.cog_client.proofs.StopLemmas.{asked_before, begun_reads, case_is, stops_by, stored_over}
+use Rattle.cog_client.proofs.StopLemmas.{asked_before, begun_reads, case_is, stops_by, stored_over, unreported}
 
 -- ---- the body
 
@@ -114,7 +114,7 @@ module _ (law : FrontsAreRead) (lengths : (r : ReaderState) (f : List ℕ) → r
 module _ (law : FrontsAreRead) (lengths : (r : ReaderState) (f : List ℕ) → reader.ReaderAgrees r f → length f ≡ reader.complete_of r) (holds : FrontHolds) (beside : BesideBringNone)
     (s : ClientState) (p : List ℕ) (old mid : ClientState) (dropped : mid ≡ record old { feed = nothing_fed }) (sound : IsClient mid) where
   -- what isn't ignored is of a body
-  pub body_told : (what : Delivered) → IsTold (feed_of old) what → (IsIgnored what → ⊥) → Fed s p old
+  body_told : (what : Delivered) → IsTold (feed_of old) what → (IsIgnored what → ⊥) → Fed s p old
       → (head : Announced) × ReadsHead p (Ok head) × FedBody head s (body_behind head p) old
   unfolding feed_of
   body_told what told used (inl h) = elim h.feed [
@@ -133,7 +133,7 @@ module _ (law : FrontsAreRead) (lengths : (r : ReaderState) (f : List ℕ) → r
     over = dropped ∙ ap (λ (o : ClientState). record o { feed = nothing_fed }) x.same
         ∙ ap (λ (o : ClientState). record x.mid { cache = blocks_of o; feed = feed_of o }) (sym dropped)
 
-    pub asks_now : asked_of mid ≡ Some x.taken.span
+    asks_now : asked_of mid ≡ Some x.taken.span
     unfolding asked_of
     asks_now = ap asked_of over ∙ x.asked
 
@@ -147,7 +147,7 @@ module _ (law : FrontsAreRead) (lengths : (r : ReaderState) (f : List ℕ) → r
         stored_over holds x.mid mid over sound p x.taken.span (length (brought_by p x.taken.span)) (begun_reads (case_for s head) head s x.mid refl x.begins)
         (same_blocks ∙ x.is.holds ∙ sym (all_stored p x.taken.span (blocks_of x.mid)))
 
-    pub ended : (what : Delivered) → IsTold (feed_of old) what → (IsIgnored what → ⊥) → (new : ClientState) (o : Option Span) → GoesOnKeeping mid new
+    ended : (what : Delivered) → IsTold (feed_of old) what → (IsIgnored what → ⊥) → (new : ClientState) (o : Option Span) → GoesOnKeeping mid new
         → asked_of new ≡ unless_reported (report_of new) (asked_of mid) → Misses new o → feed_of new ≡ nothing_fed → DeliversKeeping s p what new
     ended what told used new o goes asked misses empty =
         let t = subst (λ (e : Feed). IsTold e what) x.feed told in
@@ -157,7 +157,7 @@ module _ (law : FrontsAreRead) (lengths : (r : ReaderState) (f : List ℕ) → r
         (case_for s head) refl x.begins what t used
 
     -- memory was wanting after it
-    pub end_stops : (new : ClientState) → GoesOnKeeping mid new → asked_of new ≡ unless_reported (report_of new) (asked_of mid) → report_of new ≡ None → feed_of new ≡ nothing_fed
+    end_stops : (new : ClientState) → GoesOnKeeping mid new → asked_of new ≡ unless_reported (report_of new) (asked_of mid) → report_of new ≡ None → feed_of new ≡ nothing_fed
         → (what : Delivered) → IsTold (feed_of old) what → (IsIgnored what → ⊥) → StopsDelivery s p new
     end_stops new goes asked none empty what told used =
         let q = piece_with head (body_behind head p) in
@@ -170,6 +170,18 @@ module _ (law : FrontsAreRead) (lengths : (r : ReaderState) (f : List ℕ) → r
           not_beside head (body_behind head p) x.taken.span (case_for s head) what (x.taken.next - head.first) x.taken.count (omega (arith, next)) accepted t used,
         )) refl) x.begins
         (accept_stops q x.taken.span (length (brought_by q x.taken.span)) x.mid mid new x.asked stores goes asked none empty)
+
+  -- the same of what is told, whatever it is of
+  pub ends : (what : Delivered) → IsTold (feed_of old) what → (IsIgnored what → ⊥) → Fed s p old → (new : ClientState) (o : Option Span) → GoesOnKeeping mid new
+      → asked_of new ≡ unless_reported (report_of new) (asked_of mid) → Misses new o → feed_of new ≡ nothing_fed → DeliversKeeping s p what new
+  ends what told used fed = let b = body_told what told used fed in ended b.0 b.1 b.2 what told used
+
+  pub stops : (what : Delivered) → IsTold (feed_of old) what → (IsIgnored what → ⊥) → Fed s p old → (new : ClientState) → GoesOnKeeping mid new
+      → asked_of new ≡ unless_reported (report_of new) (asked_of mid) → report_of new ≡ None → feed_of new ≡ nothing_fed → StopsDelivery s p new
+  stops what told used fed new goes asked none empty = let b = body_told what told used fed in end_stops b.0 b.1 b.2 new goes asked none empty what told used
+
+  pub silent : (what : Delivered) → IsTold (feed_of old) what → (IsIgnored what → ⊥) → Fed s p old → report_of mid ≡ None
+  silent what told used fed = let b = body_told what told used fed in unreported mid b.2.taken.span sound (asks_now b.0 b.1 b.2)
 
   -- ---- what is ignored
 

@@ -1,5 +1,6 @@
 //! Tests of connections.
 mod driving;
+mod memory;
 mod orders;
 mod random;
 mod single;

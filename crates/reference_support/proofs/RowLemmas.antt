@@ -52,6 +52,12 @@ pub tile_read : (f : List ℕ) (n : ℕ) (l : Layout) (total : ℕ) (tiles : Lis
     → t < length tiles → o ≡ get_or tiles t o → MatchOption o (HasNoTile f n l t) (λ plain. IsTile f n l t plain.items)
 tile_read f n l total tiles are t o inside is = are.each t o (slice_get-get_or tiles t o inside ∙ ap Some (sym is))
 
+-- and of one that is there
+pub tile_there : (f : List ℕ) (n : ℕ) (l : Layout) (total : ℕ) (tiles : List (Option (Vec ℕ))) → AreTiles f n l total tiles → (t : ℕ) (o : Option (Vec ℕ)) (plain : Vec ℕ)
+    → t < length tiles → o ≡ get_or tiles t o → o ≡ Some plain → IsTile f n l t plain.items
+tile_there f n l total tiles are t o plain inside is there =
+    subst (λ m. MatchOption m (HasNoTile f n l t) (λ (p : Vec ℕ). IsTile f n l t p.items)) there (tile_read f n l total tiles are t o inside is)
+
 along : (side tile x : ℕ) → 0 < tile → x < side → x / tile < (side + tile - 1) / tile
 along side tile x some less =
     let low : (x / tile) * tile ≤ x = omega (arith) in

@@ -6,7 +6,7 @@ use Rattle.tiff_dir.specs.Window.{tile_at, sample_in, place_in_tile}
 use Rattle.reference_support.specs.Modest.{grid_of, layout_of}
 use Rattle.reference_support.specs.Tile.{HasNoTile, IsTile}
 use Rattle.reference_support.proofs.SampleLemmas.{no_sample, no_tile_no_sample, some_sample}
-use Rattle.reference_support.proofs.RowLemmas.{tile_inside, tile_read}
+use Rattle.reference_support.proofs.RowLemmas.{tile_inside, tile_read, tile_there}
 use Rattle.reference_support.proofs.unpacked.sample_of.Goals as goal
 
 pub returns-in_err-get-clause-none : goal.returns-in_err-get-clause-none
@@ -32,13 +32,9 @@ returns-clause-some c =
     let f = c.args.file.now in let l = layout_of c.args.level.now in
     let t = c.tile_at.result in
     let plain = c.in_ok-plain.plain.now.items in
-    let found = c.in_ok-get.field-0.now in
-    let told : MatchOption found (HasNoTile f c.args.n l t) (λ p. IsTile f c.args.n l t p.items) =
-    tile_read f c.args.n l _ c.args.tiles.now c.requires.tiles t found c.in_ok-get.ensures.lookup.3.0 c.in_ok-get.ensures.lookup.1 in
-    let there : IsTile f c.args.n l t plain = subst (λ o. MatchOption o (HasNoTile f c.args.n l t) (λ (p : Vec _). IsTile f c.args.n l t p.items)) (sym c.in_ok-plain.ensures.value) told in
-    let order : order_of f ≡ Some c.in_ok-order.order = sym c.order_of.ensures ∙ c.in_ok-order.was in
+    let there = tile_there f c.args.n l _ c.args.tiles.now c.requires.tiles t c.in_ok-get.field-0.now c.in_ok-plain.plain.now c.in_ok-get.ensures.lookup.3.0 c.in_ok-get.ensures.lookup.1 (sym c.in_ok-plain.ensures.value) in
     let tile : IsTile f c.args.n l (tile_at l.grid c.args.x c.args.y) plain = subst (λ k. IsTile f c.args.n l k plain) c.tile_at.ensures there in
-    some_sample f c.in_ok-order.order c.args.n c.args.x c.args.y c.args.c l plain c.sample_in.result order c.requires.level tile
+    some_sample f c.in_ok-order.order c.args.n c.args.x c.args.y c.args.c l plain c.sample_in.result (sym c.order_of.ensures ∙ c.in_ok-order.was) c.requires.level tile
     (c.sample_in.ensures ∙ ap (λ p. sample_in c.in_ok-order.order l.bits c.deref.result.now p) c.place_in_tile-place.ensures.place
     ∙ ap (λ xs. sample_in c.in_ok-order.order l.bits xs (place_in_tile l c.args.x c.args.y c.args.c)) c.deref.ensures.value)
 
@@ -47,12 +43,8 @@ returns-clause-none c = λ column row.
     let f = c.args.file.now in let l = layout_of c.args.level.now in
     let t = c.tile_at.result in
     let plain = c.in_ok-plain.plain.now.items in
-    let found = c.in_ok-get.field-0.now in
-    let told : MatchOption found (HasNoTile f c.args.n l t) (λ p. IsTile f c.args.n l t p.items) =
-    tile_read f c.args.n l _ c.args.tiles.now c.requires.tiles t found c.in_ok-get.ensures.lookup.3.0 c.in_ok-get.ensures.lookup.1 in
-    let there : IsTile f c.args.n l t plain = subst (λ o. MatchOption o (HasNoTile f c.args.n l t) (λ (p : Vec _). IsTile f c.args.n l t p.items)) (sym c.in_ok-plain.ensures.value) told in
-    let order : order_of f ≡ Some c.in_ok-order.order = sym c.order_of.ensures ∙ c.in_ok-order.was in
+    let there = tile_there f c.args.n l _ c.args.tiles.now c.requires.tiles t c.in_ok-get.field-0.now c.in_ok-plain.plain.now c.in_ok-get.ensures.lookup.3.0 c.in_ok-get.ensures.lookup.1 (sym c.in_ok-plain.ensures.value) in
     let tile : IsTile f c.args.n l (tile_at l.grid c.args.x c.args.y) plain = subst (λ k. IsTile f c.args.n l k plain) c.tile_at.ensures there in
-    no_sample c.one_text.ensures.text f c.in_ok-order.order c.args.n c.args.x c.args.y c.args.c l plain c.sample_in.result order c.requires.level tile
+    no_sample c.one_text.ensures.text f c.in_ok-order.order c.args.n c.args.x c.args.y c.args.c l plain c.sample_in.result (sym c.order_of.ensures ∙ c.in_ok-order.was) c.requires.level tile
     (c.sample_in.ensures ∙ ap (λ p. sample_in c.in_ok-order.order l.bits c.deref.result.now p) c.place_in_tile-place.ensures.place
     ∙ ap (λ xs. sample_in c.in_ok-order.order l.bits xs (place_in_tile l c.args.x c.args.y c.args.c)) c.deref.ensures.value)
