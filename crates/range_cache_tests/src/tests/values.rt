@@ -23,12 +23,6 @@ fn takes_66_to_4096_blocks(rt: HostRuntime) {
     }
 }
 
-/// The span of every byte of the file.
-const WHOLE: Span = Span {
-    first: 0,
-    last: 67705,
-};
-
 /// First byte and length of a piece, first and last byte that are wanted, and how many blocks are stored.
 const PIECES: [(u64, usize, u64, u64, u32); 12] = [
     (65536, 2170, 65536, 67705, 1),
@@ -65,11 +59,6 @@ fn stores_whole_wanted_blocks_alone(rt: HostRuntime) -> Result<(), Fail> {
     Ok(())
 }
 
-/// These bytes, as the first that are missing.
-fn missing(first: u64, last: u64) -> Option<Missing> {
-    Some(Missing { first, last })
-}
-
 #[test]
 fn tells_the_first_gap(rt: HostRuntime) -> Result<(), Fail> {
     let alloc = rt.alloc();
@@ -79,17 +68,46 @@ fn tells_the_first_gap(rt: HostRuntime) -> Result<(), Fail> {
     assert_eq!(rt; (out.len(), end.len()), (49152, 7706));
 
     let gap = cache.read_into(COMPLETE, 60000, &mut end).err();
-    assert_eq!(rt; gap, missing(49152, 67705));
+    assert_eq!(rt;
+        gap,
+        Some(Missing {
+            first: 49152,
+            last: 67705
+        })
+    );
 
-    for (first, last) in [(0, 16383), (32768, 49151)] {
-        let bytes = piece(alloc, first, 16384)?;
-        let count = put(&mut cache, COMPLETE, first, &bytes, Span { first, last });
-        assert_eq!(rt; count.ok(), Some(1), "from {first}");
-    }
+    let wanted = Span {
+        first: 0,
+        last: 16383,
+    };
+    let count = put(&mut cache, COMPLETE, 0, &piece(alloc, 0, 16384)?, wanted);
+    assert_eq!(rt; count.ok(), Some(1));
+    let wanted = Span {
+        first: 32768,
+        last: 49151,
+    };
+    let count = put(
+        &mut cache,
+        COMPLETE,
+        32768,
+        &piece(alloc, 32768, 16384)?,
+        wanted,
+    );
+    assert_eq!(rt; count.ok(), Some(1));
     let gap = cache.read_into(COMPLETE, 0, &mut out).err();
-    assert_eq!(rt; gap, missing(16384, 32767));
+    assert_eq!(rt;
+        gap,
+        Some(Missing {
+            first: 16384,
+            last: 32767
+        })
+    );
 
-    assert!(rt; cache.wants(COMPLETE, WHOLE, 4) && !cache.wants(COMPLETE, WHOLE, 2));
+    let whole = Span {
+        first: 0,
+        last: 67705,
+    };
+    assert!(rt; cache.wants(COMPLETE, whole, 4) && !cache.wants(COMPLETE, whole, 2));
     Ok(())
 }
 
@@ -98,14 +116,18 @@ fn reads_until_it_is_cleared(rt: HostRuntime) -> Result<(), Fail> {
     let alloc = rt.alloc();
     let mut cache = Cache::new(alloc, 66).ok().ok_or("no cache")?;
     let mut out = vec![in alloc; 0u8; 18707]?;
+    let whole = Span {
+        first: 0,
+        last: 67705,
+    };
     let bytes = piece(alloc, 0, 67706)?;
     assert_eq!(rt; (out.len(), bytes.len()), (18707, 67706));
-    assert_eq!(rt; put(&mut cache, COMPLETE, 0, &bytes, WHOLE).ok(), Some(5));
+    assert_eq!(rt; put(&mut cache, COMPLETE, 0, &bytes, whole).ok(), Some(5));
     assert!(rt; cache.read_into(COMPLETE, 48999, &mut out).is_ok());
     assert_eq!(rt; out.as_slice(), &bytes[48999..]);
-    assert!(rt; !cache.wants(COMPLETE, WHOLE, 2));
+    assert!(rt; !cache.wants(COMPLETE, whole, 2));
     cache.clear();
-    assert!(rt; cache.wants(COMPLETE, WHOLE, 2));
+    assert!(rt; cache.wants(COMPLETE, whole, 2));
     assert!(rt; cache.read_into(COMPLETE, 48999, &mut out).is_err());
     Ok(())
 }

@@ -1,6 +1,5 @@
 use Rattle.std.proofs.Common.{◌≡◌, ◌∙◌, sym, ap, subst, Some}
 use Rattle.std.specs.Option.{option_map}
-use Rattle.tiff_dir.specs.File.{order_of}
 use Rattle.tiff_dir.specs.Window.{tile_at, sample_in, place_in_tile}
 use Rattle.reference_support.specs.Modest.{layout_of, modest_level}
 use Rattle.reference_support.specs.Tile.{HasNoTile, IsTile}

@@ -1,6 +1,5 @@
-use Rattle.std.proofs.Common.{◌≡◌, ◌<◌, ◌∙◌, sym, ap, subst, Some, MatchOption, arith}
+use Rattle.std.proofs.Common.{◌<◌, ◌∙◌, sym, ap, subst, MatchOption, arith}
 use Rattle.std.specs.Global.{Vec}
-use Rattle.tiff_dir.specs.File.{order_of}
 use Rattle.tiff_dir.specs.Level.{tile_total}
 use Rattle.tiff_dir.specs.Window.{tile_at, sample_in, place_in_tile}
 use Rattle.reference_support.specs.Modest.{grid_of, layout_of}
