@@ -89,7 +89,10 @@ fn goes_on_after_refused_memory(rt: HostRuntime) -> Result<(), Fail> {
         assert_eq!(rt; accept(&rt, &mut connections)?, number);
     }
     for (number, message) in [(0, ASKS_A), (1, ASKS_B), (0, ASKS_B)] {
-        assert_eq!(rt; give(&rt, &mut connections, number, message)?, message.len());
+        assert_eq!(rt;
+            give(&rt, &mut connections, number, message)?,
+            message.len()
+        );
         assert!(rt; go_on(&rt, &mut connections, number, &server)?);
         let mut text = Vec::new(alloc);
         take_at(&mut connections, number, usize::MAX, 0, &mut text)?;
