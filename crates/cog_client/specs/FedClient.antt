@@ -1,5 +1,5 @@
 -- What a client holds now, and keeps of an answer, that was in a state when the answer began and to which a front of it came.
-use Rattle.std.specs.Prelude.{◌≡◌, ◌⊎◌, ℕ, ◌-◌, List, ◌++◌, length, take, Some, Ok}
+use Rattle.std.specs.Prelude.{◌≡◌, ◌⊎◌, ℕ, ◌-◌, List, [], ◌++◌, length, take, Some, Ok}
 use Rattle.http_range.specs.Announced.{Announced, body_behind}
 use Rattle.http_range.specs.Reading.{ReadsHead}
 use Rattle.cog_client.specs.declared.body.Body.{Body}
@@ -11,7 +11,7 @@ use Rattle.cog_client.specs.Body.{IsBody}
 use Rattle.cog_client.specs.Case.{Revision}
 use Rattle.cog_client.specs.Client.{ClientState, asked_of, blocks_of, feed_of, revision_of}
 use Rattle.cog_client.specs.Fed.{case_of_head}
-use Rattle.cog_client.specs.Feeding.{Feed, passed, follows}
+use Rattle.cog_client.specs.Feeding.{Feed, nothing_fed, passed, follows}
 use Rattle.cog_client.specs.Steps.{Adopts}
 use Rattle.cog_client.specs.Take.{first_span}
 
@@ -62,6 +62,10 @@ FedBy head s body c = FedPassed head s c ⊎ FedBody head s body c
 abbrev pub Fed : ClientState → List ℕ → ClientState → Type 0
 Fed s p c =
     FedHeadless s p c ⊎ ((head : Announced) × ReadsHead p (Ok head) × FedBy head s (body_behind head p) c)
+
+-- A client that keeps nothing of an answer is one to which no byte of an answer came.
+abbrev pub AnswersBeginAnywhere : Type 0
+AnswersBeginAnywhere = (c : ClientState) → feed_of c ≡ nothing_fed → Fed c [] c
 
 -- So it is, but for the last bytes, which are still to be taken of the body.
 pub record FedAllBut (s : ClientState) (p rest : List ℕ) (c : ClientState) : Type 0 where

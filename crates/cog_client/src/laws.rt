@@ -4,11 +4,12 @@ ghost use Rattle.tiff_dir.specs.Needs.{IsEndOf};
 ghost use Rattle.tiff_dir.specs.Query.{needs};
 ghost use Rattle.cog_client.specs.Client.{AgreementIsSeen, query_of, to_come, ClientState, Knows};
 ghost use Rattle.cog_client.specs.Report.{TruthIsTold};
+ghost use Rattle.cog_client.specs.FedClient.{AnswersBeginAnywhere};
 ghost use Rattle.cog_client.specs.Fed.{CaseIsOfHead, CutsAreStored, EdgesAreStored, EndTells, LeavesByHead, PartsAreNotStored};
 ghost use Rattle.cog_client.specs.Progress.{CostIsMost, DeliveryReports, GoingOnLeavesNoMore, NeededAreAsked, OpeningLeavesCost, OwnAnswersBringOn, RequestReports};
 
 use cog_reader::{end_is_wanted, lengths_are_known, nothing_comes};
-use http_range::{clients_are_answered, fronts_are_read, publications_replace};
+use http_range::{clients_are_answered, fronts_are_read, heads_grow, publications_replace};
 use range_cache::{
     missing_is_exact, parts_bring_blocks, pieces_bring_blocks, stored_stay, stores_are_counted,
 };
@@ -84,4 +85,11 @@ pub fn answers_come_in_pieces()
     ensures parts { PartsAreNotStored }
 {
     parts_bring_blocks();
+}
+
+/// Where nothing is kept of an answer, one begins with the next bytes that are fed: `feed` and `end` need no `begin`.
+pub fn answers_begin_anywhere()
+    ensures { AnswersBeginAnywhere }
+{
+    heads_grow();
 }

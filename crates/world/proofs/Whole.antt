@@ -1,7 +1,7 @@
 -- A run goes on by one event, and a whole run is a log.
 use Rattle.tiff_dir.specs.declared.tags.TheConstants.{BITS_PER_SAMPLE, GEO_ASCII_PARAMS, GEO_DOUBLE_PARAMS, MODEL_PIXEL_SCALE, MODEL_TIEPOINT, MODEL_TRANSFORMATION, SAMPLES_PER_PIXEL}
 use Rattle.std.proofs.Common.{◌≡◌, ℕ, suc, List, [], ◌∷◌, ◌++◌, length, map, take, Option, Some, None, refl, sym, ap, ◌∙◌, subst, inl, inr, ◌<◌, ◌≤◌, ◌+◌, get_or, Result, Ok, Err}
-use Rattle.std.specs.Prelude.{IfOk, IfSome, OnErr, option_and_then, slice_get}
+use Rattle.std.specs.Prelude.{IfOk, IfSome, OnOk, OnErr, option_and_then, slice_get}
 use Rattle.std.proofs.Common.{Vec, Global}
 use Rattle.std.proofs.lemmas.List.{take_more, take_all}
 use Rattle.std.proofs.lemmas.Option.{none-some, same_Some}
@@ -246,6 +246,14 @@ whole_truth laws events i ns cs le runs = run_truth laws events ns cs (whole eve
 pub on_err_of : {T E : Type 0} (r : Result T E) (P : Type 0) → P → OnErr r P
 on_err_of (Ok x) P p = tt
 on_err_of (Err e) P p = p
+
+pub then_ok_of : {T E : Type 0} {P Q : Type 0} (r : Result T E) → (P → Q) → OnOk r P → OnOk r Q
+then_ok_of (Ok x) f p = f p
+then_ok_of (Err e) f p = tt
+
+pub then_err_of : {T E : Type 0} {P Q : Type 0} (r : Result T E) → (P → Q) → OnErr r P → OnErr r Q
+then_err_of (Ok x) f p = tt
+then_err_of (Err e) f p = f p
 
 pub begun : (entries : List Entry) (clients : List ClientState) (server : ServerState) (places : List ℕ) → entries ≡ [] → clients ≡ [] → server ≡ server_of start → places ≡ []
     → RunsKeeping start [] [] entries clients × IsState (after_all start [] entries) server entries places

@@ -7,6 +7,7 @@ ghost use Rattle.world.specs.State.{IsDeliveryKeeping, answer_at, noted};
 
 use crate::calls::{Call, call_at};
 use crate::event::{Effect, Entry};
+use crate::handing::Handing;
 use crate::server::quiet;
 use cog_client::Client;
 use cog_server::{Answer, Server};
@@ -50,6 +51,7 @@ pub fn deliver_at(
     clients: &mut Vec<Client>,
     i: u32,
     cut: Option<u32>,
+    how: Handing,
 ) -> Result<Entry, Memory>
     ensures { IfOk result (λ n. IsDeliveryKeeping (option_copied answer.entry) (slice_get clients.old.items i) cut i n clients.old.items clients.new.items) }
 {
@@ -61,7 +63,7 @@ pub fn deliver_at(
         _ => return Ok(quiet(Effect::Skipped)),
     }
     let text = front(&answer.text, cut);
-    call_at(alloc, server, 0, clients, i, Call::Deliver(text))
+    call_at(alloc, server, 0, clients, i, Call::Deliver(text), how)
 }
 
 /// Notes the place of the next entry, where it has an answer.

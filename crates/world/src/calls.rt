@@ -9,6 +9,7 @@ ghost use Rattle.world.specs.State.{CallsWith, Keeping, StandsTrue};
 
 use crate::event::{Effect, Entry};
 use crate::exchange::{ask_from, deliver_whole};
+use crate::handing::{Handing, hand_over};
 use crate::server::quiet;
 use cog_client::{Client, ClientError, Report};
 use cog_server::Server;
@@ -71,13 +72,14 @@ pub fn make_client(
     }
 }
 
-/// Client i does this: what the event did.
+/// Client i does this, and gets answers so: what the event did.
 fn effect_of(
     server: &Server,
     number: usize,
     client: &mut Client,
     i: u32,
     what: Call<'_>,
+    how: Handing,
 ) -> Result<Effect, Memory>
     ensures { IfOk result (λ effect. CallsWith server.now.catalogue number i what.entry effect client.old client.new) }
 {
@@ -96,10 +98,10 @@ fn effect_of(
         },
         Call::Exchange => {
             let asked = ask_from(server, number, client, i)?;
-            deliver_whole(client, i, asked)
+            deliver_whole(client, i, asked, how)
         }
         Call::Deliver(text) => {
-            let delivered = client.deliver(text)?;
+            let delivered = hand_over(client, text, how)?;
             Ok(Effect::Delivered {
                 client: i,
                 delivered,
@@ -108,7 +110,7 @@ fn effect_of(
     }
 }
 
-/// Client i does this, if there is such a client; what newly stands is told.
+/// Client i does this, and gets answers so, if there is such a client; what newly stands is told.
 pub fn call_at(
     alloc: Global,
     server: &Server,
@@ -116,6 +118,7 @@ pub fn call_at(
     clients: &mut Vec<Client>,
     i: u32,
     what: Call<'_>,
+    how: Handing,
 ) -> Result<Entry, Memory>
     ensures { IfOk result (λ n. AtClient (slice_get clients.old.items i) (Keeping (CallsWith server.now.catalogue number i what.entry n.effect)) i n clients.old.items clients.new.items) }
 {
@@ -123,7 +126,7 @@ pub fn call_at(
         return Ok(quiet(Effect::Skipped));
     };
     let had = has_report(client);
-    let effect = effect_of(server, number, client, i, what)?;
+    let effect = effect_of(server, number, client, i, what, how)?;
     let report = new_report(alloc, client, had)?;
     Ok(Entry { effect, report })
 }

@@ -9,6 +9,7 @@ ghost use Rattle.world.specs.Run.{Asks, IsAnswerTo, IsCheckBy, IsChecked, IsChec
 ghost use Rattle.world.specs.State.{IsDeliveredKeeping, request_in};
 
 use crate::event::{AnsweredCheck, AnsweredRequest, Effect, Entry};
+use crate::handing::{Handing, hand_over};
 use crate::server::quiet;
 use cog_client::Client;
 use cog_server::Server;
@@ -67,11 +68,12 @@ pub fn ask_from(
     Ok(Some(asked))
 }
 
-/// Delivers the answer whole, if there is one.
+/// Delivers all of the answer, if there is one.
 pub fn deliver_whole(
     client: &mut Client,
     i: u32,
     asked: Option<AnsweredRequest>,
+    how: Handing,
 ) -> Result<Effect, Memory>
     ensures seen { IfOk result (λ effect. IsExchanged i asked effect client.old client.new) }
     ensures kept { IfOk result (λ effect. IsDeliveredKeeping asked client.old client.new) }
@@ -79,7 +81,7 @@ pub fn deliver_whole(
     let Some(asked) = asked else {
         return Ok(Effect::Nothing(i));
     };
-    let delivered = client.deliver(&asked.answer.text)?;
+    let delivered = hand_over(client, &asked.answer.text, how)?;
     Ok(Effect::Exchanged { asked, delivered })
 }
 

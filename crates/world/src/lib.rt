@@ -6,6 +6,7 @@ mod answers;
 mod calls;
 mod event;
 mod exchange;
+mod handing;
 mod server;
 mod world;
 
@@ -14,4 +15,4 @@ pub use cog_client::{
 };
 pub use cog_server::{Answer, PublishError};
 pub use event::{AnsweredCheck, AnsweredRequest, Effect, Entry, Event, Log};
-pub use world::run;
+pub use world::{run, run_cut};

@@ -4,13 +4,14 @@ ghost use Rattle.world.specs.LowerLaws.{LowerLaws};
 ghost use Rattle.http_range.specs.Book.{HasDistinctTags};
 ghost use Rattle.world.specs.World.{AllExact, AllHonest, AllTrue, AreAlike, AreOfBook, World, after_all, start};
 ghost use Rattle.world.specs.Progress.{AllNeeded, AllReport};
-ghost use Rattle.world.specs.Run.{IsBeginning, Runs};
+ghost use Rattle.world.specs.Run.{IsBeginning, IsTrueLog, Runs};
 ghost use Rattle.world.specs.State.{Does, IsState};
 
 use crate::answers::{answer_of, deliver_at, keep};
 use crate::calls::{Call, call_at, make_client};
 use crate::event::{Entry, Event, Log};
 use crate::exchange::check_at;
+use crate::handing::Handing;
 use crate::server::{ask, publish, restart};
 use cog_client::{
     Client, agreement_is_seen, equal_reports_are_true, left_never_grows, needed_are_asked,
@@ -74,12 +75,52 @@ pub fn run(alloc: Global, events: &[Event], log: &mut Log) -> Result<(), Memory>
     // After want of memory all this holds of the events before the one that met it.
     ensures memory { OnErr result (IsBeginning events.now log.new.entries.items) }
 {
+    run_by(alloc, events, Handing::Whole, log)
+}
+
+/// Runs the events as `run` does, but hands each answer over in pieces of so many bytes, at least one each. All holds that holds of
+/// `run`.
+pub fn run_cut(alloc: Global, events: &[Event], piece: usize, log: &mut Log) -> Result<(), Memory>
+    requires entries { log.old.entries.items ≡ [] }
+    requires clients { log.old.clients.items ≡ [] }
+
+    ensures whole { OnOk result (length log.new.entries.items ≡ length events.now) }
+    ensures true_reports { OnOk result (AllTrue start events.now log.new.entries.items) }
+    ensures alike { OnOk result (AreAlike log.new.entries.items) }
+    ensures needed { OnOk result (AllNeeded start events.now log.new.entries.items) }
+    ensures progress { OnOk result (AllReport events.now log.new.entries.items) }
+    ensures checked { OnOk result (AllExact start events.now log.new.entries.items) }
+    ensures distinct { OnOk result (HasDistinctTags (after_all start events.now log.new.entries.items).book) }
+    ensures honest { OnOk result (AllHonest start events.now log.new.entries.items) }
+    ensures clients { OnOk result (AreOfBook log.new.clients.items (after_all start events.now log.new.entries.items).book) }
+    ensures logged { OnOk result (Runs start [] events.now log.new.entries.items log.new.clients.items) }
+    ensures memory { OnErr result (IsBeginning events.now log.new.entries.items) }
+{
+    run_by(alloc, events, Handing::Pieces(piece), log)
+}
+
+/// Runs the events, and hands answers over so.
+fn run_by(alloc: Global, events: &[Event], how: Handing, log: &mut Log) -> Result<(), Memory>
+    requires entries { log.old.entries.items ≡ [] }
+    requires clients { log.old.clients.items ≡ [] }
+    ensures truth { OnOk result (IsTrueLog events.now log.new.entries.items log.new.clients.items) }
+    ensures logged { OnOk result (Runs start [] events.now log.new.entries.items log.new.clients.items) }
+    ensures memory { OnErr result (IsBeginning events.now log.new.entries.items) }
+{
     lower_laws();
     let mut server = Server::new(alloc, 0);
     let mut places = Vec::new(alloc);
     for event in events {
         let clients = &mut log.clients;
-        let entry = step(alloc, &mut server, &log.entries, &places, clients, event)?;
+        let entry = step(
+            alloc,
+            &mut server,
+            &log.entries,
+            &places,
+            clients,
+            event,
+            how,
+        )?;
         keep(&mut places, log.entries.len(), &entry.effect)?;
         log.entries.push(entry)?;
     }
@@ -113,6 +154,7 @@ fn step(
     places: &[usize],
     clients: &mut Vec<Client>,
     event: &Event,
+    how: Handing,
 ) -> Result<Entry, Memory>
     ensures { IfOk result (λ n. (w : World) → IsState w server.old entries.now places.now →
         Does w clients.old.items event.now n clients.new.items server.new) }
@@ -123,21 +165,45 @@ fn step(
         Event::Epoch(epoch) => Ok(restart(alloc, server, *epoch)),
         Event::NewClient { name, blocks } => make_client(alloc, clients, name, *blocks),
         Event::Open { client, query } => {
-            call_at(alloc, server, number, clients, *client, Call::Open(*query))
+            call_at(
+                alloc,
+                server,
+                number,
+                clients,
+                *client,
+                Call::Open(*query),
+                how,
+            )
         }
-        Event::Forget(client) => call_at(alloc, server, number, clients, *client, Call::Forget),
+        Event::Forget(client) => call_at(
+            alloc,
+            server,
+            number,
+            clients,
+            *client,
+            Call::Forget,
+            how,
+        ),
         Event::Ask(message) => ask(server, number, message),
-        Event::AskFrom(client) => call_at(alloc, server, number, clients, *client, Call::AskFrom),
+        Event::AskFrom(client) => call_at(
+            alloc,
+            server,
+            number,
+            clients,
+            *client,
+            Call::AskFrom,
+            how,
+        ),
         Event::Deliver {
             client,
             answer,
             cut,
         } => {
             let answer = answer_of(entries, places, *answer);
-            deliver_at(alloc, server, answer, clients, *client, *cut)
+            deliver_at(alloc, server, answer, clients, *client, *cut, how)
         }
         Event::Exchange(client) => {
-            call_at(alloc, server, number, clients, *client, Call::Exchange)
+            call_at(alloc, server, number, clients, *client, Call::Exchange, how)
         }
         Event::Check(client) => check_at(server, number, clients, *client),
     }

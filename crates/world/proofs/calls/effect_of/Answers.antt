@@ -31,5 +31,5 @@ returns-in_ok-asked-in-Exchange c =
 
 pub returns-in_ok-delivered-in-Deliver : goal.returns-in_ok-delivered-in-Deliver
 returns-in_ok-delivered-in-Deliver c =
-    subst (λ (k : Call). CallsWith c.args.server.now.catalogue c.args.number c.args.i k (effects.Delivered c.args.i c.in_ok-delivered-in-Deliver.delivered) c.args.client.now c.deliver.new.self) (sym c.in-Deliver.is)
+    subst (λ (k : Call). CallsWith c.args.server.now.catalogue c.args.number c.args.i k (effects.Delivered c.args.i c.in_ok-delivered-in-Deliver.delivered) c.args.client.now c.hand_over.new.client) (sym c.in-Deliver.is)
     (delivers_keeping _ _ _ _ c.in_ok-delivered-in-Deliver.delivered c.in_ok-delivered-in-Deliver.ensures.ok)

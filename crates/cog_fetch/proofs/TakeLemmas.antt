@@ -1,0 +1,78 @@
+-- Pieces that come one after another, and what an answer leaves of a client that reads one publication.
+use Rattle.std.proofs.Common.{ℕ, List, [], ◌∷◌, ◌++◌, refl, sym, ap, subst, ◌∙◌, inl, arith, Result, Ok, Err, OnErr}
+use Rattle.std.proofs.lemmas.List.{append_assoc}
+use Rattle.http_range.specs.Book.{Publication, HasDistinctTags}
+use Rattle.http_range.specs.Honest.{IsFront, IsHonestFor}
+use Rattle.cog_client.specs.Client.{ClientState}
+use Rattle.cog_client.specs.FedClient.{Fed}
+use Rattle.cog_client.specs.Keeps.{StopsDelivery}
+use Rattle.cog_client.specs.Transport.{IsHonestToAll, KeepsReading, SpeaksOn}
+use Rattle.cog_fetch.specs.Takes.{IsNextOf, LeavesOf, Stops, Takes, TakesAnswer}
+
+-- behind a front, the next bytes of what is left make a longer front
+pub next_on : (before after : Publication → Type 0) (rest left xs ys : List ℕ) → SpeaksOn before after → LeavesOf before rest xs left
+    → IsNextOf after left ys → IsNextOf before rest (xs ++ ys)
+next_on before after rest left xs ys on leaves next p speaks =
+    let n = next p (on p speaks) in
+    (n.0, append_assoc xs ys n.0 ∙ ap (λ (t : List ℕ). xs ++ t) n.1 ∙ sym (leaves p speaks))
+
+-- so does what is left behind them
+pub leaves_on : (before after : Publication → Type 0) (rest left later xs ys : List ℕ) → SpeaksOn before after → LeavesOf before rest xs left
+    → LeavesOf after left ys later → LeavesOf before rest (xs ++ ys) later
+leaves_on before after rest left later xs ys on leaves next p speaks =
+    leaves p speaks ∙ ap (λ (t : List ℕ). xs ++ t) (next p (on p speaks)) ∙ sym (append_assoc xs ys later)
+
+-- pieces, and a piece behind them
+abbrev pub takes_on : (before after : Publication → Type 0) (rest left : List ℕ) (old mid new : ClientState) → SpeaksOn before after
+    → (first : Takes before rest old mid) → LeavesOf before rest first.bytes left → Takes after left mid new → Takes before rest old new
+takes_on before after rest left old mid new on first leaves then = record {
+  bytes = first.bytes ++ then.bytes;
+  next = next_on before after rest left first.bytes then.bytes on leaves then.next;
+  fed = λ s p fed. subst (λ (t : List ℕ). Fed s t new) (append_assoc p first.bytes then.bytes) (then.fed s (p ++ first.bytes) (first.fed s p fed));
+}
+
+-- pieces, and one that meets want of memory
+pub stops_on : (before after : Publication → Type 0) (rest left : List ℕ) (old mid new : ClientState) → SpeaksOn before after
+    → (first : Takes before rest old mid) → LeavesOf before rest first.bytes left → Stops after left mid new → Stops before rest old new
+stops_on before after rest left old mid new on first leaves then = record {
+  bytes = first.bytes ++ then.bytes;
+  next = next_on before after rest left first.bytes then.bytes on leaves then.next;
+  stops = λ s p fed. subst (λ (t : List ℕ). StopsDelivery s t new) (append_assoc p first.bytes then.bytes) (then.stops s (p ++ first.bytes) (first.fed s p fed));
+}
+
+-- a front of what is honest is honest
+honest_front : (bytes text : List ℕ) (p : Publication) → IsFront bytes text → IsHonestFor text p → IsHonestFor bytes p
+honest_front bytes text p front h = record {
+  catalogue = h.catalogue;
+  message = h.message;
+  response = h.response;
+  lawful = h.lawful;
+  answers = h.answers;
+  has = h.has;
+  named = h.named;
+  front = (front.0 ++ h.front.0, sym (append_assoc bytes front.0 h.front.0) ∙ ap (λ (t : List ℕ). t ++ h.front.0) front.1 ∙ h.front.1);
+}
+
+-- what holds after every refusal
+pub refused : {A E : Type 0} (r : Result A E) (P : Type 0) → P → OnErr r P
+refused (Ok a) P h = tt
+refused (Err e) P h = h
+
+-- one publication has one tag
+distinct : (p : Publication) → HasDistinctTags (p ∷ [])
+distinct p i j d before inside = absurd (omega arith)
+
+-- what came of an answer is taken, whatever becomes of it
+pub keeps_taking : (before mid after : Publication → Type 0) (rest : List ℕ) (old new : ClientState) → SpeaksOn before mid → SpeaksOn mid after
+    → IsHonestToAll before rest → TakesAnswer mid rest old new → KeepsReading before after old new
+keeps_taking before mid after rest old new on later honest takes = record {
+  same = takes.same;
+  reads = λ p is.
+      let front = takes.next p (on p is.spoken) in
+      record {
+        named = is.named ∙ sym takes.same.name;
+        spoken = later p (on p is.spoken);
+        agrees = takes.agrees (p ∷ []) (distinct p) is.agrees
+            (inl (p, inl refl, is.named, honest_front takes.bytes rest p front (honest p is.spoken)));
+      };
+}

@@ -1,0 +1,13 @@
+use Rattle.std.proofs.Common.{◌≡◌, ◌+◌, IsSome}
+use Rattle.cog_client.specs.Calls.{IsIdle}
+use Rattle.cog_client.specs.Client.{report_of}
+use Rattle.cog_client.specs.Transport.{KeepsReading}
+use Rattle.cog_fetch.proofs.fetching.exchange_up_to.Given as goal
+
+abbrev pub invariant-loop : goal.invariant-loop
+invariant-loop g l = record {
+  keeps : KeepsReading (g.P.Pieces.speaks_for l.fn.pieces) (g.P.Pieces.speaks_for l.pieces) l.fn.client l.client;
+  counted : g.P.Pieces.count l.pieces ≡ g.P.Pieces.count l.fn.pieces + l.counter;
+  idle : IsIdle l.fn.client → (g.P.Pieces.count l.pieces ≡ g.P.Pieces.count l.fn.pieces) × IsIdle l.client;
+  stands : IsSome (report_of l.fn.client) → report_of l.client ≡ report_of l.fn.client;
+}

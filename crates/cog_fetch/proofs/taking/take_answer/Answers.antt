@@ -1,0 +1,20 @@
+use Rattle.std.proofs.Common.{[]}
+use Rattle.cog_fetch.proofs.taking.take_answer.Goals as goal
+
+pub returns-in_err-take_pieces-clause-takes : goal.returns-in_err-take_pieces-clause-takes
+returns-in_err-take_pieces-clause-takes g c =
+    let s = c.in_err-take_pieces.ensures.err in
+    let e = s.stops c.args.client.now [] c.begin.ensures in
+    record { bytes = s.bytes; next = s.next; same = e.same; agrees = e.agrees }
+
+pub returns-in_err-end-clause-takes : goal.returns-in_err-end-clause-takes
+returns-in_err-end-clause-takes g c =
+    let t = c.in_ok-take_pieces.ensures.ok in
+    let e = c.in_err-end.ensures.err c.args.client.now t.bytes (t.fed c.args.client.now [] c.begin.ensures) in
+    record { bytes = t.bytes; next = t.next; same = e.same; agrees = e.agrees }
+
+pub returns-clause-takes : goal.returns-clause-takes
+returns-clause-takes g c =
+    let t = c.in_ok-take_pieces.ensures.ok in
+    let e = c.in_ok-end.ensures.ok c.args.client.now t.bytes (t.fed c.args.client.now [] c.begin.ensures) in
+    record { bytes = t.bytes; next = t.next; same = e.seen.same; agrees = e.agrees }

@@ -1,0 +1,67 @@
+//! A client takes an answer piece by piece, as it arrives.
+ghost use Rattle.std.specs.Prelude.{◌≡◌, ◌<◌, ◌≤◌, IfOk, OnErr, OnOk, length};
+ghost use Rattle.cog_client.specs.Transport.{SpeaksOn};
+ghost use Rattle.cog_fetch.specs.Takes.{Stops, Takes, TakesAnswer, TakesPiece};
+
+use cog_client::{Client, Lost, Pieces};
+use tiff_dir::Memory;
+
+/// The most bytes of an answer that are taken: a head of 4,096, and 65 blocks of 16,384.
+pub const ANSWER_LIMIT: usize = 1_069_056;
+
+/// The most bytes of a piece.
+pub const PIECE_ROOM: usize = 16_384;
+
+/// Takes the next piece, of at most as many bytes as there is room for. Says how many: none at the end, or where the rest is lost.
+fn take_piece<P: Pieces>(
+    client: &mut Client,
+    pieces: &mut P,
+    room: &mut [u8],
+) -> Result<usize, Memory>
+    requires { 0 < length room.old }
+    ensures few { IfOk result (λ n. n ≤ length room.old) }
+    ensures ok { IfOk result (λ n. TakesPiece (P.speaks_for pieces.old) (P.rest pieces.old) n (P.rest pieces.new) client.old client.new) }
+    ensures err { OnErr result (Stops (P.speaks_for pieces.old) (P.rest pieces.old) client.old client.new) }
+    ensures speaks { SpeaksOn (P.speaks_for pieces.old) (P.speaks_for pieces.new) }
+    ensures counted { P.count pieces.new ≡ P.count pieces.old }
+{
+    match pieces.next(room) {
+        Err(Lost) => Ok(0),
+        Ok(count) => {
+            client.feed(&room[..count])?;
+            Ok(count)
+        }
+    }
+}
+
+/// Takes pieces to the end of the answer, to a loss, or to the most bytes of an answer.
+fn take_pieces<P: Pieces>(client: &mut Client, pieces: &mut P) -> Result<(), Memory>
+    ensures ok { OnOk result (Takes (P.speaks_for pieces.old) (P.rest pieces.old) client.old client.new) }
+    ensures err { OnErr result (Stops (P.speaks_for pieces.old) (P.rest pieces.old) client.old client.new) }
+    ensures speaks { SpeaksOn (P.speaks_for pieces.old) (P.speaks_for pieces.new) }
+    ensures counted { P.count pieces.new ≡ P.count pieces.old }
+{
+    let mut room = [0u8; PIECE_ROOM];
+    let mut left = ANSWER_LIMIT;
+    while left > 0 {
+        let most = left.min(PIECE_ROOM);
+        let count = take_piece(client, pieces, &mut room[..most])?;
+        if count == 0 {
+            return Ok(());
+        }
+        left -= count;
+    }
+    Ok(())
+}
+
+/// Takes what comes of the answer to the last request, and goes on with the client.
+pub fn take_answer<P: Pieces>(client: &mut Client, pieces: &mut P) -> Result<(), Memory>
+    ensures takes { TakesAnswer (P.speaks_for pieces.old) (P.rest pieces.old) client.old client.new }
+    ensures speaks { SpeaksOn (P.speaks_for pieces.old) (P.speaks_for pieces.new) }
+    ensures counted { P.count pieces.new ≡ P.count pieces.old }
+{
+    client.begin();
+    take_pieces(client, pieces)?;
+    client.end()?;
+    Ok(())
+}
