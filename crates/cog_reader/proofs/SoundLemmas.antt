@@ -1,5 +1,5 @@
 -- No fault stands for a window of which all tiles are on the picture.
-use Rattle.std.proofs.Common.{◌≡◌, ℕ, ◌+◌, ◌-◌, ◌*◌, ◌%◌, ◌<◌, inl, inr, Bool, true, false, List, length, take, drop, min, map, Option, Some, None, refl, sym, subst, ap, ◌∙◌, arith, length-drop}
+use Rattle.std.proofs.Common.{◌≡◌, ℕ, ◌+◌, ◌++◌, ◌-◌, ◌*◌, ◌%◌, ◌<◌, inl, inr, Bool, true, false, List, length, take, drop, min, Option, Some, None, refl, sym, subst, ap, ◌∙◌, arith, length-drop}
 use Rattle.std.specs.Prelude.{◌||◌, ◌==◌, nat_lt}
 use Rattle.std.specs.List.{list_any, IsAmong}
 use Rattle.std.proofs.Math.Nat.{mul-le-mul_left}
@@ -26,7 +26,7 @@ use Rattle.tiff_dir.specs.Walk.{IsArrayOf}
 use Rattle.tiff_dir.specs.Fault.{IsFaultOfDirectories}
 use Rattle.tiff_dir.specs.Faulty.{HasBadPackets, IsFaultOfWindow, IsFaulty, IsWindow}
 use Rattle.tiff_dir.specs.Query as queries
-use Rattle.tiff_dir.specs.Query.{array_range, array_ranges, needs_of_query, rectangle, is_outside, is_too_large, segment}
+use Rattle.tiff_dir.specs.Query.{array_range, array_ranges, tile_ranges, rectangle, is_outside, is_too_large, segment}
 use Rattle.tiff_dir.specs.Window.{HasSamples, IsUnpacked}
 use Rattle.tile_plan.specs.Levels.{rectangle_of}
 use Rattle.tile_plan.specs.Plan.{tiles_of}
@@ -112,24 +112,14 @@ arrays_inside f q a w u =
 
 -- ---- each fault
 
-no_past : (f : List ℕ) (q : Query) (a : Arrays) (w : MosaicState) → IsUnderway f q a w → list_any (ends_past f) (needs_of_query f q) ≡ false
-unfolding needs_of_query array_ranges rectangle
-no_past f Info a w u = absurd (none-some (rectangle_of w.picture.rectangle) u.planned.rectangle_is)
-no_past f (Window x y wide tall p) a w u =
-    let q : Query = Window x y wide tall p in
+no_past : (f : List ℕ) (q : Query) (a : Arrays) (w : MosaicState) → IsUnderway f q a w → list_any (ends_past f) (array_ranges f q ++ tile_ranges f q) ≡ false
+unfolding array_ranges
+no_past f q a w u =
     let r = w.picture.rectangle in
     let parts = ranges_are f r.level (layout_of a.level) u.planned.layout_is in
     let inside = arrays_inside f q a w u in
-    list_any-append (ends_past f) (array_ranges f q) (map (λ (g : queries.Group). g.range) (queries.groups f q))
-    ∙ ap (λ b. list_any (ends_past f) (array_ranges f q) || b) u.needed.inside ∙ last (list_any (ends_past f) (array_ranges f q)) (two f q a w u parts.0 parts.1 inside.0 inside.1) where
-      last : (b : Bool) → b ≡ false → (b || false) ≡ false
-      last true is = is
-      last false is = refl
-
-      two : (f : List ℕ) (q : Query) (a : Arrays) (w : MosaicState) → IsUnderway f q a w → array_range f w.picture.rectangle.level 324 ≡ Some (extent_of_place a.level.offsets)
-          → array_range f w.picture.rectangle.level 325 ≡ Some (extent_of_place a.level.counts)
-          → ends_past f (extent_of_place a.level.offsets) ≡ false → ends_past f (extent_of_place a.level.counts) ≡ false → list_any (ends_past f) (array_ranges f q) ≡ false
-      two f q a w u first second x y = rw (u.planned.good, u.planned.rectangle_is, first, second, x, y) refl
+    list_any-append (ends_past f) (array_ranges f q) (tile_ranges f q)
+    ∙ rw (u.needed.inside, u.planned.good, u.planned.rectangle_is, parts.0, parts.1, inside.0, inside.1) refl
 
 both_false : (a b : Bool) → (a || b) ≡ false → (a ≡ false) × (b ≡ false)
 both_false true b is = absurd (false≢true (sym is))

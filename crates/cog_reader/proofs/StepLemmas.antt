@@ -27,7 +27,7 @@ use Rattle.tiff_dir.specs.Faulty.{IsFaulty, IsFaultOfInfo, IsFaultOfWindow}
 use Rattle.tiff_dir.specs.Geo.{geo_ranges, IsGeoFault}
 use Rattle.tiff_dir.specs.Needs.{Extent, ends_past, extent_of_place}
 use Rattle.tiff_dir.specs.Query as queries
-use Rattle.tiff_dir.specs.Query.{array_ranges, grouped, grouped_after, joins, is_refused, needs_of_query, rectangle, tiles_in}
+use Rattle.tiff_dir.specs.Query.{array_ranges, grouped, grouped_after, joins, is_refused, needs_of_query, rectangle, tile_ranges, tiles_in}
 use Rattle.tiff_dir.specs.Walk as walk
 use Rattle.tiff_dir.specs.Walk.{levels_of, extent_of_span, AreGeoPlaces, AreTyped, HasEnded, IsDescribed, IsGeoPlace}
 use Rattle.tile_plan.specs.declared.asked.Rectangle.{Rectangle}
@@ -118,6 +118,14 @@ level_told w ls n l r same some is levels law clean =
 
 -- ---- an array that is read
 
+-- the arrays of a window's level
+arrays_are : (f : List ℕ) (q : Query) (r : Rectangle) (l : Level) → rectangle f q ≡ Some (rectangle_of r) → is_refused f q ≡ false → level_layout f r.level ≡ Some (layout_of l)
+    → array_ranges f q ≡ extent_of_place l.offsets ∷ extent_of_place l.counts ∷ []
+unfolding array_ranges
+arrays_are f q r l asks good layout =
+    let parts = ranges_are f r.level (layout_of l) layout in
+    rw (good, asks, parts.0, parts.1) refl
+
 -- what a window needs besides the directories
 pub needs_split : (f : List ℕ) (q : Query) (r : Rectangle) (l : Level) → rectangle f q ≡ Some (rectangle_of r) → is_refused f q ≡ false → level_layout f r.level ≡ Some (layout_of l)
     → needs_of_query f q ≡ extent_of_place l.offsets ∷ extent_of_place l.counts ∷ map (λ (g : queries.Group). g.range) (queries.groups f q)
@@ -148,9 +156,9 @@ pub past_array : (f : List ℕ) (q : Query) (r : Rectangle) (l : Level) (k : Kep
     → next_array k r.level l ≡ Some p → length f < p.first + p.len → IsFaulty f q PastEnd
 past_array f q r l k p asks good layout next past =
     let ends : ends_past f (extent_of_place p) ≡ true = lt-ltb (length f) (p.first + p.len) past in
-    window_fault f q (rectangle_of r) PastEnd asks (ap (list_any (ends_past f)) (needs_split f q r l asks good layout) ∙ elim (which k r.level l p next) [
-      | inl same ↦ first (ends_past f) (extent_of_place l.offsets) (extent_of_place l.counts) (map (λ (g : queries.Group). g.range) (queries.groups f q)) (ap (λ x. ends_past f (extent_of_place x)) (sym same) ∙ ends)
-      | inr same ↦ second (ends_past f) (extent_of_place l.offsets) (extent_of_place l.counts) (map (λ (g : queries.Group). g.range) (queries.groups f q)) (ap (λ x. ends_past f (extent_of_place x)) (sym same) ∙ ends)
+    window_fault f q (rectangle_of r) PastEnd asks (ap (λ rs. list_any (ends_past f) (rs ++ tile_ranges f q)) (arrays_are f q r l asks good layout) ∙ elim (which k r.level l p next) [
+      | inl same ↦ first (ends_past f) (extent_of_place l.offsets) (extent_of_place l.counts) (tile_ranges f q) (ap (λ x. ends_past f (extent_of_place x)) (sym same) ∙ ends)
+      | inr same ↦ second (ends_past f) (extent_of_place l.offsets) (extent_of_place l.counts) (tile_ranges f q) (ap (λ x. ends_past f (extent_of_place x)) (sym same) ∙ ends)
     ]) where
       first : (p : Extent → Bool) (a b : Extent) (rest : List Extent) → p a ≡ true → list_any p (a ∷ b ∷ rest) ≡ true
       first p a b rest is = rw is refl

@@ -8,8 +8,8 @@ use Rattle.tiff_dir.specs.declared.fault.FileFault.{FileFault}
 use Rattle.tiff_dir.specs.Fault.{IsFaultOfDirectories}
 use Rattle.tiff_dir.specs.File.{◌>>=◌}
 use Rattle.tiff_dir.specs.WalkState.{WalkState}
-use Rattle.tiff_dir.specs.Needs.{Extent, extent_of_place, IsEndOf}
-use Rattle.tiff_dir.specs.Query.{needs_of_query, rectangle, is_refused, max_group_bytes}
+use Rattle.tiff_dir.specs.Needs.{Extent, extent_of_place, IsEndOf, max_range_bytes}
+use Rattle.tiff_dir.specs.Query.{needs_of_query, rectangle, is_refused}
 use Rattle.tiff_dir.specs.Walk as walk
 use Rattle.tiff_dir.specs.Walk.{HasEnded, bytes_in, given_of, levels_of, extent_of_span}
 use Rattle.tile_plan.specs.declared.plan.Group.{Group}
@@ -153,7 +153,7 @@ IsWantedOf f r bytes = IsSomeAnd (wanted r) (λ w. bytes ≡ bytes_in f w)
 abbrev pub Wants : ReaderState → Option Span → Type 0
 Wants r None = (wanted r ≡ None) × (query_of r ≡ None ⊎ IsSome (outcome_of r))
 Wants r (Some span) =
-    (wanted r ≡ Some (extent_of_span span)) × (span.last < complete_of r) × (span.last + 1 ≤ span.first + max_group_bytes)
+    (wanted r ≡ Some (extent_of_span span)) × (span.last < complete_of r) × (span.last + 1 ≤ span.first + max_range_bytes)
     × (outcome_of r ≡ None)
 
 -- What is to come after the wanted range was given: the ranges but for it, or none where the query is answered.

@@ -1,6 +1,6 @@
 -- What kinds of answers a server gives.
 use Rattle.std.proofs.Common.{◌≡◌, ℕ, ◌+◌, ◌-◌, ◌<◌, ◌≤◌, ◌⊎◌, inl, inr, Bool, true, false, cond, List, [], ◌++◌, length, take, drop, min, refl, sym, ap, ◌∙◌, arith, append_assoc, append-nil, codes, take-append-drop, length-append, length-drop, Option, Some, None}
-use Rattle.std.specs.Prelude.{IsErr, IfOk, option_and_then}
+use Rattle.std.specs.Prelude.{◌||◌, IsErr, IfOk, option_and_then}
 use Rattle.std.proofs.Math.Dec.{eqb, ltb}
 use Rattle.std.proofs.lemmas.Bool.{ltb-true, eqb-false}
 use Rattle.httparse.proofs.GrammarLemmas.{request_unique}
@@ -184,11 +184,9 @@ module _ (catalogue : Catalogue) (lawful : IsCatalogue catalogue) where
   pub kind_of : (o : Option SeenRequest) → Kind catalogue (answer_by catalogue o)
   kind_of None = bad
   kind_of (Some r) =
-      kind_if catalogue (has_other_version r) _ _ bad
-      (kind_if catalogue (lacks_host r) _ _ bad
-      (kind_if catalogue (announces_body r) _ _ bad
+      kind_if catalogue (has_other_version r || lacks_host r || announces_body r) _ _ bad
       (kind_if catalogue (has_other_method r) _ _ (plain (refused R405 (asks_close r)) refl tt (λ rest. refl) refl)
-      (kind_if catalogue (lacks_origin_form r) _ _ bad (kind_file r _ refl)))))
+      (kind_if catalogue (lacks_origin_form r) _ _ bad (kind_file r _ refl)))
 
 -- ---- a message has one answer
 

@@ -61,11 +61,9 @@ fields_of (R206 tag first last length) =
     file_fields tag ++ (codes "Content-Range", content_range first last length)
     ∷ content_length (last - first + 1) ∷ []
 fields_of (R304 tag) = entity_tag tag ∷ []
-fields_of R400 = content_length 0 ∷ []
-fields_of R404 = content_length 0 ∷ []
 fields_of R405 = (codes "Allow", codes "GET, HEAD") ∷ content_length 0 ∷ []
-fields_of R412 = content_length 0 ∷ []
 fields_of (R416 length) = (codes "Content-Range", codes "bytes */" ++ decimal length) ∷ content_length 0 ∷ []
+fields_of reply = content_length 0 ∷ []
 
 -- the head of an answer
 abbrev pub head_text : Reply → Bool → List ℕ

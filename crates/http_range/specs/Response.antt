@@ -92,26 +92,23 @@ is_unmodified r tag = one_matches (values_of (codes "If-None-Match") r.fields) t
 abbrev pub refused : Reply → Bool → Response
 refused reply close = record { reply = reply; close = close; name = None; body = [] }
 
+-- an answer that carries the tag of the file
+abbrev pub with_tag : Publication → Reply → Bool → List ℕ → Response
+with_tag p reply close body = record { reply = reply; close = close; name = Some p.name; body = body }
+
 -- not modified: the tag alone
 abbrev pub serve_tag : Publication → Bool → Response
-serve_tag p close = record { reply = R304 p.tag; close = close; name = Some p.name; body = [] }
+serve_tag p close = with_tag p (R304 p.tag) close []
 
 -- head: the head of the whole file
 abbrev pub serve_head : Publication → Bool → Response
-serve_head p close =
-    record { reply = R200 p.tag (length p.file); close = close; name = Some p.name; body = [] }
+serve_head p close = with_tag p (R200 p.tag (length p.file)) close []
 
 -- part, unsatisfiable, whole
 abbrev pub serve_part : Resolved → Publication → Bool → Response
-serve_part (Part a b) p close = record {
-  reply = R206 p.tag a b (length p.file);
-  close = close;
-  name = Some p.name;
-  body = take (b - a + 1) (drop a p.file);
-}
+serve_part (Part a b) p close = with_tag p (R206 p.tag a b (length p.file)) close (take (b - a + 1) (drop a p.file))
 serve_part Unsatisfiable p close = refused (R416 (length p.file)) close
-serve_part Whole p close =
-    record { reply = R200 p.tag (length p.file); close = close; name = Some p.name; body = p.file }
+serve_part Whole p close = with_tag p (R200 p.tag (length p.file)) close p.file
 
 -- the rows from *unknown name* on
 abbrev pub serve_file : Option Publication → SeenRequest → Response
@@ -126,9 +123,7 @@ serve_file (Some p) r =
 abbrev pub answer_by : Catalogue → Option SeenRequest → Response
 answer_by catalogue None = refused R400 true
 answer_by catalogue (Some r) =
-    if has_other_version r then refused R400 true
-    else if lacks_host r then refused R400 true
-    else if announces_body r then refused R400 true
+    if has_other_version r || lacks_host r || announces_body r then refused R400 true
     else if has_other_method r then refused R405 (asks_close r)
     else if lacks_origin_form r then refused R400 true
     else serve_file (published (target_name r) catalogue) r

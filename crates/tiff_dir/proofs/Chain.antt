@@ -1,12 +1,13 @@
 -- The chain of directories, step by step.
 use Rattle.std.proofs.Common.{[], ◌∷◌, ◌++◌, ◌-◌, ◌≡◌, ◌≢◌, ℕ, zero, suc, ◌+◌, ◌*◌, ◌<◌, ◌≤◌, ◌⊎◌, inl, inr, true, false, List, map, length, take, Option, Some, None, IsSomeAnd, refl, sym, ap, subst, ◌∙◌, arith, add-one}
 use Rattle.std.proofs.lemmas.Bool.{lt-ltb, eq-eqb, and_from, and_parts, cases_order, cases_lt, false≢true}
-use Rattle.std.specs.Option.{option_to_list}
+use Rattle.std.specs.Option.{option_map_or, option_to_list}
+use Rattle.std.specs.Prelude.{nat_lt}
 use Rattle.tiff_dir.specs.declared.order.Order.{Order}
 use Rattle.tiff_dir.specs.declared.fault.FileFault.{FileFault}
 use Rattle.tiff_dir.specs.declared.fault.FileFault.TheVariants.{Header, DirPlace, DirCount, TooManyDirs}
 use Rattle.tiff_dir.specs.Number.{number_in}
-use Rattle.tiff_dir.specs.File.{order_of, number, directory, has_directory, is_above_zero, entry_count, field_at, fields_from, fields, has_all_tags}
+use Rattle.tiff_dir.specs.File.{order_of, number, directory, has_directory, entry_count, field_at, fields_from, fields, has_all_tags}
 use Rattle.tiff_dir.specs.Needs.{Extent, bytes_in, is_entry_count, count_range, table_range, ranges_of_directory, outside_ranges}
 use Rattle.tiff_dir.specs.Fault.{is_directory_place, IsFaultAt, IsFaultOfDirectories}
 use Rattle.tiff_dir.specs.Table.{entry_at, entries_from, field_of}
@@ -60,7 +61,7 @@ first_follows f bytes o part len named good =
 
 -- The next directory
 
-above : (n : ℕ) → 0 < n → is_above_zero (Some n) ≡ true
+above : (n : ℕ) → 0 < n → option_map_or (nat_lt 0) (Some n) false ≡ true
 above n h = lt-ltb 0 n h
 
 there_next : (f : List ℕ) (o : Order) (k at : ℕ) → Follows f o k at → (k ≡ 0) ⊎ (0 < at) → has_directory f k ≡ true
@@ -178,7 +179,7 @@ pub none_after : (f : List ℕ) (k j : ℕ) → directory f (suc k) ≡ Some 0 �
 unfolding has_directory
 none_after f k zero last le there = absurd (omega arith)
 none_after f k (suc i) last le there =
-    let parts = and_parts (has_directory f i) (is_above_zero (directory f (suc i))) there in
+    let parts = and_parts (has_directory f i) (option_map_or (nat_lt 0) (directory f (suc i)) false) there in
     elim (cases_lt k i) [
       | inl lt ↦ none_after f k i last (omega arith) parts.0
       | inr ge ↦

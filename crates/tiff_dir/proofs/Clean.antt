@@ -1,7 +1,8 @@
 -- What a file without fault in its directories has: each table, and each level's layout.
 use Rattle.tiff_dir.specs.declared.tags.TheConstants.{BITS_PER_SAMPLE, COMPRESSION, PHOTOMETRIC_INTERPRETATION, PLANAR_CONFIGURATION, SAMPLES_PER_PIXEL, SAMPLE_FORMAT}
 use Rattle.std.proofs.Common.{◌-◌, ◌≡◌, ◌≢◌, ℕ, zero, suc, ◌+◌, ◌*◌, ◌<◌, ◌≤◌, ◌⊎◌, inl, inr, Bool, true, false, if◌then◌else◌, List, [], ◌∷◌, ◌++◌, length, get_or, drop, Option, Some, None, refl, sym, subst, ap, ◌∙◌, arith}
-use Rattle.std.specs.Option.{option_to_list}
+use Rattle.std.specs.Option.{option_map_or, option_to_list}
+use Rattle.std.specs.Prelude.{nat_lt}
 use Rattle.std.specs.List.{filter, flat_map, list_any, range_with_len, AllPass}
 use Rattle.std.proofs.lemmas.Bool.{and_parts, cases_Bool, cases_eq, ltb-false, false≢true}
 use Rattle.std.proofs.lemmas.List.{length-take, length-drop}
@@ -13,14 +14,14 @@ use Rattle.tiff_dir.specs.declared.stage.Draft.{Draft}
 use Rattle.tiff_dir.specs.declared.fault.FileFault.{FileFault}
 use Rattle.tiff_dir.specs.declared.fault.FileFault.TheVariants.{Header, PastEnd, DirPlace, DirCount, Missing, FieldType, Unsupported, LevelShape, TileSize, TileArray}
 use Rattle.tiff_dir.specs.Number.{number_in}
-use Rattle.tiff_dir.specs.File.{order_of, number, directory, has_directory, is_above_zero, directories, entry_count, value}
+use Rattle.tiff_dir.specs.File.{order_of, number, directory, has_directory, directories, entry_count, value}
 use Rattle.tiff_dir.specs.Profile.{profile, accepts, samples_fit, is_depth}
 use Rattle.tiff_dir.specs.Level.{is_level, layout_at, depth_at}
-use Rattle.tiff_dir.specs.Needs.{Extent, bytes_in, ends_past, is_entry_count, header_range, count_range, table_range, outside_range, ranges_of_directory, needs_of_directories, outside_ranges}
+use Rattle.tiff_dir.specs.Needs.{Extent, bytes_in, ends_past, is_entry_count, count_range, table_range, outside_range, ranges_of_directory, needs_of_directories, outside_ranges}
 use Rattle.tiff_dir.specs.Fault.{is_directory_place, IsFaultOfLevel, IsFaultOfDirectories}
 use Rattle.tiff_dir.specs.Table.{entries_from, entry_with_tag, allows, keeps, short_or, draft_in, long_in, IsEntryFault, HasValues, HasCounts}
 use Rattle.tiff_dir.specs.Shape.{has_sides, has_tiles, has_arrays, layout_from}
-use Rattle.tiff_dir.specs.Stage.{three_shorts, IsWalked, Counts, HasTable, IsDrafted}
+use Rattle.tiff_dir.specs.Stage.{header_range, three_shorts, IsWalked, Counts, HasTable, IsDrafted}
 use Rattle.tiff_dir.proofs.Parts.{number_inside}
 use Rattle.tiff_dir.proofs.Chain.{some_and_from}
 use Rattle.tiff_dir.proofs.Fields.{has_table}
@@ -110,8 +111,8 @@ forty_two f o clean order =
 place_there : (f : List ℕ) (o : Order) (k : ℕ) → IsClean f → order_of f ≡ Some o → has_directory f k ≡ true → (at : ℕ) × (directory f k ≡ Some at)
 unfolding has_directory directory
 place_there f o zero clean order there = (number_in o 4 4 f, number_inside f o 4 4 order (omega (arith, long_enough f clean)))
-place_there f o (suc k) clean order there = at (directory f (suc k)) refl (and_parts (has_directory f k) (is_above_zero (directory f (suc k))) there).1 where
-  at : (d : Option ℕ) → directory f (suc k) ≡ d → is_above_zero (directory f (suc k)) ≡ true → (x : ℕ) × (directory f (suc k) ≡ Some x)
+place_there f o (suc k) clean order there = at (directory f (suc k)) refl (and_parts (has_directory f k) (option_map_or (nat_lt 0) (directory f (suc k)) false) there).1 where
+  at : (d : Option ℕ) → directory f (suc k) ≡ d → option_map_or (nat_lt 0) (directory f (suc k)) false ≡ true → (x : ℕ) × (directory f (suc k) ≡ Some x)
   at None is above = absurd (false≢true (rw is at above))
   at (Some x) is above = (x, is)
 

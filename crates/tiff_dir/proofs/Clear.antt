@@ -1,9 +1,9 @@
 -- Where no fault stands for a window: its rectangle, its level, and the bytes of each of its tiles.
 use Rattle.tiff_dir.specs.declared.tags.TheConstants.{IMAGE_LENGTH, IMAGE_WIDTH, TILE_BYTE_COUNTS, TILE_OFFSETS}
 use Rattle.std.proofs.Common.{◌≡◌, ℕ, zero, suc, ◌+◌, ◌-◌, ◌*◌, ◌/◌, ◌<◌, ◌≤◌, ◌⊎◌, inl, inr, Bool, true, false, List, [], ◌∷◌, ◌++◌, length, get_or, Option, Some, None, refl, sym, subst, ap, ◌∙◌, arith}
-use Rattle.std.specs.Prelude.{◌==◌, map, is_none, unwrap_or, slice_get}
+use Rattle.std.specs.Prelude.{◌==◌, is_none, unwrap_or, slice_get}
 use Rattle.std.specs.Option.{option_to_list}
-use Rattle.std.specs.List.{filter, last_or, range_with_len}
+use Rattle.std.specs.List.{cons_option, filter, filter_map, last_or, range_with_len}
 use Rattle.std.proofs.Math.Nat.{mul-le-mul_right}
 use Rattle.std.proofs.lemmas.Bool.{and_parts, or_parts, cases_Bool, ltb-false, ltb-true, false≢true}
 use Rattle.std.proofs.lemmas.Nat.{div_below}
@@ -17,7 +17,7 @@ use Rattle.tiff_dir.specs.declared.fault.FileFault.TheVariants.{PastEnd, Outside
 use Rattle.tiff_dir.specs.File.{has_directory, directories}
 use Rattle.tiff_dir.specs.Level.{Layout, is_level, level_directories, level_directory, level_grid, level_layout, level_value}
 use Rattle.tiff_dir.specs.Needs.{Extent, ends_past}
-use Rattle.tiff_dir.specs.Query.{Rectangle, Group, has_columns, smallest_level, scaled_down, scaled_up, scaled, rectangle, passes, is_outside_level, is_outside, is_too_large, is_refused, tiles_in, window_tiles, array_range, tile_range, grouped, groups, array_ranges, needs_of_query}
+use Rattle.tiff_dir.specs.Query.{Rectangle, has_columns, smallest_level, scaled_down, scaled_up, scaled, rectangle, passes, is_outside_level, is_outside, is_too_large, is_refused, tiles_in, window_tiles, array_range, tile_range, array_ranges, tile_ranges}
 use Rattle.tiff_dir.specs.Faulty.{IsFaultOfWindow, IsFaulty}
 use Rattle.tiff_dir.specs.Shape.{layout_from}
 use Rattle.tiff_dir.proofs.Clean.{IsClean, IsLaid, In, in_left, in_right, none_of_any, ends_inside, named, laid}
@@ -210,11 +210,10 @@ asked f x y w h (pick.Columns columns) clean inside = asked_by_columns f x y w h
 pub record IsClear (f : List ℕ) (q : Query) : Type 0 where
   pub directories : IsClean f
   pub own : (fault : FileFault) → IsFaultOfWindow f q fault → ⊥
-  pub needs : needs_of_query f q ≡ array_ranges f q ++ map (λ (g : Group). g.range) (groups f q)
 
 pub clear : (f : List ℕ) (x y w h : ℕ) (p : Pick) → ((fault : FileFault) → IsFaulty f (Window x y w h p) fault → ⊥) → IsClear f (Window x y w h p)
-unfolding IsFaulty needs_of_query
-clear f x y w h p sound = record { directories = λ fault bad. sound fault (inl bad); own = λ fault bad. sound fault (inr bad); needs = refl }
+unfolding IsFaulty
+clear f x y w h p sound = record { directories = λ fault bad. sound fault (inl bad); own = λ fault bad. sound fault (inr bad) }
 
 not_true : (b : Bool) → (b ≡ true → ⊥) → b ≡ false
 not_true true h = absurd (h refl)
@@ -229,31 +228,35 @@ not_refused f q c =
     let large : is_too_large f q ≡ false = not_true (is_too_large f q) (c.own TooLarge) in
     rw (outside, large) refl
 
-needed_inside : (f : List ℕ) (q : Query) (r : Extent) → IsClear f q → In r (needs_of_query f q) → r.first + r.len ≤ length f
-needed_inside f q r c there = ends_inside f r (none_of_any (ends_past f) (needs_of_query f q) r (c.own PastEnd) there)
+needed_inside : (f : List ℕ) (q : Query) (r : Extent) → IsClear f q → In r (array_ranges f q ++ tile_ranges f q) → r.first + r.len ≤ length f
+needed_inside f q r c there = ends_inside f r (none_of_any (ends_past f) (array_ranges f q ++ tile_ranges f q) r (c.own PastEnd) there)
 
 pub tiles_are : (f : List ℕ) (q : Query) (c : IsClear f q) (a : IsAsked f q) → window_tiles f q ≡ tiles_in (layout_of_level f a.asked.level a.placed.level).grid a.asked
 unfolding window_tiles
 tiles_are f q c a = rw (not_refused f q c, a.asked_is, grid_there f a.asked.level a.placed.level) refl
 
-pub groups_are : (f : List ℕ) (q : Query) (a : IsAsked f q) → groups f q ≡ grouped (tile_range f a.asked.level) (window_tiles f q)
-unfolding groups
-groups_are f q a = rw a.asked_is refl
+tile_ranges_are : (f : List ℕ) (q : Query) (a : IsAsked f q) → tile_ranges f q ≡ filter_map (tile_range f a.asked.level) (window_tiles f q)
+unfolding tile_ranges
+tile_ranges_are f q a = rw a.asked_is refl
 
 arrays_are : (f : List ℕ) (q : Query) (c : IsClear f q) (a : IsAsked f q) → array_ranges f q ≡ option_to_list (array_range f a.asked.level TILE_OFFSETS) ++ option_to_list (array_range f a.asked.level TILE_BYTE_COUNTS)
 unfolding array_ranges
 arrays_are f q c a = rw (not_refused f q c, a.asked_is) refl
 
-in_ranges : (g : Group) (gs : List Group) → In g gs → In g.range (map (λ (g : Group). g.range) gs)
-in_ranges g [] there = absurd there
-in_ranges g (h ∷ gs) (inl is) = inl (ap (λ (g : Group). g.range) is)
-in_ranges g (h ∷ gs) (inr there) = inr (in_ranges g gs there)
+in_ranges : (range : ℕ → Option Extent) (t : ℕ) (r : Extent) (ts : List ℕ) → In t ts → range t ≡ Some r → In r (filter_map range ts)
+in_ranges range t r [] there is = absurd there
+in_ranges range t r (u ∷ ts) (inl same) is = rw (ap range (sym same) ∙ is) (inl refl)
+in_ranges range t r (u ∷ ts) (inr there) is = at (range u) (in_ranges range t r ts there is) where
+  at : (o : Option Extent) → In r (filter_map range ts) → In r (cons_option o (filter_map range ts))
+  at None later = later
+  at (Some s) later = inr later
 
 pub arrays_inside : (f : List ℕ) (q : Query) (r : Extent) (c : IsClear f q) (a : IsAsked f q) → In r (option_to_list (array_range f a.asked.level TILE_OFFSETS) ++ option_to_list (array_range f a.asked.level TILE_BYTE_COUNTS)) → r.first + r.len ≤ length f
 arrays_inside f q r c a there =
     let here : In r (array_ranges f q) = subst (λ (rs : List Extent). In r rs) (sym (arrays_are f q c a)) there in
-    needed_inside f q r c (subst (λ (rs : List Extent). In r rs) (sym c.needs) (in_left r (array_ranges f q) (map (λ (g : Group). g.range) (groups f q)) here))
+    needed_inside f q r c (in_left r (array_ranges f q) (tile_ranges f q) here)
 
-pub group_inside : (f : List ℕ) (q : Query) (g : Group) (c : IsClear f q) → In g (groups f q) → g.range.first + g.range.len ≤ length f
-group_inside f q g c there =
-    needed_inside f q g.range c (subst (λ (rs : List Extent). In g.range rs) (sym c.needs) (in_right g.range (array_ranges f q) (map (λ (g : Group). g.range) (groups f q)) (in_ranges g (groups f q) there)))
+pub bytes_inside : (f : List ℕ) (q : Query) (t : ℕ) (r : Extent) (c : IsClear f q) (a : IsAsked f q) → In t (window_tiles f q) → tile_range f a.asked.level t ≡ Some r → r.first + r.len ≤ length f
+bytes_inside f q t r c a there is =
+    let here : In r (tile_ranges f q) = subst (λ (rs : List Extent). In r rs) (sym (tile_ranges_are f q a)) (in_ranges (tile_range f a.asked.level) t r (window_tiles f q) there is) in
+    needed_inside f q r c (in_right r (array_ranges f q) (tile_ranges f q) here)

@@ -24,14 +24,14 @@ use Rattle.tiff_dir.specs.Profile.{sample_bytes, accepts, max_tiles}
 use Rattle.tiff_dir.specs.Level.{Layout, place_of, level_value, plain_size, plain_row, plain_size_at, tile_total}
 use Rattle.tiff_dir.specs.Needs.{Extent, extent_of_place}
 use Rattle.tiff_dir.specs.Walk.{bytes_in}
-use Rattle.tiff_dir.specs.Query.{Rectangle, Group, groups, tile_range, array_range, window_tiles, segment}
+use Rattle.tiff_dir.specs.Query.{Rectangle, tile_range, array_range, window_tiles, segment}
 use Rattle.tiff_dir.specs.Window.{IsUnpackedBy, IsUnpacked, tile_at, place_in_tile, sample_in, IsSample}
 use Rattle.tiff_dir.specs.Faulty.{IsTileOfWindow, level_compression, level_plain_size, is_byte_count, IsNotPlainSize, IsFaulty, IsWindow}
 use Rattle.tiff_dir.specs.Shape.{draft_tiles, has_arrays}
 use Rattle.tiff_dir.proofs.Chain.{some_and_from}
 use Rattle.tiff_dir.proofs.Clean.{In, in_left, in_right, in_option, named, not_false}
-use Rattle.tiff_dir.proofs.Covered.{IsPixelOf, tile_inside, pixel_tile, among_in, covered}
-use Rattle.tiff_dir.proofs.Clear.{IsLaidLevel, layout_of_level, layout_there, IsAsked, asked, IsClear, clear, not_outside, tiles_are, groups_are, arrays_inside, group_inside}
+use Rattle.tiff_dir.proofs.Covered.{IsPixelOf, tile_inside, pixel_tile, among_in}
+use Rattle.tiff_dir.proofs.Clear.{IsLaidLevel, layout_of_level, layout_there, IsAsked, asked, IsClear, clear, not_outside, tiles_are, arrays_inside, bytes_inside}
 use Rattle.tiff_dir.proofs.Told.{offsets_at, counts_at}
 use Rattle.tiff_dir.proofs.TileValues.{offset_told, count_told}
 
@@ -103,10 +103,7 @@ tile_there f q t c a less there =
     let n = a.asked.level in
     let (first, count, first_is, count_is) = values_there f q t c a less in
     let r : Extent = record { first = first; len = count } in
-    let cover = covered (tile_range f n) t (window_tiles f q) r there (range_there f n t first count first_is count_is) in
-    let among : In cover.group (groups f q) = subst (λ (gs : List Group). In cover.group gs) (sym (groups_are f q a)) cover.there in
-    let end = group_inside f q cover.group c among in
-    record { first = first; count = count; first_is = first_is; count_is = count_is; inside = omega (arith, end, cover.covers.0, cover.covers.1) }
+    record { first = first; count = count; first_is = first_is; count_is = count_is; inside = bytes_inside f q t r c a there (range_there f n t first count first_is count_is) }
 
 abbrev pub bytes_of : (f : List ℕ) (n t : ℕ) → HasBytes f n t → List ℕ
 bytes_of f n t b = slice_range f b.first (b.first + b.count)

@@ -16,7 +16,7 @@ use Rattle.tiff_dir.specs.declared.fault.FileFault.TheVariants.{Missing, FieldTy
 use Rattle.tiff_dir.specs.Number.{number_in}
 use Rattle.tiff_dir.specs.File.{Field, order_of, number, field_with_tag, field, values_at, field_value, value, default_of}
 use Rattle.tiff_dir.specs.Profile.{has_typing}
-use Rattle.tiff_dir.specs.Fault.{IsMistyped, IsMiscounted, IsRuleFault}
+use Rattle.tiff_dir.specs.Fault.{IsMiscounted, IsRuleFault}
 use Rattle.tiff_dir.specs.Stage.{HasTable, IsTableOf}
 use Rattle.tiff_dir.specs.Table.{entry_at, entries_from, field_of, entry_with_tag, allows, counts_one, keeps, IsEntryFault, single_of, single_or, short_or}
 use Rattle.tiff_dir.proofs.Parts.{part_inside, number_inside}
@@ -201,7 +201,7 @@ rule_fault f k es r (Missing tag) has bad =
     let none : field f k r.tag ≡ None = field_told f k es r.tag has ∙ rw bad.2 refl in
     (bad.0, bad.1, has.whole, rw (← bad.0) none)
 rule_fault f k es r (FieldType tag) has bad =
-    let P : ℕ → Type 0 = λ t. IsSomeAnd (field f k t) (λ e. IsMistyped r.typing e ⊎ IsMiscounted f k r.count e) in
+    let P : ℕ → Type 0 = λ t. IsSomeAnd (field f k t) (λ e. IsSomeAnd e.kind (λ kind. has_typing r.typing kind ≡ false) ⊎ IsMiscounted f k r.count e) in
     (bad.0, subst P bad.0 (at (entry_with_tag r.tag es) refl bad.1)) where
       wrong : (c : Count) (e : Entry) → counts_one c e.count ≡ false → IsMiscounted f k c (field_of e)
       wrong One e bad = bad
@@ -210,10 +210,10 @@ rule_fault f k es r (FieldType tag) has bad =
       wrong (Exactly n) e bad = bad
       wrong (Multiple n) e bad = bad
 
-      at : (o : Option Entry) → entry_with_tag r.tag es ≡ o → IsSomeAnd o (λ e. allows r e ≡ false) → IsSomeAnd (field f k r.tag) (λ e. IsMistyped r.typing e ⊎ IsMiscounted f k r.count e)
+      at : (o : Option Entry) → entry_with_tag r.tag es ≡ o → IsSomeAnd o (λ e. allows r e ≡ false) → IsSomeAnd (field f k r.tag) (λ e. IsSomeAnd e.kind (λ kind. has_typing r.typing kind ≡ false) ⊎ IsMiscounted f k r.count e)
       at None is bad = absurd bad
       at (Some e) is bad =
-          some_and_from (field f k r.tag) (λ x. IsMistyped r.typing x ⊎ IsMiscounted f k r.count x) (field_of e) (field_told f k es r.tag has ∙ rw is refl)
+          some_and_from (field f k r.tag) (λ x. IsSomeAnd x.kind (λ kind. has_typing r.typing kind ≡ false) ⊎ IsMiscounted f k r.count x) (field_of e) (field_told f k es r.tag has ∙ rw is refl)
           (elim (and_cases (has_typing r.typing e.kind) (counts_one r.count e.count) bad) [ inl h ↦ inl h | inr h ↦ inr (wrong r.count e h) ])
 rule_fault f k es r _ has bad = absurd bad
 
@@ -225,7 +225,7 @@ no_rule_fault f k es r has met right (Missing tag) bad =
     let none : field f k r.tag ≡ None = rw bad.0 bad.3 in
     none-some (field_of e) (sym none ∙ field_told f k es r.tag has ∙ rw there refl)
 no_rule_fault f k es r has met right (FieldType tag) bad =
-    let P : ℕ → Type 0 = λ t. IsSomeAnd (field f k t) (λ e. IsMistyped r.typing e ⊎ IsMiscounted f k r.count e) in
+    let P : ℕ → Type 0 = λ t. IsSomeAnd (field f k t) (λ e. IsSomeAnd e.kind (λ kind. has_typing r.typing kind ≡ false) ⊎ IsMiscounted f k r.count e) in
     at (entry_with_tag r.tag es) refl (rw (field_told f k es r.tag has) at (subst P (sym bad.0) bad.1)) where
       wrong : (c : Count) (e : Entry) → r.count ≡ c → entry_with_tag r.tag es ≡ Some e → counts_one c e.count ≡ true → IsMiscounted f k c (field_of e) → ⊥
       wrong One e is at ok bad = false≢true (sym bad ∙ ok)
@@ -234,7 +234,7 @@ no_rule_fault f k es r has met right (FieldType tag) bad =
       wrong (Exactly n) e is at ok bad = false≢true (sym bad ∙ ok)
       wrong (Multiple n) e is at ok bad = false≢true (sym bad ∙ ok)
 
-      at : (o : Option Entry) → entry_with_tag r.tag es ≡ o → IsSomeAnd (option_map field_of o) (λ e. IsMistyped r.typing e ⊎ IsMiscounted f k r.count e) → ⊥
+      at : (o : Option Entry) → entry_with_tag r.tag es ≡ o → IsSomeAnd (option_map field_of o) (λ e. IsSomeAnd e.kind (λ kind. has_typing r.typing kind ≡ false) ⊎ IsMiscounted f k r.count e) → ⊥
       at None is bad = bad
       at (Some e) is (inl h) = false≢true (sym h ∙ typed r e (met_entry es r e met is))
       at (Some e) is (inr h) = wrong r.count e refl is (counted r e (met_entry es r e met is)) h

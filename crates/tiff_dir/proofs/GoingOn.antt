@@ -8,9 +8,9 @@ use Rattle.tiff_dir.specs.declared.order.Order.{Order}
 use Rattle.tiff_dir.specs.declared.stage.Stage.{Stage}
 use Rattle.tiff_dir.specs.declared.stage.Stage.TheVariants as stages
 use Rattle.tiff_dir.specs.declared.stage.Step.{Step}
-use Rattle.tiff_dir.specs.Needs.{Extent, header_range, outside_ranges}
+use Rattle.tiff_dir.specs.Needs.{Extent, outside_ranges}
 use Rattle.tiff_dir.specs.Level.{Layout, is_level, layout_at}
-use Rattle.tiff_dir.specs.Stage.{range_of, index_of, still, ranges_from, layouts_below, AgreesAt, Counts, IsAt, StepsOn, EndsDirectory}
+use Rattle.tiff_dir.specs.Stage.{header_range, range_of, index_of, still, ranges_from, layouts_below, AgreesAt, Counts, IsAt, StepsOn, EndsDirectory}
 use Rattle.tiff_dir.proofs.Chain.{ranges_here, ranges_counted}
 use Rattle.tiff_dir.proofs.Ranges.{range_more}
 

@@ -17,9 +17,9 @@ use Rattle.tiff_dir.specs.declared.fault.FileFault.{FileFault}
 use Rattle.tiff_dir.specs.declared.fault.FileFault.TheVariants.{Missing, FieldType, Unsupported}
 use Rattle.tiff_dir.specs.Number.{number_in}
 use Rattle.tiff_dir.specs.File.{◌>>=◌, kind_of, size_of, number, field, values_at, value}
-use Rattle.tiff_dir.specs.Profile.{subfile_rule, profile, is_depth, accepts, samples_fit, planes_fit}
+use Rattle.tiff_dir.specs.Profile.{subfile_rule, profile, has_typing, is_depth, accepts, samples_fit, planes_fit}
 use Rattle.tiff_dir.specs.Level.{is_level, place_of, compression_of}
-use Rattle.tiff_dir.specs.Fault.{IsMistyped, IsMiscounted, IsRuleFault, IsUnsupported, IsMisfit, IsFaultOfDirectory, IsFaultOfLevel}
+use Rattle.tiff_dir.specs.Fault.{IsMiscounted, IsRuleFault, IsUnsupported, IsMisfit, IsFaultOfDirectory, IsFaultOfLevel}
 use Rattle.tiff_dir.specs.Table.{field_of, entry_with_tag, keeps, IsFaultOfEntries, short_or, counts_samples, kind_in, place_in, place_or, draft_in, HasValues, IsValueFault, HasCounts, IsCountFault, IsReadIn, IsReadFault}
 use Rattle.tiff_dir.specs.Stage.{HasTable, IsTableOf, IsDrafted, IsPending}
 use Rattle.tiff_dir.proofs.Chain.{some_and_at, some_and_from, next_is}
@@ -88,11 +88,11 @@ value_fault f k es fault has met (inr (inr (inr (is, bad)))) =
 -- a field that has another number of values than a pixel has samples
 miscounted : (f : List ℕ) (k : ℕ) (es : List Entry) (r : Rule) → HasTable f k es → AllPass (keeps es) profile → r.count ≡ Samples → counts_samples es r.tag ≡ false → IsRuleFault f k r (FieldType r.tag)
 miscounted f k es r has met counts bad = (refl, at (entry_with_tag r.tag es) refl bad) where
-  at : (o : Option Entry) → entry_with_tag r.tag es ≡ o → option_map_or (λ e. e.count == short_or es SAMPLES_PER_PIXEL 1) o true ≡ false → IsSomeAnd (field f k r.tag) (λ e. IsMistyped r.typing e ⊎ IsMiscounted f k r.count e)
+  at : (o : Option Entry) → entry_with_tag r.tag es ≡ o → option_map_or (λ e. e.count == short_or es SAMPLES_PER_PIXEL 1) o true ≡ false → IsSomeAnd (field f k r.tag) (λ e. IsSomeAnd e.kind (λ kind. has_typing r.typing kind ≡ false) ⊎ IsMiscounted f k r.count e)
   at None is bad = absurd (false≢true (sym bad))
   at (Some e) is bad =
       let wrong : IsMiscounted f k Samples (field_of e) = some_and_from (value f k SAMPLES_PER_PIXEL 0) (λ s. (e.count == s) ≡ false) _ (samples_told f k es has met) bad in
-      some_and_from (field f k r.tag) (λ x. IsMistyped r.typing x ⊎ IsMiscounted f k r.count x) (field_of e) (field_told f k es r.tag has ∙ rw is refl) (inr (rw counts wrong))
+      some_and_from (field f k r.tag) (λ x. IsSomeAnd x.kind (λ kind. has_typing r.typing kind ≡ false) ⊎ IsMiscounted f k r.count x) (field_of e) (field_told f k es r.tag has ∙ rw is refl) (inr (rw counts wrong))
 
 pub count_fault : (f : List ℕ) (k : ℕ) (es : List Entry) (fault : FileFault) → HasTable f k es → AllPass (keeps es) profile → IsCountFault es fault → IsFaultOfLevel f k fault
 unfolding profile

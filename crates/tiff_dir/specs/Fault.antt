@@ -4,7 +4,6 @@ use Rattle.tiff_dir.specs.declared.tags.TheConstants.{BITS_PER_SAMPLE, IMAGE_LEN
 use Rattle.std.specs.Prelude.{◌≡◌, ◌≢◌, ℕ, ◌%◌, ◌<◌, ◌≤◌, ◌⊎◌, Bool, true, false, ◌&&◌, ◌||◌, nat_lt, nat_le, ◌==◌, if◌then◌else◌, List, [], ◌∷◌, length, Option, Some, None, IsSomeAnd}
 use Rattle.std.specs.List.{Any, list_any}
 use Rattle.tiff_dir.specs.declared.rule.Rule.{Rule}
-use Rattle.tiff_dir.specs.declared.rule.Typing.{Typing}
 use Rattle.tiff_dir.specs.declared.rule.Count.{Count}
 use Rattle.tiff_dir.specs.declared.rule.Count.TheVariants.{One, Samples, Tiles, Exactly, Multiple}
 use Rattle.tiff_dir.specs.declared.fault.FileFault.{FileFault}
@@ -32,10 +31,7 @@ ascends (a ∷ b ∷ fields) = nat_lt a.tag b.tag && ascends (b ∷ fields)
 abbrev pub IsMisfit : (ℕ → ℕ → Bool) → Option ℕ → Option ℕ → Type 0
 IsMisfit fits a b = IsSomeAnd a (λ x. IsSomeAnd b (λ y. fits x y ≡ false))
 
--- a field has another type than the profile says, or another number of values
-abbrev pub IsMistyped : Typing → Field → Type 0
-IsMistyped typing e = IsSomeAnd e.kind (λ kind. has_typing typing kind ≡ false)
-
+-- a field has another number of values than the profile says
 abbrev pub IsMiscounted : List ℕ → ℕ → Count → Field → Type 0
 IsMiscounted f k One e = IsSomeAnd e.count (λ count. (count == 1) ≡ false)
 IsMiscounted f k Samples e = IsMisfit (λ count samples. count == samples) e.count (value f k SAMPLES_PER_PIXEL 0)
@@ -48,12 +44,9 @@ abbrev pub IsRuleFault : List ℕ → ℕ → Rule → FileFault → Type 0
 IsRuleFault f k rule (Missing tag) =
     (rule.tag ≡ tag) × (rule.required ≡ true) × (has_all_tags f k ≡ true) × (field f k tag ≡ None)
 IsRuleFault f k rule (FieldType tag) =
-    (rule.tag ≡ tag) × IsSomeAnd (field f k tag) (λ e. IsMistyped rule.typing e ⊎ IsMiscounted f k rule.count e)
+    (rule.tag ≡ tag)
+    × IsSomeAnd (field f k tag) (λ e. IsSomeAnd e.kind (λ kind. has_typing rule.typing kind ≡ false) ⊎ IsMiscounted f k rule.count e)
 IsRuleFault f k rule _ = ⊥
-
--- BitsPerSample has two values that differ
-abbrev pub IsMixture : List ℕ → ℕ → Type 0
-IsMixture f k = (i j : ℕ) × IsMisfit (λ a b. a == b) (value f k BITS_PER_SAMPLE i) (value f k BITS_PER_SAMPLE j)
 
 -- A value is none that the profile accepts. Of SamplesPerPixel and PlanarConfiguration the accepted values depend on
 -- another field; the values of BitsPerSample are one and the same.
@@ -62,7 +55,7 @@ IsUnsupported f k tag =
     ((i : ℕ) × IsSomeAnd (value f k tag i) (λ v. accepts tag v ≡ false))
     ⊎ (((tag ≡ SAMPLES_PER_PIXEL) × IsMisfit samples_fit (value f k SAMPLES_PER_PIXEL 0) (value f k PHOTOMETRIC_INTERPRETATION 0))
     ⊎ (((tag ≡ PLANAR_CONFIGURATION) × IsMisfit planes_fit (value f k PLANAR_CONFIGURATION 0) (value f k SAMPLES_PER_PIXEL 0))
-    ⊎ ((tag ≡ BITS_PER_SAMPLE) × IsMixture f k)))
+    ⊎ ((tag ≡ BITS_PER_SAMPLE) × ((i j : ℕ) × IsMisfit (λ a b. a == b) (value f k BITS_PER_SAMPLE i) (value f k BITS_PER_SAMPLE j)))))
 
 -- a side of 0
 abbrev pub HasNoSide : List ℕ → ℕ → ℕ → Type 0
@@ -127,13 +120,10 @@ IsFaultOfChain f PastEnd = list_any (ends_past f) (needs_of_directories f) ≡ t
 IsFaultOfChain f TooManyDirs = has_directory f max_directories ≡ true
 IsFaultOfChain f _ = ⊥
 
--- k is the number of a directory of the file
-abbrev pub IsDirectory : List ℕ → ℕ → Type 0
-IsDirectory f k = (k < max_directories) × (has_directory f k ≡ true)
-
 abbrev pub IsFaultAt : List ℕ → ℕ → FileFault → Type 0
 IsFaultAt f k fault = IsFaultOfDirectory f k fault ⊎ ((is_level f k ≡ true) × IsFaultOfLevel f k fault)
 
--- A fault of the file's directories.
+-- A fault of the file's directories: of their chain, or of directory k of the file.
 unfoldable pub IsFaultOfDirectories : List ℕ → FileFault → Type 0
-IsFaultOfDirectories f fault = IsFaultOfChain f fault ⊎ ((k : ℕ) × IsDirectory f k × IsFaultAt f k fault)
+IsFaultOfDirectories f fault =
+    IsFaultOfChain f fault ⊎ ((k : ℕ) × ((k < max_directories) × (has_directory f k ≡ true)) × IsFaultAt f k fault)

@@ -1,6 +1,6 @@
 -- What is wrong with a file for a query, and what its window is.
 use Rattle.tiff_dir.specs.declared.tags.TheConstants.{COMPRESSION, TILE_BYTE_COUNTS}
-use Rattle.std.specs.Prelude.{◌≡◌, ℕ, ◌⊎◌, Bool, true, false, ◌&&◌, nat_lt, nat_le, ◌==◌, List, Option, Some, IsSomeAnd}
+use Rattle.std.specs.Prelude.{◌≡◌, ℕ, ◌⊎◌, Bool, true, false, ◌&&◌, nat_lt, nat_le, ◌==◌, List, ◌++◌, Option, Some, IsSomeAnd}
 use Rattle.std.specs.List.{list_any, IsAmong}
 use Rattle.tiff_dir.specs.declared.level.Compression.{Compression}
 use Rattle.tiff_dir.specs.declared.level.Compression.TheVariants.{Plain}
@@ -12,9 +12,10 @@ use Rattle.tiff_dir.specs.File.{◌>>=◌}
 use Rattle.tiff_dir.specs.Profile.{max_tile_bytes}
 use Rattle.tiff_dir.specs.Level.{Layout, compression_of, level_directory, level_layout, level_value, plain_size_at}
 use Rattle.tiff_dir.specs.Needs.{ends_past}
-use Rattle.tiff_dir.specs.Geo.{IsGeoFault, IsKeyFault}
+use Rattle.tiff_dir.specs.Geo.{IsGeoFault, geo_ranges, key_source}
+use Rattle.tiff_dir.specs.Keys.{IsFaultOfKeys}
 use Rattle.tiff_dir.specs.Fault.{IsFaultOfDirectories}
-use Rattle.tiff_dir.specs.Query.{Rectangle, rectangle, is_outside, is_too_large, window_tiles, needs_of_query, segment}
+use Rattle.tiff_dir.specs.Query.{Rectangle, rectangle, is_outside, is_too_large, window_tiles, array_ranges, tile_ranges, segment}
 use Rattle.tiff_dir.specs.Window.{HasSamples, IsUnpacked}
 
 -- tile t is one of the window's, in level n
@@ -60,7 +61,7 @@ pub record HasBadPackets (f : List ℕ) (q : Query) : Type 0 where
 
 -- A fault of a window's own.
 abbrev pub IsFaultOfWindow : List ℕ → Query → FileFault → Type 0
-IsFaultOfWindow f q PastEnd = list_any (ends_past f) (needs_of_query f q) ≡ true
+IsFaultOfWindow f q PastEnd = list_any (ends_past f) (array_ranges f q ++ tile_ranges f q) ≡ true
 IsFaultOfWindow f q TileSize = HasBadTile f q
 IsFaultOfWindow f q Packet = HasBadPackets f q
 IsFaultOfWindow f q Outside = is_outside f q ≡ true
@@ -69,8 +70,8 @@ IsFaultOfWindow f q _ = ⊥
 
 -- A fault of Info's own.
 abbrev pub IsFaultOfInfo : List ℕ → FileFault → Type 0
-IsFaultOfInfo f PastEnd = list_any (ends_past f) (needs_of_query f Info) ≡ true
-IsFaultOfInfo f fault = IsGeoFault f fault ⊎ IsKeyFault f fault
+IsFaultOfInfo f PastEnd = list_any (ends_past f) (geo_ranges f) ≡ true
+IsFaultOfInfo f fault = IsGeoFault f fault ⊎ IsFaultOfKeys (key_source f) fault
 
 abbrev pub IsFaultOfQuery : List ℕ → Query → FileFault → Type 0
 IsFaultOfQuery f Info fault = IsFaultOfInfo f fault

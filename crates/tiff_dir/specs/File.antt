@@ -1,6 +1,6 @@
 -- What a file's bytes say: its numbers, directories, fields and values (TIFF 6.0, section 2).
 use Rattle.tiff_dir.specs.declared.tags.TheConstants.{NEW_SUBFILE_TYPE, PLANAR_CONFIGURATION, SAMPLES_PER_PIXEL, SAMPLE_FORMAT}
-use Rattle.std.specs.Prelude.{ℕ, zero, suc, ◌+◌, ◌*◌, Bool, true, false, ◌&&◌, nat_eq, nat_lt, nat_le, ◌==◌, if◌then◌else◌, List, [], ◌∷◌, length, codes, slice_get, Option, Some, None, unwrap_or}
+use Rattle.std.specs.Prelude.{ℕ, zero, suc, ◌+◌, ◌*◌, Bool, true, false, ◌&&◌, ◌||◌, nat_eq, nat_lt, nat_le, ◌==◌, if◌then◌else◌, List, [], ◌∷◌, length, codes, slice_get, Option, Some, None, unwrap_or}
 use Rattle.std.specs.Option.{option_map_or}
 use Rattle.std.specs.List.{cons_option, filter, find, range_with_len, starts_with}
 use Rattle.tiff_dir.specs.declared.order.Order.{Order}
@@ -33,14 +33,10 @@ directory f (suc k) = do
   entries ← number f at 2
   number f (at + 2 + 12 * entries) 4
 
-abbrev pub is_above_zero : Option ℕ → Bool
-is_above_zero None = false
-is_above_zero (Some n) = nat_lt 0 n
-
 -- none of the places of the directories 1 to k is 0 or missing
 unfoldable pub has_directory : List ℕ → ℕ → Bool
 has_directory f zero = true
-has_directory f (suc k) = has_directory f k && is_above_zero (directory f (suc k))
+has_directory f (suc k) = has_directory f k && option_map_or (nat_lt 0) (directory f (suc k)) false
 
 abbrev pub max_directories : ℕ
 max_directories = 16
@@ -100,20 +96,17 @@ abbrev pub kind_of : ℕ → Option Kind
 kind_of zero = None
 kind_of (suc n) = slice_get kinds n
 
--- how many bytes a value of the type has
+-- how many bytes a value of the type has: one where nothing else is said
 abbrev pub size_of : Kind → ℕ
-size_of kind.Byte = 1
-size_of kind.Ascii = 1
 size_of kind.Short = 2
-size_of kind.Long = 4
-size_of kind.Rational = 8
-size_of kind.SignedByte = 1
-size_of kind.Undefined = 1
 size_of kind.SignedShort = 2
+size_of kind.Long = 4
 size_of kind.SignedLong = 4
-size_of kind.SignedRational = 8
 size_of kind.Float = 4
+size_of kind.Rational = 8
+size_of kind.SignedRational = 8
 size_of kind.Double = 8
+size_of kind = 1
 
 -- Where values of so many bytes begin: left-justified in the entry's last four bytes where all of them fit, otherwise
 -- at the offset that stands there.
@@ -132,9 +125,7 @@ field_value f e i = do
 abbrev pub default_of : ℕ → Option ℕ
 default_of tag =
     if tag == NEW_SUBFILE_TYPE then Some 0
-    else if tag == SAMPLES_PER_PIXEL then Some 1
-    else if tag == PLANAR_CONFIGURATION then Some 1
-    else if tag == SAMPLE_FORMAT then Some 1
+    else if tag == SAMPLES_PER_PIXEL || tag == PLANAR_CONFIGURATION || tag == SAMPLE_FORMAT then Some 1
     else None
 
 -- a field is absent where all tags of its directory are in the file, and none is its own

@@ -13,7 +13,7 @@ use Rattle.tiff_dir.specs.Profile.{geo_profile, max_geo_bytes}
 use Rattle.tiff_dir.specs.Level.{place_of}
 use Rattle.tiff_dir.specs.Needs.{Extent, field_range}
 use Rattle.tiff_dir.specs.Fault.{IsRuleFault}
-use Rattle.tiff_dir.specs.Keys.{KeySource, is_key_field, IsFaultOfKeys}
+use Rattle.tiff_dir.specs.Keys.{KeySource, is_key_field}
 
 -- where the values of a geo field stand, if it is there
 unfoldable pub geo_place : List ℕ → ℕ → Option Place
@@ -53,7 +53,3 @@ key_source f = record {
   count = field f 0 GEO_KEY_DIRECTORY >>= λ e. e.count;
   items = λ tag. if is_key_field tag then item_count f tag else None;
 }
-
--- What is wrong with the key directory.
-abbrev pub IsKeyFault : List ℕ → FileFault → Type 0
-IsKeyFault f fault = IsFaultOfKeys (key_source f) fault

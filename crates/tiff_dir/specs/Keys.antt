@@ -39,26 +39,19 @@ IsBadKeyHead s =
 abbrev pub IsKeyDisorder : KeySource → Type 0
 IsKeyDisorder s = (i : ℕ) × IsMisfit nat_lt (key_number s i 0) (key_number s (i + 1) 0)
 
--- location 0 is the value itself, and has one
-abbrev pub HasNotOne : ℕ → Option ℕ → Type 0
-HasNotOne location count = (location ≡ 0) × IsSomeAnd count (λ n. n ≢ 1)
-
 -- the items of a field that the key counts, from an index on, end past those that the field has
 abbrev pub HasNoItems : KeySource → ℕ → (count first : Option ℕ) → Type 0
 HasNoItems s location count first =
     ((location ≡ GEO_DOUBLE_PARAMS) ⊎ (location ≡ GEO_ASCII_PARAMS))
     × IsSomeAnd count (λ n. (0 < n) × IsSomeAnd first (λ at. IsSomeAnd (s.items location) (λ items. items < at + n)))
 
--- there are no other locations
-abbrev pub IsElsewhere : ℕ → Type 0
-IsElsewhere location = (location ≢ 0) × (location ≢ GEO_DOUBLE_PARAMS) × (location ≢ GEO_ASCII_PARAMS)
-
--- a key's value is in no field, or past its end, as far as the numbers say that are there
+-- A key's value is in no field, or past its end, as far as the numbers say that are there: location 0 is the value itself, and
+-- has one; the others are the two fields.
 abbrev pub IsMisplaced : KeySource → (location count first : Option ℕ) → Type 0
 IsMisplaced s location count first =
-    IsSomeAnd location (λ l. HasNotOne l count)
+    IsSomeAnd location (λ l. (l ≡ 0) × IsSomeAnd count (λ n. n ≢ 1))
     ⊎ (IsSomeAnd location (λ l. HasNoItems s l count first)
-    ⊎ IsSomeAnd location IsElsewhere)
+    ⊎ IsSomeAnd location (λ l. (l ≢ 0) × (l ≢ GEO_DOUBLE_PARAMS) × (l ≢ GEO_ASCII_PARAMS)))
 
 abbrev pub IsKeyMisplaced : KeySource → Type 0
 IsKeyMisplaced s = (i : ℕ) × IsMisplaced s (key_number s i 1) (key_number s i 2) (key_number s i 3)

@@ -7,7 +7,7 @@ use Rattle.tiff_dir.specs.declared.level.Place.{Place}
 use Rattle.tiff_dir.specs.declared.level.Compression.{Compression}
 use Rattle.tiff_dir.specs.declared.level.Compression.TheVariants.{Plain, PackBits}
 use Rattle.tiff_dir.specs.File.{◌>>=◌, Field, field, kind_of, size_of, values_at, value, directories}
-use Rattle.tiff_dir.specs.Profile.{is_depth, sample_bytes, row_bytes, tile_bytes, tile_count, tiles_along}
+use Rattle.tiff_dir.specs.Profile.{is_depth, sample_bytes, tile_bytes, tiles_along}
 
 -- directory 0, and each later one whose NewSubfileType is 1
 unfoldable pub is_level : List ℕ → ℕ → Bool
@@ -97,14 +97,14 @@ abbrev pub across : Grid → ℕ
 across g = tiles_along g.width g.tile_width
 
 abbrev pub tile_total : Grid → ℕ
-tile_total g = tile_count g.width g.length g.tile_width g.tile_length
+tile_total g = across g * tiles_along g.length g.tile_length
 
 -- how many bytes a pixel has, a row of a tile when it is unpacked, and the tile
 abbrev pub pixel_size : Layout → ℕ
 pixel_size l = l.samples * sample_bytes l.bits
 
 abbrev pub plain_row : Layout → ℕ
-plain_row l = row_bytes l.grid.tile_width l.samples l.bits
+plain_row l = l.grid.tile_width * l.samples * sample_bytes l.bits
 
 abbrev pub plain_size : Layout → ℕ
 plain_size l = tile_bytes l.grid.tile_width l.grid.tile_length l.samples l.bits

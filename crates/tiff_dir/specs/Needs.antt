@@ -30,9 +30,6 @@ max_entries = 256
 abbrev pub is_entry_count : ℕ → Bool
 is_entry_count n = nat_lt 0 n && nat_le n max_entries
 
-abbrev pub header_range : Extent
-header_range = record { first = 0; len = 8 }
-
 -- the count of directory k
 unfoldable pub count_range : List ℕ → ℕ → Option Extent
 count_range f k = directory f k >>= λ at. Some (record { first = at; len = 2 })
@@ -69,10 +66,10 @@ unfoldable pub ranges_of_directory : List ℕ → ℕ → List Extent
 ranges_of_directory f k =
     option_to_list (count_range f k) ++ option_to_list (table_range f k) ++ outside_ranges f k
 
--- The ranges that every query needs, in the order in which they are read. A range is among them where each
--- value that gives its place is in the file.
+-- The ranges that every query needs, in the order in which they are read: the header, and what is read of each directory. A
+-- range is among them where each value that gives its place is in the file.
 unfoldable pub needs_of_directories : List ℕ → List Extent
-needs_of_directories f = header_range ∷ flat_map (ranges_of_directory f) (directories f)
+needs_of_directories f = record { first = 0; len = 8 } ∷ flat_map (ranges_of_directory f) (directories f)
 
 -- the ranges are the last ones of others
 pub record IsEndOf (few many : List Extent) : Type 0 where

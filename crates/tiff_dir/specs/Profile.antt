@@ -89,10 +89,7 @@ is_tile_side side = nat_lt 0 side && (side % 16 == 0)
 abbrev pub sample_bytes : ℕ → ℕ
 sample_bytes bits = bits / 8
 
--- how many bytes a row of a tile has when it is unpacked, and the tile
-abbrev pub row_bytes : ℕ → ℕ → ℕ → ℕ
-row_bytes tile_width samples bits = tile_width * samples * sample_bytes bits
-
+-- how many bytes a tile has when it is unpacked
 abbrev pub tile_bytes : ℕ → ℕ → ℕ → ℕ → ℕ
 tile_bytes tile_width tile_length samples bits = tile_width * tile_length * samples * sample_bytes bits
 

@@ -1,7 +1,7 @@
 -- What a query asks for, and which bytes of the file it needs.
 use Rattle.tiff_dir.specs.declared.tags.TheConstants.{IMAGE_LENGTH, IMAGE_WIDTH, SAMPLES_PER_PIXEL, TILE_BYTE_COUNTS, TILE_OFFSETS}
 use Rattle.std.specs.Prelude.{ℕ, ◌+◌, ◌-◌, ◌*◌, ◌/◌, ◌%◌, Bool, false, not, ◌&&◌, ◌||◌, nat_lt, nat_le, ◌==◌, if◌then◌else◌, List, [], ◌∷◌, ◌++◌, length, map, Option, Some, None, is_none, unwrap_or}
-use Rattle.std.specs.List.{filter, last_or, range_with_len, sum_by}
+use Rattle.std.specs.List.{filter, filter_map, last_or, range_with_len, sum_by}
 use Rattle.std.specs.Option.{option_map_or, option_to_list}
 use Rattle.tiff_dir.specs.declared.query.Query.{Query}
 use Rattle.tiff_dir.specs.declared.query.Query.TheVariants.{Window, Info}
@@ -130,6 +130,12 @@ segment f n t = do
   r ← tile_range f n t
   if ends_past f r then None else Some (bytes_in f r)
 
+-- where the bytes of the window's tiles stand, tile by tile
+unfoldable pub tile_ranges : List ℕ → Query → List Extent
+tile_ranges f q = unwrap_or (do
+  r ← rectangle f q
+  Some (filter_map (tile_range f r.level) (window_tiles f q))) []
+
 -- ---- groups: tiles that follow each other in the file are read by one range
 
 -- some tiles, and the range from the first one's first byte to the last one's last
@@ -137,12 +143,9 @@ pub record Group : Type 0 where
   pub tiles : List ℕ
   pub range : Extent
 
-abbrev pub max_group_bytes : ℕ
-max_group_bytes = max_range_bytes
-
 -- the range begins where the group's last tile ends, and the group with it isn't too long
 abbrev pub joins : Group → Extent → Bool
-joins g r = (r.first == g.range.first + g.range.len) && nat_le (g.range.len + r.len) max_group_bytes
+joins g r = (r.first == g.range.first + g.range.len) && nat_le (g.range.len + r.len) max_range_bytes
 
 abbrev pub alone : ℕ → Extent → Group
 alone t r = record { tiles = t ∷ []; range = r }

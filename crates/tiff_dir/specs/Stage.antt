@@ -20,9 +20,12 @@ use Rattle.tiff_dir.specs.File.{max_directories, ◌>>=◌, order_of, number, di
 use Rattle.tiff_dir.specs.Profile.{accepts, is_depth}
 use Rattle.tiff_dir.specs.Level.{Layout, is_level, previous_level, place_of, layout_at, compression_of}
 use Rattle.tiff_dir.specs.Described.{described}
-use Rattle.tiff_dir.specs.Needs.{Extent, bytes_in, max_entries, is_entry_count, header_range, outside_ranges, ranges_of_directory}
+use Rattle.tiff_dir.specs.Needs.{Extent, bytes_in, max_entries, is_entry_count, outside_ranges, ranges_of_directory}
 use Rattle.tiff_dir.specs.Fault.{is_directory_place, IsUnsupported, IsFaultAt, IsFaultOfDirectory, IsFaultOfLevel}
 use Rattle.tiff_dir.specs.Table.{field_of, entry_with_tag}
+
+abbrev pub header_range : Extent
+header_range = record { first = 0; len = 8 }
 
 -- the range that is wanted at a stage
 abbrev pub range_of : Stage → Option Extent

@@ -3,12 +3,12 @@ ghost use Rattle.std.specs.Prelude.{◌≡◌, ℕ, ◌+◌, ◌*◌, ◌<◌, �
 ghost use Rattle.std.specs.Option.{option_map};
 ghost use Rattle.tiff_dir.specs.File.{max_directories, order_of};
 ghost use Rattle.tiff_dir.specs.Fault.{IsFaultOfDirectories};
-ghost use Rattle.tiff_dir.specs.Needs.{bytes_in, header_range, max_entries, max_range_bytes};
+ghost use Rattle.tiff_dir.specs.Needs.{bytes_in, max_entries, max_range_bytes};
 ghost use Rattle.tiff_dir.specs.GeoEntries.{AreNear};
 ghost use Rattle.tiff_dir.specs.Walk.{extent_of_span};
 ghost use Rattle.tiff_dir.specs.WalkState.{HasGeo};
 ghost use Rattle.tiff_dir.specs.Shape.{IsNext};
-ghost use Rattle.tiff_dir.specs.Stage.{index_of, is_first_table, range_of, AgreesAt, IsBefore, IsKept, IsTableOf, StepsOn};
+ghost use Rattle.tiff_dir.specs.Stage.{header_range, index_of, is_first_table, range_of, AgreesAt, IsBefore, IsKept, IsTableOf, StepsOn};
 
 use crate::geo::GeoEntries;
 use crate::level_steps::{after_bits, after_formats, after_level, check_directory};

@@ -1,17 +1,15 @@
 -- The groups of a window in a file.
 use Rattle.std.proofs.Common.{◌≡◌, ℕ, zero, suc, ◌+◌, ◌<◌, ◌≤◌, ◌⊎◌, inl, inr, Bool, true, false, List, [], ◌∷◌, length, get_or, map, Option, Some, None, refl, sym, subst, ap, ◌∙◌, arith}
 use Rattle.std.specs.Prelude.{◌||◌, nat_lt, nat_le, ◌==◌, IsSomeAnd}
-use Rattle.std.specs.Option.{option_map_or}
-use Rattle.std.specs.List.{All, AllByRecursion, IsAmong, list_any, range_with_len}
-use Rattle.std.proofs.lemmas.Bool.{and_parts, cases_Bool, eqb-true, leb-true, lt-ltb, le-ltb, ltb-true, cases_lt, false≢true}
-use Rattle.std.proofs.lemmas.List.Elements.{All-from_recursion, All-head, All-tail}
+use Rattle.std.specs.List.{AllByRecursion, IsAmong, cons_option, filter_map, list_any, range_with_len}
+use Rattle.std.proofs.lemmas.Bool.{and_parts, cases_Bool, leb-true, lt-ltb, le-ltb, cases_lt}
+use Rattle.std.proofs.lemmas.List.Elements.{All-from_recursion}
 use Rattle.std.proofs.lemmas.List.Folds.{list_any-append}
 use Rattle.std.proofs.lemmas.Option.{none-some}
 use Rattle.tiff_dir.specs.declared.order.Order.{Order}
 use Rattle.tiff_dir.specs.declared.level.Level.{Level}
 use Rattle.tiff_dir.specs.declared.level.Compression.TheVariants.{Plain}
 use Rattle.tiff_dir.specs.declared.query.Query.{Query}
-use Rattle.tiff_dir.specs.declared.query.Query.TheVariants.{Window, Info}
 use Rattle.tiff_dir.specs.declared.fault.FileFault.{FileFault}
 use Rattle.tiff_dir.specs.declared.fault.FileFault.TheVariants.{PastEnd, TileSize}
 use Rattle.tiff_dir.specs.File.{order_of}
@@ -21,7 +19,7 @@ use Rattle.tiff_dir.specs.Described.{grid_of, layout_of}
 use Rattle.tiff_dir.specs.Walk.{IsArrayOf, IsDescribed}
 use Rattle.tiff_dir.specs.Faulty.{HasBadTile, IsTileOfWindow, IsNotPlainSize, IsFaultOfWindow, is_byte_count, level_plain_size}
 use Rattle.tiff_dir.specs.Query as asked
-use Rattle.tiff_dir.specs.Query.{joins, with_tile, alone, grouped_after, grouped, tile_range, tiles_in, window_tiles, rectangle, is_refused, array_ranges, needs_of_query}
+use Rattle.tiff_dir.specs.Query.{joins, with_tile, alone, grouped_after, grouped, tile_range, tiles_in, window_tiles, rectangle, is_refused, array_ranges}
 use Rattle.tile_plan.specs.declared.asked.Rectangle.{Rectangle}
 use Rattle.tile_plan.specs.declared.plan.Group.{Group}
 use Rattle.tile_plan.specs.Levels.{rectangle_of}
@@ -69,6 +67,12 @@ unfolding asked.groups
 groups_are f q order l r complete offsets counts p =
     rw p.rectangle_is (ap (grouped (tile_range f r.level)) (window_is f q order l r complete offsets counts p))
 
+tile_ranges_are : (f : List ℕ) (q : Query) (order : Order) (l : Level) (r : Rectangle) (complete : ℕ) (offsets counts : List ℕ) → IsPlanned f q order l r complete offsets counts
+    → asked.tile_ranges f q ≡ filter_map (tile_range f r.level) (tiles_of l r)
+unfolding asked.tile_ranges
+tile_ranges_are f q order l r complete offsets counts p =
+    rw p.rectangle_is (ap (filter_map (tile_range f r.level)) (window_is f q order l r complete offsets counts p))
+
 range_is : (f : List ℕ) (n t : ℕ) (r : Extent) → IsRangeOf f n t r → tile_range f n t ≡ Some r
 unfolding tile_range
 range_is f n t r is = rw (is.first, is.len) refl
@@ -87,88 +91,24 @@ grouped_same : (a b : ℕ → Option Extent) (ts : List ℕ) → AllByRecursion 
 unfolding grouped with_range
 grouped_same a b ts same = ap (grouped_after None) (same_ranges a b ts same)
 
--- ---- a tile past the end makes a group past the end
+-- ---- a tile past the end
 
 abbrev past : ℕ → Extent → Bool
 past complete r = nat_lt complete (r.first + r.len)
-
-abbrev range_of : asked.Group → Extent
-range_of g = g.range
-
--- one of the tiles ends past the file
-HasPast : ℕ → (ℕ → Option Extent) → List ℕ → Type 0
-HasPast complete range [] = ⊥
-HasPast complete range (t ∷ ts) = (option_map_or (past complete) (range t) false ≡ true) ⊎ HasPast complete range ts
-
-among_past : (complete : ℕ) (range : ℕ → Option Extent) (ts : List ℕ) (i t : ℕ) (r : Extent) → i < length ts → t ≡ get_or ts i t → range t ≡ Some r → past complete r ≡ true → HasPast complete range ts
-unfolding HasPast
-among_past complete range [] i t r less at is far = absurd (omega (arith, less))
-among_past complete range (u ∷ ts) zero t r less at is far = inl (ap (λ k. option_map_or (past complete) (range k) false) (sym at) ∙ ap (λ o. option_map_or (past complete) o false) is ∙ far)
-among_past complete range (u ∷ ts) (suc i) t r less at is far = inr (among_past complete range ts i t r (omega (arith, less)) at is far)
 
 or_right : (a b : Bool) → b ≡ true → (a || b) ≡ true
 or_right true b is = refl
 or_right false b is = is
 
-or_left : (a b : Bool) → a ≡ true → (a || b) ≡ true
-or_left a b is = rw is refl
-
-far_group : (complete : ℕ) (g : asked.Group) (t : ℕ) (r : Extent) → joins g r ≡ true → (past complete g.range ≡ true) ⊎ (past complete r ≡ true) → past complete (with_tile g t r).range ≡ true
-far_group complete g t r joined (inl far) =
-    let end = ltb-true complete (g.range.first + g.range.len) far in lt-ltb complete (g.range.first + (g.range.len + r.len)) (omega (arith, end))
-far_group complete g t r joined (inr far) =
-    let next = eqb-true r.first (g.range.first + g.range.len) (and_parts (r.first == g.range.first + g.range.len) (nat_le (g.range.len + r.len) 1048576) joined).0 in
-    let end = ltb-true complete (r.first + r.len) far in
-    lt-ltb complete (g.range.first + (g.range.len + r.len)) (omega (arith, end, next))
-
--- the group before ends past the file, or one of the tiles does
-IsFar : ℕ → (ℕ → Option Extent) → Option asked.Group → List ℕ → Type 0
-IsFar complete range before ts = (option_map_or (λ (g : asked.Group). past complete g.range) before false ≡ true) ⊎ HasPast complete range ts
-
-past_after : (complete : ℕ) (range : ℕ → Option Extent) (before : Option asked.Group) (ts : List ℕ) → IsFar complete range before ts
-    → list_any (past complete) (map range_of (grouped_after before (map (with_range range) ts))) ≡ true
-unfolding grouped_after with_range HasPast IsFar
-past_after complete range None [] (inl far) = absurd (false≢true far)
-past_after complete range (Some g) [] (inl far) = or_left (past complete g.range) false far
-past_after complete range before [] (inr far) = absurd far
-past_after complete range before (t ∷ ts) far = at (λ b (far : IsFar complete range b ts). past_after complete range b ts far) before (range t) far where
-  at : ((b : Option asked.Group) → IsFar complete range b ts → list_any (past complete) (map range_of (grouped_after b (map (with_range range) ts))) ≡ true)
-      → (before : Option asked.Group) (o : Option Extent) → (option_map_or (λ (g : asked.Group). past complete g.range) before false ≡ true) ⊎ ((option_map_or (past complete) o false ≡ true) ⊎ HasPast complete range ts)
-      → list_any (past complete) (map range_of (grouped_after before ((t, o) ∷ map (with_range range) ts))) ≡ true
-  at next None None (inl far) = absurd (false≢true far)
-  at next None None (inr (inl far)) = absurd (false≢true far)
-  at next None None (inr (inr far)) = next None (inr far)
-  at next (Some g) None (inl far) = or_left (past complete g.range) (list_any (past complete) (map range_of (grouped_after None (map (with_range range) ts)))) far
-  at next (Some g) None (inr (inl far)) = absurd (false≢true far)
-  at next (Some g) None (inr (inr far)) =
-      or_right (past complete g.range) (list_any (past complete) (map range_of (grouped_after None (map (with_range range) ts)))) (next None (inr far))
-  at next None (Some r) (inl far) = absurd (false≢true far)
-  at next None (Some r) (inr far) = next (Some (alone t r)) far
-  at next (Some g) (Some r) far = elim (cases_Bool (joins g r)) [
-    | inl h ↦ rw h (next (Some (with_tile g t r)) (joined g r h far))
-    | inr h ↦ rw h (apart g r far (next (Some (alone t r))))
-  ] where
-    joined : (g : asked.Group) (r : Extent) → joins g r ≡ true → (past complete g.range ≡ true) ⊎ ((past complete r ≡ true) ⊎ HasPast complete range ts)
-        → (past complete (with_tile g t r).range ≡ true) ⊎ HasPast complete range ts
-    joined g r h (inl far) = inl (far_group complete g t r h (inl far))
-    joined g r h (inr (inl far)) = inl (far_group complete g t r h (inr far))
-    joined g r h (inr (inr far)) = inr far
-
-    apart : (g : asked.Group) (r : Extent) → (past complete g.range ≡ true) ⊎ ((past complete r ≡ true) ⊎ HasPast complete range ts)
-        → (IsFar complete range (Some (alone t r)) ts → list_any (past complete) (map range_of (grouped_after (Some (alone t r)) (map (with_range range) ts))) ≡ true)
-        → (past complete g.range || list_any (past complete) (map range_of (grouped_after (Some (alone t r)) (map (with_range range) ts)))) ≡ true
-    apart g r (inl far) rest = or_left (past complete g.range) (list_any (past complete) (map range_of (grouped_after (Some (alone t r)) (map (with_range range) ts)))) far
-    apart g r (inr far) rest = or_right (past complete g.range) (list_any (past complete) (map range_of (grouped_after (Some (alone t r)) (map (with_range range) ts)))) (rest far)
+among_past : (p : Extent → Bool) (range : ℕ → Option Extent) (ts : List ℕ) (i t : ℕ) (r : Extent) → i < length ts → t ≡ get_or ts i t → range t ≡ Some r → p r ≡ true → list_any p (filter_map range ts) ≡ true
+among_past p range [] i t r less at is far = absurd (omega (arith, less))
+among_past p range (u ∷ ts) zero t r less at is far = rw (ap range (sym at) ∙ is, far) refl
+among_past p range (u ∷ ts) (suc i) t r less at is far = go (range u) (among_past p range ts i t r (omega (arith, less)) at is far) where
+  go : (o : Option Extent) → list_any p (filter_map range ts) ≡ true → list_any p (cons_option o (filter_map range ts)) ≡ true
+  go None later = later
+  go (Some s) later = or_right (p s) (list_any p (filter_map range ts)) later
 
 -- ---- a fault of a tile is one of the query
-
-needs_past : (f : List ℕ) (q : Query) (s : asked.Rectangle) → rectangle f q ≡ Some s → list_any (ends_past f) (map range_of (asked.groups f q)) ≡ true → list_any (ends_past f) (needs_of_query f q) ≡ true
-unfolding needs_of_query rectangle
-needs_past f Info s is far = absurd (none-some s is)
-needs_past f (Window x y w h p) s is far =
-    let q : Query = Window x y w h p in
-    list_any-append (ends_past f) (array_ranges f q) (map range_of (asked.groups f q))
-    ∙ or_right (list_any (ends_past f) (array_ranges f q)) (list_any (ends_past f) (map range_of (asked.groups f q))) far
 
 of_window : (f : List ℕ) (q : Query) (order : Order) (l : Level) (r : Rectangle) (complete : ℕ) (offsets counts : List ℕ) (t : ℕ) → IsPlanned f q order l r complete offsets counts → IsAmong (tiles_of l r) t
     → IsTileOfWindow f q r.level t
@@ -187,7 +127,6 @@ not_plain f n count l here plain is = (here.compression ∙ ap Some plain, size 
 
 pub stands : (f : List ℕ) (q : Query) (order : Order) (l : Level) (r : Rectangle) (complete : ℕ) (offsets counts : List ℕ) (t : ℕ) (fault : FileFault) → IsPlanned f q order l r complete offsets counts
     → IsAmong (tiles_of l r) t → IsRangeOf f r.level t (range_in order l offsets counts t) → IsTileFault l complete (range_in order l offsets counts t) fault → IsFaultOfWindow f q fault
-unfolding with_range IsFar grouped
 stands f q order l r complete offsets counts t TileSize p among is wrong = record {
   level = r.level;
   tile = t;
@@ -195,12 +134,12 @@ stands f q order l r complete offsets counts t TileSize p among is wrong = recor
   wrong = rw is.len (elim wrong [ inl bad ↦ inl bad | inr (plain, bad) ↦ inr (not_plain f r.level (range_in order l offsets counts t).len l p.described plain bad) ]);
 }
 stands f q order l r complete offsets counts t PastEnd p among is wrong =
-    let range = tile_range f r.level in
     let here = range_in order l offsets counts t in
     let far : past (length f) here ≡ true = ap (λ n. past n here) p.size ∙ wrong in
-    let some = among_past (length f) range (tiles_of l r) among.0 t here among.1.0 among.1.1 (range_is f r.level t here is) far in
-    let all = past_after (length f) range None (tiles_of l r) (inr some) in
-    needs_past f q (rectangle_of r) p.rectangle_is (ap (λ gs. list_any (ends_past f) (map range_of gs)) (groups_are f q order l r complete offsets counts p) ∙ all)
+    let some = among_past (ends_past f) (tile_range f r.level) (tiles_of l r) among.0 t here among.1.0 among.1.1 (range_is f r.level t here is) far in
+    list_any-append (ends_past f) (array_ranges f q) (asked.tile_ranges f q)
+    ∙ or_right (list_any (ends_past f) (array_ranges f q)) (list_any (ends_past f) (asked.tile_ranges f q))
+    (ap (list_any (ends_past f)) (tile_ranges_are f q order l r complete offsets counts p) ∙ some)
 stands f q order l r complete offsets counts t _ p among is wrong = absurd wrong
 
 -- ---- the groups of a window
@@ -220,14 +159,12 @@ planned order l r complete offsets counts e n gs tiles known is =
       sound = λ t among fault wrong. (let k = counted_among e n (tiles_of l r) t tiles among in (known k.0 k.1).sound fault (subst (λ t. IsTileFault l complete (range t) fault) k.2 wrong));
     }
 
-all_inside : (f : List ℕ) (range : ℕ → Extent) (l : Level) (complete : ℕ) (gs : List Group) → length f ≡ complete → All (λ g. IsGroup range l complete (group_of g)) gs
-    → list_any (ends_past f) (map range_of (map group_of gs)) ≡ false
-all_inside f range l complete [] size all = refl
-all_inside f range l complete (g ∷ gs) size all =
-    let first = group_of g in
-    let is = All-head (λ g. IsGroup range l complete (group_of g)) g gs all in
-    let here : ends_past f first.range ≡ false = le-ltb (length f) (first.range.first + first.range.len) (omega (arith, is.inside, size)) in
-    rw here (all_inside f range l complete gs size (All-tail (λ g. IsGroup range l complete (group_of g)) g gs all))
+all_inside : (f : List ℕ) (at : ℕ → Option Extent) (range : ℕ → Extent) (complete : ℕ) (ts : List ℕ) → length f ≡ complete
+    → AllByRecursion (λ t. (at t ≡ Some (range t)) × ((range t).first + (range t).len ≤ complete)) ts → list_any (ends_past f) (filter_map at ts) ≡ false
+all_inside f at range complete [] size all = refl
+all_inside f at range complete (t ∷ ts) size ((is, fits), rest) =
+    let here : ends_past f (range t) ≡ false = le-ltb (length f) ((range t).first + (range t).len) (omega (arith, fits, size)) in
+    rw (is, here) (all_inside f at range complete ts size rest)
 
 -- what is wrong with a tile of the window is wrong with its range
 wrong_size : (f : List ℕ) (n t : ℕ) (l : Level) (r : Extent) → IsDescribed f n l → IsRangeOf f n t r → IsSomeAnd (level_value f n 325 t) (λ count. (is_byte_count count ≡ false) ⊎ IsNotPlainSize f n count) → IsWrongSize l r.len
@@ -263,10 +200,15 @@ needed f q order l r complete offsets counts e n gs p tiles known are =
     let Same : ℕ → Type 0 = λ t. tile_range f r.level t ≡ Some (range t) in
     let same = subst (AllByRecursion Same) tiles
     (all_counted Same e 0 n (λ k low less. range_is f r.level (e k) (range (e k)) ((known k (omega (arith, less))).values f r.level p.order_is p.layout_is p.offsets_are p.counts_are))) in
+    let Inside : ℕ → Type 0 = λ t. (tile_range f r.level t ≡ Some (range t)) × ((range t).first + (range t).len ≤ complete) in
+    let inside = subst (AllByRecursion Inside) tiles
+    (all_counted Inside e 0 n (λ k low less.
+    let fine = known k (omega (arith, less)) in
+    (range_is f r.level (e k) (range (e k)) (fine.values f r.level p.order_is p.layout_is p.offsets_are p.counts_are), (known_fit order l complete offsets counts (e k) fine).inside))) in
     let groups : map group_of gs ≡ asked.groups f q =
     are.groups ∙ sym (groups_are f q order l r complete offsets counts p ∙ grouped_same (tile_range f r.level) (λ t. Some (range t)) (tiles_of l r) same) in
     record {
       groups = groups;
-      inside = ap (λ gs. list_any (ends_past f) (map range_of gs)) (sym groups) ∙ all_inside f range l complete gs p.size are.each;
+      inside = ap (list_any (ends_past f)) (tile_ranges_are f q order l r complete offsets counts p) ∙ all_inside f (tile_range f r.level) range complete (tiles_of l r) p.size inside;
       right = no_bad_tile f q order l r complete offsets counts e n p tiles known;
     }

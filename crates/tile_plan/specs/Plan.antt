@@ -11,12 +11,12 @@ use Rattle.tiff_dir.specs.declared.fault.FileFault.TheVariants.{PastEnd, TileSiz
 use Rattle.tiff_dir.specs.Number.{number_in}
 use Rattle.tiff_dir.specs.File.{order_of, size_of}
 use Rattle.tiff_dir.specs.Level.{level_layout, level_value, plain_size, tile_total}
-use Rattle.tiff_dir.specs.Needs.{Extent, ends_past}
+use Rattle.tiff_dir.specs.Needs.{Extent, ends_past, max_range_bytes}
 use Rattle.tiff_dir.specs.Described.{grid_of, layout_of}
 use Rattle.tiff_dir.specs.Walk.{IsArrayOf, IsDescribed, extent_of_span}
 use Rattle.tiff_dir.specs.Faulty.{HasBadTile, is_byte_count, IsFaultOfWindow}
 use Rattle.tiff_dir.specs.Query as asked
-use Rattle.tiff_dir.specs.Query.{grouped, max_group_bytes, rectangle, is_refused, tiles_in}
+use Rattle.tiff_dir.specs.Query.{grouped, rectangle, is_refused, tiles_in}
 use Rattle.tile_plan.specs.declared.asked.Rectangle.{Rectangle}
 use Rattle.tile_plan.specs.declared.plan.Group.{Group}
 use Rattle.tiff_dir.specs.declared.fault.WalkError.{WalkError as PlanError}
@@ -62,7 +62,7 @@ Adjoin range at (t ∷ ts) end = ((range t).first ≡ at) × Adjoin range (at + 
 pub record IsGroup (range : ℕ → Extent) (l : Level) (complete : ℕ) (g : asked.Group) : Type 0 where
   pub tiles : All (λ t. t < tile_total (grid_of l)) g.tiles
   pub adjoin : Adjoin range g.range.first g.tiles (g.range.first + g.range.len)
-  pub few : g.range.len ≤ max_group_bytes
+  pub few : g.range.len ≤ max_range_bytes
   pub inside : g.range.first + g.range.len ≤ complete
 
 -- These are the groups of the rectangle's tiles, of which none has a fault.
@@ -96,10 +96,10 @@ pub record IsPlanned (f : List ℕ) (q : Query) (order : Order) (l : Level) (r :
   pub rectangle_is : rectangle f q ≡ Some (rectangle_of r)
   pub good : is_refused f q ≡ false
 
--- These are the groups that the query needs. They end inside the file, and no tile's byte count is wrong.
+-- These are the groups that the query needs. Each tile ends inside the file, and none's byte count is wrong.
 pub record AreNeeded (f : List ℕ) (q : Query) (gs : List Group) : Type 0 where
   pub groups : map group_of gs ≡ asked.groups f q
-  pub inside : list_any (ends_past f) (map (λ (g : asked.Group). g.range) (asked.groups f q)) ≡ false
+  pub inside : list_any (ends_past f) (asked.tile_ranges f q) ≡ false
   pub right : HasBadTile f q → ⊥
 
 -- the fault that is told stands in the file for the query

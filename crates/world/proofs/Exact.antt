@@ -1,6 +1,6 @@
 -- A check says "same" exactly where the catalogue has the client's tag under its name.
 use Rattle.std.proofs.Common.{◌≡◌, ℕ, List, [], ◌++◌, length, Option, Some, None, Bool, true, false, refl, sym, ap, ◌∙◌, subst, arith, append-nil, take, Ok, Err}
-use Rattle.std.specs.Prelude.{slice_get, IfSome, nat_le, if◌then◌else◌, ◌↔◌}
+use Rattle.std.specs.Prelude.{slice_get, IfSome, IsSomeAnd, nat_le, if◌then◌else◌, ◌↔◌}
 use Rattle.std.specs.Option.{option_map}
 use Rattle.std.specs.Str.{bytes_eq}
 use Rattle.std.proofs.lemmas.Bool.Decides.{nat_tests}
@@ -22,7 +22,7 @@ use Rattle.world.specs.declared.event.Event.TheVariants.{Publish, Epoch, NewClie
 use Rattle.world.specs.declared.event.AnsweredCheck.{AnsweredCheck}
 use Rattle.world.specs.declared.event.Effect.{Effect}
 use Rattle.world.specs.declared.event.Entry.{Entry}
-use Rattle.world.specs.World.{World, Seen, check_in, IsExact, IsExactEntry}
+use Rattle.world.specs.World.{World, Seen, check_in, HasTag, IsExact, IsExactEntry}
 use Rattle.world.specs.Run.{seen, IsCheckOf, IsChecked, IsCheckBy}
 use Rattle.world.specs.State.{StepKeeping}
 use Rattle.world.specs.LowerLaws.{LowerLaws}
@@ -67,11 +67,8 @@ module _ (laws : LowerLaws) where
       let read = laws.read.answer w.catalogue (check_text host name k.tag) k.answer.text.items s (length (text_of s)) h.current.0 g.lawful answered bytes h.current.1 in
       let told : k.current ≡ current_by k.tag (tag_seen (response_to_check (published name w.catalogue) k.tag).reply) =
       h.current.2 ∙ (ap (λ r. current_by k.tag r) (read ∙ whole_told s) ∙ ap (λ (r : Response). current_by k.tag (tag_seen r.reply)) response) in
-      record {
-        seen = seen c;
-        there = ap (λ (ss : List Seen). slice_get ss i) (sym g.seen_are) ∙ (get-map seen cs i ∙ ap (λ (o : Option ClientState). option_map seen o) at);
-        exact = exact_by (published name w.catalogue) k.tag k.current told;
-      }
+      let there = ap (λ (ss : List Seen). slice_get ss i) (sym g.seen_are) ∙ (get-map seen cs i ∙ ap (λ (o : Option ClientState). option_map seen o) at) in
+      subst (λ (o : Option Seen). IsSomeAnd o (λ s. (k.current ≡ Same) ↔ HasTag w.catalogue s.name k.tag)) (sym there) (exact_by (published name w.catalogue) k.tag k.current told)
 
   exact_checked : (w : World) (cs : List ClientState) (i : ℕ) (c : ClientState) (o : Option AnsweredCheck) (effect : Effect) → Good w cs → slice_get cs i ≡ Some c → IsChecked w.catalogue (length w.sent) i c o effect → IfSome (check_in effect) (IsExact w i)
   exact_checked w cs i c None effect g at h = let P : Effect → Type 0 = λ e. IfSome (check_in e) (IsExact w i) in subst P (sym h.0) tt

@@ -1,6 +1,6 @@
 -- Each event keeps the world's invariant, and each report of a run is true.
 use Rattle.std.proofs.Common.{◌≡◌, ℕ, List, [], ◌∷◌, ◌++◌, length, map, Option, Some, None, Bool, true, false, cond, refl, sym, ap, ◌∙◌, subst, ◌⊎◌, inl, inr, ◌-◌, min, append-nil, drop}
-use Rattle.std.specs.Prelude.{slice_get, slice_set, IfSome, nat_lt, is_some, if◌then◌else◌}
+use Rattle.std.specs.Prelude.{slice_get, slice_set, IfSome, IsSomeAnd, nat_lt, is_some, if◌then◌else◌}
 use Rattle.std.specs.Option.{option_map, option_map_or}
 use Rattle.std.specs.Str.{bytes_eq}
 use Rattle.std.specs.Global.{Vec}
@@ -76,7 +76,7 @@ told_true laws name query book false (Some r) (Some s) is h = laws.told s r name
 
 told_at : (o : Option Report) (w : World) (i : ℕ) (s : Seen) → slice_get w.clients i ≡ Some s → IfSome o (λ r. IsTrueReport r s.name s.query w.book) → IfSome o (IsTrueAt w (Some i))
 told_at None w i s there h = tt
-told_at (Some r) w i s there h = record { at = i; by = refl; seen = s; there = there; holds = h }
+told_at (Some r) w i s there h = subst (λ (o : Option Seen). IsSomeAnd o (λ x. IsTrueReport r x.name x.query w.book)) (sym there) h
 
 silent : (o : Option Report) (P : Report → Type 0) → option_map told o ≡ None → IfSome o P
 silent None P none = tt
@@ -98,7 +98,7 @@ sound_after w cs e n s honest = record { good = good_after w cs e n.effect s.goo
 
     again : (o : Option Report) → IfSome o (IsTrueAt (scheduled w e) (client_of e)) → IfSome o (IsTrueAt (after w e n.effect) (client_of e))
     again None h = tt
-    again (Some r) h = record { at = h.at; by = h.by; seen = h.seen; there = h.there; holds = h.holds }
+    again (Some r) h = h
 
 -- a call of client i: the world is good and what is told is true
 sound_call : (laws : LowerLaws) (w : World) (cs new : List ClientState) (i : ℕ) (c next : ClientState) (n : Entry) → Good w new → slice_get cs i ≡ Some c → new ≡ slice_set cs i next → AgreesLater next w.book → StandsTrue next → told_of n ≡ news c next → IsSound w new (Some i) n.report

@@ -1,7 +1,7 @@
 -- A run goes on by one event, and a whole run is a log.
 use Rattle.tiff_dir.specs.declared.tags.TheConstants.{BITS_PER_SAMPLE, GEO_ASCII_PARAMS, GEO_DOUBLE_PARAMS, MODEL_PIXEL_SCALE, MODEL_TIEPOINT, MODEL_TRANSFORMATION, SAMPLES_PER_PIXEL}
 use Rattle.std.proofs.Common.{◌≡◌, ℕ, suc, List, [], ◌∷◌, ◌++◌, length, map, take, Option, Some, None, refl, sym, ap, ◌∙◌, subst, inl, inr, ◌<◌, ◌≤◌, ◌+◌, get_or, Result, Ok, Err}
-use Rattle.std.specs.Prelude.{IfOk, IfSome, OnOk, OnErr, option_and_then, slice_get}
+use Rattle.std.specs.Prelude.{IfOk, IfSome, IsSomeAnd, OnOk, OnErr, option_and_then, slice_get}
 use Rattle.std.proofs.Common.{Vec, Global}
 use Rattle.std.proofs.lemmas.List.{take_more, take_all}
 use Rattle.std.proofs.lemmas.Option.{none-some, same_Some}
@@ -25,13 +25,13 @@ use Rattle.cog_server.specs.declared.error.PublishError.{PublishError}
 use Rattle.cog_server.specs.declared.server.Answer.{Answer}
 use Rattle.cog_server.specs.Server.{ServerState}
 use Rattle.cog_client.specs.declared.report.Report.{Report}
-use Rattle.cog_client.specs.Report.{Facts, facts_of}
+use Rattle.cog_client.specs.Report.{Facts, IsTrueReport, facts_of}
 use Rattle.cog_client.specs.Client.{ClientState, IsOfBook}
 use Rattle.world.specs.declared.event.Event.{Event}
 use Rattle.world.specs.declared.event.Event.TheVariants.{Publish, Epoch, NewClient, Open, Forget, Ask, AskFrom, Deliver, Exchange, Check}
 use Rattle.world.specs.declared.event.Entry.{Entry}
 use Rattle.world.specs.Progress.{IsNeededEntry}
-use Rattle.world.specs.World.{World, start, answer_in, next_of, publish_by, refused_at, server_of, after, after_all, client_of, AtEach, IsTrueAt, IsTrueEntry, AllTrue, IsToldIn, AreEqual, SayTheSame, AreAlike, AreOfBook, IsHonestEntry, IsExactEntry}
+use Rattle.world.specs.World.{World, Seen, start, answer_in, next_of, publish_by, refused_at, server_of, after, after_all, client_of, AtEach, IsTrueAt, IsTrueEntry, IsToldIn, AreEqual, SayTheSame, AreAlike, AreOfBook, IsHonestEntry, IsExactEntry}
 use Rattle.world.specs.Run.{Answers, AtClient, IsDelivery, Step, Runs, IsBeginning, IsTrueLog, receiver}
 use Rattle.world.specs.State.{AreKept, Does, IsAtAfter, IsDeliveryKeeping, IsState, Keeping, Publishes, RunsKeeping, StepKeeping, answer_at, noted}
 use Rattle.world.specs.LowerLaws.{LowerLaws}
@@ -93,11 +93,12 @@ record IsSource (r : Report) (book : Book) : Type 0 where
 
 source_at : (o : Option Report) (w : World) (client : Option ℕ) (later : Book) (r : Report) → Includes later w.book → IfSome o (IsTrueAt w client) → o ≡ Some r → IsSource r later
 source_at None w client later r inc h e = absurd (none-some r e)
-source_at (Some s) w client later r inc h e =
-    subst (λ t. IsSource t later) (same_Some _ _ e)
-    (record { source = h.holds.source; published = inc h.holds.source h.holds.published; of_tag = h.holds.of_tag; holds = h.holds.holds })
+source_at (Some s) w client later r inc h e = subst (λ t. IsSource t later) (same_Some _ _ e) (told (option_and_then (slice_get w.clients) client) h) where
+  told : (o : Option Seen) → IsSomeAnd o (λ x. IsTrueReport s x.name x.query w.book) → IsSource s later
+  told None h = absurd h
+  told (Some x) h = record { source = h.source; published = inc h.source h.published; of_tag = h.of_tag; holds = h.holds }
 
-source_of : (w : World) (es : List Event) (ns : List Entry) (r : Report) → AllTrue w es ns → IsToldIn r ns → IsSource r (after_all w es ns).book
+source_of : (w : World) (es : List Event) (ns : List Entry) (r : Report) → AtEach IsTrueEntry w es ns → IsToldIn r ns → IsSource r (after_all w es ns).book
 source_of w [] [] r t i = absurd i
 source_of w [] (n ∷ ns) r t i = absurd t
 source_of w (e ∷ es) [] r t i = absurd t

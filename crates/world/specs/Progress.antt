@@ -13,7 +13,7 @@ use Rattle.world.specs.declared.event.AnsweredRequest.{AnsweredRequest}
 use Rattle.world.specs.declared.event.Effect.{Effect}
 use Rattle.world.specs.declared.event.Effect.TheVariants as effects
 use Rattle.world.specs.declared.event.Entry.{Entry}
-use Rattle.world.specs.World.{World, Seen, AtEach, after_all, client_of, host, start}
+use Rattle.world.specs.World.{World, Seen, after_all, client_of, host, start}
 
 -- ---- what is asked
 
@@ -45,14 +45,11 @@ pub record IsNeededIn (w : World) (a : AnsweredRequest) : Type 0 where
   pub text : a.request.items ≡ request_text host seen.name a.span.first a.span.last a.tag
   pub needed : IsNeededBy w seen a.tag a.span
 
+-- The request of an entry is for what is needed when it is made.
 abbrev pub IsNeededEntry : World → Event → Entry → Type 0
 IsNeededEntry w (AskFrom i) n = IfSome (asked_in n.effect) (IsNeededIn w)
 IsNeededEntry w (Exchange i) n = IfSome (asked_in n.effect) (IsNeededIn w)
 IsNeededEntry w e n = Unit {0}
-
--- Each request is for what is needed when it is made.
-abbrev pub AllNeeded : World → List Event → List Entry → Type 0
-AllNeeded w es ns = AtEach IsNeededEntry w es ns
 
 -- ---- when a report comes
 

@@ -20,8 +20,8 @@ use Rattle.world.specs.declared.event.AnsweredCheck.{AnsweredCheck}
 use Rattle.world.specs.declared.event.Effect.{Effect}
 use Rattle.world.specs.declared.event.Effect.TheVariants as effects
 use Rattle.world.specs.declared.event.Entry.{Entry}
-use Rattle.world.specs.World.{World, Seen, host, start, is_for, next_of, refused_at, after, after_all, AllTrue, AllExact, AllHonest, AreAlike, AreOfBook}
-use Rattle.world.specs.Progress.{AllNeeded, AllReport}
+use Rattle.world.specs.World.{World, Seen, host, start, is_for, next_of, refused_at, after, after_all, AtEach, IsTrueEntry, IsExactEntry, IsHonestEntry, AreAlike, AreOfBook}
+use Rattle.world.specs.Progress.{IsNeededEntry, AllReport}
 
 abbrev pub seen : ClientState → Seen
 seen c = record { name = name_of c; query = query_of c }
@@ -197,22 +197,21 @@ Step w old (Check i) n new = IsCheckBy (slice_get old i) w.catalogue (length w.s
 -- their contracts; these are the clients before and after it.
 abbrev pub Runs : World → List ClientState → List Event → List Entry → List ClientState → Type 0
 Runs w old [] [] new = new ≡ old
-Runs w old [] (n ∷ ns) new = ⊥
-Runs w old (e ∷ es) [] new = ⊥
 Runs w old (e ∷ es) (n ∷ ns) new = (mid : List ClientState) × Step w old e n mid × Runs (after w e n.effect) mid es ns new
+Runs w old es ns new = ⊥
 
 -- What holds of every log: it has an entry for each event, its reports are true, those of one tag and one query say the same,
 -- what is asked is needed, a report comes, checks tell of the catalogue, no two publications have one tag, the answers are
 -- honest, and each client is of one publication.
 pub record IsTrueLog (events : List Event) (entries : List Entry) (left : List ClientState) : Type 0 where
   pub whole : length entries ≡ length events
-  pub true_reports : AllTrue start events entries
+  pub true_reports : AtEach IsTrueEntry start events entries
   pub alike : AreAlike entries
-  pub needed : AllNeeded start events entries
+  pub needed : AtEach IsNeededEntry start events entries
   pub progress : AllReport events entries
-  pub checked : AllExact start events entries
+  pub checked : AtEach IsExactEntry start events entries
   pub distinct : HasDistinctTags (after_all start events entries).book
-  pub honest : AllHonest start events entries
+  pub honest : AtEach IsHonestEntry start events entries
   pub clients : AreOfBook left (after_all start events entries).book
 
 -- It is the log of the first events, without the last, with all that is said of a whole one.

@@ -1,6 +1,6 @@
 -- What a schedule makes of the world. It knows of no client but its name and its last query, and of what was logged
 -- only which answers were sent.
-use Rattle.std.specs.Prelude.{◌≡◌, ℕ, zero, suc, ◌+◌, ◌↔◌, ◌⊎◌, ⊤, Bool, true, nat_lt, if◌then◌else◌, List, [], ◌∷◌, ◌++◌, codes, Option, Some, None, IfSome, slice_get}
+use Rattle.std.specs.Prelude.{◌≡◌, ℕ, zero, suc, ◌+◌, ◌↔◌, ◌⊎◌, ⊤, Bool, true, nat_lt, if◌then◌else◌, List, [], ◌∷◌, ◌++◌, codes, Option, Some, None, IfSome, IsSomeAnd, slice_get, option_and_then}
 use Rattle.std.specs.Global.{Vec}
 use Rattle.std.specs.Option.{option_map, option_map_or, option_to_list}
 use Rattle.std.specs.Str.{bytes_eq}
@@ -101,12 +101,11 @@ after_all w [] ns = w
 after_all w (e ∷ es) [] = w
 after_all w (e ∷ es) (n ∷ ns) = after_all (after w e n.effect) es ns
 
--- This holds at each event, with the world before it and its entry.
+-- This holds at each event of a schedule, with the world before it and its entry.
 abbrev pub AtEach : (World → Event → Entry → Type 0) → World → List Event → List Entry → Type 0
 AtEach P w [] [] = Unit {0}
-AtEach P w [] (n ∷ ns) = ⊥
-AtEach P w (e ∷ es) [] = ⊥
 AtEach P w (e ∷ es) (n ∷ ns) = P w e n × AtEach P (after w e n.effect) es ns
+AtEach P w es ns = ⊥
 
 -- ---- what is told
 
@@ -120,21 +119,13 @@ client_of (Exchange i) = Some i
 client_of (Check i) = Some i
 client_of e = None
 
--- The report is true of what is published, for the client's name and its last query.
-pub record IsTrueAt (w : World) (client : Option ℕ) (r : Report) : Type 0 where
-  pub at : ℕ
-  pub by : client ≡ Some at
-  pub seen : Seen
-  pub there : slice_get w.clients at ≡ Some seen
-  pub holds : IsTrueReport r seen.name seen.query w.book
+-- The report of a client is true of what is published, for the client's name and its last query.
+abbrev pub IsTrueAt : World → Option ℕ → Report → Type 0
+IsTrueAt w client r = IsSomeAnd (option_and_then (slice_get w.clients) client) (λ s. IsTrueReport r s.name s.query w.book)
 
--- the report of an entry, if there is one, is true of what is published when it is told
+-- The report of an entry, if there is one, is true of what is published when it is told.
 abbrev pub IsTrueEntry : World → Event → Entry → Type 0
 IsTrueEntry w e n = IfSome n.report (IsTrueAt (after w e n.effect) (client_of e))
-
--- Each report is true.
-abbrev pub AllTrue : World → List Event → List Entry → Type 0
-AllTrue w es ns = AtEach IsTrueEntry w es ns
 
 abbrev pub IsToldIn : Report → List Entry → Type 0
 IsToldIn r [] = ⊥
@@ -170,13 +161,9 @@ abbrev pub StaysHonest : Answer → Book → Type 0
 StaysHonest a book =
     (name : List ℕ) (later : Book) → is_for a name ≡ true → Includes later book → IsHonest a.text.items name later
 
--- what an event has sent is honest, whatever is published later
+-- What an event has sent is honest, whatever is published later.
 abbrev pub IsHonestEntry : World → Event → Entry → Type 0
 IsHonestEntry w e n = IfSome (answer_in n.effect) (λ a. StaysHonest a w.book)
-
--- Each answer is honest from when it is sent.
-abbrev pub AllHonest : World → List Event → List Entry → Type 0
-AllHonest w es ns = AtEach IsHonestEntry w es ns
 
 -- Each client that has a revision is of one publication of the book.
 abbrev pub AreOfBook : List ClientState → Book → Type 0
@@ -191,16 +178,11 @@ check_in effect = None
 abbrev pub HasTag : Catalogue → List ℕ → List ℕ → Type 0
 HasTag catalogue name tag = option_map (λ p. p.tag) (published name catalogue) ≡ Some tag
 
--- The check says "same" exactly where the catalogue has the tag under the client's name.
-pub record IsExact (w : World) (i : ℕ) (k : AnsweredCheck) : Type 0 where
-  pub seen : Seen
-  pub there : slice_get w.clients i ≡ Some seen
-  pub exact : (k.current ≡ Same) ↔ HasTag w.catalogue seen.name k.tag
+-- The check says "same" exactly where the catalogue that answered it has the tag under the client's name.
+abbrev pub IsExact : World → ℕ → AnsweredCheck → Type 0
+IsExact w i k = IsSomeAnd (slice_get w.clients i) (λ s. (k.current ≡ Same) ↔ HasTag w.catalogue s.name k.tag)
 
+-- The check of an entry does.
 abbrev pub IsExactEntry : World → Event → Entry → Type 0
 IsExactEntry w (Check i) n = IfSome (check_in n.effect) (IsExact w i)
 IsExactEntry w e n = Unit {0}
-
--- Each check tells of the catalogue that answered it.
-abbrev pub AllExact : World → List Event → List Entry → Type 0
-AllExact w es ns = AtEach IsExactEntry w es ns

@@ -2,8 +2,8 @@
 ghost use Rattle.std.specs.Prelude.{◌≡◌, [], IfOk, OnOk, OnErr, length};
 ghost use Rattle.world.specs.LowerLaws.{LowerLaws};
 ghost use Rattle.http_range.specs.Book.{HasDistinctTags};
-ghost use Rattle.world.specs.World.{AllExact, AllHonest, AllTrue, AreAlike, AreOfBook, World, after_all, start};
-ghost use Rattle.world.specs.Progress.{AllNeeded, AllReport};
+ghost use Rattle.world.specs.World.{AreAlike, AreOfBook, AtEach, IsExactEntry, IsHonestEntry, IsTrueEntry, World, after_all, start};
+ghost use Rattle.world.specs.Progress.{AllReport, IsNeededEntry};
 ghost use Rattle.world.specs.Run.{IsBeginning, IsTrueLog, Runs};
 ghost use Rattle.world.specs.State.{Does, IsState};
 
@@ -43,26 +43,26 @@ pub fn run(alloc: Global, events: &[Event], log: &mut Log) -> Result<(), Memory>
 
     // Each report answers the query of its client's last opening, and is true of one file that was published under the
     // client's name: of the one whose tag it has.
-    ensures true_reports { OnOk result (AllTrue start events.now log.new.entries.items) }
+    ensures true_reports { OnOk result (AtEach IsTrueEntry start events.now log.new.entries.items) }
 
     // Reports of one tag for one query are equal windows, or tell the same levels, keys and geo fields, or are both faults.
     ensures alike { OnOk result (AreAlike log.new.entries.items) }
 
     // Each request is its client's request, for what its query needs: missing blocks of one range of the file that it reads, or
     // the first 65,536 bytes.
-    ensures needed { OnOk result (AllNeeded start events.now log.new.entries.items) }
+    ensures needed { OnOk result (AtEach IsNeededEntry start events.now log.new.entries.items) }
 
     // A client that opens a query and then exchanges, with nothing between, has its report by exchange cost + 1, where cost
     // counts the blocks that the query needs of the file under its name.
     ensures progress { OnOk result (AllReport events.now log.new.entries.items) }
 
     // A check says "same" exactly where the catalogue of that moment has the client's tag under its name.
-    ensures checked { OnOk result (AllExact start events.now log.new.entries.items) }
+    ensures checked { OnOk result (AtEach IsExactEntry start events.now log.new.entries.items) }
 
     // No two publications of the whole schedule have one tag, and each answer is honest for its name from when it is sent,
     // whatever is published later.
     ensures distinct { OnOk result (HasDistinctTags (after_all start events.now log.new.entries.items).book) }
-    ensures honest { OnOk result (AllHonest start events.now log.new.entries.items) }
+    ensures honest { OnOk result (AtEach IsHonestEntry start events.now log.new.entries.items) }
 
     // Each client that the log leaves and that reads a revision has the name, tag and length of one publication of the whole
     // schedule, and its blocks are that file's.
@@ -85,13 +85,13 @@ pub fn run_cut(alloc: Global, events: &[Event], piece: usize, log: &mut Log) -> 
     requires clients { log.old.clients.items ≡ [] }
 
     ensures whole { OnOk result (length log.new.entries.items ≡ length events.now) }
-    ensures true_reports { OnOk result (AllTrue start events.now log.new.entries.items) }
+    ensures true_reports { OnOk result (AtEach IsTrueEntry start events.now log.new.entries.items) }
     ensures alike { OnOk result (AreAlike log.new.entries.items) }
-    ensures needed { OnOk result (AllNeeded start events.now log.new.entries.items) }
+    ensures needed { OnOk result (AtEach IsNeededEntry start events.now log.new.entries.items) }
     ensures progress { OnOk result (AllReport events.now log.new.entries.items) }
-    ensures checked { OnOk result (AllExact start events.now log.new.entries.items) }
+    ensures checked { OnOk result (AtEach IsExactEntry start events.now log.new.entries.items) }
     ensures distinct { OnOk result (HasDistinctTags (after_all start events.now log.new.entries.items).book) }
-    ensures honest { OnOk result (AllHonest start events.now log.new.entries.items) }
+    ensures honest { OnOk result (AtEach IsHonestEntry start events.now log.new.entries.items) }
     ensures clients { OnOk result (AreOfBook log.new.clients.items (after_all start events.now log.new.entries.items).book) }
     ensures logged { OnOk result (Runs start [] events.now log.new.entries.items log.new.clients.items) }
     ensures memory { OnErr result (IsBeginning events.now log.new.entries.items) }
