@@ -39,10 +39,7 @@ fn put_short(file: &mut Vec<u8>, order: Order, number: u16) -> Result<(), Fail> 
         Order::Little => number.to_le_bytes(),
         Order::Big => number.to_be_bytes(),
     };
-    for byte in bytes {
-        file.push(byte)?;
-    }
-    Ok(())
+    Ok(file.extend_from_slice(&bytes)?)
 }
 
 fn put_long(file: &mut Vec<u8>, order: Order, number: u32) -> Result<(), Fail> {
@@ -50,10 +47,7 @@ fn put_long(file: &mut Vec<u8>, order: Order, number: u32) -> Result<(), Fail> {
         Order::Little => number.to_le_bytes(),
         Order::Big => number.to_be_bytes(),
     };
-    for byte in bytes {
-        file.push(byte)?;
-    }
-    Ok(())
+    Ok(file.extend_from_slice(&bytes)?)
 }
 
 /// A new file whose first directory stands at `first`.

@@ -60,6 +60,14 @@ fn turn(serving: &mut Serving, server: &Server, now: u64) -> Result<(u32, u32), 
     Ok((accepted, serving.ended()))
 }
 
+/// Expects an answer on a connection.
+fn read_answer<R: Abort>(rt: &R, client: &mut TcpStream) -> Result<(), Fail> {
+    let mut answer = [0u8; ANSWER.len()];
+    client.read_exact(&mut answer)?;
+    assert_eq!(rt; str::from_utf8(&answer), Ok(ANSWER));
+    Ok(())
+}
+
 /// Asks on a connection, and expects an answer at this moment.
 fn expect_answer<R: Abort>(
     rt: &R,
@@ -71,10 +79,7 @@ fn expect_answer<R: Abort>(
     client.write_all(ASK.as_bytes())?;
     serving.wait(now)?;
     serving.turns(server, now);
-    let mut answer = [0u8; ANSWER.len()];
-    client.read_exact(&mut answer)?;
-    assert_eq!(rt; str::from_utf8(&answer), Ok(ANSWER));
-    Ok(())
+    read_answer(rt, client)
 }
 
 #[test]
@@ -110,10 +115,7 @@ fn gives_a_newcomer_a_place(rt: HostRuntime) -> Result<(), Fail> {
     second.write_all(&ASK.as_bytes()[1..])?;
     serving.wait(1_011)?;
     serving.turns(&server, 1_011);
-    let mut answer = [0u8; ANSWER.len()];
-    second.read_exact(&mut answer)?;
-    assert_eq!(rt; str::from_utf8(&answer), Ok(ANSWER));
-    Ok(())
+    read_answer(&rt, &mut second)
 }
 
 /// With one place a newcomer waits until the connection before it has ended.
