@@ -5,7 +5,8 @@ use crate::command_lines::{AskedWords, ReadLine, WindowWords, read_line};
 use crate::fault::Fault;
 use crate::number::number;
 use crate::socket::Socket;
-use cog_client::{Client, ClientError, Outcome, Query, Report, Transport, fetch};
+use cog_client::{Client, ClientError, Outcome, Pieces, Query, Report};
+use cog_fetch::fetch_pieces;
 use range_cache::{MAX_CAPACITY, MIN_CAPACITY};
 use report_text::{info_text, picture};
 use std::io;
@@ -73,16 +74,16 @@ fn write_report<R: Print + AllocGlobal>(rt: &R, report: &Report) -> Result<(), F
     Ok(io::writer(rt).write_all(&text)?)
 }
 
-/// Reads what the client asks over a transport, in so many exchanges at most, and writes the report.
-pub fn fetch_report<R: Print + AllocGlobal, T: Transport>(
+/// Reads what the client asks over a source of answers in pieces, in so many exchanges at most, and writes the report.
+pub fn fetch_report<R: Print + AllocGlobal, P: Pieces>(
     rt: &R,
     client: &mut Client,
-    transport: &mut T,
+    pieces: &mut P,
     requests: u32,
 ) -> Result<(), Fault>
-    requires { T.count transport.old + requests < 2 ^ 64 }
+    requires { P.count pieces.old + requests < 2 ^ 64 }
 {
-    match fetch(client, transport, requests)? {
+    match fetch_pieces(client, pieces, requests)? {
         Some(report) => write_report(rt, report),
         None => Err(Fault::NoReport),
     }

@@ -1,24 +1,33 @@
-//! `cogworld SCRIPT`: runs a script and prints its log.
+//! `cogworld [--pieces N] SCRIPT`: runs a script and prints its log.
 use crate::disk::Disk;
 use crate::fault::Fault;
 use crate::help::{VERSION, WORLD_NOTES};
+use crate::number::number;
 use crate::stored;
 use clap::{Arg, Command};
 use scripts::{Loaded, Source, log_text, script};
 use std::io::Write;
 use std::rt::Files;
 use std::{fs, io};
-use world::{Log, run};
+use world::{Log, run, run_cut};
 
-/// Runs a script and prints its log; want of memory ends it after the log up to there.
+/// The most bytes of a piece: as many as the longest answer that a client takes has.
+const MOST_BYTES: u32 = 1_069_056;
+
+/// Runs a script and prints its log; want of memory ends it after the log up to there. Answers are handed over whole, or in pieces of
+/// so many bytes.
 fn run_script<R: Print + AllocGlobal, S: Source>(
     rt: &R,
     text: &[u8],
     source: &mut S,
+    piece: Option<u32>,
 ) -> Result<(), Fault> {
     let events = script(rt.alloc(), text, source)?;
     let mut log = Log::new(rt.alloc());
-    let ran = run(rt.alloc(), &events, &mut log);
+    let ran = match piece {
+        None => run(rt.alloc(), &events, &mut log),
+        Some(piece) => run_cut(rt.alloc(), &events, piece as usize, &mut log),
+    };
     let text = log_text(rt.alloc(), &log)?;
     io::writer(rt).write_all(&text)?;
     Ok(ran?)
@@ -28,7 +37,7 @@ fn run_script<R: Print + AllocGlobal, S: Source>(
 pub fn run_stored<R: Print + AllocGlobal>(rt: &R) -> Result<(), Fault> {
     let mut files = Loaded::new(rt.alloc());
     files.add(b"f1.tif", Vec::from_slice(rt.alloc(), &stored::FILE)?)?;
-    run_script(rt, stored::SCRIPT, &mut files)
+    run_script(rt, stored::SCRIPT, &mut files, None)
 }
 
 /// Runs the script that the program's words name, of which the first is its own name.
@@ -38,21 +47,34 @@ pub fn run_line<R: Files + Print + AllocGlobal>(rt: &R, words: &[&str]) -> Resul
             "The file of the script: lines of events, its paths from the current folder on (no default)",
         )
         .required(true);
+    let pieces = Arg::new(rt.alloc(), "pieces")
+        .long("pieces")
+        .value_name("N")
+        .help("Clients get each answer in pieces of so many bytes, 1 to 1069056 (default: whole)");
     let command = Command::new(rt.alloc(), "cogworld")
         .about("Runs a script of events and prints its log")
         .version(VERSION)
         .after_help(WORLD_NOTES)
-        .arg(path)?;
+        .arg(path)?
+        .arg(pieces)?;
     let matches = command.try_get_matches_from(words)?;
-    match matches.get_str("SCRIPT") {
-        Some(path) => run_file(rt, path),
-        None => Ok(()),
-    }
+    let Some(path) = matches.get_str("SCRIPT") else {
+        return Ok(());
+    };
+    let piece = match matches.get_str("pieces") {
+        Some(word) => Some(number(rt, word, 1, MOST_BYTES)?),
+        None => None,
+    };
+    run_file(rt, path, piece)
 }
 
-fn run_file<R: Files + Print + AllocGlobal>(rt: &R, path: &str) -> Result<(), Fault> {
+fn run_file<R: Files + Print + AllocGlobal>(
+    rt: &R,
+    path: &str,
+    piece: Option<u32>,
+) -> Result<(), Fault> {
     match fs::read(rt, path) {
-        Ok(text) => run_script(rt, &text, &mut Disk { rt }),
+        Ok(text) => run_script(rt, &text, &mut Disk { rt }, piece),
         Err(error) if error.kind() == io::ErrorKind::OutOfMemory => Err(Fault::Memory),
         Err(_) => Err(Fault::CantRead(String::from_str(rt.alloc(), path)?)),
     }

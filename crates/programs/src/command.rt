@@ -58,7 +58,7 @@ fn help(alloc: Global, name: &str) -> Result<String, AllocError> {
 Usage: {name} cogserve --listen HOST:PORT --epoch N --connections N [--at-once N] [--patience SECONDS] NAME=PATH..
        {name} cogread window SERVER NAME X Y W H [--level N] [--columns C] [--requests N] [--blocks N]
        {name} cogread info SERVER NAME [--requests N] [--blocks N]
-       {name} cogworld SCRIPT
+       {name} cogworld [--pieces N] SCRIPT
        {name} --version
 
 Programs:

@@ -28,7 +28,7 @@ const HELPS: [(&str, &[&str]); 7] = [
         "cogtools cogserve --listen HOST:PORT --epoch N --connections N [--at-once N] [--patience SECONDS] NAME=PATH..\n",
         "cogtools cogread window SERVER NAME X Y W H [--level N] [--columns C] [--requests N] [--blocks N]\n",
         "cogtools cogread info SERVER NAME [--requests N] [--blocks N]\n",
-        "cogtools cogworld SCRIPT\n",
+        "cogtools cogworld [--pieces N] SCRIPT\n",
         "cogtools --version\n",
     ]),
     ("cogserve --help", &[
@@ -61,6 +61,7 @@ const HELPS: [(&str, &[&str]); 7] = [
     ("cogworld --help", &[
         "SCRIPT",
         "(no default)",
+        "1 to 1069056 (default: whole)",
         "Example:\n  cogtools cogworld one_window.txt\n",
     ]),
 ];
@@ -154,7 +155,7 @@ const USAGES: [(&str, &str); 3] = [
         "x/cog cogread info -h",
         "Usage: cog cogread info [OPTIONS] <SERVER> <NAME>\n",
     ),
-    ("cogworld -h", "Usage: cogworld <SCRIPT>\n"),
+    ("cogworld -h", "Usage: cogworld [OPTIONS] <SCRIPT>\n"),
 ];
 
 #[test]

@@ -7,7 +7,7 @@ use programs::{Fault, fetch_report};
 use programs_support::{Capture, Told};
 use std::test::Fail;
 use tiff_dir::Pick;
-use transports::{InMemory, server_of_one};
+use transports::{InMemory, InPieces, server_of_one};
 
 #[rattlefmt::skip]
 const FAULTS: [FaultRow<'static>; 14] = [
@@ -44,7 +44,12 @@ fn read<R: AllocGlobal>(
         return Err(Fault::Memory);
     };
     client.open(query);
-    fetch_report(capture, &mut client, &mut InMemory::new(server, b"a"), 3)
+    let mut pieces = InPieces::new(
+        capture.alloc(),
+        InMemory::new(server, b"a"),
+        &[1, 170, 4096],
+    );
+    fetch_report(capture, &mut client, &mut pieces, 3)
 }
 
 /// What is printed of a query, told and ended with.

@@ -1,5 +1,6 @@
 //! `cogworld`, and words that name no program.
 use super::{FaultRow, expect_faults, expect_told};
+use fixtures_support::f1;
 use programs_support::{Capture, tell, tell_on};
 use std::fs;
 use std::test::Fail;
@@ -23,10 +24,12 @@ fn runs_the_stored_script_where_there_are_no_words(rt: HostRuntime) -> Result<()
 }
 
 #[rattlefmt::skip]
-const FAULTS: [FaultRow<'static>; 3] = [
+const FAULTS: [FaultRow<'static>; 5] = [
     ("world", "cogtools: not a program: world\n", 2),
     ("'' --help", "cogtools: not a program: \n", 2),
     ("cogworld programs_tests_nowhere", "cogworld: can't read programs_tests_nowhere\n", 1),
+    ("cogworld --pieces 0 a", "cogworld: not a number: 0\n", 2),
+    ("cogworld a --pieces 1069057", "cogworld: not a number: 1069057\n", 2),
 ];
 
 #[test]
@@ -36,9 +39,21 @@ fn refuses_other_programs_and_scripts_that_are_not_there(rt: HostRuntime) -> Res
 
 const PATH: &str = "programs_tests_script";
 
+const FILE: &str = "programs_tests_f1";
+
+/// The events of the stored script, with its file on the disk.
+const SCRIPT: &str = "\
+epoch 1
+publish a programs_tests_f1
+client a 66
+open 0 level 0 2 1 3 2
+exchange 0
+";
+
 /// A script, and what it prints, tells and ends with.
 #[rattlefmt::skip]
-const SCRIPTS: [(&str, &str, &str, u8); 5] = [
+const SCRIPTS: [(&str, &str, &str, u8); 6] = [
+    (SCRIPT, LOG, "", 0),
     ("", "", "", 0),
     ("epoch 1\nclient a 66\nexchange 0\n", "epoch 1\nclient 0\nasked 0 nothing\n", "", 0),
     ("epoch 1\nno event\n", "", "line 2: not an event\n", 2),
@@ -48,10 +63,16 @@ const SCRIPTS: [(&str, &str, &str, u8); 5] = [
 
 #[test]
 fn runs_a_script_of_the_disk_or_tells_its_first_fault(rt: HostRuntime) -> Result<(), Fail> {
+    fs::write(&rt, FILE, f1(rt.alloc())?.as_slice())?;
     for (script, out, err, status) in SCRIPTS {
         fs::write(&rt, PATH, script)?;
         expect_told(&rt, script, &["cogworld", PATH], (out, err, status))?;
+        for size in ["1", "171", "1069056"] {
+            let words = ["cogworld", "--pieces", size, PATH];
+            expect_told(&rt, script, &words, (out, err, status))?;
+        }
     }
+    fs::remove_file(&rt, FILE)?;
     fs::remove_file(&rt, PATH)?;
     Ok(())
 }

@@ -1,5 +1,5 @@
 //! A client and a server over sockets of one process: a request is sent, the connection is served, and the answer received.
-use cog_client::{Client, Delivered, Lost, Outcome, Query, Report, Transport};
+use cog_client::{Client, Delivered, Lost, Outcome, Pieces, Query, Report};
 use cog_server::{Server, Stream};
 use fixtures_support::{f1, f3};
 use http_range::publication_tag;
@@ -29,6 +29,23 @@ fn server_of(alloc: Global, file: Vec<u8>) -> Result<Server, Fail> {
     Ok(server)
 }
 
+/// What comes of an answer, in pieces of at most 1,000 bytes.
+fn arrived<R>(rt: &R, socket: &mut Socket<'_, R>) -> Result<Vec<u8>, Fail>
+where
+    R: Runtime + AllocGlobal + Net<Listener = TcpListener, Stream = TcpStream>,
+{
+    let mut answer = Vec::new(rt.alloc());
+    let mut room = [0u8; 1000];
+    for _ in 0..1000 {
+        match socket.next(&mut room) {
+            Ok(0) => return Ok(answer),
+            Ok(count) => answer.extend_from_slice(&room[..count])?,
+            Err(Lost) => break,
+        }
+    }
+    Err(Fail::new("nothing came"))
+}
+
 /// Sends a request, serves the connection, and gives what comes back.
 fn carry<R>(
     rt: &R,
@@ -48,7 +65,7 @@ where
     if served.is_err() {
         return Err(Fail::new("not served"));
     }
-    socket.receive().map_err(|_| Fail::new("nothing came"))
+    arrived(rt, &mut socket)
 }
 
 /// Asks a query, and exchanges until the client has no request any more. How many exchanges there were.
@@ -133,9 +150,9 @@ fn reads_info_over_a_socket(rt: HostRuntime) -> Result<(), Fail> {
 #[test]
 fn loses_each_exchange_where_nobody_listens(rt: HostRuntime) {
     let mut socket = Socket::new(&rt, "127.0.0.1:1");
-    assert!(rt; matches!(socket.exchange(b"GET / HTTP/1.1\r\n\r\n"), Err(Lost)));
-    assert!(rt; matches!(socket.receive(), Err(Lost)));
-    assert_eq!(rt; socket.exchanges(), 1);
+    assert!(rt; matches!(socket.start(b"GET / HTTP/1.1\r\n\r\n"), Err(Lost)));
+    assert!(rt; matches!(socket.next(&mut [0; 10]), Err(Lost)));
+    assert_eq!(rt; socket.starts(), 1);
     let mut socket = Socket::new(&rt, "no address");
     assert!(rt; matches!(socket.send(b"GET / HTTP/1.1\r\n\r\n"), Err(Lost)));
 }
