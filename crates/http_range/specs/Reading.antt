@@ -66,8 +66,8 @@ abbrev pub lacks_length : Bool → Option ContentRange → Option ℕ → Bool
 lacks_length partial range length =
     is_none length || (partial && not (holds range (λ r. holds length (λ n. r.last - r.first + 1 == n))))
 
--- *no range*, a part without exactly one Content-Range `bytes a-b/l`; *no length*; or what is announced: the whole file, or the part that the range names, and as many
--- bytes as the Content-Length says
+-- *no range*, a part without exactly one Content-Range `bytes a-b/l`; *no length*; or what is announced: the whole file, or the
+-- part that the range names, and as many bytes as the Content-Length says
 abbrev pub announced_by_rows : Bool → List ℕ → Option ContentRange → Option ℕ → ℕ → Result Announced Why
 announced_by_rows partial tag range length size =
     if partial && is_none range then Err NoRange

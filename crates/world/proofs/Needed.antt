@@ -1,6 +1,6 @@
 -- What is asked is what the client's query needs.
 use Rattle.std.proofs.Common.{◌≡◌, ℕ, Bool, true, false, cond, List, [], ◌∷◌, ◌++◌, length, Option, Some, None, refl, sym, ap, ◌∙◌, subst, inl, inr}
-use Rattle.std.specs.Prelude.{slice_get, slice_set, IfSome}
+use Rattle.std.specs.Prelude.{IsSomeAnd, slice_get, slice_set, IfSome}
 use Rattle.std.specs.Option.{option_map}
 use Rattle.std.proofs.lemmas.Option.{none-some, same_Some}
 use Rattle.tiff_dir.specs.declared.query.Query.{Query}
@@ -117,9 +117,7 @@ module _ (laws : LowerLaws) where
         published = k.published;
         of_name = k.of_name ∙ name;
         of_tag = k.of_tag;
-        query = q;
-        opened = query;
-        needed = subst (λ o. IfSome o (λ q. IsOfNeeded k.source.file q span)) queried needed;
+        needed = subst (λ o. IsSomeAnd o (λ q. IsOfNeeded k.source.file q span)) (sym query) (subst (λ o. IfSome o (λ q. IsOfNeeded k.source.file q span)) queried needed);
       }
 
   needed_by : (w : World) (c mid : ClientState) (a : AnsweredRequest) (o : Option Revision) (q : Query) → revision_of mid ≡ o → a.tag ≡ tag_of mid → ClientAgrees mid w.book → AsksFor mid o a.span → name_of mid ≡ name_of c → query_of c ≡ Some q

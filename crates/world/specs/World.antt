@@ -173,7 +173,8 @@ check_in effect = None
 
 -- The check says "same" exactly where the catalogue that answered it has the tag under the client's name.
 abbrev pub IsExact : World → ℕ → AnsweredCheck → Type 0
-IsExact w i k = IsSomeAnd (slice_get w.clients i) (λ s. (k.current ≡ Same) ↔ (option_map (λ p. p.tag) (published s.name w.catalogue) ≡ Some k.tag))
+IsExact w i k =
+    IsSomeAnd (slice_get w.clients i) (λ s. (k.current ≡ Same) ↔ (option_map (λ p. p.tag) (published s.name w.catalogue) ≡ Some k.tag))
 
 -- The check of an entry does.
 abbrev pub IsExactEntry : World → Event → Entry → Type 0
