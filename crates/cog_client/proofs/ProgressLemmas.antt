@@ -1,7 +1,7 @@
 -- What is left for a client to get, and that it grows with no call.
-use Rattle.std.proofs.Common.{◌≡◌, ℕ, Bool, ◌+◌, ◌-◌, ◌≤◌, true, false, cond, List, [], ◌∷◌, ◌++◌, length, Option, Some, None, refl, sym, ap, ◌∙◌, subst, arith, inl, inr}
+use Rattle.std.proofs.Common.{◌≡◌, ℕ, suc, Bool, ◌+◌, ◌-◌, ◌≤◌, true, false, cond, List, [], ◌∷◌, ◌++◌, length, Option, Some, None, refl, sym, ap, ◌∙◌, subst, arith, inl, inr}
 use Rattle.std.specs.Prelude.{IfSome, IsSome, is_some, not, sum_by}
-use Rattle.std.specs.List.{filter}
+use Rattle.std.specs.List.{filter, IsAmong}
 use Rattle.std.proofs.lemmas.Bool.{false≢true}
 use Rattle.std.proofs.lemmas.Bool.Decides.{nat_tests}
 use Rattle.std.proofs.lemmas.List.Sums.{sum_by-append, sum_by-cons}
@@ -191,6 +191,10 @@ delivery_reports lengths some old new text what f h used work zero = elim h.rest
 
 -- ---- what is asked
 
+among_joined : (front : List Extent) (r : Extent) (after : List Extent) → IsAmong (front ++ r ∷ after) r
+among_joined [] r after = (0, (omega arith, refl))
+among_joined (x ∷ front) r after = let there = among_joined front r after in (suc there.0, (omega (arith, there.1.0), there.1.1))
+
 needed_by : LengthsAreKnown → (c : ClientState) (v : Revision) (f : List ℕ) (s : Span) (q : Query) → revision_of c ≡ Some v → Knows f c → Lacks c v s → IsEndOf (to_come c f) (needs f q) → IsOfNeeded f q s
 needed_by lengths c v f s q is knows l ends =
     let next = first_split l.range (to_come c f) (l.next f knows) in
@@ -198,7 +202,7 @@ needed_by lengths c v f s q is knows l ends =
     let to = l.missing.lacks.to in
     record {
       range = l.range;
-      needed = record { before = ends.front; after = next.0; among = ends.joined ∙ ap (λ rs. ends.front ++ rs) next.1 };
+      needed = subst (λ rs. IsAmong rs l.range) (sym (ends.joined ∙ ap (λ rs. ends.front ++ rs) next.1)) (among_joined ends.front l.range next.0);
       from = l.missing.lacks.from;
       to = to;
       first = l.missing.first ∙ l.missing.lacks.first_is;

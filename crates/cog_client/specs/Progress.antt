@@ -1,6 +1,6 @@
 -- How much of a file a client still has to get for its query, counted in blocks, and what its calls make of that.
-use Rattle.std.specs.Prelude.{◌≡◌, ℕ, ◌+◌, ◌-◌, ◌*◌, ◌<◌, ◌≤◌, false, not, if◌then◌else◌, List, [], ◌∷◌, ◌++◌, length, sum_by, Option, Some, IfSome, IsSome}
-use Rattle.std.specs.List.{filter}
+use Rattle.std.specs.Prelude.{◌≡◌, ℕ, ◌+◌, ◌-◌, ◌*◌, ◌<◌, ◌≤◌, false, not, if◌then◌else◌, List, [], ◌∷◌, length, sum_by, Option, Some, IfSome, IsSome}
+use Rattle.std.specs.List.{filter, IsAmong}
 use Rattle.tiff_dir.specs.declared.query.Query.{Query}
 use Rattle.tiff_dir.specs.declared.span.Span.{Span}
 use Rattle.tiff_dir.specs.Needs.{Extent, ends_past}
@@ -68,16 +68,10 @@ DeliveryReports = (old new : ClientState) (text : List ℕ) (what : Delivered) (
 
 -- ---- what is asked
 
--- the range is among those that the query needs of the file
-pub record IsNeeded (f : List ℕ) (q : Query) (r : Extent) : Type 0 where
-  pub before : List Extent
-  pub after : List Extent
-  pub among : needs f q ≡ before ++ r ∷ after
-
 -- The span is of whole blocks, each of which touches one range that the query needs of the file.
 pub record IsOfNeeded (f : List ℕ) (q : Query) (s : Span) : Type 0 where
   pub range : Extent
-  pub needed : IsNeeded f q range
+  pub needed : IsAmong (needs f q) range
   pub from : ℕ
   pub to : ℕ
   pub first : s.first ≡ from * block_size

@@ -93,6 +93,5 @@ take h (Ok p) = take_by (case_of h.revision h.asked p) h p
 
 -- the answer changed nothing
 abbrev pub IsIgnored : Delivered → Type 0
-IsIgnored (Took n) = ⊥
-IsIgnored Restarted = ⊥
 IsIgnored (Ignored w) = ⊤
+IsIgnored what = ⊥

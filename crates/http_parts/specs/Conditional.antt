@@ -7,13 +7,10 @@ use Rattle.http_parts.specs.Tag.{is_weak_tag, is_entity_tag}
 use Rattle.http_parts.specs.Fields.{is_there}
 use Rattle.http_parts.specs.Members.{members}
 
--- the opaque tag of an entity tag
-abbrev pub opaque_tag : List ℕ → List ℕ
-opaque_tag text = if is_weak_tag text then drop 2 text else text
-
--- the entity tag matches a strong one: strong comparison wants the same text, weak comparison the same opaque tag
+-- the entity tag matches a strong one: strong comparison wants the same text, weak comparison the same opaque tag, which is what
+-- stands behind the `W/` of a weak tag
 abbrev pub is_match : Bool → List ℕ → List ℕ → Bool
-is_match strong tag text = bytes_eq (if strong then text else opaque_tag text) tag
+is_match strong tag text = bytes_eq (if strong then text else if is_weak_tag text then drop 2 text else text) tag
 
 -- a member of a list of entity tags is one, or empty
 abbrev pub may_be_listed : List ℕ → Bool

@@ -15,9 +15,8 @@ values_of name fields = map (λ field. field.1) (filter (is_named name) fields)
 
 -- the element of a list of one
 abbrev pub only : {A : Type 0} → List A → Option A
-only [] = None
 only (x ∷ []) = Some x
-only (x ∷ y ∷ xs) = None
+only xs = None
 
 -- the list has an element
 abbrev pub is_there : {A : Type 0} → List A → Bool

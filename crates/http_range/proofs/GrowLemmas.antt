@@ -1,6 +1,6 @@
 -- What is read of the head at the front of an answer stays when bytes follow.
 use Rattle.std.proofs.Common.{◌≡◌, ◌≢◌, ℕ, ◌+◌, ◌-◌, ◌<◌, ◌≤◌, inl, inr, Bool, true, false, cond, List, [], ◌∷◌, ◌++◌, length, take, drop, refl, sym, ap, ◌∙◌, subst, arith, append_assoc, append-nil, length-append, length-take, Option, Some, None, Result, Ok, Err}
-use Rattle.std.specs.Prelude.{IfOk, unwrap_or, ◌==◌}
+use Rattle.std.specs.Prelude.{IfOk, codes, is_none, nat_le, not, unwrap_or, ◌&&◌, ◌==◌}
 use Rattle.std.proofs.Math.Seq.{take-append-add, take-append_seam}
 use Rattle.std.proofs.lemmas.Bool.{cases_lt}
 use Rattle.std.proofs.lemmas.List.{take_all, take-append-drop, take-append-le, drop-append-le}
@@ -9,10 +9,12 @@ use Rattle.httparse.proofs.GrammarLemmas.{print_response-append, ReadsResponse-a
 use Rattle.http_range.specs.declared.reading.Why.{Why}
 use Rattle.http_range.specs.declared.reading.Why.TheVariants.{Cut, Head, Status, NoTag, WeakTag, TagTooLong, NoRange, NoLength, Coding}
 use Rattle.http_range.specs.declared.reading.ContentRange.{ContentRange}
+use Rattle.http_parts.specs.declared.limits.TheConstants.{TAG_LIMIT}
+use Rattle.http_parts.specs.Tag.{is_entity_tag, is_weak_tag}
 use Rattle.http_range.specs.Head.{SeenHead, head_front, IsHeadOf, seen_head, IsCut, FindsHead}
 use Rattle.http_range.specs.Piece.{◌>>=◌}
 use Rattle.http_range.specs.Announced.{Announced, announced_by, body_behind, FitsFront}
-use Rattle.http_range.specs.Reading.{range_named, length_named, has_other_status, is_coded, etag, lacks_tag, has_weak_tag, has_long_tag, lacks_range, lacks_length, tag_in, announced_in, announced_of, ReadsHead}
+use Rattle.http_range.specs.Reading.{range_named, length_named, has_other_status, holds, is_coded, value_of, lacks_length, tag_in, announced_in, announced_of, ReadsHead}
 use Rattle.http_range.specs.Laws.{HasNone, HeadsGrow}
 use Rattle.http_range.proofs.FrontLemmas.{found_whole}
 
@@ -96,8 +98,8 @@ tag_rows false false false false tag = refl
 
 tag_decided : (head : SeenHead) → is_headless (tag_in head) ≡ false
 tag_decided head =
-    let value : Option (List ℕ) = etag head in
-    tag_rows (is_coded head) (lacks_tag value) (has_weak_tag value) (has_long_tag value) (unwrap_or value [])
+    let value : Option (List ℕ) = value_of (codes "ETag") head in
+    tag_rows (is_coded head) (not (holds value is_entity_tag)) (holds value is_weak_tag) (holds value (λ text. not (nat_le (length text) TAG_LIMIT))) (unwrap_or value [])
 
 place_rows : (range length : Bool) (head : Announced) → is_headless (cond range (Err NoRange) (cond length (Err NoLength) (Ok head))) ≡ false
 place_rows true length head = refl
@@ -109,7 +111,7 @@ place_decided head tag =
     let part = head.status == 206 in
     let range : Option ContentRange = range_named head in
     let length : Option ℕ = length_named head in
-    place_rows (lacks_range part range) (lacks_length part range length)
+    place_rows (part && is_none range) (lacks_length part range length)
     (announced_by tag (cond part range None) (unwrap_or length 0) head.size)
 
 bind_decided : (head : SeenHead) (tag : Result (List ℕ) Why) → is_headless tag ≡ false → is_headless (tag >>= announced_in head) ≡ false
@@ -197,7 +199,7 @@ sized seen =
     let part = seen.status == 206 in
     let length : Option ℕ = length_named seen in
     let rows : (tag : List ℕ) → HasSize n (announced_in seen tag) =
-    λ tag. if_sized n (lacks_range part range) (Err NoRange) _ tt
+    λ tag. if_sized n (part && is_none range) (Err NoRange) _ tt
     (if_sized n (lacks_length part range length) (Err NoLength) _ tt
     (by_sized tag (cond part range None) (unwrap_or length 0) n))
     in

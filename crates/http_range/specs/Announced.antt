@@ -22,14 +22,8 @@ pub record Announced : Type 0 where
 abbrev pub announced_by : List ℕ → Option ContentRange → ℕ → ℕ → Announced
 announced_by tag None n size =
     record { tag = tag; whole = true; first = 0; complete = n; length = n; size = size }
-announced_by tag (Some range) n size = record {
-  tag = tag;
-  whole = false;
-  first = range.first;
-  complete = range.complete;
-  length = n;
-  size = size;
-}
+announced_by tag (Some range) n size =
+    record { tag = tag; whole = false; first = range.first; complete = range.complete; length = n; size = size }
 
 -- the body, as far as it is there: what follows the head, at most as many bytes as it announces
 abbrev pub body_behind : Announced → List ℕ → List ℕ
@@ -37,13 +31,8 @@ body_behind head bytes = take head.length (drop head.size bytes)
 
 -- the piece that is there of the answer
 abbrev pub piece_behind : List ℕ → Announced → SeenPiece
-piece_behind bytes head = record {
-  tag = head.tag;
-  whole = head.whole;
-  first = head.first;
-  complete = head.complete;
-  body = body_behind head bytes;
-}
+piece_behind bytes head =
+    record { tag = head.tag; whole = head.whole; first = head.first; complete = head.complete; body = body_behind head bytes }
 
 -- The body that is announced lies in its file, whose length is a number of 64 bits.
 pub record FitsFile (head : Announced) : Type 0 where

@@ -27,9 +27,7 @@ IsRange (Some r) = (r.first ≤ r.last) × (r.last < r.complete)
 abbrev pub range_of_numbers : Option ℕ → Option ℕ → Option ℕ → Option ContentRange
 range_of_numbers (Some a) (Some b) (Some l) =
     if nat_le a b && nat_lt b l then Some (record { first = a; last = b; complete = l }) else None
-range_of_numbers (Some a) (Some b) None = None
-range_of_numbers (Some a) None l = None
-range_of_numbers None b l = None
+range_of_numbers first last complete = None
 
 -- the range that the value of a Content-Range field names
 unfoldable pub range_of : List ℕ → Option ContentRange

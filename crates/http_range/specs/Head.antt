@@ -4,7 +4,7 @@ use Rattle.httparse.specs.Grammar.{ResponseHead, ReadsResponse, print_response, 
 use Rattle.httparse.specs.Spans.{name_and_value, ResponseOverflows}
 use Rattle.http_parts.specs.declared.limits.TheConstants.{FIELD_LIMIT, HEAD_LIMIT}
 use Rattle.http_range.specs.declared.reading.Why.{Why}
-use Rattle.http_range.specs.declared.reading.Why.TheVariants.{Cut, Head, Status, NoTag, WeakTag, TagTooLong, NoRange, NoLength, Coding}
+use Rattle.http_range.specs.declared.reading.Why.TheVariants.{Cut, Head}
 use Rattle.http_parts.specs.Text.{FieldLine}
 
 -- what is read of a head, and how many bytes it has
@@ -43,10 +43,4 @@ abbrev pub FindsHead : List ℕ → Result SeenHead Why → Type 0
 FindsHead bytes (Ok seen) = (h : ResponseHead) × IsHeadOf bytes h × (seen ≡ seen_head h)
 FindsHead bytes (Err Cut) = IsCut bytes
 FindsHead bytes (Err Head) = IsRefused bytes
-FindsHead bytes (Err (Status code)) = ⊥
-FindsHead bytes (Err NoTag) = ⊥
-FindsHead bytes (Err WeakTag) = ⊥
-FindsHead bytes (Err TagTooLong) = ⊥
-FindsHead bytes (Err NoRange) = ⊥
-FindsHead bytes (Err NoLength) = ⊥
-FindsHead bytes (Err Coding) = ⊥
+FindsHead bytes (Err why) = ⊥

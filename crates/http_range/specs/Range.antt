@@ -32,8 +32,7 @@ IsRangeText text (Suffix n) = (y : List ℕ) × HasEnds text [] y × (number y �
 -- two numbers in order
 abbrev pub between : Option ℕ → Option ℕ → Option RangeSpec
 between (Some a) (Some b) = if nat_le a b then Some (Between a b) else None
-between (Some a) None = None
-between None b = None
+between first last = None
 
 -- what stands before and after the dash
 abbrev pub spec_by : List ℕ → List ℕ → Option RangeSpec

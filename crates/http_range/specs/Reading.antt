@@ -30,10 +30,6 @@ abbrev pub holds : {A : Type 0} → Option A → (A → Bool) → Bool
 holds None test = false
 holds (Some x) test = test x
 
--- the value of its only ETag field, which may be no entity tag
-abbrev pub etag : SeenHead → Option (List ℕ)
-etag head = value_of (codes "ETag") head
-
 -- the positions of its only Content-Range
 abbrev pub range_named : SeenHead → Option ContentRange
 range_named head = option_and_then range_of (value_of (codes "Content-Range") head)
@@ -52,44 +48,29 @@ has_other_status head = not (head.status == 200) && not (head.status == 206)
 abbrev pub is_coded : SeenHead → Bool
 is_coded head = has_field (codes "Transfer-Encoding") head || has_field (codes "Content-Encoding") head
 
--- no tag: not exactly one ETag field, or it isn't an entity tag
-abbrev pub lacks_tag : Option (List ℕ) → Bool
-lacks_tag value = not (holds value is_entity_tag)
-
--- weak tag: the tag is weak
-abbrev pub has_weak_tag : Option (List ℕ) → Bool
-has_weak_tag value = holds value is_weak_tag
-
--- long tag: the tag's text has more than 64 bytes
-abbrev pub has_long_tag : Option (List ℕ) → Bool
-has_long_tag value = holds value (λ text. not (nat_le (length text) TAG_LIMIT))
-
--- the first of these three that applies, or the tag
+-- the value of the only ETag field: *no tag* where there is none, or it isn't an entity tag; *weak tag*; *long tag* where its text
+-- has more than 64 bytes; or the tag
 abbrev pub tag_by_rows : Option (List ℕ) → Result (List ℕ) Why
 tag_by_rows value =
-    if lacks_tag value then Err NoTag
-    else if has_weak_tag value then Err WeakTag
-    else if has_long_tag value then Err TagTooLong
+    if not (holds value is_entity_tag) then Err NoTag
+    else if holds value is_weak_tag then Err WeakTag
+    else if holds value (λ text. not (nat_le (length text) TAG_LIMIT)) then Err TagTooLong
     else Ok (unwrap_or value [])
 
 -- the rows from *coding* to *long tag*
 abbrev pub tag_in : SeenHead → Result (List ℕ) Why
-tag_in head = if is_coded head then Err Coding else tag_by_rows (etag head)
-
--- no range: a part without exactly one Content-Range `bytes a-b/l`
-abbrev pub lacks_range : Bool → Option ContentRange → Bool
-lacks_range partial range = partial && is_none range
+tag_in head = if is_coded head then Err Coding else tag_by_rows (value_of (codes "ETag") head)
 
 -- no length: not exactly one Content-Length of digits and 64 bits, or for a part not b - a + 1
 abbrev pub lacks_length : Bool → Option ContentRange → Option ℕ → Bool
 lacks_length partial range length =
     is_none length || (partial && not (holds range (λ r. holds length (λ n. r.last - r.first + 1 == n))))
 
--- the first of these two that applies, or what is announced: the whole file, or the part that the range names, and as many
--- bytes as the Content-Length says
+-- *no range*, a part without exactly one Content-Range `bytes a-b/l`; *no length*; or what is announced: the whole file, or the
+-- part that the range names, and as many bytes as the Content-Length says
 abbrev pub announced_by_rows : Bool → List ℕ → Option ContentRange → Option ℕ → ℕ → Result Announced Why
 announced_by_rows partial tag range length size =
-    if lacks_range partial range then Err NoRange
+    if partial && is_none range then Err NoRange
     else if lacks_length partial range length then Err NoLength
     else Ok (announced_by tag (if partial then range else None) (unwrap_or length 0) size)
 
@@ -114,13 +95,9 @@ ReadsAnswer bytes r =
 
 -- ---- the answer to a client's check
 
--- status: none of 200, 206 and 304
-abbrev pub is_no_check : SeenHead → Bool
-is_no_check head = has_other_status head && not (head.status == 304)
-
--- the tag of the first row that applies to a whole head
+-- the tag of the first row that applies to a whole head; the status is none of 200, 206 and 304
 abbrev pub check_tag : SeenHead → Result (List ℕ) Why
-check_tag head = if is_no_check head then Err (Status head.status) else tag_in head
+check_tag head = if has_other_status head && not (head.status == 304) then Err (Status head.status) else tag_in head
 
 -- how the answer to a check is read
 abbrev pub ReadsCheck : List ℕ → Result (List ℕ) Why → Type 0

@@ -22,7 +22,7 @@ use Rattle.world.specs.declared.event.Event.TheVariants.{Publish, Epoch, NewClie
 use Rattle.world.specs.declared.event.AnsweredCheck.{AnsweredCheck}
 use Rattle.world.specs.declared.event.Effect.{Effect}
 use Rattle.world.specs.declared.event.Entry.{Entry}
-use Rattle.world.specs.World.{World, Seen, check_in, HasTag, IsExact, IsExactEntry}
+use Rattle.world.specs.World.{World, Seen, check_in, IsExact, IsExactEntry}
 use Rattle.world.specs.Run.{seen, IsCheckOf, IsChecked, IsCheckBy}
 use Rattle.world.specs.State.{StepKeeping}
 use Rattle.world.specs.LowerLaws.{LowerLaws}
@@ -68,7 +68,7 @@ module _ (laws : LowerLaws) where
       let told : k.current ≡ current_by k.tag (tag_seen (response_to_check (published name w.catalogue) k.tag).reply) =
       h.current.2 ∙ (ap (λ r. current_by k.tag r) (read ∙ whole_told s) ∙ ap (λ (r : Response). current_by k.tag (tag_seen r.reply)) response) in
       let there = ap (λ (ss : List Seen). slice_get ss i) (sym g.seen_are) ∙ (get-map seen cs i ∙ ap (λ (o : Option ClientState). option_map seen o) at) in
-      subst (λ (o : Option Seen). IsSomeAnd o (λ s. (k.current ≡ Same) ↔ HasTag w.catalogue s.name k.tag)) (sym there) (exact_by (published name w.catalogue) k.tag k.current told)
+      subst (λ (o : Option Seen). IsSomeAnd o (λ s. (k.current ≡ Same) ↔ (option_map (λ p. p.tag) (published s.name w.catalogue) ≡ Some k.tag))) (sym there) (exact_by (published name w.catalogue) k.tag k.current told)
 
   exact_checked : (w : World) (cs : List ClientState) (i : ℕ) (c : ClientState) (o : Option AnsweredCheck) (effect : Effect) → Good w cs → slice_get cs i ≡ Some c → IsChecked w.catalogue (length w.sent) i c o effect → IfSome (check_in effect) (IsExact w i)
   exact_checked w cs i c None effect g at h = let P : Effect → Type 0 = λ e. IfSome (check_in e) (IsExact w i) in subst P (sym h.0) tt
@@ -76,7 +76,7 @@ module _ (laws : LowerLaws) where
 
   exact_at : (o : Option ClientState) (w : World) (cs new : List ClientState) (i : ℕ) (n : Entry) → slice_get cs i ≡ o → Good w cs → IsCheckBy o w.catalogue (length w.sent) i n cs new → IfSome (check_in n.effect) (IsExact w i)
   exact_at None w cs new i n at g h = let P : Effect → Type 0 = λ e. IfSome (check_in e) (IsExact w i) in subst P (sym h.done) tt
-  exact_at (Some c) w cs new i n at g h = exact_checked w cs i c h.check n.effect g at h.checked
+  exact_at (Some c) w cs new i n at g h = exact_checked w cs i c h.0 n.effect g at h.1
 
   pub exact_step : (w : World) (cs : List ClientState) (e : Event) (n : Entry) (new : List ClientState) → Good w cs → StepKeeping w cs e n new → IsExactEntry w e n
   exact_step w cs (Publish name file) n new g h = tt

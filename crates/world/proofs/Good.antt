@@ -20,7 +20,8 @@ use Rattle.cog_client.specs.Client.{ClientState, ClientAgrees, KnowsOne, client_
 use Rattle.world.specs.declared.event.Event.{Event}
 use Rattle.world.specs.declared.event.Event.TheVariants.{Publish, Epoch, NewClient, Open, Forget, Ask, AskFrom, Deliver, Exchange, Check}
 use Rattle.world.specs.declared.event.Effect.{Effect}
-use Rattle.world.specs.World.{World, Seen, start, answer_in, next_of, publish_by, refused_at, server_of, restart_by, made_by, scheduled, after, host, opened, StaysHonest}
+use Rattle.world.specs.State.{refused_at}
+use Rattle.world.specs.World.{World, Seen, start, answer_in, next_of, publish_by, server_of, restart_by, made_by, scheduled, after, host, opened, StaysHonest}
 use Rattle.world.specs.Run.{seen}
 use Rattle.world.specs.LowerLaws.{LowerLaws}
 use Rattle.world.proofs.Lists.{get-map, get-set, get-push, map-set, set_there}

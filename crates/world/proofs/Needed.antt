@@ -1,6 +1,6 @@
 -- What is asked is what the client's query needs.
 use Rattle.std.proofs.Common.{◌≡◌, ℕ, Bool, true, false, cond, List, [], ◌∷◌, ◌++◌, length, Option, Some, None, refl, sym, ap, ◌∙◌, subst, inl, inr}
-use Rattle.std.specs.Prelude.{slice_get, slice_set, IfSome}
+use Rattle.std.specs.Prelude.{IsSomeAnd, slice_get, slice_set, IfSome}
 use Rattle.std.specs.Option.{option_map}
 use Rattle.std.proofs.lemmas.Option.{none-some, same_Some}
 use Rattle.tiff_dir.specs.declared.query.Query.{Query}
@@ -71,7 +71,7 @@ hosted_delivery (Some a) (Some c) cut i n old new at h all = by (is_for a (name_
 
 hosted_check : (o : Option ClientState) (catalogue : _) (sent i : ℕ) (n : Entry) (old new : List ClientState) → IsCheckBy o catalogue sent i n old new → AllHosted old → AllHosted new
 hosted_check None catalogue sent i n old new h all = hosted_same old new h.same all
-hosted_check (Some c) catalogue sent i n old new h all = hosted_same old new h.same all
+hosted_check (Some c) catalogue sent i n old new h all = hosted_same old new h.2.same all
 
 pub hosted_step : (w : World) (cs : List ClientState) (e : Event) (n : Entry) (new : List ClientState) → StepKeeping w cs e n new → AllHosted cs → AllHosted new
 hosted_step w cs (Publish name file) n new h all = hosted_same cs new h.same all
@@ -117,9 +117,7 @@ module _ (laws : LowerLaws) where
         published = k.published;
         of_name = k.of_name ∙ name;
         of_tag = k.of_tag;
-        query = q;
-        opened = query;
-        needed = subst (λ o. IfSome o (λ q. IsOfNeeded k.source.file q span)) queried needed;
+        needed = subst (λ o. IsSomeAnd o (λ q. IsOfNeeded k.source.file q span)) (sym query) (subst (λ o. IfSome o (λ q. IsOfNeeded k.source.file q span)) queried needed);
       }
 
   needed_by : (w : World) (c mid : ClientState) (a : AnsweredRequest) (o : Option Revision) (q : Query) → revision_of mid ≡ o → a.tag ≡ tag_of mid → ClientAgrees mid w.book → AsksFor mid o a.span → name_of mid ≡ name_of c → query_of c ≡ Some q

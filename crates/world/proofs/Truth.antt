@@ -31,9 +31,9 @@ use Rattle.world.specs.declared.event.AnsweredCheck.{AnsweredCheck}
 use Rattle.world.specs.declared.event.Effect.{Effect}
 use Rattle.world.specs.declared.event.Effect.TheVariants as effects
 use Rattle.world.specs.declared.event.Entry.{Entry}
-use Rattle.world.specs.World.{World, Seen, host, is_for, answer_in, next_of, publish_by, refused_at, restart_by, scheduled, made_by, opened, after, client_of, IsTrueAt, StaysHonest}
+use Rattle.world.specs.World.{World, Seen, host, is_for, answer_in, next_of, publish_by, restart_by, scheduled, made_by, opened, after, client_of, IsTrueAt, StaysHonest}
 use Rattle.world.specs.Run.{seen, news, AtClient, MakesBy, ForgetsAll, Asks, asked_effect, IsExchanged, cut_at, publish_effect, receiver, told_of, IsChecked, IsCheckBy}
-use Rattle.world.specs.State.{AsksWithKeeping, DeliversWithKeeping, ExchangesWithKeeping, IsDeliveredKeeping, IsDeliveryKeeping, Keeping, OpensWithKeeping, StandsTrue, StepKeeping, request_in}
+use Rattle.world.specs.State.{refused_at, AsksWithKeeping, DeliversWithKeeping, ExchangesWithKeeping, IsDeliveredKeeping, IsDeliveryKeeping, Keeping, OpensWithKeeping, StandsTrue, StepKeeping, request_in}
 use Rattle.world.specs.LowerLaws.{LowerLaws}
 use Rattle.world.proofs.Lists.{get-map, get-set_same}
 use Rattle.world.proofs.Good.{Good, AgreesLater, see, seen_same, kept_seen, opened_there, opened_none, agree_set, agree_push, nothing_agrees, good_publish, good_epoch, good_clients, good_after}
@@ -320,11 +320,11 @@ module _ (laws : LowerLaws) where
 
   check_sent : (o : Option ClientState) (w : World) (cs new : List ClientState) (i : ℕ) (n : Entry) → Good w cs → IsCheckBy o w.catalogue (length w.sent) i n cs new → IfSome (answer_in n.effect) (λ a. StaysHonest a w.book)
   check_sent None w cs new i n g h = nothing_sent n.effect _ w.book h.done refl
-  check_sent (Some c) w cs new i n g h = check_honest w cs i c h.check n.effect g h.checked
+  check_sent (Some c) w cs new i n g h = check_honest w cs i c h.0 n.effect g h.1
 
   sound_check : (o : Option ClientState) (w : World) (cs new : List ClientState) (i : ℕ) (n : Entry) → Good w cs → IsCheckBy o w.catalogue (length w.sent) i n cs new → IsSound w new (Some i) n.report
   sound_check None w cs new i n g h = sound_quiet w cs new (Some i) n g h.same h.report
-  sound_check (Some c) w cs new i n g h = sound_quiet w cs new (Some i) n g h.same h.report
+  sound_check (Some c) w cs new i n g h = sound_quiet w cs new (Some i) n g h.2.same h.2.report
 
   -- ---- one event
 

@@ -29,9 +29,7 @@ pub record IsOfPublished (w : World) (s : Seen) (tag : List ℕ) (span : Span) :
   pub published : In source w.book
   pub of_name : source.name ≡ s.name
   pub of_tag : source.tag ≡ tag
-  pub query : Query
-  pub opened : s.query ≡ Some query
-  pub needed : IsOfNeeded source.file query span
+  pub needed : IsSomeAnd s.query (λ q. IsOfNeeded source.file q span)
 
 -- without a revision the first 65,536 bytes, with one what is needed of its file
 abbrev pub IsNeededBy : World → Seen → Option (List ℕ) → Span → Type 0

@@ -6,7 +6,7 @@ use Rattle.http_range.specs.Ask.{CanCheck, check_text}
 use Rattle.http_range.specs.Book.{Catalogue, HasDistinctTags}
 use Rattle.cog_server.specs.declared.error.PublishError.{PublishError}
 use Rattle.cog_server.specs.declared.server.Answer.{Answer}
-use Rattle.cog_server.specs.Server.{IsAnswered}
+use Rattle.cog_server.specs.Server.{IsAnswered, refusal_of}
 use Rattle.cog_client.specs.declared.error.ClientError.{ClientError}
 use Rattle.cog_client.specs.declared.delivered.Delivered.{Delivered}
 use Rattle.cog_client.specs.Report.{Told, told}
@@ -20,7 +20,7 @@ use Rattle.world.specs.declared.event.AnsweredCheck.{AnsweredCheck}
 use Rattle.world.specs.declared.event.Effect.{Effect}
 use Rattle.world.specs.declared.event.Effect.TheVariants as effects
 use Rattle.world.specs.declared.event.Entry.{Entry}
-use Rattle.world.specs.World.{World, Seen, host, start, is_for, next_of, refused_at, after, after_all, AtEach, IsTrueEntry, IsExactEntry, IsHonestEntry, AreAlike, AreOfBook}
+use Rattle.world.specs.World.{World, Seen, host, start, is_for, next_of, server_of, after, after_all, AtEach, IsTrueEntry, IsExactEntry, IsHonestEntry, AreAlike, AreOfBook}
 use Rattle.world.specs.Progress.{IsNeededEntry, AllReport}
 
 abbrev pub seen : ClientState → Seen
@@ -168,21 +168,15 @@ abbrev pub IsChecked : Catalogue → ℕ → ℕ → ClientState → Option Answ
 IsChecked catalogue sent i c None effect = (effect ≡ effects.Unchecked i) × (tag_of c ≡ None)
 IsChecked catalogue sent i c (Some k) effect = (effect ≡ effects.Checked k) × IsCheckOf catalogue sent i c k
 
--- the client's check, if it has one, is answered; no client changes, and no report is told
-pub record ChecksWith (catalogue : Catalogue) (sent i : ℕ) (c : ClientState) (n : Entry) (old new : List ClientState) : Type 0 where
-  pub check : Option AnsweredCheck
-  pub checked : IsChecked catalogue sent i c check n.effect
-  pub report : told_of n ≡ None
-  pub same : new ≡ old
-
--- or nothing, where there is no such client
+-- the client's check, if it has one, is answered, or nothing, where there is no such client; no client changes
 abbrev pub IsCheckBy : Option ClientState → Catalogue → ℕ → ℕ → Entry → List ClientState → List ClientState → Type 0
 IsCheckBy None catalogue sent i n old new = Quiet n effects.Skipped old new
-IsCheckBy (Some c) catalogue sent i n old new = ChecksWith catalogue sent i c n old new
+IsCheckBy (Some c) catalogue sent i n old new =
+    (check : Option AnsweredCheck) × IsChecked catalogue sent i c check n.effect × Quiet n n.effect old new
 
 -- One event, with what is logged of it.
 abbrev pub Step : World → List ClientState → Event → Entry → List ClientState → Type 0
-Step w old (Publish name file) n new = Quiet n (publish_effect (next_of w name.items file.items).tag (refused_at w name.items file.items)) old new
+Step w old (Publish name file) n new = Quiet n (publish_effect (next_of w name.items file.items).tag (refusal_of (server_of w) name.items file.items)) old new
 Step w old (Epoch e) n new = (e < 2 ^ 32) × Quiet n (if nat_lt w.epoch e then effects.Epoch e else effects.Skipped) old new
 Step w old (NewClient name blocks) n new = MakesBy (client_refusal host name.items blocks) name.items blocks n old new
 Step w old (Open i q) n new = AtClient (slice_get old i) (OpensWith q i n.effect) i n old new

@@ -89,6 +89,10 @@ RunsKeeping w old (e ∷ es) (n ∷ ns) new = (mid : List ClientState) × StepKe
 
 -- ---- the server
 
+-- why the world's server doesn't publish a file
+abbrev pub refused_at : World → List ℕ → List ℕ → Option PublishError
+refused_at w name file = refusal_of (server_of w) name file
+
 -- the server has published the file, or has not changed
 abbrev pub IsAtAfter : Option PublishError → Publication → ServerState → ServerState → Type 0
 IsAtAfter None p old new = new ≡ record { epoch = old.epoch; count = old.count + 1; catalogue = publish p old.catalogue }

@@ -55,9 +55,6 @@ host = codes "cog.test"
 abbrev pub next_of : World → List ℕ → List ℕ → Publication
 next_of w name file = record { name = name; tag = publication_tag w.epoch (w.count + 1); file = file }
 
-abbrev pub refused_at : World → List ℕ → List ℕ → Option PublishError
-refused_at w name file = refusal_of (server_of w) name file
-
 abbrev pub publish_by : World → Publication → Option PublishError → World
 publish_by w p None = record w { count = w.count + 1; catalogue = publish p w.catalogue; book = p ∷ w.book }
 publish_by w p (Some refusal) = w
@@ -78,7 +75,7 @@ opened (s ∷ ss) (suc i) q = s ∷ opened ss i q
 
 -- what an event makes of the world, whatever is answered
 abbrev pub scheduled : World → Event → World
-scheduled w (Publish name file) = publish_by w (next_of w name.items file.items) (refused_at w name.items file.items)
+scheduled w (Publish name file) = publish_by w (next_of w name.items file.items) (refusal_of (server_of w) name.items file.items)
 scheduled w (Epoch e) = restart_by w e (nat_lt w.epoch e)
 scheduled w (NewClient name blocks) = made_by w name.items (client_refusal host name.items blocks)
 scheduled w (Open i q) = record w { clients = opened w.clients i q }
@@ -174,13 +171,10 @@ abbrev pub check_in : Effect → Option AnsweredCheck
 check_in (effects.Checked k) = Some k
 check_in effect = None
 
--- the catalogue has this tag under the name
-abbrev pub HasTag : Catalogue → List ℕ → List ℕ → Type 0
-HasTag catalogue name tag = option_map (λ p. p.tag) (published name catalogue) ≡ Some tag
-
 -- The check says "same" exactly where the catalogue that answered it has the tag under the client's name.
 abbrev pub IsExact : World → ℕ → AnsweredCheck → Type 0
-IsExact w i k = IsSomeAnd (slice_get w.clients i) (λ s. (k.current ≡ Same) ↔ HasTag w.catalogue s.name k.tag)
+IsExact w i k =
+    IsSomeAnd (slice_get w.clients i) (λ s. (k.current ≡ Same) ↔ (option_map (λ p. p.tag) (published s.name w.catalogue) ≡ Some k.tag))
 
 -- The check of an entry does.
 abbrev pub IsExactEntry : World → Event → Entry → Type 0
