@@ -1,10 +1,11 @@
 //! How fast the loops over bytes go, and the server. Without a word it checks what they give; with the word `measure` it
 //! prints how many GB a second each loop writes on hot tiles, first on the packed tiles of the files whose names follow, and how
-//! many answers a second are served from memory.
+//! many answers a second are served from memory, and how quickly a client takes one.
 #![tactic(auto)]
 
 mod files;
 mod picture;
+mod pieces;
 mod serving;
 mod tiles;
 
@@ -12,6 +13,7 @@ use anyhow::{Result, bail, ensure};
 use files::measure_file;
 use packbits::unpack;
 use picture::Picture;
+use pieces::measure_pieces;
 use serving::{check_serving, measure_serving};
 use std::alloc::Global;
 use std::env;
@@ -141,7 +143,8 @@ fn main(rt: HostRuntime) -> Result<()> {
         }
     }
     if measures {
-        measure(&rt, alloc)
+        measure(&rt, alloc)?;
+        measure_pieces(&rt, alloc)
     } else {
         check(&rt, alloc)
     }

@@ -483,6 +483,11 @@ ends_with catalogue given given' taken taken' is_over (Ok served) e f is same en
 ends_with catalogue given given' taken taken' is_over (Err x) e f is same ends =
     subst (λ (y : ServeError). Outcome catalogue given given' taken taken' is_over (Err y)) (sym (is ∙ same)) ends
 
+-- so is what it says of the reader and of the writer
+pub told_by : (f : Result Served ServeError → Bool) (result : Result Served ServeError) (e : ServeError) → IsErrAnd result (λ x. x ≡ e) → f result ≡ f (Err e)
+told_by f (Ok served) e is = absurd is
+told_by f (Err x) e is = ap (λ (y : ServeError). f (Err y)) is
+
 -- ---- the measure
 
 -- how much may still happen: answers, and between two of them bytes and the end

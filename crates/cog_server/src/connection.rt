@@ -4,7 +4,7 @@ ghost use Rattle.http_parts.specs.declared.limits.TheConstants.{ANSWERS_LIMIT, M
 
 use crate::held::Held;
 use crate::limits::DROP_LIMIT;
-use crate::outgoing::{Outgoing, answer_to};
+use crate::outgoing::Outgoing;
 use crate::served::Ended;
 use crate::server::Server;
 use http_range::{ANSWERS_LIMIT, MESSAGE_LIMIT, Memory};
@@ -22,7 +22,6 @@ fn closes(closed: bool, answers: usize) -> bool
 /// Behind the message with the last answer, what comes is dropped.
 #[derive(Drop)]
 pub struct Connection {
-    alloc: Global,
     held: Held,
     outgoing: Outgoing,
     closed: bool,
@@ -67,7 +66,6 @@ impl Connection {
         ensures { result ≡ start }
     {
         Connection {
-            alloc,
             held: Held::new(alloc),
             outgoing: Outgoing::new(alloc),
             closed: false,
@@ -124,14 +122,14 @@ impl Connection {
         let Some(n) = self.held.whole() else {
             return Ok(false);
         };
-        let outgoing = answer_to(self.alloc, server.files(), &self.held.bytes[..n])?;
+        self.outgoing
+            .answer(server.files(), &self.held.bytes[..n])?;
         self.answers += 1;
-        self.closed = outgoing.close;
-        self.outgoing = outgoing;
+        self.closed = self.outgoing.close;
         self.held.skip(n);
         if closes(self.closed, self.answers) {
             self.dropped = self.held.bytes.len();
-            self.held.clear();
+            self.held.skip(self.dropped);
         }
         Ok(true)
     }

@@ -72,13 +72,4 @@ impl Held {
         self.bytes.copy_within(n.., 0);
         self.bytes.truncate(self.bytes.len() - n);
     }
-
-    /// Lets all bytes go.
-    pub fn clear(&mut self)
-        ensures { self.new.bytes.items ≡ [] }
-    {
-        messages_stay();
-        self.scanned = 0;
-        self.bytes.clear();
-    }
 }

@@ -1,16 +1,19 @@
 //! An answer on its way out.
-ghost use Rattle.std.specs.Prelude.{◌≡◌, ◌≤◌, ◌++◌, ◌==◌, [], not, IfOk, length, drop, map, slice_range};
+ghost use Rattle.std.specs.Prelude.{◌≡◌, ◌≤◌, ◌++◌, ◌==◌, [], not, OnErr, OnOk, length, drop, map, slice_range};
 ghost use Rattle.cog_server.specs.Catalogue.{publication};
 ghost use Rattle.cog_server.specs.Outgoing.{IsOutgoing, body_of, waiting_of};
 
 use crate::prepared::prepare;
 use crate::published::Published;
-use http_range::{Memory, write_head};
+use http_range::{Memory, append_head};
 use std::alloc::Global;
 use std::rc::RcSlice;
 
+/// As many bytes as the longest head of an answer has, and some more.
+const HEAD_ROOM: usize = 320;
+
 /// The head of an answer, the part of the file that is its body, and how many bytes of both are written. The file's bytes stay
-/// while they are on their way.
+/// while they are on their way; one room serves the heads of all answers.
 #[derive(Drop)]
 pub struct Outgoing {
     pub head: Vec<u8>,
@@ -34,6 +37,43 @@ impl Outgoing {
             sent: 0,
             close: false,
         }
+    }
+
+    /// Drops what is there but for the room of the head.
+    fn clear(&mut self)
+        ensures waiting { waiting_of self.new ≡ [] }
+        ensures head { self.new.head.items ≡ [] }
+        ensures sent { self.new.sent ≡ 0 }
+    {
+        self.head.clear();
+        self.file = None;
+        self.first = 0;
+        self.end = 0;
+        self.sent = 0;
+    }
+
+    /// Puts the answer to the head at the front of a message in the place of what is there. Its body stays where it is, its head is
+    /// put together where the one before was. After an error nothing waits.
+    pub fn answer(&mut self, files: &[Published], message: &[u8]) -> Result<(), Memory>
+        ensures ok { OnOk result (IsOutgoing (map publication files.now) message.now self.new) }
+        ensures err { OnErr result (waiting_of self.new ≡ []) }
+    {
+        self.clear();
+        self.head.reserve(HEAD_ROOM)?;
+        let prepared = prepare(files, message);
+        let file = match prepared.file {
+            Some(file) => Some(file.clone()?),
+            None => None,
+        };
+        if append_head(&mut self.head, &prepared.reply, prepared.close).is_err() {
+            self.clear();
+            return Err(Memory);
+        }
+        self.file = file;
+        self.first = prepared.first;
+        self.end = prepared.end;
+        self.close = prepared.close;
+        Ok(())
     }
 
     fn body(&self) -> &[u8]
@@ -78,24 +118,4 @@ fn range(bytes: &[u8], first: usize, end: usize) -> &[u8]
 {
     let rest = &bytes[first.min(bytes.len())..];
     &rest[..end.saturating_sub(first).min(rest.len())]
-}
-
-/// The answer to the head at the front of a message, whose body stays where it is.
-pub fn answer_to(alloc: Global, files: &[Published], message: &[u8]) -> Result<Outgoing, Memory>
-    ensures { IfOk result (IsOutgoing (map publication files.now) message.now) }
-{
-    let prepared = prepare(files, message);
-    let head = write_head(alloc, &prepared.reply, prepared.close)?;
-    let file = match prepared.file {
-        Some(file) => Some(file.clone()?),
-        None => None,
-    };
-    Ok(Outgoing {
-        head,
-        file,
-        first: prepared.first,
-        end: prepared.end,
-        sent: 0,
-        close: prepared.close,
-    })
 }

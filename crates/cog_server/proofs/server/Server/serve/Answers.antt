@@ -1,6 +1,7 @@
-use Rattle.std.proofs.Common.{Bool, None, ◌++◌, length, drop, refl, ap, ◌∙◌, subst, arith, length-append, length-take}
+use Rattle.std.proofs.Common.{Bool, None, ◌++◌, length, drop, refl, sym, ap, ◌∙◌, subst, arith, length-append, length-take}
+use Rattle.cog_server.specs.Serve.{read_failed, write_failed}
 use Rattle.cog_server.specs.Status.{EndsBy, GoesOn, Status}
-use Rattle.cog_server.proofs.ServeLemmas.{begins, ends, ends_memory, ends_unread, ends_unsent, ends_with, less_to_answer, less_to_read, nothing_waits, reads, sent_whole, some_room, stands, stays, still_silent, went}
+use Rattle.cog_server.proofs.ServeLemmas.{begins, ends, ends_memory, ends_unread, ends_unsent, ends_with, less_to_answer, less_to_read, nothing_waits, reads, sent_whole, some_room, stands, stays, still_silent, told_by, unsent_flag, went}
 use Rattle.cog_server.proofs.server.Server.serve.Goals as goal
 
 pub returns-in_err-buffers-clause-served : goal.returns-in_err-buffers-clause-served
@@ -34,6 +35,16 @@ returns-in_err-send_waiting-clause-served g c =
     ends_with _ _ _ _ _ _ _ _ _ c.from_residual-in_err-send_waiting.ensures.1 refl
     (ends_unsent _ c.in_err-send_waiting.field-0.0 law c.answers.invariant.going c.answers.invariant.silent
     (went law c.go_on.new.self c.answers.invariant.going goes) c.in_err-send_waiting.ensures.sent)
+
+pub returns-in_err-send_waiting-clause-read : goal.returns-in_err-send_waiting-clause-read
+returns-in_err-send_waiting-clause-read g c =
+    c.answers.invariant.reads ∙ sym (told_by read_failed c.from_residual-in_err-send_waiting.result c.in_err-send_waiting.field-0.0 c.from_residual-in_err-send_waiting.ensures.1
+    ∙ (unsent_flag _ _ _ _ c.in_err-send_waiting.field-0.0 c.in_err-send_waiting.ensures.sent).1)
+
+pub returns-in_err-send_waiting-clause-write : goal.returns-in_err-send_waiting-clause-write
+returns-in_err-send_waiting-clause-write g c =
+    (unsent_flag _ _ _ _ c.in_err-send_waiting.field-0.0 c.in_err-send_waiting.ensures.sent).0
+    ∙ sym (told_by write_failed c.from_residual-in_err-send_waiting.result c.in_err-send_waiting.field-0.0 c.from_residual-in_err-send_waiting.ensures.1)
 
 pub answers-smaller-then-branch : goal.answers-smaller-then-branch
 answers-smaller-then-branch g c =
