@@ -3,7 +3,6 @@ pub mod ClientLemmas
 pub mod AcceptLemmas
 pub mod RequestLemmas
 pub mod DeliverLemmas
-pub mod FetchLemmas
 pub mod ProgressLemmas
 pub mod OwnLemmas
 pub mod TruthLemmas

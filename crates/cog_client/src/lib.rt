@@ -9,7 +9,6 @@ mod client;
 mod delivered;
 mod error;
 mod feeding;
-mod fetching;
 mod going;
 mod head;
 mod laws;
@@ -22,7 +21,6 @@ pub use client::Client;
 pub use cog_reader::{Info, Outcome, Window};
 pub use delivered::{Current, Delivered, Ignored, Unknown};
 pub use error::{ClientError, FetchError};
-pub use fetching::fetch;
 pub use http_range::{Span, Tag, Why};
 pub use laws::{
     agreement_is_seen, answers_begin_anywhere, answers_come_in_pieces, end_is_needed,

@@ -1,9 +1,10 @@
 -- Pieces that come one after another, and what an answer leaves of a client that reads one publication.
 use Rattle.std.proofs.Common.{ℕ, List, [], ◌∷◌, ◌++◌, refl, sym, ap, subst, ◌∙◌, inl, arith, Result, Ok, Err, OnErr}
-use Rattle.std.proofs.lemmas.List.{append_assoc}
-use Rattle.http_range.specs.Book.{Publication, HasDistinctTags}
-use Rattle.http_range.specs.Honest.{IsFront, IsHonestFor}
-use Rattle.cog_client.specs.Client.{ClientState}
+use Rattle.std.proofs.lemmas.List.{append_assoc, append-nil}
+use Rattle.http_range.specs.Book.{Book, Publication, HasDistinctTags}
+use Rattle.http_range.specs.Honest.{IsFront, IsHonest, IsHonestFor}
+use Rattle.cog_client.specs.Calls.{SameClient}
+use Rattle.cog_client.specs.Client.{ClientAgrees, ClientState, name_of}
 use Rattle.cog_client.specs.FedClient.{Fed}
 use Rattle.cog_client.specs.Keeps.{StopsDelivery}
 use Rattle.cog_client.specs.Transport.{IsHonestToAll, KeepsReading, SpeaksOn}
@@ -76,3 +77,12 @@ keeps_taking before mid after rest old new on later honest takes = record {
             (inl (p, inl refl, is.named, honest_front takes.bytes rest p front (honest p is.spoken)));
       };
 }
+
+-- an answer that came at once
+pub keeps_whole : (before after : Publication → Type 0) (old new : ClientState) (text : List ℕ) → SpeaksOn before after
+    → IsHonestToAll before text → SameClient old new
+    → ((book : Book) → HasDistinctTags book → ClientAgrees old book → IsHonest text (name_of old) book → ClientAgrees new book)
+    → KeepsReading before after old new
+keeps_whole before after old new text on honest same agrees =
+    keeps_taking before before after text old new (λ p spoken. spoken) on honest
+    (record { bytes = text; next = λ p spoken. ([], append-nil text); same = same; agrees = agrees })

@@ -1,4 +1,4 @@
-//! Fetching: a client's requests over a source of answers in pieces, until its report stands.
+//! Fetching: a client's requests over a transport or a source of answers in pieces, until its report stands.
 ghost use Rattle.std.specs.Prelude.{◌≡◌, ◌+◌, ◌<◌, ◌≤◌, ◌^◌, ◌⊎◌, IfOk, IfSome, IsSome, OnOk, false};
 ghost use Rattle.std.specs.Prelude.{if◌then◌else◌, option_copied};
 ghost use Rattle.std.specs.Borrow.{sem};
@@ -9,64 +9,82 @@ ghost use Rattle.cog_client.specs.Calls.{IsIdle};
 ghost use Rattle.cog_client.specs.Keeps.{Stands};
 ghost use Rattle.cog_client.specs.Transport.{IsInVain, IsTrueOfOne, KeepsReading};
 
-use crate::taking::take_answer;
-use cog_client::{Client, FetchError, Lost, Pieces, Report};
-
-/// Sends a request, and takes what comes of its answer.
-fn exchange_request<P: Pieces>(
-    client: &mut Client,
-    pieces: &mut P,
-    request: &[u8],
-) -> Result<(), FetchError>
-    requires { P.count pieces.old + 1 < 2 ^ 64 }
-    ensures keeps { KeepsReading (P.speaks_for pieces.old) (P.speaks_for pieces.new) client.old client.new }
-    ensures counted { P.count pieces.new ≡ P.count pieces.old + 1 }
-{
-    match pieces.start(request) {
-        Ok(()) => Ok(take_answer(client, pieces)?),
-        Err(Lost) => Ok(()),
-    }
-}
+use crate::exchange::{Exchange, InPieces, Whole};
+use cog_client::{Client, FetchError, Pieces, Report, Transport};
 
 /// One exchange, if the client has a request. Says whether it had one.
-fn exchange_once<P: Pieces>(client: &mut Client, pieces: &mut P) -> Result<bool, FetchError>
-    requires { P.count pieces.old + 1 < 2 ^ 64 }
-    ensures keeps { KeepsReading (P.speaks_for pieces.old) (P.speaks_for pieces.new) client.old client.new }
-    ensures counted { IfOk result (λ asked. P.count pieces.new
-        ≡ (if asked then P.count pieces.old + 1 else P.count pieces.old)) }
-    ensures few { P.count pieces.new ≤ P.count pieces.old + 1 }
+fn exchange_once<S, E: Exchange<S>>(client: &mut Client, source: &mut S) -> Result<bool, FetchError>
+    requires { E.count source.old + 1 < 2 ^ 64 }
+    ensures keeps { KeepsReading (E.speaks_for source.old) (E.speaks_for source.new) client.old client.new }
+    ensures counted { IfOk result (λ asked. E.count source.new
+        ≡ (if asked then E.count source.old + 1 else E.count source.old)) }
+    ensures few { E.count source.new ≤ E.count source.old + 1 }
     ensures silent { IfOk result (λ asked. asked ≡ false → IsIdle client.new) }
     ensures idle { IsIdle client.old
-        → (P.count pieces.new ≡ P.count pieces.old) × OnOk result (IsIdle client.new) }
+        → (E.count source.new ≡ E.count source.old) × OnOk result (IsIdle client.new) }
     ensures stands { IsSome (report_of client.old) → OnOk result (report_of client.new ≡ report_of client.old) }
 {
     let request = client.request()?;
     let Some(request) = request else {
         return Ok(false);
     };
-    exchange_request(client, pieces, &request)?;
+    E::exchange(client, source, &request)?;
     Ok(true)
 }
 
 /// So many exchanges, or fewer where the client has no request any more.
-fn exchange_up_to<P: Pieces>(
+fn exchange_up_to<S, E: Exchange<S>>(
     client: &mut Client,
-    pieces: &mut P,
+    source: &mut S,
     tries: u32,
 ) -> Result<(), FetchError>
-    requires { P.count pieces.old + tries < 2 ^ 64 }
-    ensures keeps { KeepsReading (P.speaks_for pieces.old) (P.speaks_for pieces.new) client.old client.new }
-    ensures ends { OnOk result ((P.count pieces.new ≡ P.count pieces.old + tries) ⊎ IsIdle client.new) }
-    ensures few { P.count pieces.new ≤ P.count pieces.old + tries }
-    ensures idle { IsIdle client.old → P.count pieces.new ≡ P.count pieces.old }
+    requires { E.count source.old + tries < 2 ^ 64 }
+    ensures keeps { KeepsReading (E.speaks_for source.old) (E.speaks_for source.new) client.old client.new }
+    ensures ends { OnOk result ((E.count source.new ≡ E.count source.old + tries) ⊎ IsIdle client.new) }
+    ensures few { E.count source.new ≤ E.count source.old + tries }
+    ensures idle { IsIdle client.old → E.count source.new ≡ E.count source.old }
     ensures stands { IsSome (report_of client.old) → OnOk result (report_of client.new ≡ report_of client.old) }
 {
     for _ in 0..tries {
-        if !exchange_once(client, pieces)? {
+        if !exchange_once::<S, E>(client, source)? {
             return Ok(());
         }
     }
     Ok(())
+}
+
+/// Sends the client's requests over a transport and delivers what comes of the answers, until a report stands, in at
+/// most `tries` exchanges, those that bring nothing included. Gives the report, if one stands. Want of memory (`Memory`,
+/// the only error) ends it, and the client can go on from there.
+pub fn fetch<'c, T: Transport>(
+    client: &'c mut Client,
+    transport: &mut T,
+    tries: u32,
+) -> Result<Option<&'c Report>, FetchError>
+    requires { T.count transport.old + tries < 2 ^ 64 }
+
+    // A client that reads a publication for which the transport speaks reads it still, whatever was lost or cut, and
+    // after want of memory too. What is given is its standing report.
+    ensures* client { sem 𝓛 (Rests the_row client.entry (λ c.
+        KeepsReading (T.speaks_for transport.old) (T.speaks_for transport.new) client.old c
+        × IfOk result (λ report. Stands c (option_copied report)))) }
+
+    // A report is true of that publication.
+    ensures report { IfOk result (λ report.
+        IfSome (option_copied report) (IsTrueOfOne (T.speaks_for transport.old) client.old)) }
+
+    // There is none only after so many exchanges, or without a query.
+    ensures none { IfOk result (λ report. report ≡ None
+        → IsInVain (query_of client.old) tries (T.count transport.old) (T.count transport.new)) }
+    ensures few { T.count transport.new ≤ T.count transport.old + tries }
+
+    // Where there is no query, or the report stands already, nothing is sent, and that report is given.
+    ensures idle { IsIdle client.old → T.count transport.new ≡ T.count transport.old }
+    ensures stands { IsSome (report_of client.old)
+        → IfOk result (λ report. option_copied report ≡ report_of client.old) }
+{
+    exchange_up_to::<T, Whole>(client, transport, tries)?;
+    Ok(client.report())
 }
 
 /// Sends the client's requests to a source and feeds it what comes of the answers, piece by piece, until a report stands, in at
@@ -100,6 +118,6 @@ pub fn fetch_pieces<'c, P: Pieces>(
     ensures stands { IsSome (report_of client.old)
         → IfOk result (λ report. option_copied report ≡ report_of client.old) }
 {
-    exchange_up_to(client, pieces, tries)?;
+    exchange_up_to::<P, InPieces>(client, pieces, tries)?;
     Ok(client.report())
 }

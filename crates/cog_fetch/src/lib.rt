@@ -1,8 +1,10 @@
-//! Fetching with answers that come in pieces: a client's requests over a source, until its report stands.
+//! Fetching: a client's requests over a transport, whose answers come whole, or over a source of answers in pieces, until its
+//! report stands.
 #![tactic(auto)]
 
+mod exchange;
 mod fetching;
 mod taking;
 
-pub use fetching::fetch_pieces;
+pub use fetching::{fetch, fetch_pieces};
 pub use taking::{ANSWER_LIMIT, PIECE_ROOM};

@@ -1,5 +1,5 @@
 -- What a server answers to a client's request.
-use Rattle.std.proofs.Common.{◌≡◌, ℕ, ◌-◌, ◌^◌, ◌<◌, ◌≤◌, min, Bool, true, false, cond, ◌||◌, List, [], ◌∷◌, ◌++◌, length, refl, sym, ap, ◌∙◌, subst, append-nil, Option, Some, None}
+use Rattle.std.proofs.Common.{◌≡◌, ℕ, ◌-◌, ◌^◌, ◌<◌, ◌≤◌, min, Bool, true, false, cond, ◌||◌, List, [], ◌∷◌, ◌++◌, length, drop, suc, refl, sym, ap, ◌∙◌, subst, append-nil, Option, Some, None}
 use Rattle.std.specs.Prelude.{◌↔◌, option_and_then}
 use Rattle.http_parts.specs.Members.{members}
 use Rattle.std.proofs.Math.Dec.{ltb}
@@ -7,64 +7,97 @@ use Rattle.std.specs.Str.{bytes_eq}
 use Rattle.httparse.specs.Grammar.{trim_ows}
 use Rattle.http_range.specs.declared.range.RangeSpec.{RangeSpec}
 use Rattle.http_range.specs.declared.range.Resolved.TheVariants.{Whole, Part, Unsatisfiable}
-use Rattle.http_range.specs.declared.reply.Reply.TheVariants.{R416}
+use Rattle.http_range.specs.declared.reply.Reply.TheVariants.{R404, R416}
 use Rattle.http_range.specs.Range.{range_spec, resolved_or}
-use Rattle.http_range.specs.Ask.{range_value, asked_request, request_text, CanCheck, checked_request, check_text}
+use Rattle.http_range.specs.Ask.{range_value, asked_request, open_request_text, request_by, request_text, CanAsk, CanCheck, checked_request, check_text}
 use Rattle.http_range.specs.Book.{Publication, Catalogue, published}
-use Rattle.http_range.specs.Response.{Response, refused, serve_tag, serve_head, serve_part, serve_file, answer_by, is_current, response_to_client, response_to_check, IsAnswer}
-use Rattle.http_range.specs.Stream.{IsAnswered, IsFirstMessage}
-use Rattle.http_range.specs.Stream.AreAnswers.{closed}
+use Rattle.http_range.specs.Response.{Response, ending, refused, serve_tag, serve_head, serve_part, serve_file, answer_by, is_current, response_to_client, response_to_check, IsAnswer}
+use Rattle.http_range.specs.Stream.{AreAnswers, IsAnswered, IsFirstMessage}
+use Rattle.http_range.specs.Stream.AreAnswers.{unfinished, closed, more as goes_on}
 use Rattle.http_parts.specs.declared.limits.TheConstants.{ANSWERS_LIMIT}
-use Rattle.http_range.specs.Laws.{ClientsAreAnswered, ChecksAreAnswered, ClientsAreServed, ChecksAreServed}
+use Rattle.http_range.specs.Laws.{ClientsAreAnswered, RequestsAreAnswered, ChecksAreAnswered, ClientsAreServed, OpenClientsAreServed, ChecksAreServed}
 use Rattle.http_parts.specs.Laws.{PartsAreRead}
 use Rattle.http_range.proofs.RangeLemmas.{range_spec-range_value}
 use Rattle.http_range.proofs.RequestLemmas.{asked_first, asked_read, asked_has, checked_first, checked_read, checked_has}
-use Rattle.http_range.proofs.StreamLemmas.{streams_answered_once}
+use Rattle.http_range.proofs.MessageLemmas.{no_message, one_message}
+use Rattle.http_range.proofs.StreamLemmas.{closes_apart, same_response, streams_answered_once}
+use Rattle.std.proofs.Math.Seq.{drop-append_seam}
 
 module _ (laws : PartsAreRead) where
-  module _ (p : Publication) (first last : ℕ) (ordered : first ≤ last) (small : last < 2 ^ 64) where
+  -- what is answered to a client, whether the connection ends with it or not
+  abbrev answer_to : Bool → Option Publication → ℕ → ℕ → Option (List ℕ) → Response
+  answer_to close None first last known = refused R404 close
+  answer_to close (Some p) first last known =
+      cond (is_current known p.tag)
+      (cond (ltb first (length p.file)) (serve_part (Part first (min last (length p.file - 1))) p close) (refused (R416 (length p.file)) close))
+      (serve_part Whole p close)
+
+  answer_ends : (close : Bool) (o : Option Publication) (first last : ℕ) (known : Option (List ℕ))
+      → answer_to close o first last known ≡ ending close (response_to_client o first last known)
+  answer_ends close None first last known = refl
+  answer_ends close (Some p) first last known = by_tests (is_current known p.tag) (ltb first (length p.file))
+    where
+      by_tests : (t u : Bool)
+          → cond t (cond u (serve_part (Part first (min last (length p.file - 1))) p close) (refused (R416 (length p.file)) close)) (serve_part Whole p close)
+          ≡ ending close (cond t (cond u (serve_part (Part first (min last (length p.file - 1))) p true) (refused (R416 (length p.file)) true)) (serve_part Whole p true))
+      by_tests true true = refl
+      by_tests true false = refl
+      by_tests false u = refl
+
+  module _ (close : Bool) (p : Publication) (first last : ℕ) (ordered : first ≤ last) (small : last < 2 ^ 64) where
     abbrev within : Response
     within =
-        cond (ltb first (length p.file)) (serve_part (Part first (min last (length p.file - 1))) p true)
-        (refused (R416 (length p.file)) true)
+        cond (ltb first (length p.file)) (serve_part (Part first (min last (length p.file - 1))) p close)
+        (refused (R416 (length p.file)) close)
 
     by_test : (t : Bool)
-        → serve_part (cond t (Part first (min last (length p.file - 1))) Unsatisfiable) p true
-        ≡ cond t (serve_part (Part first (min last (length p.file - 1))) p true) (refused (R416 (length p.file)) true)
+        → serve_part (cond t (Part first (min last (length p.file - 1))) Unsatisfiable) p close
+        ≡ cond t (serve_part (Part first (min last (length p.file - 1))) p close) (refused (R416 (length p.file)) close)
     by_test true = refl
     by_test false = refl
 
-    asked_part : serve_part (resolved_or (range_spec (range_value first last)) (length p.file)) p true ≡ within
+    asked_part : serve_part (resolved_or (range_spec (range_value first last)) (length p.file)) p close ≡ within
     asked_part =
-        ap (λ (o : Option RangeSpec). serve_part (resolved_or o (length p.file)) p true) (range_spec-range_value laws first last ordered small)
+        ap (λ (o : Option RangeSpec). serve_part (resolved_or o (length p.file)) p close) (range_spec-range_value laws first last ordered small)
         ∙ by_test (ltb first (length p.file))
 
     asked_if : (t : Bool)
-        → serve_part (resolved_or (option_and_then range_spec (cond t (Some (range_value first last)) None)) (length p.file)) p true
-        ≡ cond t within (serve_part Whole p true)
+        → serve_part (resolved_or (option_and_then range_spec (cond t (Some (range_value first last)) None)) (length p.file)) p close
+        ≡ cond t within (serve_part Whole p close)
     asked_if true = asked_part
     asked_if false = refl
 
   module _ (host name : List ℕ) (first last : ℕ) (ordered : first ≤ last) (small : last < 2 ^ 64) where
-    by_file : (tag : Option (List ℕ)) (o : Option Publication)
-        → serve_file o (asked_request host name first last tag) ≡ response_to_client o first last tag
+    by_file : (close : Bool) (tag : Option (List ℕ)) (o : Option Publication)
+        → serve_file o (asked_request close host name first last tag) ≡ answer_to close o first last tag
     unfolding members trim_ows
-    by_file None None = refl
-    by_file (Some tag) None = refl
-    by_file None (Some p) = asked_part p first last ordered small
-    by_file (Some tag) (Some p) = asked_if p first last ordered small (bytes_eq tag p.tag)
+    by_file true None None = refl
+    by_file false None None = refl
+    by_file true (Some tag) None = refl
+    by_file false (Some tag) None = refl
+    by_file true None (Some p) = asked_part true p first last ordered small
+    by_file false None (Some p) = asked_part false p first last ordered small
+    by_file true (Some tag) (Some p) = asked_if true p first last ordered small (bytes_eq tag p.tag)
+    by_file false (Some tag) (Some p) = asked_if false p first last ordered small (bytes_eq tag p.tag)
 
-    pub asked_answer : (catalogue : Catalogue) (tag : Option (List ℕ))
-        → answer_by catalogue (Some (asked_request host name first last tag)) ≡ response_to_client (published name catalogue) first last tag
-    asked_answer catalogue None = by_file None (published name catalogue)
-    asked_answer catalogue (Some tag) = by_file (Some tag) (published name catalogue)
+    by_rows : (catalogue : Catalogue) (close : Bool) (tag : Option (List ℕ))
+        → answer_by catalogue (Some (asked_request close host name first last tag)) ≡ answer_to close (published name catalogue) first last tag
+    by_rows catalogue true None = by_file true None (published name catalogue)
+    by_rows catalogue false None = by_file false None (published name catalogue)
+    by_rows catalogue true (Some tag) = by_file true (Some tag) (published name catalogue)
+    by_rows catalogue false (Some tag) = by_file false (Some tag) (published name catalogue)
 
-  pub clients_answered : ClientsAreAnswered
-  clients_answered catalogue host name more first last tag response can ordered =
-      let text = request_text host name first last tag ++ more in
-      let answer = asked_answer host name first last ordered can.to_last catalogue tag in (
-        λ is. is.2 ∙ ap (answer_by catalogue) (asked_read laws host name first last tag more can text refl is.0 is.1) ∙ answer,
-        λ is. (Some (asked_request host name first last tag), asked_has laws host name first last tag more can text refl, is ∙ sym answer),
+    pub asked_answer : (catalogue : Catalogue) (close : Bool) (tag : Option (List ℕ))
+        → answer_by catalogue (Some (asked_request close host name first last tag))
+        ≡ ending close (response_to_client (published name catalogue) first last tag)
+    asked_answer catalogue close tag = by_rows catalogue close tag ∙ answer_ends close (published name catalogue) first last tag
+
+  pub requests_answered : RequestsAreAnswered
+  requests_answered catalogue close host name more first last tag response can ordered =
+      let text = request_by close host name first last tag ++ more in
+      let answer = asked_answer host name first last ordered can.to_last catalogue close tag in (
+        λ is. is.2 ∙ ap (answer_by catalogue) (asked_read laws close host name first last tag more can text refl is.0 is.1) ∙ answer,
+        λ is. (Some (asked_request close host name first last tag), asked_has laws close host name first last tag more can text refl, is ∙ sym answer),
       )
 
   -- ---- the check
@@ -104,15 +137,14 @@ module _ (laws : PartsAreRead) where
         λ same. subst (λ (xs : List Response). IsAnswered catalogue stream xs) (sym same) one,
       )
 
-  client_closes : (o : Option Publication) (first last : ℕ) (tag : Option (List ℕ)) → (response_to_client o first last tag).close ≡ true
-  client_closes None first last tag = refl
-  client_closes (Some p) first last tag = by_tests (is_current tag p.tag) (ltb first (length p.file))
+  -- it closes already
+  client_ends : (o : Option Publication) (first last : ℕ) (tag : Option (List ℕ))
+      → ending true (response_to_client o first last tag) ≡ response_to_client o first last tag
+  client_ends o first last tag = sym (answer_ends true o first last tag) ∙ same o
     where
-      by_tests : (t u : Bool)
-          → (cond t (cond u (serve_part (Part first (min last (length p.file - 1))) p true) (refused (R416 (length p.file)) true)) (serve_part Whole p true)).close ≡ true
-      by_tests true true = refl
-      by_tests true false = refl
-      by_tests false u = refl
+      same : (o : Option Publication) → answer_to true o first last tag ≡ response_to_client o first last tag
+      same None = refl
+      same (Some p) = refl
 
   check_closes : (o : Option Publication) (tag : List ℕ) → (response_to_check o tag).close ≡ true
   check_closes None tag = refl
@@ -122,15 +154,62 @@ module _ (laws : PartsAreRead) where
       by_test true = refl
       by_test false = refl
 
+  pub clients_answered : ClientsAreAnswered
+  clients_answered catalogue host name more first last tag response can ordered =
+      subst (λ (s : Response). IsAnswer catalogue (request_text host name first last tag ++ more) response ↔ (response ≡ s))
+      (client_ends (published name catalogue) first last tag)
+      (requests_answered catalogue true host name more first last tag response can ordered)
+
+  -- a client's request as a message of its own
+  asked_alone : (catalogue : Catalogue) (close : Bool) (host name : List ℕ) (first last : ℕ) (tag : Option (List ℕ))
+      → CanAsk host name first last tag → first ≤ last
+      → IsAnswer catalogue (request_by close host name first last tag) (ending close (response_to_client (published name catalogue) first last tag))
+  asked_alone catalogue close host name first last tag can ordered =
+      let text = request_by close host name first last tag in
+      let r = ending close (response_to_client (published name catalogue) first last tag) in
+      subst (λ (t : List ℕ). IsAnswer catalogue t r) (append-nil text)
+      ((requests_answered catalogue close host name [] first last tag r can ordered).1 refl)
+
   pub clients_served : ClientsAreServed
   clients_served catalogue host name more first last tag rs can ordered =
       let text = request_text host name first last tag in
-      let r = response_to_client (published name catalogue) first last tag in
-      let is : IsAnswer catalogue text r =
-      subst (λ (t : List ℕ). IsAnswer catalogue t r) (append-nil text)
-      ((clients_answered catalogue host name [] first last tag r can ordered).1 refl) in
-      alone catalogue (text ++ more) text r rs (asked_first laws host name first last tag more can) is
-      (client_closes (published name catalogue) first last tag)
+      let served = response_to_client (published name catalogue) first last tag in
+      let r = ending true served in
+      let one = alone catalogue (text ++ more) text r rs (asked_first laws true host name first last tag more can)
+      (asked_alone catalogue true host name first last tag can ordered) refl in
+      subst (λ (s : Response). IsAnswered catalogue (text ++ more) rs ↔ (rs ≡ s ∷ []))
+      (client_ends (published name catalogue) first last tag) one
+
+  -- a message that is answered by a response that lets the connection go on: behind it the next ones are answered
+  followed : (catalogue : Catalogue) (n : ℕ) (message more : List ℕ) (r : Response) (rs : List Response) → IsFirstMessage (message ++ more) message
+      → IsAnswer catalogue message r → r.close ≡ false
+      → AreAnswers catalogue (suc n) (message ++ more) rs
+      ↔ ((later : List Response) × (rs ≡ r ∷ later) × AreAnswers catalogue n more later)
+  followed catalogue n message more r rs first is on =
+      let stream = message ++ more in (
+        λ answered. split rs answered,
+        λ h. subst (λ (xs : List Response). AreAnswers catalogue (suc n) stream xs) (sym h.1)
+            (goes_on n stream message r h.0 first is on
+            (subst (λ (t : List ℕ). AreAnswers catalogue n t h.0) (sym (drop-append_seam message more)) h.2)),
+      )
+    where
+      split : (rs : List Response) → AreAnswers catalogue (suc n) (message ++ more) rs
+          → ((later : List Response) × (rs ≡ r ∷ later) × AreAnswers catalogue n more later)
+      split _ (unfinished _ _ none) = absurd (no_message (message ++ more) message none first)
+      split _ (closed _ _ m s found answers ends) =
+          absurd (closes_apart s r (same_response catalogue (message ++ more) m message s r found first answers is) ends on)
+      split _ (goes_on _ _ m s later found answers goes behind) =
+          let same = same_response catalogue (message ++ more) m message s r found first answers is in
+          let front = one_message (message ++ more) m message found first in (
+            later,
+            ap (λ (u : Response). u ∷ later) same,
+            subst (λ (t : List ℕ). AreAnswers catalogue n t later) (ap (λ (x : List ℕ). drop (length x) (message ++ more)) front ∙ drop-append_seam message more) behind,
+          )
+
+  pub open_clients_served : OpenClientsAreServed
+  open_clients_served catalogue n host name more first last tag rs can ordered =
+      followed catalogue n (open_request_text host name first last tag) more (ending false (response_to_client (published name catalogue) first last tag)) rs
+      (asked_first laws false host name first last tag more can) (asked_alone catalogue false host name first last tag can ordered) refl
 
   pub checks_served : ChecksAreServed
   checks_served catalogue host name tag more rs can =

@@ -1,5 +1,5 @@
 -- A client's request is a head of the grammar, and is read as what was asked.
-use Rattle.std.proofs.Common.{◌≡◌, ℕ, ◌+◌, ◌-◌, ◌^◌, ◌<◌, ◌≤◌, Bool, true, List, [], ◌∷◌, ◌++◌, length, map, take, refl, sym, ap, ◌∙◌, arith, append_assoc, append-nil, length-append, codes, subst, Option, Some, None, flat_map}
+use Rattle.std.proofs.Common.{◌≡◌, ℕ, ◌+◌, ◌-◌, ◌^◌, ◌<◌, ◌≤◌, Bool, true, false, List, [], ◌∷◌, ◌++◌, length, map, take, refl, sym, ap, ◌∙◌, arith, append_assoc, append-nil, length-append, codes, subst, Option, Some, None, flat_map}
 use Rattle.std.specs.Prelude.{decimal, IfSome}
 use Rattle.std.specs.List.{list_all}
 use Rattle.std.proofs.Math.Seq.{take-append-add}
@@ -15,7 +15,7 @@ use Rattle.httparse.proofs.GrammarLemmas.{request_unique, print_request-append}
 use Rattle.http_parts.specs.Tag.{is_kept_tag}
 use Rattle.http_parts.specs.Text.{FieldLine, line, head_with, closing}
 use Rattle.http_parts.specs.Names.{is_name, is_name_byte, is_host, is_host_byte}
-use Rattle.http_range.specs.Ask.{CanAsk, request_line, range_value, if_range, request_fields, request_text, asked_request, CanCheck, check_fields, check_text, checked_request}
+use Rattle.http_range.specs.Ask.{CanAsk, request_line, range_value, if_range, request_by, request_fields, asked_request, CanCheck, check_fields, check_text, checked_request}
 use Rattle.http_range.specs.Seen.{SeenRequest, IsRequestFront, seen_request, HasRequest}
 use Rattle.http_range.specs.Stream.{IsFirstMessage}
 use Rattle.http_parts.specs.Plain.{field_of}
@@ -192,36 +192,40 @@ module _ (laws : PartsAreRead) where
 
   -- ---- the client's requests
 
-  asked_plain : (host name : List ℕ) (first last : ℕ) (tag : Option (List ℕ)) → CanAsk host name first last tag
-      → IsPlainRequest (codes "GET") name (request_fields host first last tag)
+  closing_few : (close : Bool) → length (closing close) ≤ 1
+  closing_few true = omega arith
+  closing_few false = omega arith
+
+  asked_plain : (close : Bool) (host name : List ℕ) (first last : ℕ) (tag : Option (List ℕ)) → CanAsk host name first last tag
+      → IsPlainRequest (codes "GET") name (request_fields close host first last tag)
   unfolding is_token_byte
-  asked_plain host name first last tag can = record {
+  asked_plain close host name first last tag can = record {
     token = refl;
     brief = omega arith;
     named = can.of_name;
     plain = (
       host_plain host can.to_host,
-      (range_plain first last can.from_first can.to_last, plain-append (if_range tag) (closing true) (if_range_plain tag can.kept) (closing_plain true)),
+      (range_plain first last can.from_first can.to_last, plain-append (if_range tag) (closing close) (if_range_plain tag can.kept) (closing_plain close)),
     );
-    few = omega (arith, length-append (if_range tag) (closing true), if_range_few tag);
+    few = omega (arith, length-append (if_range tag) (closing close), if_range_few tag, closing_few close);
   }
 
-  pub asked_read : (host name : List ℕ) (first last : ℕ) (tag : Option (List ℕ)) (more : List ℕ) → CanAsk host name first last tag
-      → (bytes : List ℕ) → bytes ≡ request_text host name first last tag ++ more → (r : Option SeenRequest) → HasRequest bytes r
-      → r ≡ Some (asked_request host name first last tag)
-  asked_read host name first last tag more can bytes is r found =
-      plain_read (codes "GET") name (request_fields host first last tag) (asked_plain host name first last tag can) bytes more is r found
+  pub asked_read : (close : Bool) (host name : List ℕ) (first last : ℕ) (tag : Option (List ℕ)) (more : List ℕ) → CanAsk host name first last tag
+      → (bytes : List ℕ) → bytes ≡ request_by close host name first last tag ++ more → (r : Option SeenRequest) → HasRequest bytes r
+      → r ≡ Some (asked_request close host name first last tag)
+  asked_read close host name first last tag more can bytes is r found =
+      plain_read (codes "GET") name (request_fields close host first last tag) (asked_plain close host name first last tag can) bytes more is r found
 
-  pub asked_has : (host name : List ℕ) (first last : ℕ) (tag : Option (List ℕ)) (more : List ℕ) → CanAsk host name first last tag
-      → (bytes : List ℕ) → bytes ≡ request_text host name first last tag ++ more
-      → HasRequest bytes (Some (asked_request host name first last tag))
-  asked_has host name first last tag more can bytes is =
-      plain_has (codes "GET") name (request_fields host first last tag) (asked_plain host name first last tag can) bytes more is
+  pub asked_has : (close : Bool) (host name : List ℕ) (first last : ℕ) (tag : Option (List ℕ)) (more : List ℕ) → CanAsk host name first last tag
+      → (bytes : List ℕ) → bytes ≡ request_by close host name first last tag ++ more
+      → HasRequest bytes (Some (asked_request close host name first last tag))
+  asked_has close host name first last tag more can bytes is =
+      plain_has (codes "GET") name (request_fields close host first last tag) (asked_plain close host name first last tag can) bytes more is
 
-  pub asked_first : (host name : List ℕ) (first last : ℕ) (tag : Option (List ℕ)) (more : List ℕ) → CanAsk host name first last tag
-      → IsFirstMessage (request_text host name first last tag ++ more) (request_text host name first last tag)
-  asked_first host name first last tag more can =
-      plain_first (codes "GET") name (request_fields host first last tag) (asked_plain host name first last tag can) more
+  pub asked_first : (close : Bool) (host name : List ℕ) (first last : ℕ) (tag : Option (List ℕ)) (more : List ℕ) → CanAsk host name first last tag
+      → IsFirstMessage (request_by close host name first last tag ++ more) (request_by close host name first last tag)
+  asked_first close host name first last tag more can =
+      plain_first (codes "GET") name (request_fields close host first last tag) (asked_plain close host name first last tag can) more
 
   checked_plain : (host name tag : List ℕ) → CanCheck host name tag → IsPlainRequest (codes "HEAD") name (check_fields host tag)
   unfolding is_token_byte

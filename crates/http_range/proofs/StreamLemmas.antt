@@ -8,12 +8,12 @@ use Rattle.http_range.specs.Laws.{StreamsAreAnsweredOnce}
 use Rattle.http_range.proofs.ResponseLemmas.{answers_unique}
 use Rattle.http_range.proofs.MessageLemmas.{one_message, no_message}
 
-same_response : (catalogue : Catalogue) (stream a b : List ℕ) (s t : Response) → IsFirstMessage stream a → IsFirstMessage stream b
+pub same_response : (catalogue : Catalogue) (stream a b : List ℕ) (s t : Response) → IsFirstMessage stream a → IsFirstMessage stream b
     → IsAnswer catalogue a s → IsAnswer catalogue b t → s ≡ t
 same_response catalogue stream a b s t fa fb ha hb =
     answers_unique catalogue b s t (subst (λ (m : List ℕ). IsAnswer catalogue m s) (one_message stream a b fa fb) ha) hb
 
-closes_apart : (s t : Response) → s ≡ t → s.close ≡ true → t.close ≡ false → ⊥
+pub closes_apart : (s t : Response) → s ≡ t → s.close ≡ true → t.close ≡ false → ⊥
 closes_apart s t same yes_close no_close =
     let e : true ≡ false = sym yes_close ∙ ap (λ (u : Response). u.close) same ∙ no_close in cc
 

@@ -1,9 +1,9 @@
 -- Laws of the definitions, each the contract of a function of `laws`.
-use Rattle.std.specs.Prelude.{◌≡◌, ◌≢◌, ◌<◌, ◌≤◌, ◌^◌, ◌-◌, ◌↔◌, ◌⊎◌, ℕ, Bool, true, IsTrue, IsErr, IfOk, List, [], ◌∷◌, ◌++◌, length, take, drop, Option, Some, None, Result, Ok, Err}
+use Rattle.std.specs.Prelude.{◌≡◌, ◌≢◌, ◌<◌, ◌≤◌, ◌^◌, ◌-◌, ◌↔◌, ◌⊎◌, ℕ, suc, Bool, true, false, IsTrue, IsErr, IfOk, List, [], ◌∷◌, ◌++◌, length, take, drop, Option, Some, None, Result, Ok, Err}
 use Rattle.httparse.specs.Grammar.{RequestHead, IsRequestHead, print_request}
-use Rattle.http_range.specs.Ask.{CanAsk, request_text, CanCheck, check_text}
+use Rattle.http_range.specs.Ask.{CanAsk, open_request_text, request_by, request_text, CanCheck, check_text}
 use Rattle.http_range.specs.Book.{Publication, IsPublication, Book, In, HasDistinctTags, Includes, Covers, Catalogue, IsCatalogue, published, publish, publication_tag}
-use Rattle.http_range.specs.Response.{Response, text_of, IsAnswer, response_to_client, response_to_check}
+use Rattle.http_range.specs.Response.{Response, ending, text_of, IsAnswer, response_to_client, response_to_check}
 use Rattle.http_parts.specs.declared.limits.TheConstants.{HEAD_LIMIT, MESSAGE_LIMIT}
 use Rattle.http_range.specs.Seen.{SeenRequest, HasRequest}
 use Rattle.http_range.specs.Scan.{is_message}
@@ -87,6 +87,14 @@ ClientsAreAnswered =
     → IsAnswer catalogue (request_text host name first last tag ++ more) response
     ↔ (response ≡ response_to_client (published name catalogue) first last tag)
 
+-- the same whether the connection is to end or may go on, but that the answer ends it or doesn't
+abbrev pub RequestsAreAnswered : Type 0
+RequestsAreAnswered =
+    (catalogue : Catalogue) (close : Bool) (host name more : List ℕ) (first last : ℕ) (tag : Option (List ℕ)) (response : Response)
+    → CanAsk host name first last tag → first ≤ last
+    → IsAnswer catalogue (request_by close host name first last tag ++ more) response
+    ↔ (response ≡ ending close (response_to_client (published name catalogue) first last tag))
+
 -- what is answered to a client's check, whatever follows it: the tag alone exactly where the file still has it
 abbrev pub ChecksAreAnswered : Type 0
 ChecksAreAnswered =
@@ -102,7 +110,16 @@ ClientsAreServed =
     → IsAnswered catalogue (request_text host name first last tag ++ more) rs
     ↔ (rs ≡ response_to_client (published name catalogue) first last tag ∷ [])
 
--- so has its check
+-- one that lets the connection go on has its answer, and then those to what follows
+abbrev pub OpenClientsAreServed : Type 0
+OpenClientsAreServed =
+    (catalogue : Catalogue) (n : ℕ) (host name more : List ℕ) (first last : ℕ) (tag : Option (List ℕ)) (rs : List Response)
+    → CanAsk host name first last tag → first ≤ last
+    → AreAnswers catalogue (suc n) (open_request_text host name first last tag ++ more) rs
+    ↔ ((later : List Response) × (rs ≡ ending false (response_to_client (published name catalogue) first last tag) ∷ later)
+    × AreAnswers catalogue n more later)
+
+-- a check has its answer, and nothing behind it has any
 abbrev pub ChecksAreServed : Type 0
 ChecksAreServed =
     (catalogue : Catalogue) (host name tag more : List ℕ) (rs : List Response) → CanCheck host name tag

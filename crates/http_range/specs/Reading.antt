@@ -6,7 +6,9 @@ use Rattle.http_range.specs.declared.reading.ContentRange.{ContentRange}
 use Rattle.http_range.specs.declared.reply.Reply.{Reply}
 use Rattle.http_range.specs.declared.reply.Reply.TheVariants.{R200, R206, R304, R400, R404, R405, R412, R416}
 use Rattle.http_range.specs.Reply.{head_text}
+use Rattle.std.specs.List.{list_any}
 use Rattle.http_parts.specs.Fields.{values_of, only, is_there}
+use Rattle.http_parts.specs.Members.{has_member}
 use Rattle.http_parts.specs.Digits.{number_64}
 use Rattle.http_parts.specs.Tag.{is_entity_tag, is_weak_tag}
 use Rattle.http_parts.specs.declared.limits.TheConstants.{TAG_LIMIT}
@@ -92,6 +94,20 @@ ReadsHead bytes r = (found : Result SeenHead Why) × FindsHead bytes found × (r
 abbrev pub ReadsAnswer : List ℕ → Result SeenPiece Why → Type 0
 ReadsAnswer bytes r =
     (head : Result Announced Why) × ReadsHead bytes head × (r ≡ (head >>= (λ a. Ok (piece_behind bytes a))))
+
+-- ---- the connection
+
+-- the head says that the connection ends with the answer (RFC 9112, section 9.6)
+abbrev pub says_close : SeenHead → Bool
+says_close head = list_any (has_member (codes "close")) (values_of (codes "Connection") head.fields)
+
+-- the connection ends with an answer whose head says so, or isn't there
+abbrev pub ends_by : Result SeenHead Why → Bool
+ends_by (Ok head) = says_close head
+ends_by (Err why) = true
+
+abbrev pub EndsConnection : List ℕ → Bool → Type 0
+EndsConnection bytes ends = (found : Result SeenHead Why) × FindsHead bytes found × (ends ≡ ends_by found)
 
 -- ---- the answer to a client's check
 

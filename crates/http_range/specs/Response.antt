@@ -149,6 +149,10 @@ response_to_client (Some p) first last known =
     else refused (R416 (length p.file)) true)
     else serve_part Whole p true
 
+-- the same answer, whether the connection ends with it or not: its Connection field alone is another
+abbrev pub ending : Bool → Response → Response
+ending close s = record s { close = close }
+
 -- what is answered to a client that checks whether the file has this tag
 abbrev pub response_to_check : Option Publication → List ℕ → Response
 response_to_check None tag = refused R404 true

@@ -2,7 +2,7 @@
 ghost use Rattle.std.specs.Prelude.{◌≡◌, ◌≤◌, Some, length, option_copied};
 ghost use Rattle.http_range.specs.Head.{head_front, FindsHead};
 ghost use Rattle.http_range.specs.AnswerHead.{head_seen, found_seen};
-ghost use Rattle.http_range.specs.Reading.{is_coded, tag_by_rows, tag_in};
+ghost use Rattle.http_range.specs.Reading.{EndsConnection, is_coded, says_close, tag_by_rows, tag_in};
 
 use crate::reading::Why;
 use http_parts::fields::Fields;
@@ -55,7 +55,23 @@ pub(crate) fn head_of(bytes: &[u8]) -> Result<AnswerHead<'_>, Why>
     }
 }
 
+/// Whether the connection ends with the answer: its head, read from a front of it, says so (RFC 9112, section 9.6), or isn't there.
+pub fn ends_connection(bytes: &[u8]) -> bool
+    ensures { EndsConnection bytes.now result }
+{
+    match head_of(bytes) {
+        Ok(head) => head.says_close(),
+        Err(_) => true,
+    }
+}
+
 impl<'b> AnswerHead<'b> {
+    fn says_close(&self) -> bool
+        ensures { result ≡ says_close (head_seen self.now) }
+    {
+        self.fields.has_member(b"Connection", b"close")
+    }
+
     fn is_coded(&self) -> bool
         ensures { result ≡ is_coded (head_seen self.now) }
     {

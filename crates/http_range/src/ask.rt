@@ -2,7 +2,7 @@
 ghost use Rattle.std.specs.Prelude.{◌≡◌, ◌++◌, IfOk, OnOk, codes, option_map};
 ghost use Rattle.std.specs.List.{flat_map};
 ghost use Rattle.http_parts.specs.Text.{line};
-ghost use Rattle.http_range.specs.Ask.{request_text, request_line, range_value, if_range, check_text};
+ghost use Rattle.http_range.specs.Ask.{open_request_text, request_by, request_text, request_line, range_value, if_range, check_text};
 
 use http_parts::line::{push_closing, push_decimal, push_line};
 use http_parts::tag::Tag;
@@ -10,7 +10,7 @@ use std::alloc::{AllocError, Global};
 use tiff_dir::{Memory, Span};
 
 /// The request for the bytes of a span of the file under a name; with a tag it asks for them of that revision alone
-/// (RFC 9110, sections 13.1.5 and 14.2). Its only error is want of memory.
+/// (RFC 9110, sections 13.1.5 and 14.2). The connection is to end with the answer. Its only error is want of memory.
 pub fn write_request(
     alloc: Global,
     host: &[u8],
@@ -21,13 +21,42 @@ pub fn write_request(
     ensures { IfOk result (λ text. text.items
         ≡ request_text host.now name.now span.first span.last (option_map (λ t. t.now) tag.entry)) }
 {
+    write_by(alloc, host, name, span, tag, true)
+}
+
+/// The same request without the field that ends the connection (RFC 9112, section 9.3): another may follow it there.
+pub fn write_open_request(
+    alloc: Global,
+    host: &[u8],
+    name: &[u8],
+    span: Span,
+    tag: Option<&Tag>,
+) -> Result<Vec<u8>, Memory>
+    ensures { IfOk result (λ text. text.items
+        ≡ open_request_text host.now name.now span.first span.last (option_map (λ t. t.now) tag.entry)) }
+{
+    write_by(alloc, host, name, span, tag, false)
+}
+
+/// A request by which the connection is to end with the answer, or may go on.
+fn write_by(
+    alloc: Global,
+    host: &[u8],
+    name: &[u8],
+    span: Span,
+    tag: Option<&Tag>,
+    close: bool,
+) -> Result<Vec<u8>, Memory>
+    ensures { IfOk result (λ text. text.items
+        ≡ request_by close host.now name.now span.first span.last (option_map (λ t. t.now) tag.entry)) }
+{
     let mut text = Vec::new(alloc);
     push_request_line(&mut text, b"GET", name)?;
     text.extend_from_slice(b"\r\n")?;
     push_line(&mut text, b"Host", host)?;
     push_range(&mut text, span.first, span.last)?;
     push_if_range(&mut text, tag)?;
-    push_closing(&mut text, true)?;
+    push_closing(&mut text, close)?;
     text.extend_from_slice(b"\r\n")?;
     Ok(text)
 }

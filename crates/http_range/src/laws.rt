@@ -1,6 +1,6 @@
 //! Laws of the definitions, for the crates above. Each function does nothing but name the laws
 //! that it rests on: its contract is the law.
-ghost use Rattle.http_range.specs.Laws.{HeadsGrow, FrontsAreRead, ChecksAreRead, HonestyIsKept, ContentRangesAreForms, TagsTellPublications, PublicationTagsAreKept, AnswersAreUnique, StreamsAreAnsweredOnce, MessagesStay, MessagesAreTested, HeadsAreMessages, HeadsStay, ClientsAreAnswered, ChecksAreAnswered, ClientsAreServed, ChecksAreServed, PublishReplaces, PublishedIsNamed};
+ghost use Rattle.http_range.specs.Laws.{HeadsGrow, FrontsAreRead, ChecksAreRead, HonestyIsKept, ContentRangesAreForms, TagsTellPublications, PublicationTagsAreKept, AnswersAreUnique, StreamsAreAnsweredOnce, MessagesStay, MessagesAreTested, HeadsAreMessages, HeadsStay, ClientsAreAnswered, RequestsAreAnswered, ChecksAreAnswered, ClientsAreServed, OpenClientsAreServed, ChecksAreServed, PublishReplaces, PublishedIsNamed};
 ghost use Rattle.http_parts.specs.Laws.{TagsAreQuoted};
 
 use http_parts::laws::parts_are_read;
@@ -31,8 +31,10 @@ pub fn answers_are_unique()
 /// What a server answers to the text of a client's request, and of its check: as a message, and at the front of a stream.
 pub fn clients_are_answered()
     ensures followed { ClientsAreAnswered }
+    ensures requests { RequestsAreAnswered }
     ensures checks { ChecksAreAnswered }
     ensures served { ClientsAreServed }
+    ensures open_served { OpenClientsAreServed }
     ensures checks_served { ChecksAreServed }
 {
     parts_are_read();

@@ -1,6 +1,6 @@
 //! Byte ranges, entity tags and heads of HTTP/1.1 (RFC 9110, RFC 9112), for files that are read by single ranges.
 //!
-//! Only `write_request`, `write_check`, `write_head` and `append_head` take memory. Positions and lengths are in bytes, and
+//! Only `write_request`, `write_open_request`, `write_check`, `write_head` and `append_head` take memory. Positions and lengths are in bytes, and
 //! positions count from 0.
 #![tactic(auto)]
 
@@ -15,7 +15,8 @@ mod reply;
 mod request;
 mod stream;
 
-pub use ask::{write_check, write_request};
+pub use answer_head::ends_connection;
+pub use ask::{write_check, write_open_request, write_request};
 pub use check::{CheckReading, read_check};
 pub use http_parts::conditional::any_match;
 pub use http_parts::laws::limits_are;

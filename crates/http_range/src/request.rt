@@ -1,11 +1,11 @@
 //! The head of a request that came (RFC 9112, section 3).
-ghost use Rattle.std.specs.Prelude.{◌≡◌, ℕ, List, Option, ◌++◌, slice_get, option_copied, IsSomeAnd, Some};
+ghost use Rattle.std.specs.Prelude.{◌≡◌, ℕ, Bool, List, Option, ◌++◌, slice_get, option_copied, IsSomeAnd, Some};
 ghost use Rattle.std.specs.List.{list_any};
 ghost use Rattle.http_parts.specs.Fields.{values_of, only, is_there};
 ghost use Rattle.http_parts.specs.Members.{has_member};
 ghost use Rattle.http_parts.specs.Conditional.{one_matches};
 ghost use Rattle.http_range.specs.Seen.{HasRequest};
-ghost use Rattle.http_range.specs.Ask.{CanAsk, request_text, asked_request};
+ghost use Rattle.http_range.specs.Ask.{CanAsk, request_by, asked_request};
 
 use http_parts::bytes::up_to;
 use http_parts::fields::Fields;
@@ -98,10 +98,10 @@ pub fn read_request(bytes: &[u8]) -> Option<Request<'_>>
     ensures finds { HasRequest bytes.now result }
 
     // The text of a client's request is read as what was asked, whatever follows it.
-    ensures asked { (host name : List ℕ) (first last : ℕ) (tag : Option (List ℕ)) (more : List ℕ)
+    ensures asked { (close : Bool) (host name : List ℕ) (first last : ℕ) (tag : Option (List ℕ)) (more : List ℕ)
         → CanAsk host name first last tag
-        → bytes.now ≡ request_text host name first last tag ++ more
-        → result ≡ Some (asked_request host name first last tag) }
+        → bytes.now ≡ request_by close host name first last tag ++ more
+        → result ≡ Some (asked_request close host name first last tag) }
 {
     parts_are_read();
     find(bytes)

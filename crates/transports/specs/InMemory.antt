@@ -1,6 +1,7 @@
 -- What a server in memory has.
 use Rattle.std.specs.Prelude.{◌≡◌, ◌⊎◌, ℕ, List, [], Option, Some, None}
 use Rattle.http_range.specs.Book.{Publication, Catalogue, IsCatalogue, publish, published, publication_tag}
+use Rattle.http_range.specs.Response.{Response, IsAnswer, text_of}
 use Rattle.cog_server.specs.Server.{ServerState}
 
 -- The catalogue, which is lawful, has this publication under the name.
@@ -25,3 +26,10 @@ server_of_one epoch name file =
 -- an answer carries the tag of the file of this name, or none
 abbrev pub IsAbout : List ℕ → Option (List ℕ) → Type 0
 IsAbout name carried = (carried ≡ Some name) ⊎ (carried ≡ None)
+
+-- The text is that of the server's answer to the message, and about the file of this name.
+pub record IsAnswerAbout (catalogue : Catalogue) (name message text : List ℕ) : Type 0 where
+  pub response : Response
+  pub answers : IsAnswer catalogue message response
+  pub about : IsAbout name response.name
+  pub shown : text ≡ text_of response

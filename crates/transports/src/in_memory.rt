@@ -2,7 +2,7 @@
 ghost use Rattle.std.specs.Prelude.{◌≡◌, ◌↔◌, IfErr, IfOk, IsTrue, OnOk, None, option_map};
 ghost use Rattle.cog_client.specs.Transport.{IsHonestToAll};
 ghost use Rattle.cog_server.specs.Server.{IsRefusal, refusal_of};
-ghost use Rattle.transports.specs.InMemory.{Has, IsAbout, first_of, new_server, server_of_one};
+ghost use Rattle.transports.specs.InMemory.{Has, IsAbout, IsAnswerAbout, first_of, new_server, server_of_one};
 
 use cog_client::{Lost, Transport};
 use cog_server::{PublishError, Server};
@@ -21,7 +21,8 @@ fn is_about(carried: &Option<Vec<u8>>, name: &[u8]) -> bool
 
 /// The text of the server's answer, unless it is about another file.
 fn answer_about(server: &Server, name: &[u8], request: &[u8]) -> Result<Vec<u8>, Lost>
-    ensures { IfOk result (λ text. IsHonestToAll (Has server.now.catalogue name.now) text.items) }
+    ensures answered { IfOk result (λ text. IsAnswerAbout server.now.catalogue name.now request.now text.items) }
+    ensures honest { IfOk result (λ text. IsHonestToAll (Has server.now.catalogue name.now) text.items) }
 {
     let Ok(answer) = server.answer(request) else {
         return Err(Lost);
@@ -66,14 +67,31 @@ impl<'s> InMemory<'s> {
 }
 
 impl Transport for InMemory<'_> {
-    ghost use Rattle.transports.specs.InMemory.{Has};
+    ghost use Rattle.std.specs.Prelude.{◌≡◌, ◌+◌, ◌<◌, ◌^◌, IfOk};
+    ghost use Rattle.cog_client.specs.Transport.{IsHonestToAll, SpeaksOn};
+    ghost use Rattle.transports.specs.InMemory.{Has, IsAnswerAbout};
     ghost use Rattle.transports.specs.Transports.{exchanges_of, served_name, served_state};
 
     ghost speaks_for = { λ s. Has (served_state s).catalogue (served_name s) };
 
     ghost count = { exchanges_of };
 
-    fn exchange(&mut self, request: &[u8]) -> Result<Vec<u8>, Lost> {
+    fn exchange(&mut self, request: &[u8]) -> Result<Vec<u8>, Lost>
+        requires { exchanges_of self.old + 1 < 2 ^ 64 }
+
+        // What comes is the server's answer to the request.
+        ensures answered { IfOk result (λ text.
+            IsAnswerAbout (served_state self.old).catalogue (served_name self.old) request.now text.items) }
+        ensures server { served_state self.new ≡ served_state self.old }
+        ensures name { served_name self.new ≡ served_name self.old }
+
+        // So it keeps the trait's law.
+        ensures honest { IfOk result (λ text.
+            IsHonestToAll (Has (served_state self.old).catalogue (served_name self.old)) text.items) }
+        ensures speaks { SpeaksOn (Has (served_state self.old).catalogue (served_name self.old))
+            (Has (served_state self.new).catalogue (served_name self.new)) }
+        ensures counted { exchanges_of self.new ≡ exchanges_of self.old + 1 }
+    {
         self.exchanges += 1;
         answer_about(self.server, self.name, request)
     }

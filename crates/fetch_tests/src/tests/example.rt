@@ -1,5 +1,6 @@
 //! The two examples of the README: a window of a file in memory, and the same window by ranges, over a transport of one's own.
-use cog_client::{Client, Lost, Outcome, Report, Transport, fetch};
+use cog_client::{Client, Lost, Outcome, Report, Transport};
+use cog_fetch::fetch;
 use cog_reader::read_file;
 use cog_server::Server;
 use fixtures_support::f1;

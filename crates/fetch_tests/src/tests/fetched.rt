@@ -1,6 +1,7 @@
 //! Fetching from a server of one file, which is published as `a`.
 use super::LAST_TILE;
-use cog_client::{Client, Outcome, Query, Report, Transport, fetch};
+use cog_client::{Client, Outcome, Query, Report, Transport};
+use cog_fetch::fetch;
 use cog_server::Server;
 use std::alloc::Global;
 use std::test::Fail;

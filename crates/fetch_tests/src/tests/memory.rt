@@ -2,7 +2,8 @@
 //! the Nth.
 use super::LAST_TILE;
 use super::fetched::is_last_tile;
-use cog_client::{Client, ClientError, fetch};
+use cog_client::{Client, ClientError};
+use cog_fetch::fetch;
 use fixtures_support::f2;
 use std::alloc::Global;
 use std::test::Fail;

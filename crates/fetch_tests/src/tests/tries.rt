@@ -1,7 +1,8 @@
 //! Worked rows of fetching.
 use super::fetched::{fetch_by, is_last_tile};
 use super::{LAST_TILE, window};
-use cog_client::{Client, Outcome, Transport, fetch};
+use cog_client::{Client, Outcome, Transport};
+use cog_fetch::fetch;
 use fixtures_support::{f1, f2};
 use std::test::Fail;
 use transports::{Fate, InMemory, server_of_one};

@@ -1,10 +1,12 @@
 //! Requests of a client, and what is read of requests.
 use super::tags::tag_1;
-use http_range::{Span, read_request, write_request};
+use http_range::{Span, read_request, write_open_request, write_request};
 use std::test::Fail;
 
 const FIRST_REQUEST: &[u8] =
     b"GET /a HTTP/1.1\r\nHost: cog.test\r\nRange: bytes=0-65535\r\nConnection: close\r\n\r\n";
+
+const OPEN_REQUEST: &[u8] = b"GET /a HTTP/1.1\r\nHost: cog.test\r\nRange: bytes=0-65535\r\n\r\n";
 
 const SECOND_REQUEST: &[u8] =
     b"GET /a HTTP/1.1\r\nHost: cog.test\r\nRange: bytes=65536-67705\r\nIf-Range: \"1-1\"\r\nConnection: close\r\n\r\n";
@@ -18,6 +20,8 @@ fn writes_a_request_and_reads_it_again(rt: HostRuntime) -> Result<(), Fail> {
     let text = write_request(rt.alloc(), b"cog.test", b"a", first, None)?;
     assert_eq!(rt; text.len(), 76);
     assert_eq!(rt; text.as_slice(), FIRST_REQUEST);
+    let text = write_open_request(rt.alloc(), b"cog.test", b"a", first, None)?;
+    assert_eq!(rt; text.as_slice(), OPEN_REQUEST);
     let tag = tag_1()?;
     let second = Span {
         first: 65536,

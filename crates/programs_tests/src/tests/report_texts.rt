@@ -1,5 +1,6 @@
 //! Windows as P5 and P6, and the text of Info, of the fixtures and of values by hand.
-use cog_client::{Client, Info, Outcome, Query, Report, fetch};
+use cog_client::{Client, Info, Outcome, Query, Report};
+use cog_fetch::fetch;
 use fixtures_support::{f1, f3, f4, f6, f6m};
 use geokeys::{Geo, Key, KeyValue};
 use http_range::publication_tag;

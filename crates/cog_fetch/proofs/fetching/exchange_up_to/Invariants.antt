@@ -6,8 +6,8 @@ use Rattle.cog_fetch.proofs.fetching.exchange_up_to.Given as goal
 
 abbrev pub invariant-loop : goal.invariant-loop
 invariant-loop g l = record {
-  counted : g.P.Pieces.count l.pieces ≡ g.P.Pieces.count l.fn.pieces + l.counter;
-  idle : IsIdle l.fn.client → (g.P.Pieces.count l.pieces ≡ g.P.Pieces.count l.fn.pieces) × IsIdle l.client;
+  counted : g.E.Exchange.count l.source ≡ g.E.Exchange.count l.fn.source + l.counter;
+  idle : IsIdle l.fn.client → (g.E.Exchange.count l.source ≡ g.E.Exchange.count l.fn.source) × IsIdle l.client;
   stands : IsSome (report_of l.fn.client) → report_of l.client ≡ report_of l.fn.client;
-  keeps : KeepsReading (g.P.Pieces.speaks_for l.fn.pieces) (g.P.Pieces.speaks_for l.pieces) l.fn.client l.client;
+  keeps : KeepsReading (g.E.Exchange.speaks_for l.fn.source) (g.E.Exchange.speaks_for l.source) l.fn.client l.client;
 }

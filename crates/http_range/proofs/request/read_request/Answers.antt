@@ -2,5 +2,5 @@ use Rattle.http_range.proofs.RequestLemmas.{asked_read}
 use Rattle.http_range.proofs.request.read_request.Goals as goal
 
 pub returns-clause-asked : goal.returns-clause-asked
-returns-clause-asked c host name first last tag more can is =
-    asked_read c.parts_are_read.ensures host name first last tag more can c.args.bytes.now is c.find.result c.find.ensures
+returns-clause-asked c close host name first last tag more can is =
+    asked_read c.parts_are_read.ensures close host name first last tag more can c.args.bytes.now is c.find.result c.find.ensures
