@@ -50,9 +50,16 @@ fn blocks_there<R: Abort>(rt: &R, cache: &mut Cache, file: &[u8]) -> usize {
     let mut room = [0u8; 16384];
     for (number, (first, len)) in BLOCKS.iter().copied().enumerate() {
         assert!(rt; first <= 65536 && 0 < len && len <= 16384 && first + len <= 67706);
-        if cache.read_into(COMPLETE, first as u64, &mut room[..len]).is_ok() {
+        if cache
+            .read_into(COMPLETE, first as u64, &mut room[..len])
+            .is_ok()
+        {
             assert_eq!(rt; count, number);
-            assert_eq!(rt; room.get(..len), file.get(first..first + len), "block {number}");
+            assert_eq!(rt;
+                room.get(..len),
+                file.get(first..first + len),
+                "block {number}"
+            );
             count = count.saturating_add(1);
         }
     }
