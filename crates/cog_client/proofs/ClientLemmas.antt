@@ -1,5 +1,5 @@
 -- What the steps of a client keep.
-use Rattle.std.proofs.Common.{◌≡◌, ℕ, List, [], length, Option, Some, None, refl, sym, ap, ◌∙◌, subst}
+use Rattle.std.proofs.Common.{◌≡◌, ℕ, false, List, [], length, Option, Some, None, refl, sym, ap, ◌∙◌, subst}
 use Rattle.std.proofs.lemmas.Bool.{false≢true}
 use Rattle.std.specs.Prelude.{IfSome, IsSome, IsSomeAnd, is_some, if◌then◌else◌}
 use Rattle.std.specs.Option.{option_map, option_map_or}
@@ -14,25 +14,26 @@ use Rattle.range_cache.specs.Laws.{FrontHolds}
 use Rattle.cog_reader.specs.Outcome.{IsTrueOf}
 use Rattle.cog_reader.specs.Reader as reader
 use Rattle.cog_reader.specs.Reader.{ReaderState}
+use Rattle.cog_client.specs.declared.asking.Asking.{Asking}
 use Rattle.cog_client.specs.declared.report.Report.{Report}
 use Rattle.cog_client.specs.declared.source.Source.{Source}
 use Rattle.cog_client.specs.Case.{Revision}
 use Rattle.cog_client.specs.Take.{emptied, stored_front}
 use Rattle.cog_client.specs.Feeding.{Feed, nothing_fed}
-use Rattle.cog_client.specs.Client.{ClientState, Knows, KnowsBy, KnowsOne, ClientAgrees, IsAlone, IsClient, IsFew, IsReadingOf, IsReportOf, asked_of, blocks_of, feed_of, host_of, name_of, query_of, report_of, revision_at, revision_of, tag_of, to_come, unread}
+use Rattle.cog_client.specs.Client.{ClientAgrees, ClientState, IsAlone, IsClient, IsFew, IsReadingOf, IsReportOf, Knows, KnowsBy, KnowsOne, asked_of, blocks_of, feed_of, host_of, how_of, name_of, query_of, report_of, revision_at, revision_of, tag_of, to_come, unread}
 use Rattle.cog_client.specs.Calls.{SameClient}
-use Rattle.cog_client.specs.Keeps.{GoesOnKeeping, OpensKeeping, StaysOf}
+use Rattle.cog_client.specs.Keeps.{GoesOnKeeping, KeepsOpen, OpensKeeping, StaysOf}
 use Rattle.cog_client.specs.Going as going
 use Rattle.cog_client.specs.Going.{work}
 use Rattle.cog_client.specs.Steps.{Adopts, Concludes, Stores}
 use Rattle.cog_client.proofs.GoingLemmas.{end_nil, end_refl, end_trans, same_refl, same_trans as blocks_trans}
 
-abbrev pub known : Feed → List ℕ → List ℕ → Option Query → Option Span → Option Source → Blocks → Option Report → ClientState
-known e h n q a s b r = record { host = h; name = n; query = q; asked = a; source = s; cache = b; report = r; feed = e }
+abbrev pub known : Feed → Asking → List ℕ → List ℕ → Option Query → Option Span → Option Source → Blocks → Option Report → ClientState
+known e how h n q a s b r = record { how = how; host = h; name = n; query = q; asked = a; source = s; cache = b; report = r; feed = e }
 
-pub known_is : (e : Feed) (h n : List ℕ) (q q' : Option Query) (a : Option Span) (s s' : Option Source) (b : Blocks) (r r' : Option Report) → q ≡ q' → s ≡ s' → r ≡ r' → known e h n q a s b r ≡ known e h n q' a s' b r'
-known_is e h n q q' a s s' b r r' query source report =
-    ap (λ x. known e h n x a s b r) query ∙ ap (λ x. known e h n q' a x b r) source ∙ ap (known e h n q' a s' b) report
+pub known_is : (e : Feed) (how : Asking) (h n : List ℕ) (q q' : Option Query) (a : Option Span) (s s' : Option Source) (b : Blocks) (r r' : Option Report) → q ≡ q' → s ≡ s' → r ≡ r' → known e how h n q a s b r ≡ known e how h n q' a s' b r'
+known_is e how h n q q' a s s' b r r' query source report =
+    ap (λ x. known e how h n x a s b r) query ∙ ap (λ x. known e how h n q' a x b r) source ∙ ap (known e how h n q' a s' b) report
 
 -- a client with a revision reads something
 pub by_source : (P : Option Source → Type 0) → ((s : Source) → P (Some s)) → (o : Option Source) → IsSome (revision_at o) → P o
@@ -81,12 +82,12 @@ goes_by old new same revision blocks file = record {
 
 -- ---- the blocks of a piece are stored
 
-module _ (e e' : Feed) (h n : List ℕ) (q : Option Query) (a : Option Span) (s : Source) (b : Blocks) (r : Option Report) where
-  pub stores_front : (new : Blocks) (p : SeenPiece) (span : Span) (k : ℕ) → FrontHolds → IsClient (known e' h n q a (Some s) new r)
-      → new ≡ stored_front k p span b → Stores p span k (known e h n q a (Some s) b r) (known e' h n q a (Some s) new r)
-  unfolding host_of name_of query_of asked_of revision_of report_of blocks_of to_come Knows
+module _ (e e' : Feed) (how : Asking) (h n : List ℕ) (q : Option Query) (a : Option Span) (s : Source) (b : Blocks) (r : Option Report) where
+  pub stores_front : (new : Blocks) (p : SeenPiece) (span : Span) (k : ℕ) → FrontHolds → IsClient (known e' how h n q a (Some s) new r)
+      → new ≡ stored_front k p span b → Stores p span k (known e how h n q a (Some s) b r) (known e' how h n q a (Some s) new r)
+  unfolding how_of host_of name_of query_of asked_of revision_of report_of blocks_of to_come Knows
   stores_front new p span k law c is = record {
-    same = record { host = refl; name = refl; query = refl };
+    same = record { host = refl; name = refl; query = refl; how = refl };
     asked = refl;
     revision = refl;
     report = refl;
@@ -102,11 +103,11 @@ module _ (e e' : Feed) (h n : List ℕ) (q : Option Query) (a : Option Span) (s 
     };
   }
 
-module _ (e : Feed) (h n : List ℕ) (q : Option Query) (a : Option Span) (s : Source) (b : Blocks) (r : Option Report) where
+module _ (e : Feed) (how : Asking) (h n : List ℕ) (q : Option Query) (a : Option Span) (s : Source) (b : Blocks) (r : Option Report) where
   -- ---- going on
 
-  pub gone_sound : (s' : Source) (new : Blocks) → s'.complete ≡ s.complete → IsClient (known e h n q a (Some s) b r)
-      → going.ReaderGoesOn (work s.reader b) (work s'.reader new) → IsClient (known e h n q a (Some s') new r)
+  pub gone_sound : (s' : Source) (new : Blocks) → s'.complete ≡ s.complete → IsClient (known e how h n q a (Some s) b r)
+      → going.ReaderGoesOn (work s.reader b) (work s'.reader new) → IsClient (known e how h n q a (Some s') new r)
   gone_sound s' new complete c goes = record {
     hosted = c.hosted;
     named = c.named;
@@ -120,11 +121,11 @@ module _ (e : Feed) (h n : List ℕ) (q : Option Query) (a : Option Span) (s : S
   gone_report f s' None tag h = tt
   gone_report f s' (Some x) tag h = (h.0 ∙ sym tag, h.1)
 
-  pub gone : (s' : Source) (new : Blocks) → s'.tag ≡ s.tag → s'.complete ≡ s.complete → IsClient (known e h n q a (Some s) b r)
-      → going.ReaderGoesOn (work s.reader b) (work s'.reader new) → GoesOnKeeping (known e h n q a (Some s) b r) (known e h n q a (Some s') new r)
-  unfolding host_of name_of query_of revision_of blocks_of to_come Knows
+  pub gone : (s' : Source) (new : Blocks) → s'.tag ≡ s.tag → s'.complete ≡ s.complete → IsClient (known e how h n q a (Some s) b r)
+      → going.ReaderGoesOn (work s.reader b) (work s'.reader new) → GoesOnKeeping (known e how h n q a (Some s) b r) (known e how h n q a (Some s') new r)
+  unfolding how_of host_of name_of query_of revision_of blocks_of to_come Knows
   gone s' new tag complete c goes =
-      goes_by (known e h n q a (Some s) b r) (known e h n q a (Some s') new r) (record { host = refl; name = refl; query = refl })
+      goes_by (known e how h n q a (Some s) b r) (known e how h n q a (Some s') new r) (record { host = refl; name = refl; query = refl; how = refl })
       (ap Some (ap (λ t. record { tag = t; complete = s'.complete }) tag ∙ ap (λ l. record { tag = s.tag; complete = l }) complete)) goes.blocks
       (λ f knows.
       let w = goes.file f knows.reader knows.blocks in
@@ -135,8 +136,8 @@ module _ (e : Feed) (h n : List ℕ) (q : Option Query) (a : Option Span) (s : S
 
 -- ---- a report that stands from now on
 
-module _ (e : Feed) (h n : List ℕ) (q : Query) (a : Option Span) (s s' : Source) (b : Blocks) where
-  pub concluded_sound : (x : Report) → IsClient (known e h n (Some q) a (Some s) b None) → Concludes q s (Some x) s' → IsClient (known e h n (Some q) None (Some s') b (Some x))
+module _ (e : Feed) (how : Asking) (h n : List ℕ) (q : Query) (a : Option Span) (s s' : Source) (b : Blocks) where
+  pub concluded_sound : (x : Report) → IsClient (known e how h n (Some q) a (Some s) b None) → Concludes q s (Some x) s' → IsClient (known e how h n (Some q) None (Some s') b (Some x))
   concluded_sound x c d = record {
     hosted = c.hosted;
     named = c.named;
@@ -146,16 +147,16 @@ module _ (e : Feed) (h n : List ℕ) (q : Query) (a : Option Span) (s s' : Sourc
     few = tt;
   }
 
-  concluded_true : (f : List ℕ) (x : Report) → IsClient (known e h n (Some q) a (Some s) b None) → Concludes q s (Some x) s' → reader.ReaderAgrees s.reader f → IsReportOf f s' x
+  concluded_true : (f : List ℕ) (x : Report) → IsClient (known e how h n (Some q) a (Some s) b None) → Concludes q s (Some x) s' → reader.ReaderAgrees s.reader f → IsReportOf f s' x
   concluded_true f x c d agrees =
       let of : IsTrueOf f q x.outcome = subst (λ o. IsSomeAnd o (λ k. IsTrueOf f k x.outcome)) c.reading.1 (d.true_of f agrees) in
       (d.report.1 ∙ sym d.tag, subst (λ k. IsTrueOf f k x.outcome) d.report.0 of)
 
-  pub concluded : (x : Report) → ((r : ReaderState) (f : List ℕ) → reader.query_of r ≡ None → reader.to_come r f ≡ []) → IsClient (known e h n (Some q) a (Some s) b None) → Concludes q s (Some x) s'
-      → GoesOnKeeping (known e h n (Some q) a (Some s) b None) (known e h n (Some q) None (Some s') b (Some x))
-  unfolding host_of name_of query_of revision_of blocks_of to_come Knows
+  pub concluded : (x : Report) → ((r : ReaderState) (f : List ℕ) → reader.query_of r ≡ None → reader.to_come r f ≡ []) → IsClient (known e how h n (Some q) a (Some s) b None) → Concludes q s (Some x) s'
+      → GoesOnKeeping (known e how h n (Some q) a (Some s) b None) (known e how h n (Some q) None (Some s') b (Some x))
+  unfolding how_of host_of name_of query_of revision_of blocks_of to_come Knows
   concluded x none c d =
-      goes_by (known e h n (Some q) a (Some s) b None) (known e h n (Some q) None (Some s') b (Some x)) (record { host = refl; name = refl; query = refl })
+      goes_by (known e how h n (Some q) a (Some s) b None) (known e how h n (Some q) None (Some s') b (Some x)) (record { host = refl; name = refl; query = refl; how = refl })
       (ap Some (ap (λ t. record { tag = t; complete = s'.complete }) d.tag ∙ ap (λ l. record { tag = s.tag; complete = l }) d.complete)) (same_refl b)
       (λ f knows. record {
         knows = record { reader = d.agrees f knows.reader; blocks = knows.blocks; report = concluded_true f x c d knows.reader; sound = concluded_sound x c d };
@@ -164,10 +165,10 @@ module _ (e : Feed) (h n : List ℕ) (q : Query) (a : Option Span) (s s' : Sourc
 
 pub goes_refl : (c : ClientState) → GoesOnKeeping c c
 goes_refl c =
-    goes_by c c (record { host = refl; name = refl; query = refl }) refl (same_refl (blocks_of c)) (λ f knows. record { knows = knows; come = end_refl (to_come c f) })
+    goes_by c c (record { host = refl; name = refl; query = refl; how = refl }) refl (same_refl (blocks_of c)) (λ f knows. record { knows = knows; come = end_refl (to_come c f) })
 
 pub same_trans : (a b c : ClientState) → SameClient a b → SameClient b c → SameClient a c
-same_trans a b c h k = record { host = k.host ∙ h.host; name = k.name ∙ h.name; query = k.query ∙ h.query }
+same_trans a b c h k = record { host = k.host ∙ h.host; name = k.name ∙ h.name; query = k.query ∙ h.query; how = k.how ∙ h.how }
 
 pub stays_trans : (f : List ℕ) (a b c : ClientState) → StaysOf f a b → StaysOf f b c → StaysOf f a c
 stays_trans f a b c h k = record { knows = k.knows; come = end_trans (to_come a f) (to_come b f) (to_come c f) h.come k.come }
@@ -188,46 +189,46 @@ goes_trans a b c h k = record {
 abbrev pub EndsAreWanted : Type 0
 EndsAreWanted = (r : ReaderState) (f : List ℕ) → reader.ReaderAgrees r f → IfSome (reader.query_of r) (λ q. IsEndOf (reader.to_come r f) (needs f q))
 
-module _ (e e' : Feed) (dropped : e' ≡ nothing_fed) (h n : List ℕ) (q : Option Query) (a : Option Span) (b : Blocks) (r : Option Report) (query : Query) where
-  pub opened_alone : OpensKeeping query (known e h n q a None b r) (known e' h n (Some query) None None b None)
-  unfolding host_of name_of query_of asked_of revision_of report_of blocks_of feed_of to_come unread Knows ClientAgrees
+module _ (e e' : Feed) (dropped : e' ≡ nothing_fed) (how : Asking) (h n : List ℕ) (q : Option Query) (a : Option Span) (b : Blocks) (r : Option Report) (query : Query) where
+  pub opened_alone : OpensKeeping query (known e how h n q a None b r) (known e' how h n (Some query) None None b None)
+  unfolding how_of host_of name_of query_of asked_of revision_of report_of blocks_of feed_of to_come unread Knows ClientAgrees
   opened_alone = record {
-    seen = record { host = refl; name = refl; asks = refl; asked = refl; revision = refl; blocks = refl; report = refl; feed = dropped };
+    seen = record { host = refl; name = refl; how = refl; asks = refl; asked = refl; revision = refl; blocks = refl; report = refl; feed = dropped };
     knows = λ f k. tt;
     come = λ f k. end_nil (needs f query);
     held = λ f. refl;
     agrees = λ book k. tt;
   }
 
-  opened_sound : (s : Source) (x : ReaderState) → reader.complete_of x ≡ reader.complete_of s.reader → reader.query_of x ≡ Some query → IsClient (known e h n q a (Some s) b r)
-      → IsClient (known e' h n (Some query) None (Some (record s { reader = x })) b None)
+  opened_sound : (s : Source) (x : ReaderState) → reader.complete_of x ≡ reader.complete_of s.reader → reader.query_of x ≡ Some query → IsClient (known e how h n q a (Some s) b r)
+      → IsClient (known e' how h n (Some query) None (Some (record s { reader = x })) b None)
   opened_sound s x complete asks c =
       record { hosted = c.hosted; named = c.named; alone = tt; reading = (c.reading.0 ∙ sym complete, asks); standing = tt; few = tt }
 
   pub opened : (s : Source) (x : ReaderState) → EndsAreWanted → reader.complete_of x ≡ reader.complete_of s.reader → reader.query_of x ≡ Some query
-      → ((f : List ℕ) → reader.ReaderAgrees s.reader f → reader.ReaderAgrees x f) → ((f : List ℕ) → reader.to_come x f ≡ reader.unread s.reader f query) → IsClient (known e h n q a (Some s) b r)
-      → OpensKeeping query (known e h n q a (Some s) b r) (known e' h n (Some query) None (Some (record s { reader = x })) b None)
-  unfolding host_of name_of query_of asked_of revision_of report_of blocks_of feed_of to_come unread Knows
+      → ((f : List ℕ) → reader.ReaderAgrees s.reader f → reader.ReaderAgrees x f) → ((f : List ℕ) → reader.to_come x f ≡ reader.unread s.reader f query) → IsClient (known e how h n q a (Some s) b r)
+      → OpensKeeping query (known e how h n q a (Some s) b r) (known e' how h n (Some query) None (Some (record s { reader = x })) b None)
+  unfolding how_of host_of name_of query_of asked_of revision_of report_of blocks_of feed_of to_come unread Knows
   opened s x law complete asks agrees held c =
-      let knows : (f : List ℕ) → Knows f (known e h n q a (Some s) b r) → Knows f (known e' h n (Some query) None (Some (record s { reader = x })) b None) =
+      let knows : (f : List ℕ) → Knows f (known e how h n q a (Some s) b r) → Knows f (known e' how h n (Some query) None (Some (record s { reader = x })) b None) =
       λ f k. record { reader = agrees f k.reader; blocks = k.blocks; report = tt; sound = opened_sound s x complete asks c } in
       record {
-        seen = record { host = refl; name = refl; asks = refl; asked = refl; revision = refl; blocks = refl; report = refl; feed = dropped };
+        seen = record { host = refl; name = refl; how = refl; asks = refl; asked = refl; revision = refl; blocks = refl; report = refl; feed = dropped };
         knows = knows;
         come = λ f k. subst (λ o. IfSome o (λ q. IsEndOf (reader.to_come x f) (needs f q))) asks (law x f (agrees f k.reader));
         held = held;
-        agrees = agrees_by (known e h n q a (Some s) b r) (known e' h n (Some query) None (Some (record s { reader = x })) b None) refl refl knows;
+        agrees = agrees_by (known e how h n q a (Some s) b r) (known e' how h n (Some query) None (Some (record s { reader = x })) b None) refl refl knows;
       }
 
 -- ---- a revision is adopted
 
-module _ (e : Feed) (h n : List ℕ) (q : Option Query) (a asked : Option Span) (before : Option Source) (s : Source) (b new : Blocks) where
+module _ (e : Feed) (how : Asking) (h n : List ℕ) (q : Option Query) (a asked : Option Span) (before : Option Source) (s : Source) (b new : Blocks) where
   pub adopted : (p : Revision) → s.tag ≡ p.tag → s.complete ≡ p.complete → new ≡ emptied b → ((f : List ℕ) → Holds f new)
       → ((f : List ℕ) → length f ≡ p.complete → reader.ReaderAgrees s.reader f) → reader.complete_of s.reader ≡ p.complete → reader.query_of s.reader ≡ q
-      → IfSome asked IsFew → IsClient (known e h n q a before b None) → Adopts p asked (known e h n q a before b None) (known e h n q asked (Some s) new None)
-  unfolding host_of name_of query_of asked_of revision_of report_of blocks_of Knows
+      → IfSome asked IsFew → IsClient (known e how h n q a before b None) → Adopts p asked (known e how h n q a before b None) (known e how h n q asked (Some s) new None)
+  unfolding how_of host_of name_of query_of asked_of revision_of report_of blocks_of Knows
   adopted p tag complete empty holds agrees size query few c = record {
-    same = record { host = refl; name = refl; query = refl };
+    same = record { host = refl; name = refl; query = refl; how = refl };
     asks = refl;
     revision = ap Some (ap (λ t. record { tag = t; complete = s.complete }) tag ∙ ap (λ l. record { tag = p.tag; complete = l }) complete);
     blocks = empty;
@@ -284,6 +285,35 @@ refed c e f knows = at c.source refl knows
         standing = k.sound.standing;
         few = k.sound.few;
       };
+    }
+
+-- nor is how the client asks
+
+pub rehow_sound : (c : ClientState) (how : Asking) → IsClient c → IsClient (record c { how = how })
+rehow_sound c how s = record { hosted = s.hosted; named = s.named; alone = s.alone; reading = s.reading; standing = s.standing; few = s.few }
+
+rehowed : (c : ClientState) (how : Asking) (f : List ℕ) → Knows f c → Knows f (record c { how = how })
+unfolding Knows
+rehowed c how f knows = at c.source refl knows
+  where
+    at : (o : Option Source) → c.source ≡ o → IfSome o (KnowsBy f c) → IfSome o (KnowsBy f (record c { how = how }))
+    at None is k = tt
+    at (Some s) is k = record {
+      reader = k.reader;
+      blocks = k.blocks;
+      report = k.report;
+      sound = rehow_sound c how k.sound;
+    }
+
+pub keeps_open : (c : ClientState) → KeepsOpen c (record c { how = record (how_of c) { closes = false } })
+unfolding name_of revision_of to_come
+keeps_open c =
+    let how : Asking = record (how_of c) { closes = false } in
+    record {
+      seen = refl;
+      knows = rehowed c how;
+      come = λ f. refl;
+      agrees = agrees_by c (record c { how = how }) refl refl (rehowed c how);
     }
 
 pub stays_refed : (s new : ClientState) (e : Feed) (f : List ℕ) → StaysOf f (record s { feed = e }) new → StaysOf f s new

@@ -21,7 +21,7 @@ use Rattle.cog_client.specs.declared.delivered.Ignored.TheVariants.{NotUsed, Oth
 use Rattle.cog_client.specs.Arrival.{IsTold}
 use Rattle.cog_client.specs.Calls.{unless_reported}
 use Rattle.cog_client.specs.Case.{Revision, case_of, is_beside}
-use Rattle.cog_client.specs.Client.{ClientState, IsClient, asked_of, blocks_of, feed_of, holding, host_of, name_of, query_of, report_of, revision_of}
+use Rattle.cog_client.specs.Client.{ClientState, IsClient, asked_of, blocks_of, feed_of, holding, host_of, how_of, name_of, query_of, report_of, revision_of}
 use Rattle.cog_client.specs.Fed.{is_beside_at, piece_with, told_at_end}
 use Rattle.cog_client.specs.FedClient.{Begins, Fed, FedBody, case_for}
 use Rattle.cog_client.specs.Feeding.{Feed, nothing_fed, passed}
@@ -69,9 +69,9 @@ beside_or_taken (Some v) (Some s) p is = tests (not (bytes_eq v.tag p.tag)) (not
     tests false false false whole is = refl
 
 accepts_from : (p : SeenPiece) (s new : ClientState) (e : Feed) (count : ℕ) → AcceptsPiece p (record s { feed = e }) new count → AcceptsPiece p s new count
-unfolding host_of name_of query_of asked_of revision_of blocks_of
+unfolding how_of host_of name_of query_of asked_of revision_of blocks_of
 accepts_from p s new e count st = record {
-  same = record { host = st.same.host; name = st.same.name; query = st.same.query };
+  same = record { host = st.same.host; name = st.same.name; query = st.same.query; how = st.same.how };
   asked = st.asked;
   revision = st.revision;
   blocks = st.blocks;

@@ -11,7 +11,7 @@ use Rattle.cog_client.specs.declared.case.Case.TheVariants.{Ignored, Adopted, Re
 use Rattle.cog_client.specs.Arrival.{IsHeadless, LooksOn, StartsBody, TakesBytes, TakesOn}
 use Rattle.cog_client.specs.Body.{IsBody}
 use Rattle.cog_client.specs.Case.{Revision}
-use Rattle.cog_client.specs.Client.{ClientState, asked_of, blocks_of, feed_of, host_of, name_of, query_of, revision_of}
+use Rattle.cog_client.specs.Client.{ClientState, asked_of, blocks_of, feed_of, host_of, how_of, name_of, query_of, revision_of}
 use Rattle.cog_client.specs.FedClient.{Begins, Fed, FedAllBut, FedBefore, FedBy, FedHeadless, FedPassed, case_for, revision_of_head}
 use Rattle.cog_client.specs.Feeding.{Feed, unused, passed, follows}
 use Rattle.cog_client.specs.Steps.{Adopts}
@@ -20,9 +20,9 @@ use Rattle.cog_client.specs.Take.{first_span}
 -- ---- what was kept of an answer doesn't matter to the next one
 
 adopts_from : (v : Revision) (a : Option Span) (s mid : ClientState) (x : Feed) → Adopts v a (record s { feed = x }) mid → Adopts v a s mid
-unfolding host_of name_of query_of blocks_of
+unfolding how_of host_of name_of query_of blocks_of
 adopts_from v a s mid x h = record {
-  same = record { host = h.same.host; name = h.same.name; query = h.same.query };
+  same = record { host = h.same.host; name = h.same.name; query = h.same.query; how = h.same.how };
   asks = h.asks;
   revision = h.revision;
   blocks = h.blocks;

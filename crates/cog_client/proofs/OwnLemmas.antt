@@ -13,15 +13,15 @@ use Rattle.tiff_dir.specs.Needs.{Extent}
 use Rattle.http_range.specs.declared.range.Resolved.TheVariants.{Part, Whole}
 use Rattle.http_range.specs.declared.reading.Why.{Why}
 use Rattle.http_range.specs.declared.reading.Why.TheVariants.{Cut}
-use Rattle.http_range.specs.Ask.{request_text}
+use Rattle.http_range.specs.Ask.{request_by}
 use Rattle.http_range.specs.Book.{Publication, published}
 use Rattle.http_range.specs.Honest.{IsHonestFor, IsPieceOf as IsOf}
-use Rattle.http_range.specs.Laws.{ClientsAreAnswered, FrontsAreRead, PublishedIsNamed}
+use Rattle.http_range.specs.Laws.{RequestsAreAnswered, FrontsAreRead, PublishedIsNamed}
 use Rattle.http_range.specs.Piece.{SeenPiece}
 use Rattle.http_range.specs.Reading.{front_seen, reply_seen}
 use Rattle.http_range.specs.declared.reply.Reply.TheVariants.{R416}
 use Rattle.http_range.specs.Reply.{head_text}
-use Rattle.http_range.specs.Response.{Response, IsAnswer, is_current, refused, response_to_client, serve_part, text_of}
+use Rattle.http_range.specs.Response.{Response, IsAnswer, is_current, refused, response_to_client, serve_part, text_of, ending}
 use Rattle.tiff_dir.specs.Block.{blocks, first_block, is_whole}
 use Rattle.range_cache.specs.Cache.{Blocks, numbers}
 use Rattle.range_cache.specs.Laws.{FoundAreThere, MissingIsFew, MissingIsSame, StoredStay, StoresAreSome, WholeAreBrought}
@@ -33,7 +33,7 @@ use Rattle.cog_client.specs.declared.delivered.Ignored.TheVariants.{NotAsked, Ot
 use Rattle.cog_client.specs.declared.delivered.Delivered.TheVariants.{Took, Restarted}
 use Rattle.cog_client.specs.Case.{Revision, case_of, is_beside}
 use Rattle.cog_client.specs.Take.{Holding, IsIgnored, asked_or_first, brought_by, stored_of, take as taken, take_by}
-use Rattle.cog_client.specs.Client.{ClientState, Knows, asked_of, blocks_of, holding, host_of, name_of, revision_of, tag_of, to_come}
+use Rattle.cog_client.specs.Client.{ClientState, Knows, asked_of, blocks_of, holding, host_of, name_of, revision_of, tag_of, to_come, closes}
 use Rattle.cog_client.specs.Keeps.{AsksFor, DeliversKeeping, Lacks, StaysOf}
 use Rattle.cog_client.specs.Going.{AreSame}
 use Rattle.cog_client.specs.Progress.{BringsOn, IsOwnAnswer, OwnAnswersBringOn, left, left_of}
@@ -84,20 +84,20 @@ part_named p first last true true = inl refl
 part_named p first last true false = inr refl
 part_named p first last false fits = inl refl
 
-own_response : ClientsAreAnswered → (c : ClientState) (p : Publication) (span : Span) (text : List ℕ) → (own : IsOwnAnswer c p span text)
-    → own.response ≡ response_to_client (Some p) span.first span.last (tag_of c)
+own_response : RequestsAreAnswered → (c : ClientState) (p : Publication) (span : Span) (text : List ℕ) → (own : IsOwnAnswer c p span text)
+    → own.response ≡ ending (closes c) (response_to_client (Some p) span.first span.last (tag_of c))
 own_response answered c p span text own =
-    let message = request_text (host_of c) (name_of c) span.first span.last (tag_of c) in
+    let message = request_by (closes c) (host_of c) (name_of c) span.first span.last (tag_of c) in
     let P : List ℕ → Type 0 = λ m. IsAnswer own.catalogue m own.response in
-    (answered own.catalogue (host_of c) (name_of c) [] span.first span.last (tag_of c) own.response own.can span.ascending).0 (subst P (sym (append-nil message)) own.answers)
-    ∙ ap (λ o. response_to_client o span.first span.last (tag_of c)) own.has
+    (answered own.catalogue (closes c) (host_of c) (name_of c) [] span.first span.last (tag_of c) own.response own.can span.ascending).0 (subst P (sym (append-nil message)) own.answers)
+    ∙ ap (λ o. ending (closes c) (response_to_client o span.first span.last (tag_of c))) own.has
 
-module _ (answered : ClientsAreAnswered) (fronts : FrontsAreRead) where
+module _ (answered : RequestsAreAnswered) (fronts : FrontsAreRead) where
   pub own_reading : (old new : ClientState) (p : Publication) (span : Span) (text : List ℕ) (what : Delivered) → (own : IsOwnAnswer old p span text) → (d : DeliversKeeping old text what new)
       → (is_current (tag_of old) p.tag ≡ true → span.first < length p.file) → d.seen.reading ≡ Ok (piece_for p span.first span.last (tag_of old))
   own_reading old new p span text what own d fits =
       let tag = tag_of old in
-      let message = request_text (host_of old) (name_of old) span.first span.last tag in
+      let message = request_by (closes old) (host_of old) (name_of old) span.first span.last tag in
       let response = own_response answered old p span text own in
       let s = own.response in
       let whole : text ≡ take (length (text_of s)) (text_of s) = own.shown ∙ sym (take_all (length (text_of s)) (text_of s) (omega arith)) in
@@ -271,7 +271,7 @@ fewer law brought some p c v s size knows l =
 
 -- ---- the three cases
 
-module _ (answered : ClientsAreAnswered) (fronts : FrontsAreRead) (named : PublishedIsNamed) (old new : ClientState) (p : Publication) (span : Span) (text : List ℕ) (what : Delivered)
+module _ (answered : RequestsAreAnswered) (fronts : FrontsAreRead) (named : PublishedIsNamed) (old new : ClientState) (p : Publication) (span : Span) (text : List ℕ) (what : Delivered)
     (own : IsOwnAnswer old p span text) (d : DeliversKeeping old text what new) where
   -- whatever case applies to the piece that is read
   brings : (k : Case) (v : Option Revision) (piece : SeenPiece) → IsCase k p v piece → revision_of old ≡ v → d.seen.reading ≡ Ok piece → case_of v (Some span) piece ≡ k
@@ -331,7 +331,7 @@ module _ (answered : ClientsAreAnswered) (fronts : FrontsAreRead) (named : Publi
       let does = does_of cases.Accepted piece old new text what d reading at in
       let honest : IsHonestFor text p = record {
         catalogue = own.catalogue;
-        message = request_text (host_of old) (name_of old) span.first span.last (tag_of old);
+        message = request_by (closes old) (host_of old) (name_of old) span.first span.last (tag_of old);
         response = own.response;
         lawful = own.lawful;
         answers = own.answers;
@@ -355,7 +355,7 @@ module _ (answered : ClientsAreAnswered) (fronts : FrontsAreRead) (named : Publi
 
 -- ---- the law
 
-module _ (answered : ClientsAreAnswered) (fronts : FrontsAreRead) (named : PublishedIsNamed) (lengths : LengthsAreKnown) (there : FoundAreThere) (few : MissingIsFew) (missing : MissingIsSame)
+module _ (answered : RequestsAreAnswered) (fronts : FrontsAreRead) (named : PublishedIsNamed) (lengths : LengthsAreKnown) (there : FoundAreThere) (few : MissingIsFew) (missing : MissingIsSame)
     (law : StoredStay) (brought : WholeAreBrought) (some : StoresAreSome) where
   pub own_answers : OwnAnswersBringOn
   own_answers old new p span text what own knows d = at (revision_of old) refl own.asks

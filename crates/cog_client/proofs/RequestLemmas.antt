@@ -10,11 +10,12 @@ use Rattle.http_range.specs.Ask.{CanAsk}
 use Rattle.std.specs.Option.{option_map}
 use Rattle.tiff_dir.specs.Block.{blocks}
 use Rattle.range_cache.specs.Cache.{Blocks}
+use Rattle.cog_client.specs.declared.asking.Asking.{Asking}
 use Rattle.cog_client.specs.declared.report.Report.{Report}
 use Rattle.cog_client.specs.declared.source.Source.{Source}
 use Rattle.cog_client.specs.Case.{Revision}
 use Rattle.cog_client.specs.Feeding.{Feed, TakesNoBody, nothing_fed}
-use Rattle.cog_client.specs.Client.{ClientState, Knows, IsAlone, IsClient, IsFew, IsStanding, asked_of, blocks_of, feed_of, host_of, name_of, query_of, report_of, revision_of, tag_of, to_come}
+use Rattle.cog_client.specs.Client.{ClientState, IsAlone, IsClient, IsFew, IsStanding, Knows, asked_of, blocks_of, feed_of, host_of, how_of, name_of, query_of, report_of, revision_of, tag_of, to_come}
 use Rattle.cog_client.specs.Calls.{IsAsked, IsIdle, request_for, unless_reported}
 use Rattle.cog_client.specs.Keeps.{AsksFor, GoesOnKeeping, ComesFirst, Lacks, RequestsKeeping}
 use Rattle.cog_client.specs.Going.{IsMissing}
@@ -35,17 +36,17 @@ few_missing b complete r span m =
 
 -- ---- what is asked for changes nothing that is known
 
-module _ (e e' : Feed) (h n : List ℕ) (q : Option Query) (a asked : Option Span) (b : Blocks) (r : Option Report) where
-  reasked_knows : (s : Option Source) → IsClient (known e' h n q asked s b r) → (f : List ℕ) → Knows f (known e h n q a s b r) → Knows f (known e' h n q asked s b r)
+module _ (e e' : Feed) (how : Asking) (h n : List ℕ) (q : Option Query) (a asked : Option Span) (b : Blocks) (r : Option Report) where
+  reasked_knows : (s : Option Source) → IsClient (known e' how h n q asked s b r) → (f : List ℕ) → Knows f (known e how h n q a s b r) → Knows f (known e' how h n q asked s b r)
   unfolding Knows
   reasked_knows None c f k = tt
   reasked_knows (Some s) c f k = record { reader = k.reader; blocks = k.blocks; report = k.report; sound = c }
 
-  pub reasked : (s : Option Source) → IsClient (known e' h n q asked s b r) → GoesOnKeeping (known e h n q a s b r) (known e' h n q asked s b r)
-  unfolding host_of name_of query_of revision_of blocks_of to_come
+  pub reasked : (s : Option Source) → IsClient (known e' how h n q asked s b r) → GoesOnKeeping (known e how h n q a s b r) (known e' how h n q asked s b r)
+  unfolding how_of host_of name_of query_of revision_of blocks_of to_come
   reasked s c =
-      goes_by (known e h n q a s b r) (known e' h n q asked s b r) (record { host = refl; name = refl; query = refl }) refl (same_refl b)
-      (λ f k. record { knows = reasked_knows s c f k; come = end_refl (to_come (known e h n q a s b r) f) })
+      goes_by (known e how h n q a s b r) (known e' how h n q asked s b r) (record { host = refl; name = refl; query = refl; how = refl }) refl (same_refl b)
+      (λ f k. record { knows = reasked_knows s c f k; come = end_refl (to_come (known e how h n q a s b r) f) })
 
 -- nothing is asked
 
@@ -58,12 +59,12 @@ pub alone_still : (s : Option Source) (b : Blocks) (r : Option Report) (e e' : F
 alone_still None b r e e' dropped alone = (alone.0, (alone.1.0, subst TakesNoBody (sym dropped) tt))
 alone_still (Some s) b r e e' dropped alone = tt
 
-module _ (e e' : Feed) (dropped : e' ≡ nothing_fed) (h n : List ℕ) (q : Option Query) (a : Option Span) (s : Option Source) (b : Blocks) (r : Option Report) where
-  unasked_sound : IsClient (known e h n q a s b r) → IsClient (known e' h n q None s b r)
+module _ (e e' : Feed) (dropped : e' ≡ nothing_fed) (how : Asking) (h n : List ℕ) (q : Option Query) (a : Option Span) (s : Option Source) (b : Blocks) (r : Option Report) where
+  unasked_sound : IsClient (known e how h n q a s b r) → IsClient (known e' how h n q None s b r)
   unasked_sound c = record { hosted = c.hosted; named = c.named; alone = alone_still s b r e e' dropped c.alone; reading = c.reading; standing = standing_still q a r c.standing; few = tt }
 
-  pub unasked : IsClient (known e h n q a s b r) → GoesOnKeeping (known e h n q a s b r) (known e' h n q None s b r)
-  unasked c = reasked e e' h n q a None b r s (unasked_sound c)
+  pub unasked : IsClient (known e how h n q a s b r) → GoesOnKeeping (known e how h n q a s b r) (known e' how h n q None s b r)
+  unasked c = reasked e e' how h n q a None b r s (unasked_sound c)
 
 pub none_asked : (r : Option Report) (a b : Option Span) → a ≡ unless_reported r b → b ≡ None → a ≡ None
 none_asked None a b is none = is ∙ none
@@ -71,8 +72,8 @@ none_asked (Some r) a b is none = is
 
 -- where a client asks, its request is for what is missing
 
-same_text : (old new : ClientState) (span : Span) → host_of new ≡ host_of old → name_of new ≡ name_of old → revision_of new ≡ revision_of old → request_for new (Some span) ≡ request_for old (Some span)
-same_text old new span host name revision = cc
+same_text : (old new : ClientState) (span : Span) → how_of new ≡ how_of old → host_of new ≡ host_of old → name_of new ≡ name_of old → revision_of new ≡ revision_of old → request_for new (Some span) ≡ request_for old (Some span)
+same_text old new span how host name revision = cc
 
 same_lawful : (old new : ClientState) (span : Span) → host_of new ≡ host_of old → name_of new ≡ name_of old → revision_of new ≡ revision_of old
     → CanAsk (host_of new) (name_of new) span.first span.last (tag_of new) → CanAsk (host_of old) (name_of old) span.first span.last (tag_of old)
@@ -104,13 +105,13 @@ few_asked : (c : ClientState) (v : Option Revision) (span : Span) → AsksFor c 
 few_asked c None span is = let first = ap (λ (s : Span). s.first) is in let last = ap (λ (s : Span). s.last) is in omega arith
 few_asked c (Some v) span l = few_missing (blocks_of c) v.complete l.range span l.missing
 
-module _ (e : Feed) (h n : List ℕ) (q : Option Query) (a : Option Span) (s : Option Source) (b : Blocks) (r : Option Report) (span : Span) where
+module _ (e : Feed) (how : Asking) (h n : List ℕ) (q : Option Query) (a : Option Span) (s : Option Source) (b : Blocks) (r : Option Report) (span : Span) where
   -- the same client, before and after it asks for this
   abbrev pub mid : ClientState
-  mid = known e h n q a s b r
+  mid = known e how h n q a s b r
 
   abbrev pub new : ClientState
-  new = known e h n q (Some span) s b r
+  new = known e how h n q (Some span) s b r
 
   pub asking_sound : IsClient mid → report_of mid ≡ None → AsksFor mid (revision_of mid) span → IsClient new
   unfolding report_of
@@ -125,14 +126,14 @@ module _ (e : Feed) (h n : List ℕ) (q : Option Query) (a : Option Span) (s : O
 
   pub requested : (old : ClientState) (text : List ℕ) → GoesOnKeeping old mid → IsClient mid → IsClient new → is_some (query_of old) ≡ true → is_some (report_of old) ≡ false → report_of mid ≡ None
       → feed_of mid ≡ nothing_fed → Some text ≡ request_for mid (Some span) → CanAsk (host_of mid) (name_of mid) span.first span.last (tag_of mid) → AsksFor mid (revision_of mid) span → RequestsKeeping old (Some text) new
-  unfolding host_of name_of query_of asked_of revision_of report_of blocks_of feed_of to_come
+  unfolding how_of host_of name_of query_of asked_of revision_of report_of blocks_of feed_of to_come
   requested old text goes c d query quiet none dropped is can asks =
-      let on = goes_trans old mid new goes (reasked e e h n q a (Some span) b r s d) in
-      let asking = asks_back mid new (revision_of mid) span refl (λ f k. ((reasked e e h n q (Some span) a b r s c).file f k).knows) (λ f. refl) asks in
+      let on = goes_trans old mid new goes (reasked e e how h n q a (Some span) b r s d) in
+      let asking = asks_back mid new (revision_of mid) span refl (λ f k. ((reasked e e how h n q (Some span) a b r s c).file f k).knows) (λ f. refl) asks in
       record {
         seen = record {
           goes = on.seen;
-          text = is ∙ same_text old mid span goes.seen.same.host goes.seen.same.name goes.seen.revision;
+          text = is ∙ same_text old mid span goes.seen.same.how goes.seen.same.host goes.seen.same.name goes.seen.revision;
           asks = is_asked new (revision_of mid) span asking;
           lawful = same_lawful old mid span goes.seen.same.host goes.seen.same.name goes.seen.revision can;
           silent = λ none_is. absurd (none-some span (sym none_is));
@@ -170,9 +171,9 @@ none_of None h = refl
 none_of (Some a) h = cc
 
 -- what is kept of an answer is dropped
-pub cleared : (e e' : Feed) (h n : List ℕ) (q : Option Query) (a : Option Span) (s : Option Source) (b : Blocks) (r : Option Report) → e' ≡ nothing_fed
-    → IsClient (known e h n q a s b r) → IsClient (known e' h n q a s b r)
-cleared e e' h n q a s b r dropped c = record {
+pub cleared : (e e' : Feed) (how : Asking) (h n : List ℕ) (q : Option Query) (a : Option Span) (s : Option Source) (b : Blocks) (r : Option Report) → e' ≡ nothing_fed
+    → IsClient (known e how h n q a s b r) → IsClient (known e' how h n q a s b r)
+cleared e e' how h n q a s b r dropped c = record {
   hosted = c.hosted;
   named = c.named;
   alone = alone_still s b r e e' dropped c.alone;

@@ -11,6 +11,7 @@ use Rattle.http_range.specs.Piece.{SeenPiece}
 use Rattle.http_range.specs.Reading.{ReadsHead}
 use Rattle.range_cache.specs.Cache.{Blocks}
 use Rattle.range_cache.specs.Laws.{BesideBringNone, FrontHolds}
+use Rattle.cog_client.specs.declared.asking.Asking.{Asking}
 use Rattle.cog_client.specs.declared.case.Case.{Case}
 use Rattle.cog_client.specs.declared.case.Case.TheVariants.{Ignored, Adopted, Restarted, Accepted}
 use Rattle.cog_client.specs.declared.report.Report.{Report}
@@ -18,7 +19,7 @@ use Rattle.cog_client.specs.declared.source.Source.{Source}
 use Rattle.cog_client.specs.Arrival.{StopsInBytes}
 use Rattle.cog_client.specs.Body.{IsStopped}
 use Rattle.cog_client.specs.Case.{Revision, case_of, is_beside}
-use Rattle.cog_client.specs.Client.{ClientState, IsAlone, IsClient, IsStanding, asked_of, blocks_of, feed_of, host_of, name_of, query_of, report_of, revision_of}
+use Rattle.cog_client.specs.Client.{ClientState, IsAlone, IsClient, IsStanding, asked_of, blocks_of, feed_of, host_of, how_of, name_of, query_of, report_of, revision_of}
 use Rattle.cog_client.specs.Fed.{case_of_head, piece_with}
 use Rattle.cog_client.specs.FedClient.{Begins, FedAllBut, FedBefore, FedBody, case_for}
 use Rattle.cog_client.specs.Feeding.{Feed, nothing_fed, waits, unused, passed, follows}
@@ -64,7 +65,7 @@ module _ (law : FrontHolds) (mid new : ClientState) (same : new ≡ record mid {
       subst (Stores p span k mid) (sym same)
       (by_source (λ o. IsClient (record mid { source = o; cache = blocks_of new; feed = feed_of new })
       → Stores p span k (record mid { source = o }) (record mid { source = o; cache = blocks_of new; feed = feed_of new }))
-      (λ (x : Source) c. stores_front mid.feed (feed_of new) mid.host mid.name mid.query mid.asked x mid.cache mid.report (blocks_of new) p span k law c is)
+      (λ (x : Source) c. stores_front mid.feed (feed_of new) mid.how mid.host mid.name mid.query mid.asked x mid.cache mid.report (blocks_of new) p span k law c is)
       mid.source reads (subst IsClient same sound))
 
 -- ---- the case of its head is that of the answer, unless it is beside what is asked for
@@ -102,9 +103,9 @@ stops_storing p span k mid new asks none dropped st = record {
 }
 
 stops_from : (p : SeenPiece) (s new : ClientState) (e : Feed) → StopsStoring p (record s { feed = e }) new → StopsStoring p s new
-unfolding host_of name_of query_of asked_of revision_of blocks_of
+unfolding how_of host_of name_of query_of asked_of revision_of blocks_of
 stops_from p s new e st = record {
-  same = record { host = st.same.host; name = st.same.name; query = st.same.query };
+  same = record { host = st.same.host; name = st.same.name; query = st.same.query; how = st.same.how };
   asked = st.asked;
   revision = st.revision;
   report = st.report;
@@ -170,9 +171,9 @@ module _ (law : FrontsAreRead) (holds : FrontHolds) (beside : BesideBringNone) (
   ]
 
 -- a client stays sound where blocks of a body were stored
-pub stopped_sound : (e e' : Feed) (h n : List ℕ) (q : Option Query) (a : Option Span) (s : Option Source) (b b' : Blocks) (r : Option Report) (bytes : List ℕ)
-    → IsClient (known e h n q a s b r) → StopsInBytes e b bytes b' → IsClient (known e' h n q a s b' r)
-stopped_sound e e' h n q a s b b' r bytes c stops =
+pub stopped_sound : (e e' : Feed) (how : Asking) (h n : List ℕ) (q : Option Query) (a : Option Span) (s : Option Source) (b b' : Blocks) (r : Option Report) (bytes : List ℕ)
+    → IsClient (known e how h n q a s b r) → StopsInBytes e b bytes b' → IsClient (known e' how h n q a s b' r)
+stopped_sound e e' how h n q a s b b' r bytes c stops =
     record { hosted = c.hosted; named = c.named; alone = at s e c.alone stops; reading = c.reading; standing = c.standing; few = c.few }
   where
     at : (o : Option Source) (x : Feed) → IsAlone o b r x → StopsInBytes x b bytes b' → IsAlone o b' r e'

@@ -1,11 +1,11 @@
 -- What a caller sees of each call of a client, from one state to the next.
-use Rattle.std.specs.Prelude.{◌≡◌, ℕ, ◌⊎◌, if◌then◌else◌, List, Option, Some, None, IfSome, IsSome, is_some, Result}
+use Rattle.std.specs.Prelude.{◌≡◌, ℕ, ◌⊎◌, true, if◌then◌else◌, List, Option, Some, None, IfSome, IsSome, is_some, Result}
 use Rattle.std.specs.Option.{option_map}
 use Rattle.tiff_dir.specs.declared.query.Query.{Query}
 use Rattle.tiff_dir.specs.declared.span.Span.{Span}
 use Rattle.tiff_dir.specs.Needs.{Extent}
 use Rattle.http_range.specs.declared.reading.Why.{Why}
-use Rattle.http_range.specs.Ask.{CanAsk, request_text}
+use Rattle.http_range.specs.Ask.{CanAsk, request_by}
 use Rattle.http_range.specs.Piece.{SeenPiece}
 use Rattle.http_range.specs.Reading.{ReadsAnswer}
 use Rattle.cog_client.specs.declared.delivered.Delivered.{Delivered}
@@ -13,14 +13,15 @@ use Rattle.cog_client.specs.declared.report.Report.{Report}
 use Rattle.cog_client.specs.Case.{Revision}
 use Rattle.cog_client.specs.Feeding.{nothing_fed}
 use Rattle.cog_client.specs.Take.{IsIgnored, emptied, first_span, take}
-use Rattle.cog_client.specs.Client.{ClientState, asked_of, blocks_of, feed_of, holding, host_of, name_of, query_of, report_of, revision_of, tag_of}
+use Rattle.cog_client.specs.Client.{ClientState, asked_of, blocks_of, closes, feed_of, holding, host_of, how_of, name_of, query_of, report_of, revision_of, tag_of}
 use Rattle.cog_client.specs.Going.{AreSame, IsMissing}
 
--- host, name and query stay
+-- host, name, query and how it asks stay
 pub record SameClient (old new : ClientState) : Type 0 where
   pub host : host_of new ≡ host_of old
   pub name : name_of new ≡ name_of old
   pub query : query_of new ≡ query_of old
+  pub how : how_of new ≡ how_of old
 
 -- nothing is asked, and there is neither a revision nor a block nor a report, nor anything of an answer
 pub record HoldsNothing (c : ClientState) : Type 0 where
@@ -36,6 +37,7 @@ pub record Starts (host name : List ℕ) (blocks : ℕ) (new : ClientState) : Ty
   pub hosted : host_of new ≡ host
   pub named : name_of new ≡ name
   pub query : query_of new ≡ None
+  pub closing : closes new ≡ true
   pub capacity : (blocks_of new).capacity ≡ blocks
   pub empty : HoldsNothing new
 
@@ -43,6 +45,7 @@ pub record Starts (host name : List ℕ) (blocks : ℕ) (new : ClientState) : Ty
 pub record Opens (query : Query) (old new : ClientState) : Type 0 where
   pub host : host_of new ≡ host_of old
   pub name : name_of new ≡ name_of old
+  pub how : how_of new ≡ how_of old
   pub asks : query_of new ≡ Some query
   pub asked : asked_of new ≡ None
   pub revision : revision_of new ≡ revision_of old
@@ -74,9 +77,10 @@ IsAsked c (Some v) span = (range : Extent) × IsMissing (blocks_of c) v.complete
 
 -- ---- request
 
--- the text of a client's request for what is asked for, under the condition that the file still has the revision's tag
+-- the text of a client's request for what is asked for, under the condition that the file still has the revision's tag; the
+-- connection ends with the answer, or is kept open
 abbrev pub request_for : ClientState → Option Span → Option (List ℕ)
-request_for c span = option_map (λ (s : Span). request_text (host_of c) (name_of c) s.first s.last (tag_of c)) span
+request_for c span = option_map (λ (s : Span). request_by (closes c) (host_of c) (name_of c) s.first s.last (tag_of c)) span
 
 pub record Requests (old : ClientState) (request : Option (List ℕ)) (new : ClientState) : Type 0 where
   pub goes : GoesOn old new

@@ -1,5 +1,5 @@
 -- The words for what callers know of a client, and when what it holds is of a published file.
-use Rattle.std.specs.Prelude.{◌≡◌, ℕ, ◌+◌, ◌*◌, ◌<◌, not, ◌||◌, nat_lt, IsTrue, if◌then◌else◌, List, [], length, Option, Some, None, IfSome, is_some, ⊤}
+use Rattle.std.specs.Prelude.{◌≡◌, ℕ, ◌+◌, ◌*◌, ◌<◌, Bool, not, ◌||◌, nat_lt, IsTrue, if◌then◌else◌, List, [], length, Option, Some, None, IfSome, is_some, ⊤}
 use Rattle.std.specs.Option.{option_map, option_map_or}
 use Rattle.tiff_dir.specs.declared.query.Query.{Query}
 use Rattle.tiff_dir.specs.declared.span.Span.{Span}
@@ -10,6 +10,7 @@ use Rattle.tiff_dir.specs.Block.{block_size}
 use Rattle.range_cache.specs.Cache.{Blocks, Holds, max_capacity, min_capacity}
 use Rattle.cog_reader.specs.Outcome.{IsTrueOf}
 use Rattle.cog_reader.specs.Reader as reader
+use Rattle.cog_client.specs.declared.asking.Asking.{Asking}
 use Rattle.cog_client.specs.declared.error.ClientError.{ClientError}
 use Rattle.cog_client.specs.declared.error.ClientError.TheVariants.{Host, Name, Blocks as BadBlocks, Memory}
 use Rattle.cog_client.specs.declared.report.Report.{Report}
@@ -42,9 +43,10 @@ IsClientRefusal refusal error = refusal ≡ Some error
 
 -- ---- what callers know of it
 
--- host and name; the query, what is asked for, the revision that is read, the blocks, the report, and what is kept of an answer
--- that comes in pieces
+-- how it asks; host and name; the query, what is asked for, the revision that is read, the blocks, the report, and what is kept of
+-- an answer that comes in pieces
 pub record ClientState : Type 0 where
+  pub how : Asking
   pub host : List ℕ
   pub name : List ℕ
   pub query : Option Query
@@ -54,11 +56,19 @@ pub record ClientState : Type 0 where
   pub report : Option Report
   pub feed : Feed
 
+-- How it asks.
+unfoldable pub how_of : ClientState → Asking
+how_of c = c.how
+
 unfoldable pub host_of : ClientState → List ℕ
 host_of c = c.host
 
 unfoldable pub name_of : ClientState → List ℕ
 name_of c = c.name
+
+-- its requests ask that the connection end with the answer
+abbrev pub closes : ClientState → Bool
+closes c = (how_of c).closes
 
 -- The query of the last opening.
 unfoldable pub query_of : ClientState → Option Query

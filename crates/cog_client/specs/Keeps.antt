@@ -1,5 +1,5 @@
 -- What each call of a client keeps of the file that it knows, beside what a caller sees of the call.
-use Rattle.std.specs.Prelude.{◌≡◌, ℕ, ◌⊎◌, List, Option, Some, None, IfSome, slice_get, IfOk, Result}
+use Rattle.std.specs.Prelude.{◌≡◌, ℕ, ◌⊎◌, false, List, Option, Some, None, IfSome, slice_get, IfOk, Result}
 use Rattle.tiff_dir.specs.declared.query.Query.{Query}
 use Rattle.tiff_dir.specs.declared.span.Span.{Span}
 use Rattle.tiff_dir.specs.Needs.{Extent, IsEndOf}
@@ -16,7 +16,7 @@ use Rattle.cog_client.specs.Case.{Revision, case_of}
 use Rattle.cog_client.specs.Feeding.{nothing_fed}
 use Rattle.cog_client.specs.Take.{IsIgnored, asked_or_first, base_of, first_span, stored_front, take}
 use Rattle.cog_client.specs.Report.{IsTrueReport}
-use Rattle.cog_client.specs.Client.{ClientState, Knows, ClientAgrees, asked_of, blocks_of, feed_of, holding, name_of, query_of, report_of, revision_of, to_come, unread}
+use Rattle.cog_client.specs.Client.{ClientState, Knows, ClientAgrees, asked_of, blocks_of, feed_of, holding, how_of, name_of, query_of, report_of, revision_of, to_come, unread}
 use Rattle.cog_client.specs.Going.{AreSame, IsMissing}
 use Rattle.cog_client.specs.Calls.{Delivers, GoesOn, IsIdle, Opens, Requests, SameClient}
 
@@ -26,6 +26,13 @@ pub record OpensKeeping (query : Query) (old new : ClientState) : Type 0 where
   pub knows : (f : List ℕ) → Knows f old → Knows f new
   pub come : (f : List ℕ) → Knows f old → IsEndOf (to_come new f) (needs f query)
   pub held : (f : List ℕ) → to_come new f ≡ unread old f query
+  pub agrees : (book : Book) → ClientAgrees old book → ClientAgrees new book
+
+-- Its requests let the connection go on; all else stays.
+pub record KeepsOpen (old new : ClientState) : Type 0 where
+  pub seen : new ≡ record old { how = record (how_of old) { closes = false } }
+  pub knows : (f : List ℕ) → Knows f old → Knows f new
+  pub come : (f : List ℕ) → to_come new f ≡ to_come old f
   pub agrees : (book : Book) → ClientAgrees old book → ClientAgrees new book
 
 -- ---- going on

@@ -5,7 +5,7 @@ use Rattle.tiff_dir.specs.declared.query.Query.{Query}
 use Rattle.tiff_dir.specs.declared.span.Span.{Span}
 use Rattle.tiff_dir.specs.Needs.{Extent, ends_past}
 use Rattle.tiff_dir.specs.Query.{blocks_of_extent as touched, cost, needs}
-use Rattle.http_range.specs.Ask.{CanAsk, request_text}
+use Rattle.http_range.specs.Ask.{CanAsk, request_by}
 use Rattle.http_range.specs.Book.{Publication, Catalogue, IsCatalogue, published}
 use Rattle.http_range.specs.Response.{Response, IsAnswer, text_of}
 use Rattle.tiff_dir.specs.Block.{block_size, first_block, blocks, end_of}
@@ -14,7 +14,7 @@ use Rattle.range_cache.specs.Cache.{numbers}
 use Rattle.cog_client.specs.declared.delivered.Delivered.{Delivered}
 use Rattle.cog_client.specs.Case.{Revision}
 use Rattle.cog_client.specs.Take.{IsIgnored}
-use Rattle.cog_client.specs.Client.{ClientState, Knows, asked_of, blocks_of, host_of, name_of, query_of, report_of, revision_of, tag_of, to_come}
+use Rattle.cog_client.specs.Client.{ClientState, Knows, asked_of, blocks_of, closes, host_of, name_of, query_of, report_of, revision_of, tag_of, to_come}
 use Rattle.cog_client.specs.Keeps.{AsksFor, DeliversKeeping, GoesOnKeeping, OpensKeeping, RequestsKeeping}
 
 -- ---- counting
@@ -100,7 +100,7 @@ pub record IsOwnAnswer (c : ClientState) (p : Publication) (span : Span) (text :
   pub asks : AsksFor c (revision_of c) span
   pub can : CanAsk (host_of c) (name_of c) span.first span.last (tag_of c)
   pub response : Response
-  pub answers : IsAnswer catalogue (request_text (host_of c) (name_of c) span.first span.last (tag_of c)) response
+  pub answers : IsAnswer catalogue (request_by (closes c) (host_of c) (name_of c) span.first span.last (tag_of c)) response
   pub shown : text ≡ text_of response
 
 -- The client has p's revision then, and where it had it before, less is left.

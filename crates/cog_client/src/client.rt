@@ -5,6 +5,7 @@ ghost use Rattle.cog_client.specs.Take.{first_span};
 mod feeds;
 
 use crate::arrival::Arrival;
+use crate::asking::Asking;
 use crate::delivered::{Current, Unknown};
 use crate::error::ClientError;
 use crate::going;
@@ -13,7 +14,7 @@ use crate::source::Source;
 use cog_reader::{end_is_wanted, nothing_comes};
 use http_range::{
     CheckReading, Head, Span, Tag, fronts_are_read, is_host, is_name, read_check, write_check,
-    write_request,
+    write_open_request, write_request,
 };
 use range_cache::{Cache, CacheError};
 use std::alloc::Global;
@@ -36,6 +37,7 @@ fn first_span() -> Span
 #[derive(Drop)]
 pub struct Client {
     alloc: Global,
+    how: Asking,
     host: Vec<u8>,
     name: Vec<u8>,
     query: Option<Query>,
@@ -53,6 +55,7 @@ impl Model for Client {
     ghost Value = { ClientState };
 
     ghost view = { λ c. record {
+      how = c.how;
       host = c.host.items;
       name = c.name.items;
       query = c.query;
@@ -64,6 +67,7 @@ impl Model for Client {
     } };
 
     ghost invariant = { λ c. IsClient (record {
+      how = c.how;
       host = c.host.items;
       name = c.name.items;
       query = c.query;
@@ -75,7 +79,7 @@ impl Model for Client {
     }) };
 }
 
-#[tactic(auto, unfolding(crate::specs::Client::host_of, crate::specs::Client::name_of, crate::specs::Client::query_of, crate::specs::Client::asked_of, crate::specs::Client::revision_of, crate::specs::Client::blocks_of, crate::specs::Client::report_of, crate::specs::Client::feed_of, crate::specs::Client::to_come, crate::specs::Client::Knows, crate::specs::Client::ClientAgrees))]
+#[tactic(auto, unfolding(crate::specs::Client::how_of, crate::specs::Client::host_of, crate::specs::Client::name_of, crate::specs::Client::query_of, crate::specs::Client::asked_of, crate::specs::Client::revision_of, crate::specs::Client::blocks_of, crate::specs::Client::report_of, crate::specs::Client::feed_of, crate::specs::Client::to_come, crate::specs::Client::Knows, crate::specs::Client::ClientAgrees))]
 impl Client {
     ghost use Rattle.std.specs.Prelude.{◌≡◌, None, Some, IfErr, IfOk, IfSome, IsSome, IsTrue, OnErr, OnOk, option_copied};
     ghost use Rattle.std.specs.Option.{option_map};
@@ -86,7 +90,7 @@ impl Client {
     ghost use Rattle.cog_client.specs.Client.{client_refusal, IsFew, IsClientRefusal, asked_of, feed_of, host_of, name_of, blocks_of, query_of, report_of, revision_of, tag_of};
     ghost use Rattle.cog_client.specs.FedClient.{revision_of_head};
     ghost use Rattle.cog_client.specs.Calls.{Forgets, Starts, request_for, unless_reported};
-    ghost use Rattle.cog_client.specs.Keeps.{GoesOnKeeping, Misses, OpensKeeping, RequestsKeeping, Stands, StopsAsking};
+    ghost use Rattle.cog_client.specs.Keeps.{GoesOnKeeping, KeepsOpen, Misses, OpensKeeping, RequestsKeeping, Stands, StopsAsking};
     ghost use Rattle.cog_reader.specs.Reader.{outcome_of};
     ghost use Rattle.cog_client.specs.Steps.{Adopts};
     ghost use Rattle.cog_client.specs.Check.{IsCurrent, IsStillThere, check_of};
@@ -121,6 +125,7 @@ impl Client {
         let arrival = Arrival::new(alloc)?;
         Ok(Client {
             alloc,
+            how: Asking { closes: true },
             host: Vec::from_slice(alloc, host)?,
             name: Vec::from_slice(alloc, name)?,
             query: None,
@@ -149,7 +154,7 @@ impl Client {
         }
     }
 
-    /// Drops everything but host, name and query. It takes no memory.
+    /// Drops everything but host, name, query, and whether connections are kept. It takes no memory.
     pub fn forget(&mut self)
         ensures { Forgets self.old self.new }
     {
@@ -158,6 +163,14 @@ impl Client {
         self.source = None;
         self.report = None;
         self.cache.clear();
+    }
+
+    /// Writes requests without `Connection: close` from here on, so that a connection may be kept from one to the next (RFC 9112,
+    /// section 9.3). Whoever sends them has to know where an answer ends. It takes no memory.
+    pub fn keep_open(&mut self)
+        ensures { KeepsOpen self.old self.new }
+    {
+        self.how.closes = false;
     }
 
     /// The report that stands, until `open` or `forget`. It takes no memory.
@@ -239,7 +252,11 @@ impl Client {
         ensures lawful { CanAsk (host_of self.now) (name_of self.now) span.first span.last (tag_of self.now) }
     {
         let tag = self.tag();
-        write_request(self.alloc, &self.host, &self.name, span, tag)
+        if self.how.closes {
+            write_request(self.alloc, &self.host, &self.name, span, tag)
+        } else {
+            write_open_request(self.alloc, &self.host, &self.name, span, tag)
+        }
     }
 
     /// Goes on as far as the blocks reach, and says what is missing then. Where nothing is, the report stands.

@@ -3,6 +3,7 @@
 #![tactic(auto)]
 
 mod arrival;
+mod asking;
 mod body;
 mod case;
 mod client;

@@ -1,1 +1,2 @@
 pub mod TakeLemmas
+pub mod EndLemmas

@@ -2,9 +2,11 @@
 //! report stands.
 #![tactic(auto)]
 
+mod answer_end;
 mod exchange;
 mod fetching;
 mod taking;
 
+pub use answer_end::{AnswerEnd, Lacks};
 pub use fetching::{fetch, fetch_pieces};
 pub use taking::{ANSWER_LIMIT, PIECE_ROOM};

@@ -5,12 +5,13 @@ use Rattle.std.specs.Option.{option_map}
 use Rattle.std.proofs.lemmas.Option.{none-some, same_Some}
 use Rattle.tiff_dir.specs.declared.query.Query.{Query}
 use Rattle.tiff_dir.specs.declared.span.Span.{Span}
-use Rattle.http_range.specs.Ask.{request_text}
+use Rattle.http_range.specs.Ask.{request_by, request_text}
 use Rattle.http_range.specs.Book.{Publication, Book, HasDistinctTags, In}
+use Rattle.cog_client.specs.declared.asking.Asking.{Asking}
 use Rattle.cog_client.specs.declared.error.ClientError.{ClientError}
 use Rattle.cog_client.specs.Case.{Revision}
-use Rattle.cog_client.specs.Client.{ClientState, Knows, KnowsOne, ClientAgrees, asked_of, client_refusal, host_of, name_of, query_of, revision_of, tag_of}
-use Rattle.cog_client.specs.Calls.{Requests, request_for}
+use Rattle.cog_client.specs.Client.{ClientState, Knows, KnowsOne, ClientAgrees, asked_of, client_refusal, host_of, name_of, query_of, revision_of, tag_of, closes, how_of}
+use Rattle.cog_client.specs.Calls.{Requests, SameClient, request_for}
 use Rattle.cog_client.specs.Keeps.{AsksFor, RequestsKeeping}
 use Rattle.cog_client.specs.Progress.{IsOfNeeded}
 use Rattle.cog_server.specs.declared.server.Answer.{Answer}
@@ -27,21 +28,35 @@ use Rattle.world.specs.LowerLaws.{LowerLaws}
 use Rattle.world.proofs.Lists.{get-map, get-push, get-set}
 use Rattle.world.proofs.Good.{Good}
 
--- ---- every client asks the one host
+-- ---- every client asks the one host, and by each request that the connection end
+
+abbrev pub IsHosted : ClientState → Type 0
+IsHosted c = (host_of c ≡ host) × (closes c ≡ true)
 
 abbrev pub AllHosted : List ClientState → Type 0
-AllHosted cs = (i : ℕ) (c : ClientState) → slice_get cs i ≡ Some c → host_of c ≡ host
+AllHosted cs = (i : ℕ) (c : ClientState) → slice_get cs i ≡ Some c → IsHosted c
+
+-- host and how it asks stay
+abbrev StaysHosted : ClientState → ClientState → Type 0
+StaysHosted c next = (host_of next ≡ host_of c) × (how_of next ≡ how_of c)
+
+same_hosted : (c next : ClientState) → SameClient c next → StaysHosted c next
+same_hosted c next same = (same.host, same.how)
+
+stays_hosted : (c next later : ClientState) → StaysHosted c next → later ≡ next → IsHosted c → IsHosted later
+stays_hosted c next later stays is hosted =
+    (ap host_of is ∙ stays.0 ∙ hosted.0, ap closes is ∙ ap (λ (h : Asking). h.closes) stays.1 ∙ hosted.1)
 
 hosted_same : (old new : List ClientState) → new ≡ old → AllHosted old → AllHosted new
 hosted_same old new same all = subst AllHosted (sym same) all
 
 -- a client that changes keeps its host
-hosted_at : (R : ClientState → ClientState → Type 0) → ((c next : ClientState) → R c next → host_of next ≡ host_of c) → (o : Option ClientState) (i : ℕ) (n : Entry) (old new : List ClientState)
+hosted_at : (R : ClientState → ClientState → Type 0) → ((c next : ClientState) → R c next → StaysHosted c next) → (o : Option ClientState) (i : ℕ) (n : Entry) (old new : List ClientState)
     → slice_get old i ≡ o → AtClient o R i n old new → AllHosted old → AllHosted new
 hosted_at R keeps None i n old new at h all = hosted_same old new h.same all
 hosted_at R keeps (Some c) i n old new at h all =
     hosted_same (slice_set old i h.next) new h.changed (λ j d e. elim (get-set old i j h.next d c at e) [
-      | inl is ↦ ap host_of is ∙ keeps c h.next h.acts.does ∙ all i c at
+      | inl is ↦ stays_hosted c h.next d (keeps c h.next h.acts.does) is (all i c at)
       | inr there ↦ all j d there
     ])
 
@@ -49,16 +64,16 @@ hosted_made : (o : Option ClientError) (name : List ℕ) (blocks : ℕ) (n : Ent
 hosted_made (Some refusal) name blocks n old new h all = hosted_same old new h.same all
 hosted_made None name blocks n old new h all =
     hosted_same (old ++ h.made ∷ []) new h.added (λ j d e. elim (get-push old j h.made d e) [
-      | inl is ↦ ap host_of is ∙ h.starts.hosted
+      | inl is ↦ (ap host_of is ∙ h.starts.hosted, ap closes is ∙ h.starts.closing)
       | inr there ↦ all j d there
     ])
 
-hosted_exchange : (catalogue : _) (sent i : ℕ) (effect : Effect) (c next : ClientState) → ExchangesWith catalogue sent i effect c next → host_of next ≡ host_of c
+hosted_exchange : (catalogue : _) (sent i : ℕ) (effect : Effect) (c next : ClientState) → ExchangesWith catalogue sent i effect c next → StaysHosted c next
 hosted_exchange catalogue sent i effect c next h = at h.asked h.exchanged
   where
-    at : (o : Option AnsweredRequest) → IsExchanged i o effect h.mid next → host_of next ≡ host_of c
-    at None e = ap host_of e.1 ∙ h.asks.requests.goes.same.host
-    at (Some a) e = e.2.same.host ∙ h.asks.requests.goes.same.host
+    at : (o : Option AnsweredRequest) → IsExchanged i o effect h.mid next → StaysHosted c next
+    at None e = let same = h.asks.requests.goes.same in (ap host_of e.1 ∙ same.host, ap how_of e.1 ∙ same.how)
+    at (Some a) e = let same = h.asks.requests.goes.same in (e.2.same.host ∙ same.host, e.2.same.how ∙ same.how)
 
 hosted_delivery : (o : Option Answer) (client : Option ClientState) (cut : Option ℕ) (i : ℕ) (n : Entry) (old new : List ClientState) → slice_get old i ≡ client → IsDeliveryKeeping o client cut i n old new → AllHosted old → AllHosted new
 hosted_delivery None client cut i n old new at h all = hosted_same old new h.same all
@@ -66,7 +81,7 @@ hosted_delivery (Some a) None cut i n old new at h all = hosted_same old new h.s
 hosted_delivery (Some a) (Some c) cut i n old new at h all = by (is_for a (name_of c)) h
   where
     by : (b : Bool) → AtClient (cond b (Some c) None) (Keeping (DeliversWithKeeping (cut_at cut a.text.items) i n.effect)) i n old new → AllHosted new
-    by true k = hosted_at (Keeping (DeliversWithKeeping (cut_at cut a.text.items) i n.effect)) (λ c next d. d.does.delivers.seen.same.host) (Some c) i n old new at k all
+    by true k = hosted_at (Keeping (DeliversWithKeeping (cut_at cut a.text.items) i n.effect)) (λ c next d. same_hosted c next d.does.delivers.seen.same) (Some c) i n old new at k all
     by false k = hosted_same old new k.same all
 
 hosted_check : (o : Option ClientState) (catalogue : _) (sent i : ℕ) (n : Entry) (old new : List ClientState) → IsCheckBy o catalogue sent i n old new → AllHosted old → AllHosted new
@@ -77,10 +92,10 @@ pub hosted_step : (w : World) (cs : List ClientState) (e : Event) (n : Entry) (n
 hosted_step w cs (Publish name file) n new h all = hosted_same cs new h.same all
 hosted_step w cs (Epoch e) n new h all = hosted_same cs new h.1.same all
 hosted_step w cs (NewClient name blocks) n new h all = hosted_made (client_refusal host name.items blocks) name.items blocks n cs new h all
-hosted_step w cs (Open i q) n new h all = hosted_at (Keeping (OpensWithKeeping q i n.effect)) (λ c next o. o.does.opens.seen.host) (slice_get cs i) i n cs new refl h all
-hosted_step w cs (Forget i) n new h all = hosted_at (Keeping (ForgetsAll i n.effect)) (λ c next f. f.does.forgets.same.host) (slice_get cs i) i n cs new refl h all
+hosted_step w cs (Open i q) n new h all = hosted_at (Keeping (OpensWithKeeping q i n.effect)) (λ c next o. (o.does.opens.seen.host, o.does.opens.seen.how)) (slice_get cs i) i n cs new refl h all
+hosted_step w cs (Forget i) n new h all = hosted_at (Keeping (ForgetsAll i n.effect)) (λ c next f. same_hosted c next f.does.forgets.same) (slice_get cs i) i n cs new refl h all
 hosted_step w cs (Ask message) n new h all = hosted_same cs new h.1 all
-hosted_step w cs (AskFrom i) n new h all = hosted_at (Keeping (AsksWithKeeping w.catalogue (length w.sent) i n.effect)) (λ c next a. a.does.requests.seen.goes.same.host) (slice_get cs i) i n cs new refl h all
+hosted_step w cs (AskFrom i) n new h all = hosted_at (Keeping (AsksWithKeeping w.catalogue (length w.sent) i n.effect)) (λ c next a. same_hosted c next a.does.requests.seen.goes.same) (slice_get cs i) i n cs new refl h all
 hosted_step w cs (Deliver i a cut) n new h all = hosted_delivery (slice_get w.sent a) (slice_get cs i) cut i n cs new refl h all
 hosted_step w cs (Exchange i) n new h all =
     hosted_at (Keeping (ExchangesWithKeeping w.catalogue (length w.sent) i n.effect)) (λ c next e. hosted_exchange w.catalogue (length w.sent) i n.effect c next e.does.seen) (slice_get cs i) i n cs new refl h all
@@ -144,14 +159,15 @@ module _ (laws : LowerLaws) where
       let asked = answered.span in
       let q = asks_query c mid (Some a.request.items) a.span r asked in
       let tag : a.tag ≡ tag_of c = answered.tag ∙ ap (λ x. option_map (λ (v : Revision). v.tag) x) r.goes.revision in
-      let text : a.request.items ≡ request_text (host_of c) (name_of c) a.span.first a.span.last (tag_of c) = same_Some _ _ (r.text ∙ ap (request_for c) asked) in
+      let text : a.request.items ≡ request_by (closes c) (host_of c) (name_of c) a.span.first a.span.last (tag_of c) = same_Some _ _ (r.text ∙ ap (request_for c) asked) in
       let agrees : ClientAgrees mid w.book = k.goes.agrees w.book (g.agree i c at w.book (λ p j. j) g.distinct) in
       let asks : AsksFor mid (revision_of mid) a.span = subst (λ o. IfSome o (AsksFor mid (revision_of mid))) asked k.asks in
       record {
         seen = seen c;
         there = ap (λ j. slice_get w.clients j) answered.client
             ∙ ap (λ (ss : List Seen). slice_get ss i) (sym g.seen_are) ∙ get-map seen cs i ∙ ap (λ (o : Option ClientState). option_map seen o) at;
-        text = text ∙ ap (λ h. request_text h (name_of c) a.span.first a.span.last (tag_of c)) (hosts i c at)
+        text = text ∙ ap (λ b. request_by b (host_of c) (name_of c) a.span.first a.span.last (tag_of c)) (hosts i c at).1
+            ∙ ap (λ h. request_text h (name_of c) a.span.first a.span.last (tag_of c)) (hosts i c at).0
             ∙ ap (λ t. request_text host (name_of c) a.span.first a.span.last t) (sym tag);
         needed = needed_by w c mid a (revision_of mid) q.0 refl answered.tag agrees asks r.goes.same.name (sym r.goes.same.query ∙ q.1) q.1;
       }

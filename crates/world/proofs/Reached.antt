@@ -7,14 +7,15 @@ use Rattle.std.proofs.lemmas.Option.{none-some, same_Some}
 use Rattle.tiff_dir.specs.declared.query.Query.{Query}
 use Rattle.tiff_dir.specs.Query.{cost}
 use Rattle.tiff_dir.specs.declared.span.Span.{Span}
-use Rattle.http_range.specs.Ask.{CanAsk, request_text}
+use Rattle.http_range.specs.Ask.{CanAsk, request_by}
 use Rattle.http_range.specs.Book.{Publication, In, published}
 use Rattle.http_range.specs.Response.{IsAnswer}
+use Rattle.cog_client.specs.declared.asking.Asking.{Asking}
 use Rattle.cog_client.specs.declared.delivered.Delivered.{Delivered}
 use Rattle.cog_client.specs.declared.report.Report.{Report}
 use Rattle.cog_client.specs.Report.{IsTrueReport, Told, told}
 use Rattle.cog_client.specs.Case.{Revision}
-use Rattle.cog_client.specs.Client.{ClientState, Knows, ClientAgrees, asked_of, host_of, name_of, query_of, report_of, tag_of}
+use Rattle.cog_client.specs.Client.{ClientState, Knows, ClientAgrees, asked_of, host_of, name_of, query_of, report_of, tag_of, closes}
 use Rattle.cog_client.specs.Calls.{request_for}
 use Rattle.cog_client.specs.Keeps.{DeliversKeeping, RequestsKeeping}
 use Rattle.cog_client.specs.Progress.{BringsOn, IsAtWork, IsOwnAnswer, left}
@@ -87,11 +88,13 @@ module _ (laws : LowerLaws) (w : World) (cs : List ClientState) (i : ℕ) (c : C
       let tag : tag_of mid ≡ tag_of c = ap (λ x. option_map (λ (v : Revision). v.tag) x) r.goes.revision in
       let s = h.answered.answered in
       let can : CanAsk (host_of c) (name_of c) span.first span.last (tag_of c) = some_of (asked_of mid) span _ asked r.lawful in
-      let text : a.request.items ≡ request_text (host_of c) (name_of c) span.first span.last (tag_of c) = same_Some _ _ (r.text ∙ ap (request_for c) asked) in
-      let same : request_text (host_of c) (name_of c) span.first span.last (tag_of c) ≡ request_text (host_of mid) (name_of mid) span.first span.last (tag_of mid) =
-      ap (λ h. request_text h (name_of c) span.first span.last (tag_of c)) (sym host)
-      ∙ ap (λ n. request_text (host_of mid) n span.first span.last (tag_of c)) (sym name)
-      ∙ ap (λ t. request_text (host_of mid) (name_of mid) span.first span.last t) (sym tag) in
+      let text : a.request.items ≡ request_by (closes c) (host_of c) (name_of c) span.first span.last (tag_of c) = same_Some _ _ (r.text ∙ ap (request_for c) asked) in
+      let closing : closes mid ≡ closes c = ap (λ (h : Asking). h.closes) r.goes.same.how in
+      let same : request_by (closes c) (host_of c) (name_of c) span.first span.last (tag_of c) ≡ request_by (closes mid) (host_of mid) (name_of mid) span.first span.last (tag_of mid) =
+      ap (λ b. request_by b (host_of c) (name_of c) span.first span.last (tag_of c)) (sym closing)
+      ∙ ap (λ h. request_by (closes mid) h (name_of c) span.first span.last (tag_of c)) (sym host)
+      ∙ ap (λ n. request_by (closes mid) (host_of mid) n span.first span.last (tag_of c)) (sym name)
+      ∙ ap (λ t. request_by (closes mid) (host_of mid) (name_of mid) span.first span.last t) (sym tag) in
       record {
         catalogue = w.catalogue;
         lawful = g.lawful;

@@ -3,7 +3,7 @@ use Rattle.std.specs.Prelude.{◌≡◌, ℕ, List}
 use Rattle.tiff_dir.specs.declared.query.Query.{Query}
 use Rattle.tiff_dir.specs.Faulty.{IsWindow}
 use Rattle.geokeys.specs.Same.{KeysAreUnique}
-use Rattle.http_range.specs.Laws.{TagsTellOne, TagsTellPublications, PublicationTagsAreKept, ClientsAreAnswered, ChecksAreAnswered, ChecksAreRead, PublishReplaces, PublishedIsNamed, HonestyIsKept}
+use Rattle.http_range.specs.Laws.{TagsTellOne, TagsTellPublications, PublicationTagsAreKept, RequestsAreAnswered, ChecksAreAnswered, ChecksAreRead, PublishReplaces, PublishedIsNamed, HonestyIsKept}
 use Rattle.cog_client.specs.Client.{AgreementIsSeen}
 use Rattle.cog_client.specs.Report.{TruthIsTold}
 use Rattle.cog_client.specs.Progress.{CostIsMost, DeliveryReports, GoingOnLeavesNoMore, NeededAreAsked, OwnAnswersBringOn, RequestReports}
@@ -12,7 +12,7 @@ pub record LowerLaws : Type 0 where
   pub apart : TagsTellPublications
   pub one : TagsTellOne
   pub kept : PublicationTagsAreKept
-  pub answered : ClientsAreAnswered
+  pub answered : RequestsAreAnswered
   pub checks : ChecksAreAnswered
   pub read : ChecksAreRead
   pub replaces : PublishReplaces

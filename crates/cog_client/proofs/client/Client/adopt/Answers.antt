@@ -13,8 +13,8 @@ returns-clause-adopts c =
     let e = c.new.ensures in
     let p = revision_of_head (announced c.args.head.now) in
     let silent : i.report ≡ None = subst (λ (k : ClientState). report_of k ≡ None) (sym c.self.view_is) c.requires.report in
-    let is : known i.arrival i.host.items i.name.items i.query i.asked i.source i.cache i.report ≡ known i.arrival i.host.items i.name.items i.query i.asked i.source i.cache None =
-    ap (known i.arrival i.host.items i.name.items i.query i.asked i.source i.cache) silent in
-    subst (λ r. Adopts p c.args.asked c.args.self.now (known i.arrival i.host.items i.name.items i.query c.args.asked (Some c.new.result) c.clear.new.self r)) (sym silent)
-    (subst (λ k. Adopts p c.args.asked k (known i.arrival i.host.items i.name.items i.query c.args.asked (Some c.new.result) c.clear.new.self None)) (sym is ∙ c.self.view_is)
-    (adopted i.arrival i.host.items i.name.items i.query i.asked c.args.asked i.source c.new.result i.cache c.clear.new.self p e.tag e.complete c.clear.ensures.empty c.clear.ensures.holds e.agrees e.length e.query c.requires.few (subst IsClient is c.self.invariant)))
+    let is : known i.arrival i.how i.host.items i.name.items i.query i.asked i.source i.cache i.report ≡ known i.arrival i.how i.host.items i.name.items i.query i.asked i.source i.cache None =
+    ap (known i.arrival i.how i.host.items i.name.items i.query i.asked i.source i.cache) silent in
+    subst (λ r. Adopts p c.args.asked c.args.self.now (known i.arrival i.how i.host.items i.name.items i.query c.args.asked (Some c.new.result) c.clear.new.self r)) (sym silent)
+    (subst (λ k. Adopts p c.args.asked k (known i.arrival i.how i.host.items i.name.items i.query c.args.asked (Some c.new.result) c.clear.new.self None)) (sym is ∙ c.self.view_is)
+    (adopted i.arrival i.how i.host.items i.name.items i.query i.asked c.args.asked i.source c.new.result i.cache c.clear.new.self p e.tag e.complete c.clear.ensures.empty c.clear.ensures.holds e.agrees e.length e.query c.requires.few (subst IsClient is c.self.invariant)))

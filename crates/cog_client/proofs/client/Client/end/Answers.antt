@@ -4,6 +4,7 @@ use Rattle.std.proofs.lemmas.Bool.{false≢true}
 use Rattle.tiff_dir.specs.declared.query.Query.{Query}
 use Rattle.tiff_dir.specs.declared.span.Span.{Span}
 use Rattle.range_cache.specs.Cache.{Blocks}
+use Rattle.cog_client.specs.declared.asking.Asking.{Asking}
 use Rattle.cog_client.specs.declared.report.Report.{Report}
 use Rattle.cog_client.specs.declared.source.Source.{Source}
 use Rattle.cog_client.specs.declared.delivered.Delivered.{Delivered}
@@ -25,12 +26,12 @@ record LetGo (old mid : ClientState) (what : Delivered) : Type 0 where
   sound : IsClient mid
   told : IsTold (feed_of old) what
 
-let_go : (e e' : Feed) (h n : List ℕ) (q : Option Query) (a : Option Span) (s : Option Source) (b : Blocks) (r : Option Report) (old : ClientState) (what : Delivered)
-    → known e h n q a s b r ≡ old → e' ≡ nothing_fed → IsClient (known e h n q a s b r) → IsTold e what → LetGo old (known e' h n q a s b r) what
+let_go : (e e' : Feed) (how : Asking) (h n : List ℕ) (q : Option Query) (a : Option Span) (s : Option Source) (b : Blocks) (r : Option Report) (old : ClientState) (what : Delivered)
+    → known e how h n q a s b r ≡ old → e' ≡ nothing_fed → IsClient (known e how h n q a s b r) → IsTold e what → LetGo old (known e' how h n q a s b r) what
 unfolding feed_of
-let_go e e' h n q a s b r old what view empty sound told = record {
-  dropped = subst (λ (m : ClientState). known e' h n q a s b r ≡ record m { feed = nothing_fed }) view (ap (λ (x : Feed). known x h n q a s b r) empty);
-  sound = cleared e e' h n q a s b r empty sound;
+let_go e e' how h n q a s b r old what view empty sound told = record {
+  dropped = subst (λ (m : ClientState). known e' how h n q a s b r ≡ record m { feed = nothing_fed }) view (ap (λ (x : Feed). known x how h n q a s b r) empty);
+  sound = cleared e e' how h n q a s b r empty sound;
   told = subst (λ (m : ClientState). IsTold (feed_of m) what) view told;
 }
 
@@ -38,8 +39,8 @@ pub returns-in-Ignored-clause-ok : goal.returns-in-Ignored-clause-ok
 unfolding feed_of
 returns-in-Ignored-clause-ok c s p fed =
     let i = c.self.inside in
-    let mid = known c.clear.new.self i.host.items i.name.items i.query i.asked i.source i.cache i.report in
-    let gone = let_go i.arrival c.clear.new.self i.host.items i.name.items i.query i.asked i.source i.cache i.report c.args.self.now c.told-told.result c.self.view_is c.clear.ensures c.self.invariant c.told-told.ensures in
+    let mid = known c.clear.new.self i.how i.host.items i.name.items i.query i.asked i.source i.cache i.report in
+    let gone = let_go i.arrival c.clear.new.self i.how i.host.items i.name.items i.query i.asked i.source i.cache i.report c.args.self.now c.told-told.result c.self.view_is c.clear.ensures c.self.invariant c.told-told.ensures in
     let w = c.in-Ignored.field-0 in
     subst (λ (d : Delivered). DeliversKeeping s p d mid) (sym c.in-Ignored.is)
     (ended_ignored c.fronts_are_read.ensures.answers c.lengths_are_known.ensures c.stored_are_held.ensures.front c.parts_bring_blocks.ensures.beside s p c.args.self.now mid gone.dropped gone.sound w (subst (IsTold (feed_of c.args.self.now)) c.in-Ignored.is gone.told) fed)
@@ -48,8 +49,8 @@ pub returns-in_err-missing : goal.returns-in_err-missing
 unfolding feed_of asked_of
 returns-in_err-missing c =
     let i = c.self.inside in
-    let mid = known c.clear.new.self i.host.items i.name.items i.query i.asked i.source i.cache i.report in
-    let gone = let_go i.arrival c.clear.new.self i.host.items i.name.items i.query i.asked i.source i.cache i.report c.args.self.now c.told-told.result c.self.view_is c.clear.ensures c.self.invariant c.told-told.ensures in
+    let mid = known c.clear.new.self i.how i.host.items i.name.items i.query i.asked i.source i.cache i.report in
+    let gone = let_go i.arrival c.clear.new.self i.how i.host.items i.name.items i.query i.asked i.source i.cache i.report c.args.self.now c.told-told.result c.self.view_is c.clear.ensures c.self.invariant c.told-told.ensures in
     let e = c.in_err-missing.ensures in
     let used : IsIgnored c.told-told.result → ⊥ = not_ignored c.told-told.result c.in_default.not-Ignored in
     record {
@@ -63,8 +64,8 @@ pub returns-in_ok-missing : goal.returns-in_ok-missing
 unfolding feed_of asked_of
 returns-in_ok-missing c =
     let i = c.self.inside in
-    let mid = known c.clear.new.self i.host.items i.name.items i.query i.asked i.source i.cache i.report in
-    let gone = let_go i.arrival c.clear.new.self i.host.items i.name.items i.query i.asked i.source i.cache i.report c.args.self.now c.told-told.result c.self.view_is c.clear.ensures c.self.invariant c.told-told.ensures in
+    let mid = known c.clear.new.self i.how i.host.items i.name.items i.query i.asked i.source i.cache i.report in
+    let gone = let_go i.arrival c.clear.new.self i.how i.host.items i.name.items i.query i.asked i.source i.cache i.report c.args.self.now c.told-told.result c.self.view_is c.clear.ensures c.self.invariant c.told-told.ensures in
     let e = c.in_ok-missing.ensures in
     let used : IsIgnored c.told-told.result → ⊥ = not_ignored c.told-told.result c.in_default.not-Ignored in
     record {
@@ -78,8 +79,8 @@ pub returns-else-is_none : goal.returns-else-is_none
 unfolding feed_of report_of
 returns-else-is_none c =
     let i = c.self.inside in
-    let mid = known c.clear.new.self i.host.items i.name.items i.query i.asked i.source i.cache i.report in
-    let gone = let_go i.arrival c.clear.new.self i.host.items i.name.items i.query i.asked i.source i.cache i.report c.args.self.now c.told-told.result c.self.view_is c.clear.ensures c.self.invariant c.told-told.ensures in
+    let mid = known c.clear.new.self i.how i.host.items i.name.items i.query i.asked i.source i.cache i.report in
+    let gone = let_go i.arrival c.clear.new.self i.how i.host.items i.name.items i.query i.asked i.source i.cache i.report c.args.self.now c.told-told.result c.self.view_is c.clear.ensures c.self.invariant c.told-told.ensures in
     let used : IsIgnored c.told-told.result → ⊥ = not_ignored c.told-told.result c.in_default.not-Ignored in
     let stands : is_some i.report ≡ true = c.is_none.ensures ∙ ap not c.if-is_none.false in
     record {

@@ -15,11 +15,11 @@ returns-then-is_err-clause-err c =
     let now = c.args.self.now in
     let bytes = c.args.bytes.now in
     let cache = c.take-taken.new.cache in
-    let new = known c.clear.new.self i.host.items i.name.items i.query i.asked i.source cache i.report in
+    let new = known c.clear.new.self i.how i.host.items i.name.items i.query i.asked i.source cache i.report in
     let same : new ≡ record now { cache = cache; feed = c.clear.new.self } = subst (λ (m : ClientState). new ≡ record m { cache = cache; feed = c.clear.new.self }) c.self.view_is refl in
     then_err c.take-taken.result (λ (stops : StopsInBytes i.arrival i.cache bytes cache). λ (s : ClientState) (p : List ℕ) (fed : FedBefore s p bytes now).
     fed_stops c.fronts_are_read.ensures.answers c.stored_are_held.ensures.front c.parts_bring_blocks.ensures.beside s p bytes now new same c.clear.ensures
-    (stopped_sound i.arrival c.clear.new.self i.host.items i.name.items i.query i.asked i.source i.cache cache i.report bytes c.self.invariant stops)
+    (stopped_sound i.arrival c.clear.new.self i.how i.host.items i.name.items i.query i.asked i.source i.cache cache i.report bytes c.self.invariant stops)
     (subst (λ (m : ClientState). StopsInBytes (feed_of m) (blocks_of m) bytes cache) c.self.view_is stops) fed) c.take-taken.ensures.err
 
 pub returns-else-is_err-clause-ok : goal.returns-else-is_err-clause-ok
@@ -30,7 +30,7 @@ returns-else-is_err-clause-ok c =
     let bytes = c.args.bytes.now in
     let cache = c.take-taken.new.cache in
     let kept = c.take-taken.new.self in
-    let new = known kept i.host.items i.name.items i.query i.asked i.source cache i.report in
+    let new = known kept i.how i.host.items i.name.items i.query i.asked i.source cache i.report in
     let same : new ≡ record now { cache = cache; feed = kept } = subst (λ (m : ClientState). new ≡ record m { cache = cache; feed = kept }) c.self.view_is refl in
     then_ok c.take-taken.result (λ (takes : TakesBytes i.arrival i.cache bytes kept cache). λ (s : ClientState) (p : List ℕ) (fed : FedBefore s p bytes now).
     fed_on s p bytes now new same (subst (λ (m : ClientState). TakesBytes (feed_of m) (blocks_of m) bytes kept cache) c.self.view_is takes) fed) c.take-taken.ensures.ok

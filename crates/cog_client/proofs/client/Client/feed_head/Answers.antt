@@ -11,7 +11,7 @@ returns-in-Some-clause-before c s p fed =
     let i = c.self.inside in
     let now = c.args.self.now in
     let bytes = c.args.piece.now in
-    let mid = known c.look.new.self i.host.items i.name.items i.query i.asked i.source i.cache i.report in
+    let mid = known c.look.new.self i.how i.host.items i.name.items i.query i.asked i.source i.cache i.report in
     let same : mid ≡ record now { feed = c.look.new.self } = subst (λ (m : ClientState). mid ≡ record m { feed = c.look.new.self }) c.self.view_is refl in
     let looks : LooksOn (feed_of now) bytes c.look.new.self (Some c.in-Some.found) =
     subst (λ (m : ClientState). LooksOn (feed_of m) bytes c.look.new.self (Some c.in-Some.found)) c.self.view_is c.in-Some.ensures in

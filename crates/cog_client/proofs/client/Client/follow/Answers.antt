@@ -19,7 +19,7 @@ returns c =
     let now = c.args.self.now in
     let mid = c.match-case.self in
     let k = c.case_of_head-case.result in
-    let new = known c.follow.new.self j.host.items j.name.items j.query j.asked j.source j.cache j.report in
+    let new = known c.follow.new.self j.how j.host.items j.name.items j.query j.asked j.source j.cache j.report in
     let same : new ≡ record mid { feed = c.follow.new.self } = subst (λ (m : ClientState). new ≡ record m { feed = c.follow.new.self }) c.self-2.view_is refl in
     let asks : asked_of mid ≡ Some c.in-Some.span = subst (λ (m : ClientState). asked_of m ≡ Some c.in-Some.span) c.self-2.view_is c.in-Some.is in
     let is : k ≡ case_for now head = subst (λ (m : ClientState). k ≡ case_of_head (revision_of m) (asked_of m) head) c.self.view_is c.case_of_head-case.ensures in

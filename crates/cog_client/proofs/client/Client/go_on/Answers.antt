@@ -8,10 +8,10 @@ pub returns-in-None-clause-goes : goal.returns-in-None-clause-goes
 returns-in-None-clause-goes c =
     let i = c.self.inside in
     let s = c.in-Some.source in
-    let is : known i.arrival i.host.items i.name.items i.query i.asked i.source i.cache i.report ≡ known i.arrival i.host.items i.name.items i.query i.asked (Some s) i.cache i.report =
-    ap (λ o. known i.arrival i.host.items i.name.items i.query i.asked o i.cache i.report) c.in-Some.is in
-    let mid : ClientState = known i.arrival i.host.items i.name.items i.query i.asked (Some (record s { reader = c.fill.new.reader })) c.fill.new.cache i.report in
+    let is : known i.arrival i.how i.host.items i.name.items i.query i.asked i.source i.cache i.report ≡ known i.arrival i.how i.host.items i.name.items i.query i.asked (Some s) i.cache i.report =
+    ap (λ o. known i.arrival i.how i.host.items i.name.items i.query i.asked o i.cache i.report) c.in-Some.is in
+    let mid : ClientState = known i.arrival i.how i.host.items i.name.items i.query i.asked (Some (record s { reader = c.fill.new.reader })) c.fill.new.cache i.report in
     goes_trans c.args.self.now mid c.stand.new.self
     (subst (λ k. GoesOnKeeping k mid) (sym is ∙ c.self.view_is)
-    (gone i.arrival i.host.items i.name.items i.query i.asked s i.cache i.report (record s { reader = c.fill.new.reader }) c.fill.new.cache refl refl (subst IsClient is c.self.invariant) c.in_ok-missing.ensures.goes))
+    (gone i.arrival i.how i.host.items i.name.items i.query i.asked s i.cache i.report (record s { reader = c.fill.new.reader }) c.fill.new.cache refl refl (subst IsClient is c.self.invariant) c.in_ok-missing.ensures.goes))
     c.stand.ensures.goes

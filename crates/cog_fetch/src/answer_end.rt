@@ -1,0 +1,150 @@
+//! Where an answer ends on a connection that may go on behind it.
+ghost use Rattle.std.specs.Prelude.{◌≡◌, ◌++◌, ℕ, [], List, OnErr, OnOk, false, true};
+ghost use Rattle.http_range.specs.Announced.{head_reading_seen};
+ghost use Rattle.cog_fetch.specs.declared.answer_end.Lacks.TheVariants.{Body, End};
+ghost use Rattle.cog_fetch.specs.AnswerEnd.{lacks_behind, lacks_by, lacks_of, has_begun, may_change, Came, IsWholeAnswer};
+
+use http_parts::limits::HEAD_LIMIT;
+use http_range::{HeadReading, Why, ends_connection, heads_grow, read_head};
+use std::alloc::{AllocError, Global};
+
+/// What is still to come of an answer.
+#[derive(Clone, Copy, Debug, PartialEq, Eq)]
+pub enum Lacks {
+    /// Its head isn't whole.
+    Head,
+    /// So many bytes of its body.
+    Body(u64),
+    /// It has no length that can be trusted, or more came than it has: it ends with the connection.
+    End,
+}
+
+/// What is lacking where so many bytes of the body were, and more came.
+fn lacks_behind(left: u64, came: usize) -> Lacks
+    ensures { result ≡ lacks_behind left came }
+{
+    let came = came as u64;
+    if came <= left {
+        Lacks::Body(left - came)
+    } else {
+        Lacks::End
+    }
+}
+
+/// What is lacking where so many bytes of an answer came, by what was read of its head.
+fn lacks_by(reading: &HeadReading, came: usize) -> Lacks
+    ensures { result ≡ lacks_by (head_reading_seen reading.now) came }
+{
+    match reading {
+        HeadReading::Head(head) => lacks_behind(head.length, came.saturating_sub(head.size)),
+        HeadReading::NotUsed(why) => {
+            if may_change(*why) && came < HEAD_LIMIT {
+                Lacks::Head
+            } else {
+                Lacks::End
+            }
+        }
+    }
+}
+
+/// Whether a reason says only that no head is there so far.
+fn may_change(why: Why) -> bool
+    ensures { result ≡ may_change why }
+{
+    matches!(why, Why::Cut | Why::Head)
+}
+
+/// How far an answer has come. Its bytes are kept until its head is whole, which 4,096 of them decide.
+#[derive(Drop)]
+pub struct AnswerEnd {
+    head: Vec<u8>,
+    lacks: Lacks,
+    closes: bool,
+    begun: bool,
+}
+
+impl AnswerEnd {
+    /// Of an answer of which nothing has come.
+    pub fn new(alloc: Global) -> AnswerEnd
+        ensures { Came result [] }
+    {
+        heads_grow();
+        AnswerEnd {
+            head: Vec::new(alloc),
+            lacks: lacks_by(&read_head(&[]), 0),
+            closes: false,
+            begun: false,
+        }
+    }
+
+    /// Begins again, with an answer of which nothing has come.
+    pub fn begin(&mut self)
+        ensures { Came self.new [] }
+    {
+        heads_grow();
+        self.head.clear();
+        self.lacks = lacks_by(&read_head(&[]), 0);
+        self.closes = false;
+        self.begun = false;
+    }
+
+    /// What is still to come.
+    pub fn lacks(&self) -> Lacks
+        ensures { result ≡ lacks_of self.now }
+    {
+        self.lacks
+    }
+
+    /// Whether any of it came.
+    pub fn has_begun(&self) -> bool
+        ensures value { result ≡ has_begun self.now }
+        ensures none { result ≡ false → (bytes : List ℕ) → Came self.now bytes → bytes ≡ [] }
+    {
+        self.begun
+    }
+
+    /// The next bytes of the answer came. Where there is no memory for them, nothing is known any more of where it ends.
+    pub fn came(&mut self, bytes: &[u8]) -> Result<(), AllocError>
+        ensures ok { OnOk result ((front : List ℕ) → Came self.old front → Came self.new (front ++ bytes.now)) }
+        ensures err { OnErr result (lacks_of self.new ≡ End) }
+    {
+        heads_grow();
+        self.begun = true;
+        match self.lacks {
+            Lacks::Head => self.look(bytes),
+            Lacks::Body(left) => {
+                self.lacks = lacks_behind(left, bytes.len());
+                Ok(())
+            }
+            Lacks::End => Ok(()),
+        }
+    }
+
+    /// Keeps the next bytes, and reads the head if it is whole now.
+    fn look(&mut self, bytes: &[u8]) -> Result<(), AllocError>
+        requires { has_begun self.old ≡ true }
+        ensures ok { OnOk result ((front : List ℕ) → self.old.head.items ≡ front → Came self.new (front ++ bytes.now)) }
+        ensures err { OnErr result (lacks_of self.new ≡ End) }
+    {
+        self.lacks = Lacks::End;
+        self.head.extend_from_slice(bytes)?;
+        self.lacks = lacks_by(&read_head(&self.head), self.head.len());
+        self.closes = ends_connection(&self.head);
+        Ok(())
+    }
+
+    /// Whether another answer may follow on the connection: this one is whole, nothing behind it came, and its head doesn't say that
+    /// the connection ends (RFC 9112, section 9.3).
+    pub fn may_go_on(&self) -> bool
+        ensures { result ≡ true → (bytes : List ℕ) → Came self.now bytes → IsWholeAnswer bytes }
+    {
+        heads_grow();
+        let Lacks::Body(left) = self.lacks else {
+            return false;
+        };
+        if left == 0 {
+            return !self.closes;
+        }
+        false
+    }
+}
