@@ -1,19 +1,21 @@
 //! Tests of scripts and logs.
 mod larger_files;
 mod log_lines;
+mod refused_memory;
 mod script_lines;
 mod scripts_and_logs;
 mod windows;
 
 use fixtures_support::{f1, f1m, f2, f2b, f3, f4, f6, f6m};
-use scripts::{Loaded, log_text, script};
+use scripts::{Loaded, ScriptError, log_text, script};
 use std::alloc::Global;
 use std::process::Abort;
 use std::test::Fail;
-use world::{Event, Log, run};
+use tiff_dir::Memory;
+use world::{Event, Log, run, run_cut};
 
 /// The file f1, with one byte changed.
-fn damaged(alloc: Global, at: usize, byte: u8) -> Result<Vec<u8>, Fail> {
+fn damaged(alloc: Global, at: usize, byte: u8) -> Result<Vec<u8>, Memory> {
     let mut file = f1(alloc)?;
     if let Some(place) = file.get_mut(at) {
         *place = byte;
@@ -22,7 +24,7 @@ fn damaged(alloc: Global, at: usize, byte: u8) -> Result<Vec<u8>, Fail> {
 }
 
 /// The file f1 with a tile of 255 bytes.
-fn damaged_twice(alloc: Global) -> Result<Vec<u8>, Fail> {
+fn damaged_twice(alloc: Global) -> Result<Vec<u8>, Memory> {
     let mut file = damaged(alloc, 114, 255)?;
     if let Some(place) = file.get_mut(115) {
         *place = 0;
@@ -31,7 +33,7 @@ fn damaged_twice(alloc: Global) -> Result<Vec<u8>, Fail> {
 }
 
 /// The file f1 without its last byte.
-fn shortened(alloc: Global) -> Result<Vec<u8>, Fail> {
+fn shortened(alloc: Global) -> Result<Vec<u8>, Memory> {
     let mut file = f1(alloc)?;
     file.pop();
     Ok(file)
@@ -39,7 +41,7 @@ fn shortened(alloc: Global) -> Result<Vec<u8>, Fail> {
 
 /// The files of the scripts: the fixtures, an empty one, and f1 with a loop of directories, with compression 5, with a
 /// tile of 255 bytes and without its last byte.
-fn files(alloc: Global) -> Result<Loaded, Fail> {
+fn files(alloc: Global) -> Result<Loaded, Memory> {
     let mut files = Loaded::new(alloc);
     files.add(b"f1.tif", f1(alloc)?)?;
     files.add(b"f1m.tif", f1m(alloc)?)?;
@@ -58,18 +60,33 @@ fn files(alloc: Global) -> Result<Loaded, Fail> {
 }
 
 /// The events of a script of these files.
-fn events(alloc: Global, text: &str) -> Result<Vec<Event>, Fail> {
-    let mut files = files(alloc)?;
-    Ok(script(alloc, text.as_bytes(), &mut files)?)
+fn events(alloc: Global, text: &str) -> Result<Vec<Event>, ScriptError> {
+    let Ok(mut files) = files(alloc) else {
+        return Err(ScriptError::Memory);
+    };
+    script(alloc, text.as_bytes(), &mut files)
 }
 
-/// Expects a script's log.
+/// Sizes of the pieces in which answers come: the head of an answer has about 171 bytes, a block 16,384.
+const PIECES: [usize; 5] = [1, 7, 171, 16_384, 100_000];
+
+/// Expects a script's log, whether answers come whole or in pieces.
 fn expect(rt: &(impl Abort + AllocGlobal), text: &str, want: &str) -> Result<(), Fail> {
     let events = events(rt.alloc(), text)?;
     let mut log = Log::new(rt.alloc());
     run(rt.alloc(), &events, &mut log)?;
     let found = log_text(rt.alloc(), &log)?;
     assert_eq!(rt; str::from_utf8(&found), Ok(want), "of the script {text:?}");
+    for piece in PIECES {
+        let mut log = Log::new(rt.alloc());
+        run_cut(rt.alloc(), &events, piece, &mut log)?;
+        let found = log_text(rt.alloc(), &log)?;
+        assert_eq!(rt;
+            str::from_utf8(&found),
+            Ok(want),
+            "of the script {text:?} by {piece}"
+        );
+    }
     Ok(())
 }
 
@@ -77,7 +94,7 @@ fn expect(rt: &(impl Abort + AllocGlobal), text: &str, want: &str) -> Result<(),
 type Steps = &'static [(&'static str, &'static str)];
 
 /// The text of a script, and of its log.
-fn texts_of(alloc: Global, steps: Steps) -> Result<(String, String), Fail> {
+fn texts_of(alloc: Global, steps: Steps) -> Result<(String, String), Memory> {
     let mut script = String::new(alloc);
     let mut log = String::new(alloc);
     for step in steps {
@@ -95,7 +112,7 @@ fn expect_steps(rt: &(impl Abort + AllocGlobal), steps: Steps) -> Result<(), Fai
 }
 
 /// The texts where this file is published as `a` in epoch 1 before, and client 0 of 66 blocks is made.
-fn texts_after(alloc: Global, file: &str, steps: Steps) -> Result<(String, String), Fail> {
+fn texts_after(alloc: Global, file: &str, steps: Steps) -> Result<(String, String), Memory> {
     let (script, log) = texts_of(alloc, steps)?;
     let script = format!(in alloc;
         "epoch 1\npublish a {file}\nclient a 66\n{}",

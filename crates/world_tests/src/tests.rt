@@ -9,7 +9,7 @@ use scripts::{Loaded, log_text, script};
 use std::alloc::Global;
 use std::process::Abort;
 use std::test::Fail;
-use world::{Log, run};
+use world::{Event, Log, run, run_cut};
 
 /// The file f3, whose packed tile ends with fifteen copies in place of sixteen.
 fn damaged(alloc: Global) -> Result<Vec<u8>, Fail> {
@@ -20,8 +20,8 @@ fn damaged(alloc: Global) -> Result<Vec<u8>, Fail> {
     Ok(file)
 }
 
-/// The log of a script, whose files are fixtures.
-fn log_of(alloc: Global, text: &str) -> Result<Log, Fail> {
+/// The events of a script, whose files are fixtures.
+fn events_of(alloc: Global, text: &str) -> Result<Vec<Event>, Fail> {
     let mut files = Loaded::new(alloc);
     files.add(b"f1.tif", f1(alloc)?)?;
     files.add(b"f1m.tif", f1m(alloc)?)?;
@@ -30,17 +30,36 @@ fn log_of(alloc: Global, text: &str) -> Result<Log, Fail> {
     files.add(b"f3.tif", f3(alloc)?)?;
     files.add(b"damaged.tif", damaged(alloc)?)?;
     files.add(b"f5.tif", f5(alloc)?)?;
-    let events = script(alloc, text.as_bytes(), &mut files)?;
+    Ok(script(alloc, text.as_bytes(), &mut files)?)
+}
+
+/// The log of a script.
+fn log_of(alloc: Global, text: &str) -> Result<Log, Fail> {
+    let events = events_of(alloc, text)?;
     let mut log = Log::new(alloc);
     run(alloc, &events, &mut log)?;
     Ok(log)
 }
 
-/// Expects a script's log.
+/// Sizes of the pieces in which answers come: the head of an answer has about 171 bytes, a block 16,384.
+const PIECES: [usize; 5] = [1, 7, 171, 16_384, 100_000];
+
+/// Expects a script's log, whether answers come whole or in pieces.
 fn expect(rt: &(impl Abort + AllocGlobal), text: &str, want: &str) -> Result<(), Fail> {
     let log = log_of(rt.alloc(), text)?;
     let found = log_text(rt.alloc(), &log)?;
     assert_eq!(rt; str::from_utf8(&found), Ok(want), "of the script {text:?}");
+    let events = events_of(rt.alloc(), text)?;
+    for piece in PIECES {
+        let mut log = Log::new(rt.alloc());
+        run_cut(rt.alloc(), &events, piece, &mut log)?;
+        let found = log_text(rt.alloc(), &log)?;
+        assert_eq!(rt;
+            str::from_utf8(&found),
+            Ok(want),
+            "of the script {text:?} by {piece}"
+        );
+    }
     Ok(())
 }
 

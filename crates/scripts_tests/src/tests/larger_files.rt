@@ -1,11 +1,13 @@
 //! Clients of larger files as scripts with their logs: several requests, restarts, and queries of every kind.
 use super::{Steps, expect, expect_after, texts_after};
+use std::alloc::Global;
 use std::process::Abort;
 use std::test::Fail;
+use tiff_dir::Memory;
 
 /// A tile of f2 by two exchanges. Its report is not in the table.
 #[rattlefmt::skip]
-const TWO_EXCHANGES: Steps = &[
+pub const TWO_EXCHANGES: Steps = &[
     ("open 0 level 0 240 240 16 16", "opened 0"),
     ("exchange 0", "asked 0 0-65535 - answer 0 206 65536 took 4"),
     ("exchange 0", "asked 0 65536-67705 \"1-1\" answer 1 206 2170 took 1"),
@@ -13,7 +15,7 @@ const TWO_EXCHANGES: Steps = &[
 
 /// The file is replaced between the exchanges.
 #[rattlefmt::skip]
-const REPLACED_BETWEEN: Steps = &[
+pub const REPLACED_BETWEEN: Steps = &[
     ("open 0 level 0 240 240 16 16", "opened 0"),
     ("exchange 0", "asked 0 0-65535 - answer 0 206 65536 took 4"),
     ("publish a f2b.tif", "published \"1-2\""),
@@ -44,14 +46,14 @@ const FORGETTING: Steps = &[
 
 /// Info of f3: two levels and three keys.
 #[rattlefmt::skip]
-const INFO: Steps = &[
+pub const INFO: Steps = &[
     ("open 0 info", "opened 0"),
     ("exchange 0", "asked 0 0-65535 - answer 0 206 1456 took 1\nreport 0 \"1-1\" info 2 3"),
 ];
 
 /// Windows of both levels of f3: by the level's number, and by columns.
 #[rattlefmt::skip]
-const LEVELS: Steps = &[
+pub const LEVELS: Steps = &[
     ("open 0 level 0 15 15 2 2", "opened 0"),
     ("exchange 0", "asked 0 0-65535 - answer 0 206 1456 took 1\nreport 0 \"1-1\" window 2 2 1 10111213"),
     ("open 0 columns 1 5 0 3 1", "opened 0"),
@@ -72,34 +74,48 @@ const SIXTEEN_BITS: Steps = &[
     ("exchange 0", "asked 0 0-65535 - answer 0 206 634 took 1\nreport 0 \"1-1\" window 3 2 1 801280138014802280238024"),
 ];
 
-/// Expects the log of a script of f2, and at its end the report of the last tile of f2 or f2b, all of whose bytes have two equal
-/// digits.
+/// The texts of a script of f2 and of its log, at whose end the last tile of f2 or f2b is reported. All bytes of the tile have
+/// two equal digits.
+pub fn tile_texts(
+    alloc: Global,
+    steps: Steps,
+    tag: &str,
+    digit: char,
+) -> Result<(String, String), Memory> {
+    let (script, log) = texts_after(alloc, "f2.tif", steps)?;
+    let mut digits = String::new(alloc);
+    for _ in 0..512 {
+        digits.push(digit)?;
+    }
+    let digits = digits.as_str();
+    let log = format!(in alloc; "{}report 0 {tag} window 16 16 1 {digits}\n", log.as_str())?;
+    Ok((script, log))
+}
+
+/// Expects the log of a script of f2, at whose end a tile is reported.
 fn expect_tile(
     rt: &(impl Abort + AllocGlobal),
     steps: Steps,
     tag: &str,
-    digit: u8,
+    digit: char,
 ) -> Result<(), Fail> {
-    let (script, log) = texts_after(rt.alloc(), "f2.tif", steps)?;
-    let digits = [digit; 512];
-    let digits = str::from_utf8(&digits)?;
-    let log = format!(in rt.alloc(); "{}report 0 {tag} window 16 16 1 {digits}\n", log.as_str())?;
+    let (script, log) = tile_texts(rt.alloc(), steps, tag, digit)?;
     expect(rt, script.as_str(), log.as_str())
 }
 
 #[test]
 fn reports_a_tile_after_two_exchanges(rt: HostRuntime) -> Result<(), Fail> {
-    expect_tile(&rt, TWO_EXCHANGES, "\"1-1\"", b'f')
+    expect_tile(&rt, TWO_EXCHANGES, "\"1-1\"", 'f')
 }
 
 #[test]
 fn restarts_where_the_file_is_replaced_between_requests(rt: HostRuntime) -> Result<(), Fail> {
-    expect_tile(&rt, REPLACED_BETWEEN, "\"1-2\"", b'0')
+    expect_tile(&rt, REPLACED_BETWEEN, "\"1-2\"", '0')
 }
 
 #[test]
 fn restarts_where_the_server_is_restarted_between_requests(rt: HostRuntime) -> Result<(), Fail> {
-    expect_tile(&rt, RESTARTED_BETWEEN, "\"2-1\"", b'f')
+    expect_tile(&rt, RESTARTED_BETWEEN, "\"2-1\"", 'f')
 }
 
 #[test]

@@ -1,12 +1,12 @@
 //! Worked rows as scripts with their logs.
-use super::{Steps, events, expect, expect_after, expect_steps, texts_after};
+use super::{Steps, expect, expect_after, expect_steps};
 use scripts::log_text;
 use std::test::Fail;
 use world::{Event, Log, run};
 
 /// A window of f1.
 #[rattlefmt::skip]
-const ONE_WINDOW: Steps = &[
+pub const ONE_WINDOW: Steps = &[
     ("open 0 level 0 2 1 3 2", "opened 0"),
     ("exchange 0", "asked 0 0-65535 - answer 0 206 378 took 1\nreport 0 \"1-1\" window 3 2 1 121314222324"),
 ];
@@ -187,18 +187,4 @@ fn refuses_the_65th_name(rt: HostRuntime) -> Result<(), Fail> {
     text.push_str("publish n64 f1.tif\npublish n63 f1.tif\n")?;
     want.push_str("refused 4\npublished \"0-65\"\n")?;
     expect(&rt, text.as_str(), want.as_str())
-}
-
-/// Wherever memory is refused, the log is a beginning of the whole one.
-#[test]
-fn logs_a_beginning_where_memory_is_refused(rt: HostRuntime) -> Result<(), Fail> {
-    let alloc = rt.alloc();
-    let (script, want) = texts_after(alloc, "f1.tif", ONE_WINDOW)?;
-    let events = events(alloc, script.as_str())?;
-    let mut log = Log::new(alloc);
-    let ran = run(alloc, &events, &mut log);
-    let text = log_text(alloc, &log)?;
-    assert!(rt; want.as_bytes().starts_with(&text));
-    assert_eq!(rt; ran.is_ok(), text.len() == want.len());
-    Ok(())
 }

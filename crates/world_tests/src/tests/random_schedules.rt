@@ -1,16 +1,17 @@
 //! Schedules at random, of several clients and names, with files that are replaced, servers that are restarted, and answers that
 //! are lost, cut, repeated or late: each report is what the plain program reads in the file of its tag, and in a faithful stretch
-//! at the end one comes by the exchange after as many as the query costs.
+//! at the end one comes by the exchange after as many as the query costs. Answers that come in pieces give the same log.
 ghost use Rattle.std.specs.Prelude.{◌<◌};
 
 use cog_reader_support::Plain;
 use fixtures_support::{Numbers, f1, f1m, f2, f2b, f3, f6};
 use reference_support::cost;
+use scripts::log_text;
 use std::alloc::Global;
 use std::process::Abort;
 use std::test::Fail;
 use tiff_dir::{Pick, Query};
-use world::{Effect, Event, Log, Report, run};
+use world::{Effect, Event, Log, Report, run, run_cut};
 
 /// The files that are published, with what the plain program reads in them.
 fn plain_files(alloc: Global) -> Result<Vec<Plain>, Fail> {
@@ -177,17 +178,43 @@ fn is_right(
     Ok(plain.is_answer(alloc, report.query, &report.outcome)?)
 }
 
-/// Runs a schedule, and counts its reports; None where one of them isn't right, or none comes in the stretch.
+/// A size of pieces: of a part of a head, of a block, or of an answer.
+fn size_of_pieces(numbers: &mut Numbers) -> usize {
+    match numbers.below(3) {
+        0 => 1 + numbers.below(171),
+        1 => 1 + numbers.below(16_384),
+        _ => 1 + numbers.below(100_000),
+    }
+}
+
+/// Whether the log is that of the schedule with answers in pieces of this size.
+fn is_log_of_pieces(
+    alloc: Global,
+    events: &[Event],
+    piece: usize,
+    log: &Log,
+) -> Result<bool, Fail> {
+    let mut cut = Log::new(alloc);
+    run_cut(alloc, events, piece, &mut cut)?;
+    Ok(log_text(alloc, &cut)? == log_text(alloc, log)?)
+}
+
+/// Runs a schedule, and counts its reports; None where one of them isn't right, where none comes in the stretch, or where answers
+/// in pieces of this size give another log.
 fn right_reports(
     alloc: Global,
     events: &[Event],
     stretch: usize,
+    piece: usize,
     files: &[Plain],
 ) -> Result<Option<usize>, Fail> {
     let mut log = Log::new(alloc);
     run(alloc, events, &mut log)?;
     let exchanges = log.entries.get(stretch..).unwrap_or(&[]);
     if exchanges.iter().all(|entry| entry.report.is_none()) {
+        return Ok(None);
+    }
+    if !is_log_of_pieces(alloc, events, piece, &log)? {
         return Ok(None);
     }
     let mut count = 0usize;
@@ -200,20 +227,21 @@ fn right_reports(
     Ok(Some(count))
 }
 
-/// Expects that the reports of 250 schedules are right, that one comes in the stretch after each, and that enough come.
+/// Expects that the reports of 125 schedules are right, that one comes in the stretch after each, and that enough come.
 fn expect_right(rt: &(impl Abort + AllocGlobal), seed: u64) -> Result<(), Fail> {
     let alloc = rt.alloc();
     let files = plain_files(alloc)?;
     let mut numbers = Numbers::new(seed);
     let mut reports = 0usize;
-    for schedule_number in 0..250 {
+    for schedule_number in 0..125usize {
         let mut events = schedule(alloc, &mut numbers, &files)?;
         let stretch = push_stretch(alloc, &mut events, &mut numbers, &files)?;
-        let right = right_reports(alloc, &events, stretch, &files)?;
+        let piece = size_of_pieces(&mut numbers);
+        let right = right_reports(alloc, &events, stretch, piece, &files)?;
         assert!(rt; right.is_some(), "seed {seed}, schedule {schedule_number}");
         reports = reports.saturating_add(right.unwrap_or(0));
     }
-    assert!(rt; reports > 250, "seed {seed}");
+    assert!(rt; reports > 125, "seed {seed}");
     Ok(())
 }
 
@@ -235,4 +263,24 @@ fn reports_right_samples_in_schedules_of_seed_777(rt: HostRuntime) -> Result<(),
 #[test]
 fn reports_right_samples_in_schedules_of_seed_65536000001(rt: HostRuntime) -> Result<(), Fail> {
     expect_right(&rt, 65_536_000_001)
+}
+
+#[test]
+fn reports_right_samples_in_schedules_of_seed_1(rt: HostRuntime) -> Result<(), Fail> {
+    expect_right(&rt, 1)
+}
+
+#[test]
+fn reports_right_samples_in_schedules_of_seed_20261125(rt: HostRuntime) -> Result<(), Fail> {
+    expect_right(&rt, 20_261_125)
+}
+
+#[test]
+fn reports_right_samples_in_schedules_of_seed_4294967296(rt: HostRuntime) -> Result<(), Fail> {
+    expect_right(&rt, 4_294_967_296)
+}
+
+#[test]
+fn reports_right_samples_in_schedules_of_seed_900719925474(rt: HostRuntime) -> Result<(), Fail> {
+    expect_right(&rt, 900_719_925_474)
 }
