@@ -1,12 +1,12 @@
 //! `cogread`: reads a window or the info of a file over sockets.
 ghost use Rattle.std.specs.Prelude.{◌+◌, ◌<◌, ◌^◌};
 
-use crate::command_lines::{AskedWords, ReadLine, WindowWords, read_line};
 use crate::fault::Fault;
 use crate::number::number;
 use crate::socket::Socket;
 use cog_client::{Client, ClientError, Outcome, Pieces, Query, Report};
 use cog_fetch::fetch_pieces;
+use command_lines::{AskedWords, ReadLine, WindowWords, read_line};
 use range_cache::{MAX_CAPACITY, MIN_CAPACITY};
 use report_text::{info_text, picture};
 use std::io;

@@ -1,14 +1,15 @@
 //! `cogserve`: publishes files of the disk and serves them over many connections at once.
 ghost use Rattle.std.specs.Prelude.{◌<◌, length};
 
-use crate::command_lines::{ServeLine, serve_line};
 use crate::fault::Fault;
 use crate::number::number;
-use crate::watched::Watched;
-use cog_server::Server;
+use cog_server::{PublishError, Server};
+use command_lines::{ServeLine, serve_line};
+use disk_files::{WatchError, Watched};
 use http_range::Tag;
 use serving::{Limits, Serving};
 use std::alloc::AllocError;
+use std::io::ErrorKind;
 use std::net::{Net, TcpListener, TcpStream};
 use std::num::NonZeroUsize;
 use std::rt::{Clock, Files};
@@ -64,6 +65,25 @@ fn print_published<R: Print>(rt: &R, name: &str, tag: &Tag) -> Result<(), Fault>
     Ok(println!(rt; "published {name} {tag}")?)
 }
 
+/// The fault of a file that isn't published.
+fn fault_of<R: AllocGlobal>(
+    rt: &R,
+    file: &Watched<'_>,
+    error: &WatchError,
+) -> Result<Fault, AllocError> {
+    match error {
+        WatchError::Refused(PublishError::Memory) => Ok(Fault::Memory),
+        WatchError::Refused(refusal) => Ok(Fault::Refused(
+            refusal.number(),
+            String::from_str(rt.alloc(), file.name)?,
+        )),
+        WatchError::CantRead(error) if error.kind() == ErrorKind::OutOfMemory => Ok(Fault::Memory),
+        WatchError::CantRead(_) | WatchError::NotAFile => {
+            Ok(Fault::CantRead(String::from_str(rt.alloc(), file.path)?))
+        }
+    }
+}
+
 /// Publishes the files in order.
 pub fn publish_all<R: Files + Clock + Print + AllocGlobal>(
     rt: &R,
@@ -71,8 +91,10 @@ pub fn publish_all<R: Files + Clock + Print + AllocGlobal>(
     files: &mut [Watched<'_>],
 ) -> Result<(), Fault> {
     for file in files.iter_mut() {
-        let tag = file.publish(rt, server)?;
-        print_published(rt, file.name, &tag)?;
+        match file.publish(rt, server) {
+            Ok(tag) => print_published(rt, file.name, &tag)?,
+            Err(error) => return Err(fault_of(rt, file, &error)?),
+        }
     }
     Ok(())
 }
@@ -93,7 +115,7 @@ fn look_again<R: Files + Clock + Print + AllocGlobal>(
 ) -> Result<(), Fault> {
     for k in 0..files.len() {
         if !is_named_again(files, k)
-            && let Some(tag) = files[k].publish_changed(rt, server)
+            && let Ok(Some(tag)) = files[k].publish_changed(rt, server)
         {
             print_published(rt, files[k].name, &tag)?;
         }

@@ -1,10 +1,9 @@
 //! `cogworld [--pieces N] SCRIPT`: runs a script and prints its log.
 use crate::disk::Disk;
 use crate::fault::Fault;
-use crate::help::{VERSION, WORLD_NOTES};
 use crate::number::number;
 use crate::stored;
-use clap::{Arg, Command};
+use command_lines::world_line;
 use scripts::{Loaded, Source, log_text, script};
 use std::io::Write;
 use std::rt::Files;
@@ -42,30 +41,12 @@ pub fn run_stored<R: Print + AllocGlobal>(rt: &R) -> Result<(), Fault> {
 
 /// Runs the script that the program's words name, of which the first is its own name.
 pub fn run_line<R: Files + Print + AllocGlobal>(rt: &R, words: &[&str]) -> Result<(), Fault> {
-    let path = Arg::new(rt.alloc(), "SCRIPT")
-        .help(
-            "The file of the script: lines of events, its paths from the current folder on (no default)",
-        )
-        .required(true);
-    let pieces = Arg::new(rt.alloc(), "pieces")
-        .long("pieces")
-        .value_name("N")
-        .help("Clients get each answer in pieces of so many bytes, 1 to 1069056 (default: whole)");
-    let command = Command::new(rt.alloc(), "cogworld")
-        .about("Runs a script of events and prints its log")
-        .version(VERSION)
-        .after_help(WORLD_NOTES)
-        .arg(path)?
-        .arg(pieces)?;
-    let matches = command.try_get_matches_from(words)?;
-    let Some(path) = matches.get_str("SCRIPT") else {
-        return Ok(());
-    };
-    let piece = match matches.get_str("pieces") {
+    let line = world_line(rt.alloc(), words)?;
+    let piece = match line.pieces {
         Some(word) => Some(number(rt, word, 1, MOST_BYTES)?),
         None => None,
     };
-    run_file(rt, path, piece)
+    run_file(rt, line.script, piece)
 }
 
 fn run_file<R: Files + Print + AllocGlobal>(

@@ -1,8 +1,8 @@
 //! The command and its words. It is the program that its own name names, as a link does, or else the one that its first word
 //! names.
 use crate::fault::Fault;
-use crate::help::VERSION;
 use crate::{cogread, cogserve, cogworld};
+use command_lines::VERSION;
 use std::alloc::{AllocError, Global};
 use std::net::{Net, TcpListener, TcpStream};
 use std::rt::{Clock, Files};

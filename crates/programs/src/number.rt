@@ -1,9 +1,9 @@
 //! Numbers of command lines.
 ghost use Rattle.std.specs.Prelude.{◌≡◌, None, Some, IfOk, OnErr};
-ghost use Rattle.programs.specs.Number.{number_from};
+ghost use Rattle.command_lines.specs.Number.{number_from};
 
-use crate::command_lines::number_from;
 use crate::fault::Fault;
+use command_lines::number_from;
 
 /// The number that a word writes, from `least` to `greatest`.
 pub fn number<R: AllocGlobal>(rt: &R, word: &str, least: u32, greatest: u32) -> Result<u32, Fault>

@@ -2,7 +2,7 @@
 use super::words_of;
 use clap::Error;
 use clap::error::ErrorKind;
-use programs::{AskedWords, ReadLine, WindowWords, read_line, serve_line};
+use command_lines::{AskedWords, ReadLine, WindowWords, read_line, serve_line};
 use std::alloc::{AllocError, Global};
 use std::test::Fail;
 

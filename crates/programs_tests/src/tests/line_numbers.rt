@@ -1,5 +1,5 @@
 //! Numbers of command lines.
-use programs::number_from;
+use command_lines::number_from;
 
 /// A word, the least and the greatest number of its range, and the number that it writes.
 const NUMBERS: [(&str, u32, u32, Option<u32>); 12] = [

@@ -1,7 +1,8 @@
 //! Connections of `cogserve` with the lines that it prints: the file of the disk is written anew between them.
 use cog_server::Server;
+use disk_files::Watched;
 use fixtures_support::f1;
-use programs::{Fault, Watched, publish_all, serve_connections};
+use programs::{Fault, publish_all, serve_connections};
 use programs_support::Capture;
 use serving::Limits;
 use std::io::{Read, Write};

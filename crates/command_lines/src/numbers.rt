@@ -1,6 +1,6 @@
 //! Numbers of command lines.
 ghost use Rattle.std.specs.Prelude.{◌≡◌};
-ghost use Rattle.programs.specs.Number.{number_from};
+ghost use Rattle.command_lines.specs.Number.{number_from};
 
 use http_parts::digits::number_64;
 

@@ -2,7 +2,7 @@
 use Rattle.std.specs.Prelude.{◌≡◌, true, false, ℕ, List, Some, codes, map, option_map}
 use Rattle.clap.specs.Words.{App, Row, Rule, all_of, first_of, new_app, new_rule, with_rule}
 use Rattle.clap.specs.declared.builder.action.ArgAction.TheVariants.{Set, Append}
-use Rattle.programs.specs.declared.command_lines.serve.ServeLine.{ServeLine}
+use Rattle.command_lines.specs.declared.serve.ServeLine.{ServeLine}
 
 -- an option that has to stand, with one value
 abbrev pub option : List ℕ → Rule

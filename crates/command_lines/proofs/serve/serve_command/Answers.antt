@@ -1,8 +1,8 @@
 use Rattle.std.proofs.Common.{◌≡◌, ◌∙◌, ap, ap₂, codes}
 use Rattle.clap.specs.Words.{app_of, new_app, with_rule}
 use Rattle.clap.specs.Simple.{app_of_fields}
-use Rattle.programs.specs.ServeLine.{serve_app, versioned}
-use Rattle.programs.proofs.command_lines.serve.serve_command.Goals as goal
+use Rattle.command_lines.specs.ServeLine.{serve_app, versioned}
+use Rattle.command_lines.proofs.serve.serve_command.Goals as goal
 
 pub returns : goal.returns
 unfolding serve_app

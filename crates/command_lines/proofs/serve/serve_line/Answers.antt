@@ -2,9 +2,9 @@ use Rattle.std.proofs.Common.{◌≡◌, ◌∙◌, ap, codes, ℕ, List, Some, 
 use Rattle.std.specs.Borrow.{Bor}
 use Rattle.clap.specs.Words.{App, found_of, is_simple, matches_of, raw_values, rows_of, takes}
 use Rattle.clap.proofs.CallerLemmas.{some_of_text}
-use Rattle.programs.specs.ServeLine.{serve_app}
-use Rattle.programs.proofs.LineLemmas.{all_values, choice_value, connections_there, epoch_there, files_there, listen_there, option_value, passed_on, simple, some_mapped}
-use Rattle.programs.proofs.command_lines.serve.serve_line.Goals as goal
+use Rattle.command_lines.specs.ServeLine.{serve_app}
+use Rattle.command_lines.proofs.LineLemmas.{all_values, choice_value, connections_there, epoch_there, files_there, listen_there, option_value, passed_on, simple, some_mapped}
+use Rattle.command_lines.proofs.serve.serve_line.Goals as goal
 
 pub unwrap-listen-requires : goal.unwrap-listen-requires
 unwrap-listen-requires g c =

@@ -17,7 +17,7 @@ use Rattle.clap.proofs.SimpleLemmas.{is_false, is_nil}
 use Rattle.clap.proofs.OnLiterals.{clap_on_literals}
 use Rattle.clap.proofs.WalkLemmas.{both, first_value-rows, raw_values-rows}
 use Rattle.clap.proofs.CallerLemmas.{present_has_entry, required_has_value, required_present}
-use Rattle.programs.specs.ServeLine.{choice, option, serve_app, words}
+use Rattle.command_lines.specs.ServeLine.{choice, option, serve_app, words}
 
 no_some : {X : Type 0} (o : Option X) → not (is_some o) ≡ true → o ≡ None
 no_some None e = refl

@@ -1,19 +1,31 @@
 //! A file of the disk that is published, and when it has to be read again.
 ghost use Rattle.std.specs.Prelude.{◌≡◌, ◌↔◌, IfOk, IsTrue, None, OnErr};
 ghost use Rattle.std.specs.Duration.{as_nanos};
-ghost use Rattle.programs.specs.Settled.{IsSettled};
+ghost use Rattle.disk_files.specs.Settled.{IsSettled};
 
-use crate::disk::Disk;
-use crate::fault::Fault;
+use crate::reading::read_file;
 use cog_server::{PublishError, Server};
 use http_range::Tag;
-use scripts::{LoadError, Source};
-use std::fs;
 use std::fs::Metadata;
-use std::io::ErrorKind;
 use std::os::unix::fs::MetadataExt;
 use std::rt::{Clock, Files};
 use std::time::Duration;
+use std::{fs, io};
+use thiserror::Error;
+
+/// Why a file of the disk isn't published.
+#[derive(Debug, Drop, Error)]
+pub enum WatchError {
+    /// It can't be read.
+    #[error("can't be read: {0}")]
+    CantRead(io::Error),
+    /// The path is no file's: a folder's, or a pipe's.
+    #[error("is no file")]
+    NotAFile,
+    /// The server refuses it.
+    #[error("is refused: {0}")]
+    Refused(PublishError),
+}
 
 /// What the disk says of a file without reading it: where it is, how long, and when it was modified and changed.
 #[derive(Clone, Copy, PartialEq, Eq)]
@@ -67,13 +79,12 @@ fn stamp_of<R: Files + Clock>(rt: &R, path: &str) -> Option<Stamp> {
 }
 
 /// The bytes of a file of the disk, and of nothing else there: to open a pipe might wait for its writer.
-fn bytes_of<R: Files + AllocGlobal>(rt: &R, path: &str) -> Result<Vec<u8>, LoadError> {
-    match fs::metadata(rt, path) {
-        Ok(metadata) if metadata.is_file() => (Disk { rt }).load(path.as_bytes()),
-        Ok(_) => Err(LoadError::CantRead),
-        Err(error) if error.kind() == ErrorKind::OutOfMemory => Err(LoadError::Memory),
-        Err(_) => Err(LoadError::CantRead),
+fn bytes_of<R: Files + AllocGlobal>(rt: &R, path: &str) -> Result<Vec<u8>, WatchError> {
+    let metadata = fs::metadata(rt, path).map_err(WatchError::CantRead)?;
+    if !metadata.is_file() {
+        return Err(WatchError::NotAFile);
     }
+    read_file(rt, path).map_err(WatchError::CantRead)
 }
 
 /// Publishes a file, unless the one under its name has the same bytes.
@@ -107,32 +118,22 @@ impl<'a> Watched<'a> {
         }
     }
 
-    /// Reads the file and publishes it. A fault changes nothing of the server.
+    /// Reads the file and publishes it. An error changes nothing of the server.
     pub fn publish<R: Files + Clock + AllocGlobal>(
         &mut self,
         rt: &R,
         server: &mut Server,
-    ) -> Result<Tag, Fault>
+    ) -> Result<Tag, WatchError>
         ensures err { OnErr result (server.new ≡ server.old) }
     {
         let seen = stamp_of(rt, self.path);
-        let bytes = match bytes_of(rt, self.path) {
-            Ok(bytes) => bytes,
-            Err(LoadError::Memory) => return Err(Fault::Memory),
-            Err(LoadError::CantRead) => {
-                return Err(Fault::CantRead(String::from_str(rt.alloc(), self.path)?));
-            }
-        };
+        let bytes = bytes_of(rt, self.path)?;
         match server.publish(self.name.as_bytes(), bytes) {
             Ok(tag) => {
                 self.seen = seen;
                 Ok(tag)
             }
-            Err(PublishError::Memory) => Err(Fault::Memory),
-            Err(refusal) => Err(Fault::Refused(
-                refusal.number(),
-                String::from_str(rt.alloc(), self.name)?,
-            )),
+            Err(refusal) => Err(WatchError::Refused(refusal)),
         }
     }
 
@@ -142,23 +143,24 @@ impl<'a> Watched<'a> {
         &mut self,
         rt: &R,
         server: &mut Server,
-    ) -> Option<Tag>
-        ensures same { result ≡ None → server.new ≡ server.old }
+    ) -> Result<Option<Tag>, WatchError>
+        ensures same { IfOk result (λ tag. tag ≡ None → server.new ≡ server.old) }
+        ensures err { OnErr result (server.new ≡ server.old) }
     {
         let seen = stamp_of(rt, self.path);
         if seen.is_some() && seen == self.seen {
-            return None;
+            return Ok(None);
         }
-        let bytes = bytes_of(rt, self.path).ok()?;
+        let bytes = bytes_of(rt, self.path)?;
         match publish_other(server, self.name.as_bytes(), bytes) {
             Ok(tag) => {
                 self.seen = seen;
-                tag
+                Ok(tag)
             }
-            Err(PublishError::Memory) => None,
-            Err(_) => {
+            Err(PublishError::Memory) => Err(WatchError::Refused(PublishError::Memory)),
+            Err(refusal) => {
                 self.seen = seen;
-                None
+                Err(WatchError::Refused(refusal))
             }
         }
     }

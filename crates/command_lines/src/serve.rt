@@ -1,7 +1,7 @@
 //! The command line of `cogserve`.
 ghost use Rattle.std.specs.Prelude.{◌≡◌, true, false, IfOk, IfErr, codes, map};
 ghost use Rattle.clap.specs.Words.{app_of, kind_of, matches_of, rule_of, takes};
-ghost use Rattle.programs.specs.ServeLine.{HasValues, choice, option, serve_app, words as some_words};
+ghost use Rattle.command_lines.specs.ServeLine.{HasValues, choice, option, serve_app, words as some_words};
 
 use crate::help::{SERVE_NOTES, VERSION};
 use clap::error::ErrorKind;
