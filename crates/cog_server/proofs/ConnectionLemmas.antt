@@ -37,11 +37,14 @@ module _ (catalogue : Catalogue) (held waiting : List ℕ) (closed over : Bool) 
   answered = record { held = drop n held; waiting = waiting_of o; is_closed = o.close; answers = answers + 1; is_over = over; dropped = dropped }
 
   goes : (new : Status) → new ≡ let_go answered → GoesOn catalogue s new true
-  goes new is = subst (λ (t : Status). GoesOn catalogue t new true) view
-      (take n held, out.response, record { goes_on = sym is_shut ∙ shut_not; written = written; first = first; answers = out.answers },
-      is ∙ ap let_go (ap (λ (k : ℕ). record answered { held = drop k held }) (sym (length-take-le n held few))
-      ∙ ap (λ (w : List ℕ). record answered { held = drop (length (take n held)) held; waiting = w }) out.text
-      ∙ ap (λ (b : Bool). record answered { held = drop (length (take n held)) held; waiting = text_of out.response; is_closed = b }) out.close))
+  goes new is = subst (λ (t : Status). GoesOn catalogue t new true) view (
+    take n held,
+    out.response,
+    record { goes_on = sym is_shut ∙ shut_not; written = written; first = first; answers = out.answers },
+    is ∙ ap let_go (ap (λ (k : ℕ). record answered { held = drop k held }) (sym (length-take-le n held few))
+        ∙ ap (λ (w : List ℕ). record answered { held = drop (length (take n held)) held; waiting = w }) out.text
+        ∙ ap (λ (b : Bool). record answered { held = drop (length (take n held)) held; waiting = text_of out.response; is_closed = b }) out.close),
+  )
 
   pub goes_open : (last : Bool) → last ≡ (o.close || answers + 1 == ANSWERS_LIMIT) → last ≡ false → (rest : List ℕ) → rest ≡ drop n held
       → GoesOn catalogue s (record answered { held = rest }) true

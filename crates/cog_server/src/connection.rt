@@ -122,8 +122,7 @@ impl Connection {
         let Some(n) = self.held.whole() else {
             return Ok(false);
         };
-        self.outgoing
-            .answer(server.files(), &self.held.bytes[..n])?;
+        self.outgoing.answer(server.files(), &self.held.bytes[..n])?;
         self.answers += 1;
         self.closed = self.outgoing.close;
         self.held.skip(n);

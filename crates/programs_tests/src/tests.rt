@@ -1,5 +1,4 @@
 //! Tests of what the command prints and ends with.
-mod command_lines;
 mod disk;
 mod faults;
 mod helps;
@@ -7,6 +6,7 @@ mod line_numbers;
 mod reads;
 mod report_texts;
 mod serves;
+mod words;
 mod worlds;
 
 use programs_support::tell;
