@@ -1,8 +1,8 @@
-//! Every list of up to four of these fates. The heads of the answers have 165 to 174 bytes, that of f2's first answer
-//! 171. So what comes of an answer that is cut after 0, 170 or 171 bytes has no whole block; after 16,555 bytes the first
-//! block of f2 is whole, and the other answers are shorter. An answer that is lost or brings no block changes nothing of
-//! what is needed: the report stands with the first answer that brings blocks, of f2 with the second.
-use super::fetched::fetch_by;
+//! Every list of up to four of these fates, and of up to three where the answers come in pieces. The heads of the answers have 165 to
+//! 174 bytes, that of f2's first answer 171. So what comes of an answer that is cut after 0, 170 or 171 bytes has no whole block; after
+//! 16,555 bytes the first block of f2 is whole, and the other answers are shorter. An answer that is lost or brings no block changes
+//! nothing of what is needed: the report stands with the first answer that brings blocks, of f2 with the second.
+use super::fetched::{fetch_by, fetch_pieces_by};
 use super::{LAST_TILE, window};
 use cog_client::{Query, Report};
 use cog_server::Server;
@@ -22,6 +22,9 @@ const FATES: [Fate; 6] = [
 
 /// As many exchanges as the longest list has fates.
 const TRIES: u32 = 4;
+
+/// The first pieces of each answer, in which the head and the first block come in parts.
+const SIZES: [usize; 4] = [1, 169, 2, 10_000];
 
 /// What is fetched, how many answers that bring blocks it needs, and the report.
 #[derive(Clone, Copy)]
@@ -65,12 +68,22 @@ fn expect_list(
     case: &Case<'_>,
     fates: &[Fate],
 ) -> Result<(), Fail> {
-    let fetched = fetch_by(rt.alloc(), case.server, case.query, fates, TRIES)?;
+    let alloc = rt.alloc();
+    let fetched = fetch_by(alloc, case.server, case.query, fates, TRIES)?;
     let used = used_up(fates, case.needed);
     let want = used.map(|_| case.report);
     let exchanges = used.unwrap_or(TRIES as usize) as u64;
     assert_eq!(rt; fetched.exchanges, exchanges, "{fates:?}");
     assert!(rt; are_same(fetched.report.as_ref(), want), "{fates:?}");
+    if fates.len() > 3 {
+        return Ok(());
+    }
+    let fetched = fetch_pieces_by(alloc, case.server, case.query, fates, &SIZES, TRIES)?;
+    assert_eq!(rt; fetched.exchanges, exchanges, "{fates:?}, in pieces");
+    assert!(rt;
+        are_same(fetched.report.as_ref(), want),
+        "{fates:?}, in pieces"
+    );
     Ok(())
 }
 

@@ -1,11 +1,11 @@
 //! Fetching from a server of one file, which is published as `a`.
 use super::LAST_TILE;
-use cog_client::{Client, Outcome, Query, Report, Transport};
-use cog_fetch::fetch;
+use cog_client::{Client, Outcome, Pieces, Query, Report, Transport};
+use cog_fetch::{fetch, fetch_pieces};
 use cog_server::Server;
 use std::alloc::Global;
 use std::test::Fail;
-use transports::{Fate, InMemory, Scripted};
+use transports::{Fate, InMemory, InPieces, Scripted};
 
 /// The report, if one stands in the end, and how many exchanges there were.
 #[derive(Debug, Drop)]
@@ -30,6 +30,27 @@ pub fn fetch_by(
         Some(report) => Some(report.copy(alloc)?),
     };
     let exchanges = transport.exchanges();
+    Ok(Fetched { report, exchanges })
+}
+
+/// What a new client fetches where these fates befall the answers, each of which comes in pieces of these sizes.
+pub fn fetch_pieces_by(
+    alloc: Global,
+    server: &Server,
+    query: Query,
+    fates: &[Fate],
+    sizes: &[usize],
+    tries: u32,
+) -> Result<Fetched, Fail> {
+    let mut client = Client::new(alloc, b"cog.test", b"a", 66)?;
+    client.open(query);
+    let scripted = Scripted::new(InMemory::new(server, b"a"), fates);
+    let mut pieces = InPieces::new(alloc, scripted, sizes);
+    let report = match fetch_pieces(&mut client, &mut pieces, tries)? {
+        None => None,
+        Some(report) => Some(report.copy(alloc)?),
+    };
+    let exchanges = pieces.starts();
     Ok(Fetched { report, exchanges })
 }
 

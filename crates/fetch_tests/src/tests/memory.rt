@@ -1,5 +1,4 @@
-//! The test passes whether memory is there or is refused once: `rt try --test --fail-alloc N -- goes_on` refuses
-//! the Nth.
+//! The test passes with ample memory, and wherever one allocation is refused.
 use super::LAST_TILE;
 use super::fetched::is_last_tile;
 use cog_client::{Client, ClientError};

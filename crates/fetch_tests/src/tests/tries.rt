@@ -1,5 +1,5 @@
 //! Worked rows of fetching.
-use super::fetched::{fetch_by, is_last_tile};
+use super::fetched::{fetch_by, fetch_pieces_by, is_last_tile};
 use super::{LAST_TILE, window};
 use cog_client::{Client, Outcome, Transport};
 use cog_fetch::fetch;
@@ -19,6 +19,33 @@ fn fetches_within_its_tries_alone(rt: HostRuntime) -> Result<(), Fail> {
     let fetched = fetch_by(rt.alloc(), &server, LAST_TILE, &LOST_AND_CUT, 2)?;
     assert_eq!(rt; fetched.exchanges, 2);
     assert!(rt; fetched.report.is_none());
+    Ok(())
+}
+
+/// Sizes of the first pieces of each answer, whose head has 171 bytes or 173.
+const SIZES: [&[usize]; 5] = [
+    &[],
+    &[1; 400],
+    &[7; 100],
+    &[171, 16_384],
+    &[170, 3, 16_382, 1, 2],
+];
+
+#[test]
+fn fetches_in_pieces_within_its_tries_alone(rt: HostRuntime) -> Result<(), Fail> {
+    let alloc = rt.alloc();
+    let server = server_of_one(alloc, 1, b"a", f2(alloc)?)?;
+    for sizes in SIZES {
+        let fetched = fetch_pieces_by(alloc, &server, LAST_TILE, &LOST_AND_CUT, sizes, 3)?;
+        assert_eq!(rt; fetched.exchanges, 3);
+        assert!(rt;
+            fetched.report.is_some_and(|report| is_last_tile(&report)),
+            "{sizes:?}"
+        );
+        let fetched = fetch_pieces_by(alloc, &server, LAST_TILE, &LOST_AND_CUT, sizes, 2)?;
+        assert_eq!(rt; fetched.exchanges, 2);
+        assert!(rt; fetched.report.is_none(), "{sizes:?}");
+    }
     Ok(())
 }
 
