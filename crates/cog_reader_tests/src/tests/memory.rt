@@ -1,4 +1,4 @@
-//! Each test passes whether memory is there or is refused once: `rt try --test --fail-alloc N -- NAME` refuses the Nth.
+//! Each test passes with ample memory, and wherever one allocation is refused.
 ghost use Rattle.std.specs.Prelude.{◌<◌, ◌≤◌, IfOk, OnOk, length};
 ghost use Rattle.cog_reader.specs.Reader.{steps_of, IsWanted, Wants};
 
