@@ -68,9 +68,6 @@ http {{ access_log {self.folder}/access; {places} keepalive_requests 100000;
     def context(self):
         return ssl.create_default_context(cafile=self.certificate)
 
-    def connections(self):
-        return open(os.path.join(self.folder, 'access')).read().count('\n')
-
     def __enter__(self):
         return self
 
@@ -79,39 +76,49 @@ http {{ access_log {self.folder}/access; {places} keepalive_requests 100000;
         self.process.wait()
 
 class Cutting(socketserver.ThreadingTCPServer):
-    """Passes connections on to a server, and cuts the first answer after so many bytes."""
+    """Passes connections on to a server, counts them and their requests, and cuts the first answer after so many bytes."""
     daemon_threads = True
     allow_reuse_address = True
 
-    def __init__(self, port, cut):
-        self.above, self.cut, self.cuts = port, cut, 0
+    def __init__(self, port, cut=None):
+        self.above, self.cut, self.cuts, self.connections, self.requests = port, cut, 0, 0, 0
         super().__init__(('127.0.0.1', 0), Passing)
         threading.Thread(target=self.serve_forever, kwargs={'poll_interval': 0.01}, daemon=True).start()
 
     def url(self, name):
         return f'http://127.0.0.1:{self.server_address[1]}/{name}'
 
+
 class Passing(socketserver.BaseRequestHandler):
     def handle(self):
+        self.server.connections += 1
         with socket.create_connection(('127.0.0.1', self.server.above)) as above:
-            while True:
-                request = b''
-                while b'\r\n\r\n' not in request:
-                    piece = self.request.recv(65536)
-                    if not piece:
-                        return
-                    request += piece
-                above.sendall(request)
-                answer = b''
-                while b'\r\n\r\n' not in answer:
-                    answer += above.recv(65536)
-                head = answer.index(b'\r\n\r\n') + 4
-                length = head + int(answer[:head].lower().split(b'content-length:')[1].split(b'\r')[0])
-                while len(answer) < length:
-                    answer += above.recv(65536)
-                if self.server.cut is not None:
-                    cut, self.server.cut = self.server.cut, None
-                    self.server.cuts += 1
-                    self.request.sendall(answer[:cut])
-                    return
-                self.request.sendall(answer)
+            while self.one(above):
+                self.server.requests += 1
+
+    def one(self, above):
+        """One request with its answer. False where either end has ended."""
+        try:
+            request, _ = self.head_of(self.request)
+            above.sendall(request)
+            answer, end = self.head_of(above)
+            length = end + int(answer[:end].lower().split(b'content-length:')[1].split(b'\r')[0])
+            while len(answer) < length:
+                answer += above.recv(65536)
+            cut, self.server.cut = self.server.cut, None
+            self.server.cuts += cut is not None
+            self.request.sendall(answer[:cut])
+            return cut is None
+        except EOFError:
+            return False
+
+    @staticmethod
+    def head_of(at):
+        """What came up to the end of a head, and where that is."""
+        text = b''
+        while b'\r\n\r\n' not in text:
+            piece = at.recv(65536)
+            if not piece:
+                raise EOFError
+            text += piece
+        return text, text.index(b'\r\n\r\n') + 4

@@ -5,7 +5,7 @@ import unittest
 import delgunsai
 import numpy
 from files import as_rasterio, ten_files, windows_of
-from servers import Cogserve, Nginx
+from servers import Cogserve, Cutting, Nginx
 from support import FOLDER, RASTERIO, TLS, needs
 
 
@@ -87,6 +87,17 @@ class Equal(unittest.TestCase):
                         self.assertTrue(numpy.array_equal(got, as_rasterio(ten_files()[name], 0, window)))
             for file in opened:
                 file.close()
+
+    @needs(RASTERIO, 'rasterio with GDAL')
+    def test_kept_connections(self):
+        """A connection is kept; cogserve ends each after a hundred answers without a word, and nothing is lost by it."""
+        path = ten_files()['grey']
+        with Cogserve(ten_files()) as server, Cutting(server.port) as passing, delgunsai.open(passing.url('grey'), blocks=66) as file:
+            for x, y, w, h in windows_of((1500, 1100), 200, 5):
+                self.assertTrue(numpy.array_equal(file.read(x=x, y=y, width=w, height=h), as_rasterio(path, 0, (x, y, w, h))))
+            self.assertGreater(passing.requests, 100)
+            self.assertEqual(passing.connections, -(-passing.requests // 100))
+            passing.shutdown()
 
     @needs(RASTERIO, 'rasterio with GDAL')
     def test_threads(self):
