@@ -1,0 +1,108 @@
+-- What a call from C does to the client of its handle, and to the caller's room.
+use Rattle.std.specs.Prelude.{◌≡◌, ◌⊎◌, ℕ, ℤ, pos, List, ◌++◌, Option, Some, None}
+use Rattle.cog_client.specs.declared.error.ClientError.{ClientError}
+use Rattle.cog_client.specs.Calls.{Starts}
+use Rattle.cog_client.specs.Check.{check_of}
+use Rattle.cog_client.specs.Client.{ClientState, IsClientRefusal, client_refusal}
+use Rattle.cog_client.specs.FedClient.{Fed}
+use Rattle.cog_client.specs.Keeps.{RequestsKeeping, StopsAsking, StopsDelivery}
+use Rattle.delgunsai_c.specs.declared.failure.Failure.{Failure}
+use Rattle.delgunsai_c.specs.declared.failure.Failure.TheVariants.{Memory, NoClient}
+use Rattle.delgunsai_c.specs.Failure.{code_of, failure_in}
+use Rattle.delgunsai_c.specs.Laid.{Lays}
+
+-- There was a client, which did this.
+pub record Did (does : ClientState → ClientState → Type 0) (old new : Option ClientState) : Type 0 where
+  pub before : ClientState
+  pub after : ClientState
+  pub was : old ≡ Some before
+  pub is : new ≡ Some after
+  pub done : does before after
+
+-- There was none, there is none, and the number says so.
+pub record Misses (old new : Option ClientState) (told : ℤ) : Type 0 where
+  pub was : old ≡ None
+  pub is : new ≡ None
+  pub says : told ≡ code_of NoClient
+
+-- A call of a client, if there is one.
+abbrev pub Calls : (ClientState → ClientState → Type 0) → Option ClientState → Option ClientState → ℤ → Type 0
+Calls does old new told = Did does old new ⊎ Misses old new told
+
+-- ---- what the client does, and what is told
+
+-- It is done: the number is 0.
+pub record Done (P : Type 0) (told : ℤ) : Type 0 where
+  pub does : P
+  pub says : told ≡ pos 0
+
+-- There was no memory for it, and this is what that left.
+pub record Stopped (P : Type 0) (told : ℤ) : Type 0 where
+  pub does : P
+  pub says : told ≡ code_of Memory
+
+-- The client stays as it was.
+pub record Kept (P : Type 0) (old new : ClientState) : Type 0 where
+  pub does : P
+  pub stays : new ≡ old
+
+-- ---- new
+
+-- the first that stands against it, or want of memory where nothing else does
+pub record IsRefusal (host name : List ℕ) (blocks : ℕ) (failure : Failure) : Type 0 where
+  pub error : ClientError
+  pub is : failure ≡ failure_in error
+  pub first : IsClientRefusal (client_refusal host name blocks) error
+
+pub record Refused (host name : List ℕ) (blocks : ℕ) (old new : Option ClientState) (told : ℤ) : Type 0 where
+  pub failure : Failure
+  pub why : IsRefusal host name blocks failure
+  pub says : told ≡ code_of failure
+  pub same : new ≡ old
+
+pub record Made (host name : List ℕ) (blocks : ℕ) (new : Option ClientState) (told : ℤ) : Type 0 where
+  pub after : ClientState
+  pub is : new ≡ Some after
+  pub starts : Starts host name blocks after
+  pub says : told ≡ pos 0
+
+-- A client is made, in the place of the one before, or it is refused and the one before stays.
+abbrev pub News : List ℕ → List ℕ → ℕ → Option ClientState → Option ClientState → ℤ → Type 0
+News host name blocks old new told = Made host name blocks new told ⊎ Refused host name blocks old new told
+
+-- ---- request
+
+-- a request, if there is one: there is none where the number is 0
+abbrev pub Gives : Option (List ℕ) → List ℕ → List ℕ → ℤ → Type 0
+Gives None old new told = (new ≡ old) × (told ≡ pos 0)
+Gives (Some text) old new told = Lays text old new told
+
+pub record Asks (room left : List ℕ) (told : ℤ) (old new : ClientState) : Type 0 where
+  pub request : Option (List ℕ)
+  pub asks : RequestsKeeping old request new
+  pub gives : Gives request room left told
+
+abbrev pub AsksOr : List ℕ → List ℕ → ℤ → ClientState → ClientState → Type 0
+AsksOr room left told old new = Asks room left told old new ⊎ Stopped (StopsAsking old new × (left ≡ room)) told
+
+-- ---- check
+
+-- The client stays, and its check is given, if it has a revision.
+pub record Checks (room left : List ℕ) (told : ℤ) (old new : ClientState) : Type 0 where
+  pub gives : Gives (check_of old) room left told
+  pub stays : new ≡ old
+
+abbrev pub ChecksOr : List ℕ → List ℕ → ℤ → ClientState → ClientState → Type 0
+ChecksOr room left told old new = Checks room left told old new ⊎ Stopped ((new ≡ old) × (left ≡ room)) told
+
+-- ---- an answer
+
+-- the next bytes of whatever answer this is
+abbrev pub Feeds : List ℕ → ClientState → ClientState → Type 0
+Feeds piece old new = (s : ClientState) (p : List ℕ) → Fed s p old → Fed s (p ++ piece) new
+
+abbrev pub StopsFeeding : List ℕ → ClientState → ClientState → Type 0
+StopsFeeding piece old new = (s : ClientState) (p : List ℕ) → Fed s p old → StopsDelivery s (p ++ piece) new
+
+abbrev pub FeedsOr : List ℕ → ℤ → ClientState → ClientState → Type 0
+FeedsOr piece told old new = Done (Feeds piece old new) told ⊎ Stopped (StopsFeeding piece old new) told

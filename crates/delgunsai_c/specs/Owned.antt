@@ -1,0 +1,19 @@
+-- What a place owns: a client in the heap and the right to free it, or nothing.
+use Rattle.std.specs.Prelude.{Option, None, Some}
+use Rattle.std.specs.Borrow.{ftrue}
+use Rattle.std.specs.Box.Ownership.{box_owns}
+use Rattle.std.specs.Coded.{Coded, coded_option}
+use Rattle.std.specs.declared.alloc.Global.{Global}
+use Rattle.std.specs.contracts.impls.GlobalAllocator.TheImpl.{ghosts}
+use base.Fml.{Fml}
+use denote.RawPtr.{Ptr}
+use Rattle.cog_client.specs.Client.{ClientState}
+use Rattle.cog_client.specs.contracts.client.Client.{the_row}
+
+abbrev pub owned : Option ClientState → Global → Ptr → Fml
+owned None _ _ = ftrue
+owned (Some c) a p = box_owns (ghosts.dealloc_token a) the_row p c
+
+-- how the logic stores the client of a place
+abbrev pub inside_coded : Coded (Option ClientState)
+inside_coded = coded_option (the_row.coded)

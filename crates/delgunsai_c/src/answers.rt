@@ -1,0 +1,93 @@
+//! Answers are taken.
+ghost use Rattle.std.specs.Prelude.{[]};
+ghost use Rattle.cog_client.specs.FedClient.{Fed};
+ghost use Rattle.delgunsai_c.specs.Answers.{EndsOr, Reads};
+ghost use Rattle.delgunsai_c.specs.Calls.{Calls, Done, FeedsOr};
+ghost use Rattle.delgunsai_c.specs.Handle.{client_of};
+
+use crate::failure::Failure;
+use crate::handle::Handle;
+use crate::said::Said;
+use cog_client::Client;
+use std::alloc::Global;
+
+/// The next bytes of an answer.
+fn feed(client: &mut Client, piece: &[u8]) -> i32
+    ensures { FeedsOr piece.now result client.old client.new }
+{
+    match client.feed(piece) {
+        Ok(()) => 0,
+        Err(_) => Failure::Memory.code(),
+    }
+}
+
+/// The end of an answer, and what the answer did.
+fn end(client: &mut Client, said: &mut Said) -> i32
+    ensures { EndsOr said.old said.new result client.old client.new }
+{
+    match client.end() {
+        Ok(delivered) => {
+            *said = Said::of_delivered(delivered);
+            0
+        }
+        Err(_) => Failure::Memory.code(),
+    }
+}
+
+/// Begins an answer. An unfinished one is dropped.
+#[unsafe(no_mangle)]
+pub extern "C" fn cog_client_begin(alloc: Global, client: &mut Handle) -> i32
+    ensures { Calls (λ s t. Done (Fed s [] t) result) (client_of client.old) (client_of client.new) result }
+{
+    let Some(mut held) = client.take(alloc) else {
+        return Failure::NoClient.code();
+    };
+    held.begin();
+    client.put(held);
+    0
+}
+
+/// Takes the next bytes of an answer.
+#[unsafe(no_mangle)]
+pub extern "C" fn cog_client_feed(alloc: Global, client: &mut Handle, piece: &[u8]) -> i32
+    ensures { Calls (FeedsOr piece.now result) (client_of client.old) (client_of client.new) result }
+{
+    let Some(mut held) = client.take(alloc) else {
+        return Failure::NoClient.code();
+    };
+    let told = feed(&mut held, piece);
+    client.put(held);
+    told
+}
+
+/// Ends an answer, and says what it did.
+#[unsafe(no_mangle)]
+pub extern "C" fn cog_client_end(alloc: Global, client: &mut Handle, said: &mut Said) -> i32
+    ensures { Calls (EndsOr said.old said.new result) (client_of client.old) (client_of client.new) result }
+{
+    let Some(mut held) = client.take(alloc) else {
+        return Failure::NoClient.code();
+    };
+    let told = end(&mut held, said);
+    client.put(held);
+    told
+}
+
+/// Says what the answer to a check, or a front of it, tells.
+#[unsafe(no_mangle)]
+pub extern "C" fn cog_client_current(
+    alloc: Global,
+    client: &mut Handle,
+    answer: &[u8],
+    said: &mut Said,
+) -> i32
+    ensures { Calls (λ s t. Done (Reads answer.now said.new s t) result) (client_of client.old) (client_of client.new) result }
+{
+    let Some(held) = client.take(alloc) else {
+        return Failure::NoClient.code();
+    };
+    let current = held.current(answer);
+    *said = Said::of_current(current);
+    client.put(held);
+    0
+}

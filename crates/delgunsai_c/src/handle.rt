@@ -1,0 +1,55 @@
+//! What C holds of a client.
+ghost use Rattle.std.specs.Prelude.{◌≡◌, ◌↔◌, None, Some, IfSome, IsSome, IsTrue};
+
+use crate::parts::Parts;
+use crate::place::Place;
+use cog_client::Client;
+use std::alloc::Global;
+
+/// A client in the heap, or none. C makes one of zeros, which has none.
+#[repr(C)]
+#[derive(Drop)]
+pub struct Handle {
+    place: Place,
+    full: bool,
+    ghost known: { IsTrue full ↔ IsSome place.inside },
+}
+
+impl Handle {
+    ghost use Rattle.delgunsai_c.specs.Handle.{client_of};
+
+    /// A handle without a client.
+    fn empty(alloc: Global) -> Handle
+        ensures { client_of result ≡ None }
+    {
+        Handle {
+            place: Place::none(alloc),
+            full: false,
+        }
+    }
+
+    /// Takes the client out, which leaves none.
+    pub fn take(&mut self, alloc: Global) -> Option<Box<Client>>
+        ensures left { client_of self.new ≡ None }
+        ensures some { IfSome result (λ b. client_of self.old ≡ Some b.value) }
+        ensures none { result ≡ None → client_of self.old ≡ None }
+    {
+        let old = std::mem::replace(self, Handle::empty(alloc));
+        let Handle { place, full } = old;
+        if full {
+            Some(place.into_parts().into_box())
+        } else {
+            None
+        }
+    }
+
+    /// Puts a client in.
+    pub fn put(&mut self, client: Box<Client>)
+        ensures { client_of self.new ≡ Some client.value }
+    {
+        *self = Handle {
+            place: Place::of_parts(Parts::of(client)),
+            full: true,
+        };
+    }
+}

@@ -1,0 +1,14 @@
+//! The client's core for C: an export for each call of a client. `include/delgunsai.h` says what each takes and gives.
+#![tactic(auto)]
+
+mod answers;
+mod failure;
+mod handle;
+mod laying;
+mod making;
+mod parts;
+mod place;
+mod queries;
+mod reports;
+mod requests;
+mod said;

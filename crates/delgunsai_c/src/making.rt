@@ -1,0 +1,73 @@
+//! A client is made, forgets, and is freed.
+ghost use Rattle.std.specs.Prelude.{◌≡◌, None, IfErr, IfOk, IfSome};
+ghost use Rattle.delgunsai_c.specs.Calls.{Calls, Done, IsRefusal, News};
+ghost use Rattle.delgunsai_c.specs.Handle.{client_of};
+ghost use Rattle.cog_client.specs.Calls.{Forgets, Starts};
+
+use crate::failure::{Failure, failure_of};
+use crate::handle::Handle;
+use cog_client::Client;
+use std::alloc::Global;
+
+/// A client in the heap, or none for want of memory.
+fn in_heap(alloc: Global, client: Client) -> Option<Box<Client>>
+    ensures { IfSome result (λ b. b.value ≡ client) }
+{
+    Box::new(alloc, client).ok()
+}
+
+/// A client in the heap.
+fn boxed(alloc: Global, host: &[u8], name: &[u8], blocks: u32) -> Result<Box<Client>, Failure>
+    ensures made { IfOk result (λ b. Starts host.now name.now blocks b.value) }
+    ensures refused { IfErr result (IsRefusal host.now name.now blocks) }
+{
+    match Client::new(alloc, host, name, blocks) {
+        Err(error) => Err(failure_of(&error)),
+        Ok(client) => match in_heap(alloc, client) {
+            Some(client) => Ok(client),
+            None => Err(Failure::Memory),
+        },
+    }
+}
+
+/// Makes a client, in the place of the one before.
+#[unsafe(no_mangle)]
+pub extern "C" fn cog_client_new(
+    alloc: Global,
+    host: &[u8],
+    name: &[u8],
+    blocks: u32,
+    client: &mut Handle,
+) -> i32
+    ensures { News host.now name.now blocks (client_of client.old) (client_of client.new) result }
+{
+    match boxed(alloc, host, name, blocks) {
+        Ok(made) => {
+            let _before = client.take(alloc);
+            client.put(made);
+            0
+        }
+        Err(failure) => failure.code(),
+    }
+}
+
+/// Drops everything but host, name and query.
+#[unsafe(no_mangle)]
+pub extern "C" fn cog_client_forget(alloc: Global, client: &mut Handle) -> i32
+    ensures { Calls (λ s t. Done (Forgets s t) result) (client_of client.old) (client_of client.new) result }
+{
+    let Some(mut held) = client.take(alloc) else {
+        return Failure::NoClient.code();
+    };
+    held.forget();
+    client.put(held);
+    0
+}
+
+/// Frees the client, which leaves none.
+#[unsafe(no_mangle)]
+pub extern "C" fn cog_client_free(alloc: Global, client: &mut Handle)
+    ensures { client_of client.new ≡ None }
+{
+    let _held = client.take(alloc);
+}

@@ -1,0 +1,68 @@
+//! A query is asked.
+ghost use Rattle.tiff_dir.specs.declared.query.Pick.TheVariants.{Columns, Level};
+ghost use Rattle.tiff_dir.specs.declared.query.Query.TheVariants.{Info, Window};
+ghost use Rattle.cog_client.specs.Keeps.{OpensKeeping};
+ghost use Rattle.delgunsai_c.specs.Calls.{Calls, Done};
+ghost use Rattle.delgunsai_c.specs.Handle.{client_of};
+
+use crate::failure::Failure;
+use crate::handle::Handle;
+use cog_client::Query;
+use std::alloc::Global;
+use tiff_dir::Pick;
+
+/// Asks a query, in the place of the one before.
+fn open(alloc: Global, client: &mut Handle, query: Query) -> i32
+    ensures { Calls (λ s t. Done (OpensKeeping query s t) result) (client_of client.old) (client_of client.new) result }
+{
+    let Some(mut held) = client.take(alloc) else {
+        return Failure::NoClient.code();
+    };
+    held.open(query);
+    client.put(held);
+    0
+}
+
+/// Asks for the samples of a window of the level of a number.
+#[unsafe(no_mangle)]
+pub extern "C" fn cog_client_open_window(
+    alloc: Global,
+    client: &mut Handle,
+    x: u32,
+    y: u32,
+    w: u32,
+    h: u32,
+    level: u32,
+) -> i32
+    ensures { Calls (λ s t. Done (OpensKeeping (Window x y w h (Level level)) s t) result)
+        (client_of client.old) (client_of client.new) result }
+{
+    let pick = Pick::Level(level);
+    open(alloc, client, Query::Window { x, y, w, h, pick })
+}
+
+/// Asks for the samples of a window, in pixels of level 0, of the smallest level that has at least so many columns of it.
+#[unsafe(no_mangle)]
+pub extern "C" fn cog_client_open_columns(
+    alloc: Global,
+    client: &mut Handle,
+    x: u32,
+    y: u32,
+    w: u32,
+    h: u32,
+    columns: u32,
+) -> i32
+    ensures { Calls (λ s t. Done (OpensKeeping (Window x y w h (Columns columns)) s t) result)
+        (client_of client.old) (client_of client.new) result }
+{
+    let pick = Pick::Columns(columns);
+    open(alloc, client, Query::Window { x, y, w, h, pick })
+}
+
+/// Asks for the sides of the levels, and what georeferences the image.
+#[unsafe(no_mangle)]
+pub extern "C" fn cog_client_open_info(alloc: Global, client: &mut Handle) -> i32
+    ensures { Calls (λ s t. Done (OpensKeeping Info s t) result) (client_of client.old) (client_of client.new) result }
+{
+    open(alloc, client, Query::Info)
+}

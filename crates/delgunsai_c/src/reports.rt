@@ -1,0 +1,157 @@
+//! What a report tells.
+ghost use Rattle.std.specs.Prelude.{◌≡◌};
+ghost use Rattle.delgunsai_c.specs.Calls.{Calls, Kept};
+ghost use Rattle.delgunsai_c.specs.Handle.{client_of};
+ghost use Rattle.delgunsai_c.specs.Told.{TellsInfo, TellsPixels, TellsReport, kind_told, told_of};
+
+use crate::failure::Failure;
+use crate::handle::Handle;
+use crate::laying::lay;
+use cog_client::{Client, Outcome};
+use report_text::info_text;
+use std::alloc::Global;
+
+/// What a report tells, in numbers.
+#[repr(C)]
+#[derive(Clone, Copy, Debug, PartialEq, Eq)]
+pub struct Told {
+    /// 1 a window, 2 Info, 3 a fault.
+    pub kind: u32,
+    /// Columns of a window; 0 of another report, as all that follow.
+    pub width: u32,
+    /// Rows.
+    pub height: u32,
+    /// Samples of a pixel, 1 or 3.
+    pub samples: u32,
+    /// Bits of a sample, 8 or 16.
+    pub bits: u32,
+    /// The number of a fault, 1 to 18.
+    pub fault: u32,
+    /// The field that the fault is about; 0 where it is about none.
+    pub field: u32,
+}
+
+/// A report without any of the numbers.
+fn kind_alone(kind: u32) -> Told
+    ensures { result ≡ kind_told kind }
+{
+    Told {
+        kind,
+        width: 0,
+        height: 0,
+        samples: 0,
+        bits: 0,
+        fault: 0,
+        field: 0,
+    }
+}
+
+/// What an outcome tells.
+fn numbers_of(outcome: &Outcome) -> Told
+    ensures { result ≡ told_of outcome.now }
+{
+    match outcome {
+        Outcome::Window(window) => Told {
+            width: window.w,
+            height: window.h,
+            samples: window.samples as u32,
+            bits: window.bits as u32,
+            ..kind_alone(1)
+        },
+        Outcome::Info(_) => kind_alone(2),
+        Outcome::Fault(fault) => Told {
+            fault: fault.number() as u32,
+            field: fault.tag().unwrap_or(0) as u32,
+            ..kind_alone(3)
+        },
+    }
+}
+
+/// What the report of a client tells, and the tag of its file.
+fn report(client: &Client, out: &mut Told, tag: &mut [u8]) -> i64
+    ensures { TellsReport client.now out.old out.new tag.old tag.new result }
+{
+    match client.report() {
+        Some(report) => {
+            *out = numbers_of(&report.outcome);
+            lay(report.tag.as_bytes(), tag)
+        }
+        None => 0,
+    }
+}
+
+/// The samples of the window that a client reports.
+fn pixels(client: &Client, room: &mut [u8]) -> i64
+    ensures { TellsPixels client.now room.old room.new result }
+{
+    let Some(report) = client.report() else {
+        return Failure::NoReport.code() as i64;
+    };
+    match &report.outcome {
+        Outcome::Window(window) => lay(&window.pixels, room),
+        _ => Failure::OtherReport.code() as i64,
+    }
+}
+
+/// The text of the Info that a client reports.
+fn info(alloc: Global, client: &Client, room: &mut [u8]) -> i64
+    ensures { TellsInfo client.now room.old room.new result }
+{
+    let Some(report) = client.report() else {
+        return Failure::NoReport.code() as i64;
+    };
+    let Outcome::Info(info) = &report.outcome else {
+        return Failure::OtherReport.code() as i64;
+    };
+    match info_text(alloc, &report.tag, info) {
+        Ok(text) => lay(&text, room),
+        Err(_) => Failure::Memory.code() as i64,
+    }
+}
+
+/// What the report tells that stands, and the tag of its file.
+#[unsafe(no_mangle)]
+pub extern "C" fn cog_client_report(
+    alloc: Global,
+    client: &mut Handle,
+    out: &mut Told,
+    tag: &mut [u8],
+) -> i64
+    ensures { Calls (λ s t. Kept (TellsReport s out.old out.new tag.old tag.new result) s t)
+        (client_of client.old) (client_of client.new) result }
+{
+    let Some(held) = client.take(alloc) else {
+        return Failure::NoClient.code() as i64;
+    };
+    let told = report(&held, out, tag);
+    client.put(held);
+    told
+}
+
+/// The samples of the window that is reported.
+#[unsafe(no_mangle)]
+pub extern "C" fn cog_client_pixels(alloc: Global, client: &mut Handle, room: &mut [u8]) -> i64
+    ensures { Calls (λ s t. Kept (TellsPixels s room.old room.new result) s t)
+        (client_of client.old) (client_of client.new) result }
+{
+    let Some(held) = client.take(alloc) else {
+        return Failure::NoClient.code() as i64;
+    };
+    let told = pixels(&held, room);
+    client.put(held);
+    told
+}
+
+/// The text of what Info tells that is reported.
+#[unsafe(no_mangle)]
+pub extern "C" fn cog_client_info(alloc: Global, client: &mut Handle, room: &mut [u8]) -> i64
+    ensures { Calls (λ s t. Kept (TellsInfo s room.old room.new result) s t)
+        (client_of client.old) (client_of client.new) result }
+{
+    let Some(held) = client.take(alloc) else {
+        return Failure::NoClient.code() as i64;
+    };
+    let told = info(alloc, &held, room);
+    client.put(held);
+    told
+}

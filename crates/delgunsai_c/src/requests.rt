@@ -1,0 +1,71 @@
+//! Requests are made: for what a query needs, and to check whether the file is still the same.
+ghost use Rattle.cog_client.specs.Keeps.{KeepsOpen};
+ghost use Rattle.delgunsai_c.specs.Calls.{AsksOr, Calls, ChecksOr, Done};
+ghost use Rattle.delgunsai_c.specs.Handle.{client_of};
+
+use crate::failure::Failure;
+use crate::handle::Handle;
+use crate::laying::lay;
+use cog_client::Client;
+use std::alloc::Global;
+
+/// The next request of a client into a caller's room, or 0.
+fn request(client: &mut Client, room: &mut [u8]) -> i64
+    ensures { AsksOr room.old room.new result client.old client.new }
+{
+    match client.request() {
+        Ok(Some(text)) => lay(&text, room),
+        Ok(None) => 0,
+        Err(_) => Failure::Memory.code() as i64,
+    }
+}
+
+/// The check of a client into a caller's room, or 0.
+fn check(client: &Client, room: &mut [u8]) -> i64
+    ensures { ChecksOr room.old room.new result client.now client.now }
+{
+    match client.check() {
+        Ok(Some(text)) => lay(&text, room),
+        Ok(None) => 0,
+        Err(_) => Failure::Memory.code() as i64,
+    }
+}
+
+/// Writes requests from here on so that a connection may be kept from one to the next.
+#[unsafe(no_mangle)]
+pub extern "C" fn cog_client_keep_open(alloc: Global, client: &mut Handle) -> i32
+    ensures { Calls (λ s t. Done (KeepsOpen s t) result) (client_of client.old) (client_of client.new) result }
+{
+    let Some(mut held) = client.take(alloc) else {
+        return Failure::NoClient.code();
+    };
+    held.keep_open();
+    client.put(held);
+    0
+}
+
+/// Goes on as far as the blocks reach, and makes the next request.
+#[unsafe(no_mangle)]
+pub extern "C" fn cog_client_request(alloc: Global, client: &mut Handle, room: &mut [u8]) -> i64
+    ensures { Calls (AsksOr room.old room.new result) (client_of client.old) (client_of client.new) result }
+{
+    let Some(mut held) = client.take(alloc) else {
+        return Failure::NoClient.code() as i64;
+    };
+    let told = request(&mut held, room);
+    client.put(held);
+    told
+}
+
+/// The check whether the file still has the revision's tag.
+#[unsafe(no_mangle)]
+pub extern "C" fn cog_client_check(alloc: Global, client: &mut Handle, room: &mut [u8]) -> i64
+    ensures { Calls (ChecksOr room.old room.new result) (client_of client.old) (client_of client.new) result }
+{
+    let Some(held) = client.take(alloc) else {
+        return Failure::NoClient.code() as i64;
+    };
+    let told = check(&held, room);
+    client.put(held);
+    told
+}

@@ -1,0 +1,170 @@
+/* The client's core of Delgunsai for C: it reads windows of Cloud Optimized GeoTIFF files over HTTP byte ranges, and needs no
+ * socket. It gives the texts of requests, takes the bytes of answers, and reports.
+ *
+ * Link with libdelgunsai_c.a, which `rt lib` proves and builds in crates/delgunsai_c/out, and with the kit's liblibc_c.a, which
+ * brings its heap over malloc, realloc and free. docs/LIBRARY.md has both lines of cc.
+ *
+ *     struct cog_client client = {0};
+ *     struct cog_report report;
+ *     uint8_t text[COG_REQUEST_ROOM], tag[COG_TAG_ROOM], piece[65536];
+ *     if (cog_client_new(host, host_length, name, name_length, 256, &client) < 0) ..
+ *     cog_client_open_window(&client, 3000, 2000, 256, 256, 0);
+ *     while ((length = cog_client_request(&client, text, sizeof text)) > 0) {
+ *         ..                                   send the text to the host; then, as the answer arrives:
+ *         cog_client_begin(&client);
+ *         while ((got = read(socket, piece, sizeof piece)) > 0) cog_client_feed(&client, piece, got);
+ *         cog_client_end(&client, &said);
+ *     }
+ *     cog_client_report(&client, &report, tag, sizeof tag);
+ *     ..                                       pixels of report.width * report.height * report.samples * report.bits / 8 bytes
+ *     cog_client_pixels(&client, pixels, pixels_length);
+ *     cog_client_free(&client);
+ *
+ * For each call:
+ *
+ *   - A pointer is to as many bytes as the length behind it says, or to the struct. It isn't NULL, not even where the length is 0.
+ *     The library keeps no pointer of the caller's: memory that a call is given is the caller's again when the call returns. What a
+ *     call writes to, another pointer of the same call isn't to.
+ *   - A call of a client that was never made, or is freed, gives COG_NO_CLIENT and does nothing else.
+ *   - A handle is used by one call at a time, and by the thread that made its client. It may be moved to another place in memory, and
+ *     isn't copied to be used twice.
+ *   - malloc, realloc and free are of one allocator. No call is made from a signal handler, nor in the forked child of a process with
+ *     threads.
+ *   - A negative result is one of COG_..; the others are said with each call.
+ *   - A room is memory for a text: the result is the length of the text. Where that is more than the room's length, nothing was
+ *     written, and the call can be made again with so much room.
+ *
+ * What is reported is proved as the contracts of crates/delgunsai_c say, for callers that keep these rules. */
+#ifndef DELGUNSAI_H
+#define DELGUNSAI_H
+
+#include <stdbool.h>
+#include <stddef.h>
+#include <stdint.h>
+
+#ifdef __cplusplus
+extern "C" {
+#endif
+
+/* Why a call gives no answer. */
+enum {
+    COG_HOST = -1,         /* the host isn't 1 to 64 letters, digits, '.', '-', ':' */
+    COG_NAME = -2,         /* the name isn't 1 to 200 bytes of A-Z a-z 0-9 . _ - / */
+    COG_BLOCKS = -3,       /* not 66 to 4,096 blocks */
+    COG_MEMORY = -4,       /* no memory was left */
+    COG_NO_CLIENT = -5,    /* the handle has no client */
+    COG_NO_REPORT = -6,    /* no report stands */
+    COG_OTHER_REPORT = -7  /* the report is of another kind */
+};
+
+/* Room for any request, and for any tag of a file. */
+#define COG_REQUEST_ROOM 1024
+#define COG_TAG_ROOM 64
+
+/* A handle: what holds a client. The caller owns it, and makes it of zeros: struct cog_client client = {0}. The client in it is the
+ * library's, from cog_client_new to cog_client_free. The fields are the library's too. */
+struct cog_client {
+    void *at;
+    bool full;
+};
+
+/* cog_client_new: makes a client of a file's name at a host, with a cache of so many blocks of 16,384 bytes, in the place of the one
+ * before, which is freed.
+ *   host, name   text, as it stands in requests: a host with its port, and a path without the slash it begins with
+ *   blocks       66 to 4,096
+ *   client       the handle; where the result is negative, it is as it was
+ * Gives 0, COG_HOST, COG_NAME, COG_BLOCKS, the first that stands against it, or COG_MEMORY. */
+int32_t cog_client_new(const uint8_t *host, size_t host_length, const uint8_t *name, size_t name_length, uint32_t blocks,
+                       struct cog_client *client);
+
+/* cog_client_free: frees the client of a handle, if it has one; the handle is then as one of zeros. */
+void cog_client_free(struct cog_client *client);
+
+/* cog_client_forget: drops all that is known of the file, a report that stands too; host, name, query, and whether connections
+ * are kept, stay. Gives 0 or COG_NO_CLIENT. */
+int32_t cog_client_forget(struct cog_client *client);
+
+/* cog_client_keep_open: writes requests without `Connection: close` from here on, so that a connection may be kept from one to the next. The
+ * caller has to know then where an answer ends (RFC 9112, section 6.3), and feeds no byte behind it. Gives 0 or COG_NO_CLIENT. */
+int32_t cog_client_keep_open(struct cog_client *client);
+
+/* cog_client_open_window: asks for the samples of w columns from x and h rows from y, in pixels of the level of this number, in the place
+ * of the query before. What is known of the file stays. Gives 0 or COG_NO_CLIENT. */
+int32_t cog_client_open_window(struct cog_client *client, uint32_t x, uint32_t y, uint32_t w, uint32_t h, uint32_t level);
+
+/* cog_client_open_columns: the same, in pixels of level 0, of the smallest level in which the window has at least so many columns, level 0
+ * if there is none. Gives 0 or COG_NO_CLIENT. */
+int32_t cog_client_open_columns(struct cog_client *client, uint32_t x, uint32_t y, uint32_t w, uint32_t h, uint32_t columns);
+
+/* cog_client_open_info: asks for the sides of the levels and what georeferences the image. Gives 0 or COG_NO_CLIENT. */
+int32_t cog_client_open_info(struct cog_client *client);
+
+/* cog_client_request: goes on as far as the known bytes reach, and lays the text of the next request into the room: a GET with a Range.
+ * Gives the text's length; 0, where nothing is asked: a report stands, or there is no query; COG_MEMORY or COG_NO_CLIENT. Asked again
+ * before an answer it gives the same text. */
+int64_t cog_client_request(struct cog_client *client, uint8_t *room, size_t length);
+
+/* cog_client_begin: begins an answer to the request. An unfinished one is dropped. Gives 0 or COG_NO_CLIENT. */
+int32_t cog_client_begin(struct cog_client *client);
+
+/* cog_client_feed: takes the next bytes of the answer, from its status line on, as many as there are. After COG_MEMORY the rest of the
+ * answer is dropped. Gives 0, COG_MEMORY or COG_NO_CLIENT. */
+int32_t cog_client_feed(struct cog_client *client, const uint8_t *piece, size_t length);
+
+/* What is said of an answer. */
+struct cog_said {
+    uint32_t kind;
+    uint32_t number;
+};
+
+enum {
+    COG_TOOK = 1,      /* it was taken; the number is of the blocks that were stored */
+    COG_RESTARTED = 2, /* it was a whole file of another revision, which is read from now on */
+    COG_IGNORED = 3    /* it changed nothing, for the reason of this number: docs/PROFILE.md, 1 to 12; 3 is another status */
+};
+
+/* cog_client_end: ends the answer, whole or cut, and goes on as far as the known bytes reach. The caller's said is written where the result
+ * is 0. Gives 0, COG_MEMORY or COG_NO_CLIENT. */
+int32_t cog_client_end(struct cog_client *client, struct cog_said *said);
+
+/* What a report tells; 0 in what isn't of its kind. */
+struct cog_report {
+    uint32_t kind;
+    uint32_t width;   /* of a window: columns, rows, samples of a pixel (1 or 3), bits of a sample (8 or 16) */
+    uint32_t height;
+    uint32_t samples;
+    uint32_t bits;
+    uint32_t fault;   /* of a fault: its number, docs/PROFILE.md, 1 to 18, and the field it is about, or 0 */
+    uint32_t field;
+};
+
+enum { COG_WINDOW = 1, COG_INFO = 2, COG_FAULT = 3 };
+
+/* cog_client_report: what the report tells that stands, and the file's tag, a strong validator with its quotes, into the room. The report
+ * stands until the next query or cog_client_forget. Gives the tag's length; 0, where no report stands, and then nothing is written;
+ * COG_NO_CLIENT. The report is written also where the room is too small for the tag. */
+int64_t cog_client_report(struct cog_client *client, struct cog_report *report, uint8_t *room, size_t length);
+
+/* cog_client_pixels: the samples of the window that is reported, into the room: pixel by pixel, row by row, width * height * samples of one
+ * byte, or of two, the most significant one first. Gives their bytes' count, COG_NO_REPORT, COG_OTHER_REPORT or COG_NO_CLIENT. */
+int64_t cog_client_pixels(struct cog_client *client, uint8_t *room, size_t length);
+
+/* cog_client_info: the text of what Info tells that is reported, into the room: the lines of `cogread info`. Gives its length,
+ * COG_NO_REPORT, COG_OTHER_REPORT, COG_MEMORY or COG_NO_CLIENT. */
+int64_t cog_client_info(struct cog_client *client, uint8_t *room, size_t length);
+
+/* cog_client_check: the text of a request that asks whether the file still has the tag of what is known: a HEAD with If-None-Match. Gives
+ * its length; 0, where nothing is known; COG_MEMORY or COG_NO_CLIENT. It changes nothing of the client. */
+int64_t cog_client_check(struct cog_client *client, uint8_t *room, size_t length);
+
+enum { COG_SAME = 1, COG_OTHER = 2, COG_UNKNOWN = 3 /* for the reason of this number, as COG_IGNORED */ };
+
+/* cog_client_current: says what the answer to a check, or a front of it, tells of the tag. It changes nothing of the client. Gives 0 or
+ * COG_NO_CLIENT. */
+int32_t cog_client_current(struct cog_client *client, const uint8_t *answer, size_t length, struct cog_said *said);
+
+#ifdef __cplusplus
+}
+#endif
+
+#endif

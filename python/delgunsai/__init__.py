@@ -1,0 +1,19 @@
+"""Windows of Cloud Optimized GeoTIFF files over HTTP byte ranges, as numpy arrays.
+
+>>> import delgunsai
+>>> with delgunsai.open('https://example.org/a.tif') as f:                         # doctest: +SKIP
+...     f.levels, f.tag
+...     a = f.read(x=3000, y=2000, width=256, height=256)
+([(8192, 5632), (4096, 2816)], '"1-1"')
+
+What is asked for, how answers are taken, and what is reported, is the proved core's (delgunsai.h); this package brings the network.
+"""
+from ._errors import (BadUrl, DirCount, DirPlace, Error, FieldType, FileFault, Header, KeyHead, KeyOrder, KeyPlace, LevelShape, Lost,
+                      Missing, NotUsed, OutOfMemory, Outside, Packet, PastEnd, TagOrder, TileArray, TileSize, TooLarge, TooManyDirs,
+                      Unsupported)
+from ._file import File, open, open_file
+from ._info import Info
+
+__all__ = ['BadUrl', 'DirCount', 'DirPlace', 'Error', 'FieldType', 'File', 'FileFault', 'Header', 'Info', 'KeyHead', 'KeyOrder',
+           'KeyPlace', 'LevelShape', 'Lost', 'Missing', 'NotUsed', 'OutOfMemory', 'Outside', 'Packet', 'PastEnd', 'TagOrder', 'TileArray',
+           'TileSize', 'TooLarge', 'TooManyDirs', 'Unsupported', 'open', 'open_file']

@@ -1,0 +1,145 @@
+"""The C library: one object for each client."""
+from __future__ import annotations
+
+import ctypes
+import pathlib
+from typing import Optional, Tuple
+
+import numpy
+
+from ._errors import OutOfMemory
+
+NO_REPORT, WINDOW, INFO, FAULT = 0, 1, 2, 3
+TOOK, RESTARTED, IGNORED = 1, 2, 3
+SAME, OTHER, UNKNOWN = 1, 2, 3
+
+REQUEST_ROOM, TAG_ROOM = 1024, 64
+MEMORY = -4
+
+
+class Handle(ctypes.Structure):
+    """struct cog_client."""
+    _fields_ = [('at', ctypes.c_void_p), ('full', ctypes.c_bool)]
+
+
+class Said(ctypes.Structure):
+    """struct cog_said."""
+    _fields_ = [('kind', ctypes.c_uint32), ('number', ctypes.c_uint32)]
+
+
+class Report(ctypes.Structure):
+    """struct cog_report."""
+    _fields_ = [(name, ctypes.c_uint32) for name in ('kind', 'width', 'height', 'samples', 'bits', 'fault', 'field')]
+
+
+def _load() -> ctypes.CDLL:
+    library = ctypes.CDLL(str(pathlib.Path(__file__).parent / 'libdelgunsai.so'))
+    client, text, room, number = ctypes.POINTER(Handle), ctypes.c_char_p, ctypes.c_void_p, ctypes.c_uint32
+    calls = {
+        'new': (ctypes.c_int32, [text, ctypes.c_size_t, text, ctypes.c_size_t, number, client]),
+        'free': (None, [client]),
+        'forget': (ctypes.c_int32, [client]),
+        'keep_open': (ctypes.c_int32, [client]),
+        'open_window': (ctypes.c_int32, [client] + [number] * 5),
+        'open_columns': (ctypes.c_int32, [client] + [number] * 5),
+        'open_info': (ctypes.c_int32, [client]),
+        'request': (ctypes.c_int64, [client, room, ctypes.c_size_t]),
+        'begin': (ctypes.c_int32, [client]),
+        'feed': (ctypes.c_int32, [client, text, ctypes.c_size_t]),
+        'end': (ctypes.c_int32, [client, ctypes.POINTER(Said)]),
+        'report': (ctypes.c_int64, [client, ctypes.POINTER(Report), room, ctypes.c_size_t]),
+        'pixels': (ctypes.c_int64, [client, room, ctypes.c_size_t]),
+        'info': (ctypes.c_int64, [client, room, ctypes.c_size_t]),
+        'check': (ctypes.c_int64, [client, room, ctypes.c_size_t]),
+        'current': (ctypes.c_int32, [client, text, ctypes.c_size_t, ctypes.POINTER(Said)]),
+    }
+    for name, (result, arguments) in calls.items():
+        call = getattr(library, 'cog_client_' + name)
+        call.restype = result
+        call.argtypes = arguments
+    return library
+
+
+_library = _load()
+
+
+def _checked(result: int) -> int:
+    """The result, or what a negative one says."""
+    if result == MEMORY:
+        raise OutOfMemory('out of memory')
+    if result < 0:
+        raise RuntimeError(f'the core refused with {result}')
+    return result
+
+
+class Core:
+    """A client of one file of a host, whose requests let connections go on. One thread uses it at a time."""
+
+    def __init__(self, host: bytes, name: bytes, blocks: int) -> None:
+        self._handle = Handle()
+        self._at = ctypes.byref(self._handle)
+        self._room = ctypes.create_string_buffer(REQUEST_ROOM)
+        _checked(_library.cog_client_new(host, len(host), name, len(name), blocks, self._at))
+        _checked(_library.cog_client_keep_open(self._at))
+
+    def free(self) -> None:
+        _library.cog_client_free(self._at)
+
+    def open_window(self, x: int, y: int, width: int, height: int, level: int) -> None:
+        _checked(_library.cog_client_open_window(self._at, x, y, width, height, level))
+
+    def open_columns(self, x: int, y: int, width: int, height: int, columns: int) -> None:
+        _checked(_library.cog_client_open_columns(self._at, x, y, width, height, columns))
+
+    def open_info(self) -> None:
+        _checked(_library.cog_client_open_info(self._at))
+
+    def request(self) -> Optional[bytes]:
+        """The next request; None where a report stands, or nothing is asked."""
+        length = _checked(_library.cog_client_request(self._at, self._room, REQUEST_ROOM))
+        return self._room.raw[:length] if length else None
+
+    def check(self) -> Optional[bytes]:
+        """The request that asks whether the file is the same; None where nothing of it is known."""
+        length = _checked(_library.cog_client_check(self._at, self._room, REQUEST_ROOM))
+        return self._room.raw[:length] if length else None
+
+    def begin(self) -> None:
+        _checked(_library.cog_client_begin(self._at))
+
+    def feed(self, piece: bytes) -> None:
+        _checked(_library.cog_client_feed(self._at, piece, len(piece)))
+
+    def end(self) -> Tuple[int, int]:
+        said = Said()
+        _checked(_library.cog_client_end(self._at, ctypes.byref(said)))
+        return said.kind, said.number
+
+    def current(self, answer: bytes) -> Tuple[int, int]:
+        said = Said()
+        _checked(_library.cog_client_current(self._at, answer, len(answer), ctypes.byref(said)))
+        return said.kind, said.number
+
+    def report(self) -> Tuple[Report, str]:
+        """The report and the tag of its file; one of kind 0 where none stands."""
+        report = Report()
+        length = _checked(_library.cog_client_report(self._at, ctypes.byref(report), self._room, TAG_ROOM))
+        return report, self._room.raw[:length].decode('latin-1')
+
+    def pixels(self, report: Report) -> numpy.ndarray:
+        """The samples of the window that this report tells of, a row for each of its rows."""
+        wide = report.bits == 16
+        shape = (report.height, report.width) if report.samples == 1 else (report.height, report.width, report.samples)
+        array = numpy.empty(shape, '>u2' if wide else 'u1')
+        if _checked(_library.cog_client_pixels(self._at, array.ctypes.data, array.nbytes)) != array.nbytes:
+            raise RuntimeError('the core reports another number of samples')
+        return array.astype('u2') if wide else array
+
+    def info(self) -> str:
+        """The text of what Info tells."""
+        room = ctypes.create_string_buffer(65536)
+        length = _checked(_library.cog_client_info(self._at, room, len(room)))
+        if length > len(room):
+            room = ctypes.create_string_buffer(length)
+            _checked(_library.cog_client_info(self._at, room, length))
+        return room.raw[:length].decode('latin-1')

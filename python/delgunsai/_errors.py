@@ -1,0 +1,152 @@
+"""Why a file isn't read."""
+from __future__ import annotations
+
+from typing import Optional
+
+
+class Error(Exception):
+    """Why a file isn't read."""
+
+
+class BadUrl(Error, ValueError):
+    """The URL is outside the rules: `rule` says which."""
+
+    def __init__(self, url: str, rule: str) -> None:
+        super().__init__(f'{url!r}: {rule}')
+        self.url = url
+        self.rule = rule
+
+
+class OutOfMemory(Error, MemoryError):
+    """The core had no memory."""
+
+
+class Lost(Error, OSError):
+    """No answer came, or none came whole, in so many exchanges one after another."""
+
+
+class NotUsed(Error):
+    """The server's answer can't be used.
+
+    `reason` is its number in docs/PROFILE.md: 1 cut, 2 head, 3 status (`status` is that of the answer), 4 no tag, 5 weak tag,
+    6 long tag, 7 no range, 8 no length, 9 coding, 10 another revision, 11 another length, 12 not asked."""
+
+    WORDS = {1: 'its head is cut', 2: "it has no head that is read", 3: 'its status', 4: 'it has no tag', 5: 'its tag is weak',
+             6: 'its tag is too long', 7: 'it has no range', 8: 'it has no length', 9: 'it is coded',
+             10: 'it is a part of another revision', 11: 'its file has another length', 12: 'it is not what was asked'}
+
+    def __init__(self, reason: int, status: Optional[int] = None) -> None:
+        words = self.WORDS.get(reason, f'reason {reason}')
+        super().__init__(f'{words} is {status}' if reason == 3 else words)
+        self.reason = reason
+        self.status = status
+
+
+class FileFault(Error):
+    """What is wrong with the file, or with what is asked of it.
+
+    `number` is its number in docs/PROFILE.md; `tag` is the TIFF field that it is about, for the faults that are about one."""
+    number = 0
+
+    def __init__(self, tag: Optional[int] = None) -> None:
+        words = (self.__doc__ or '').strip()
+        super().__init__(words if tag is None else f'{words} ({tag})')
+        self.tag = tag
+
+
+class Header(FileFault):
+    """The byte order marks or the number 42 are wrong."""
+    number = 1
+
+
+class PastEnd(FileFault):
+    """A range that the query needs ends after the file."""
+    number = 2
+
+
+class DirPlace(FileFault):
+    """A directory's offset is odd or below 8."""
+    number = 3
+
+
+class DirCount(FileFault):
+    """A directory has no entries, or more than 256."""
+    number = 4
+
+
+class TagOrder(FileFault):
+    """A tag is not greater than the one before."""
+    number = 5
+
+
+class TooManyDirs(FileFault):
+    """A next offset other than 0 stands after 16 directories."""
+    number = 6
+
+
+class Missing(FileFault):
+    """A level lacks this tag."""
+    number = 7
+
+
+class FieldType(FileFault):
+    """This tag has another type or count."""
+    number = 8
+
+
+class Unsupported(FileFault):
+    """A value of this tag is outside the profile."""
+    number = 9
+
+
+class LevelShape(FileFault):
+    """A side is 0, the first directory is a reduced-resolution image, or a level is not smaller than the one before."""
+    number = 10
+
+
+class TileArray(FileFault):
+    """An array of tiles has another count than there are tiles, or there are more than 65,536 tiles."""
+    number = 11
+
+
+class TileSize(FileFault):
+    """A tile's side, plain size or byte count is wrong."""
+    number = 12
+
+
+class Packet(FileFault):
+    """The packed bytes of a tile are no packets that fill it."""
+    number = 13
+
+
+class Outside(FileFault):
+    """The window is empty, by 0 columns, in no level, or passes a side of the level that its numbers are given in."""
+    number = 14
+
+
+class TooLarge(FileFault):
+    """The window has more than 4,194,304 samples, or a field that georeferences the image more than 65,536 bytes."""
+    number = 15
+
+
+class KeyHead(FileFault):
+    """The key directory's version, revision or length is wrong."""
+    number = 16
+
+
+class KeyOrder(FileFault):
+    """A key is not greater than the one before."""
+    number = 17
+
+
+class KeyPlace(FileFault):
+    """A key's values are in no field, or past its end, or the key is its value and has another Count than 1."""
+    number = 18
+
+
+FAULTS = {fault.number: fault for fault in FileFault.__subclasses__()}
+
+
+def fault_of(number: int, field: int) -> FileFault:
+    """The fault of a number, about a field, or about none where that is 0."""
+    return FAULTS[number](field or None)

@@ -1,0 +1,72 @@
+"""What a file tells of its levels and its place on the ground."""
+from __future__ import annotations
+
+import dataclasses
+import re
+import struct
+from typing import Dict, List, Optional, Tuple, Union
+
+Value = Union[int, Tuple[float, ...], bytes]
+
+
+@dataclasses.dataclass(frozen=True)
+class Info:
+    """What georeferences an image (OGC 19-008), as it stands in the file."""
+
+    tag: str
+    """The tag of the file that this is of."""
+    levels: List[Tuple[int, int]]
+    """Columns and rows of each level, the largest first."""
+    minor: int
+    """The minor revision of the keys."""
+    keys: Dict[int, Value]
+    """The keys by their numbers: a number, numbers, or a text as it stands, with its `|`."""
+    scale: Optional[Tuple[float, ...]]
+    """The numbers of ModelPixelScale, where it is there."""
+    tiepoint: Optional[Tuple[float, ...]]
+    """The numbers of ModelTiepoint."""
+    transform: Optional[Tuple[float, ...]]
+    """The numbers of ModelTransformation."""
+
+
+def _doubles(words: List[str]) -> Tuple[float, ...]:
+    return tuple(struct.unpack('>d', bytes.fromhex(word))[0] for word in words)
+
+
+def _text(escaped: str) -> bytes:
+    return re.sub(rb'\\x([0-9a-f]{2})', lambda match: bytes.fromhex(match[1].decode()), escaped.encode('ascii'))
+
+
+def _value(kind: str, rest: str) -> Value:
+    if kind == 'short':
+        return int(rest)
+    if kind == 'doubles':
+        return _doubles(rest.split())
+    return _text(rest)
+
+
+def read_info(text: str) -> Info:
+    r"""The info of the lines that `cogread info` prints.
+
+    >>> read_info('tag "1-1"\nlevel 0 64 32\nminor 0\nkey 1024 short 2\nscale 3ff0000000000000\n').keys
+    {1024: 2}
+    """
+    levels: List[Tuple[int, int]] = []
+    keys: Dict[int, Value] = {}
+    fields: Dict[str, Tuple[float, ...]] = {}
+    tag, minor = '', 0
+    for line in text.rstrip('\n').split('\n'):
+        word, _, rest = line.partition(' ')
+        if word == 'tag':
+            tag = rest
+        elif word == 'level':
+            _, width, length = rest.split()
+            levels.append((int(width), int(length)))
+        elif word == 'minor':
+            minor = int(rest)
+        elif word == 'key':
+            number, kind, *value = rest.split(' ', 2)
+            keys[int(number)] = _value(kind, value[0] if value else '')
+        else:
+            fields[word] = _doubles(rest.split())
+    return Info(tag, levels, minor, keys, fields.get('scale'), fields.get('tiepoint'), fields.get('transform'))

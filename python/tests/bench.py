@@ -1,0 +1,77 @@
+"""Windows beside rasterio, over loopback and over round trips of 40 ms."""
+import os
+import random
+import subprocess
+import sys
+import time
+
+import delgunsai
+import numpy
+from files import PLAIN, TRANSLATE
+from servers import Cogserve
+from support import EXAMPLE, FOLDER, RASTERIO, free_port
+
+WIDTH, HEIGHT, SIDE = 7168, 6144, 256
+ROUND_TRIP = 40
+ROUNDS = 5
+
+
+def written():
+    """A file of 59 MB in plain tiles of 256 by 256, with its smaller levels; it is old, as served files are."""
+    path = os.path.join(FOLDER, 'bench.tif')
+    subprocess.run([*TRANSLATE, *PLAIN, '-co', f'BLOCKSIZE={SIDE}', '-outsize', str(WIDTH), str(HEIGHT), EXAMPLE, path], check=True)
+    os.utime(path, (time.time() - 3600,) * 2)
+    return path
+
+
+def seconds(read, windows):
+    start = time.monotonic()
+    arrays = [read(*window) for window in windows]
+    return time.monotonic() - start, arrays
+
+
+def compare(row, urls, windows):
+    """Reads the windows of each file by both in turn, and prints how long the best of each took."""
+    import rasterio
+    from rasterio.windows import Window
+
+    def ours(url):
+        with delgunsai.open(url, blocks=4096) as file:
+            return seconds(lambda x, y, w, h: file.read(x=x, y=y, width=w, height=h), windows)
+
+    def theirs(url):
+        with rasterio.open('/vsicurl/' + url) as file:
+            return seconds(lambda *window: file.read(1, window=Window(*window)), windows)
+
+    mine, other = [], []
+    for url in urls:
+        (took, got), (took_other, wanted) = ours(url), theirs(url)
+        mine.append(took)
+        other.append(took_other)
+        for window, one, two in zip(windows, got, wanted):
+            if not numpy.array_equal(one, two):
+                sys.exit(f'python: the window {window} differs')
+    mine, other = min(mine), min(other)
+    print(f'{row}: {len(windows)} windows of {SIDE} by {SIDE}: {mine:.2f} s, {len(windows) / mine:.0f} in a second; rasterio '
+          f'{other:.2f} s, {len(windows) / other:.0f} in a second; {other / mine:.2f} times its rate', flush=True)
+
+
+def main(near=1000, far=200):
+    if not RASTERIO:
+        sys.exit('python: bench needs rasterio with GDAL')
+    os.environ['GDAL_DISABLE_READDIR_ON_OPEN'] = 'EMPTY_DIR'
+    source = random.Random(1)
+    windows = [(source.randint(0, WIDTH - SIDE), source.randint(0, HEIGHT - SIDE), SIDE, SIDE) for _ in range(max(near, far))]
+    path = written()
+    names = [f'{k}.tif' for k in range(ROUNDS + 1)]       # one for each round, since GDAL keeps what it read of a URL
+    with Cogserve({name: path for name in names}) as server:
+        compare('loopback', [server.url(name) for name in names[:ROUNDS]], windows[:near])
+        port = free_port()
+        relay = subprocess.Popen([sys.executable, os.path.join(os.path.dirname(os.path.abspath(__file__)), 'relay.py'), str(port),
+                                  f'127.0.0.1:{server.port}', str(ROUND_TRIP)], stdout=subprocess.PIPE)
+        relay.stdout.readline()
+        try:
+            compare(f'round trips of {ROUND_TRIP} ms', [f'http://127.0.0.1:{port}/{names[-1]}'], windows[:far])
+        finally:
+            relay.terminate()
+            relay.wait()

@@ -1,0 +1,124 @@
+"""Servers: cogserve, nginx with TLS, and one that cuts answers."""
+import os
+import socket
+import socketserver
+import ssl
+import subprocess
+import tempfile
+import threading
+import time
+
+from support import COGTOOLS, FOLDER, free_port
+
+class Cogserve:
+    """cogserve, of these files by their names."""
+
+    def __init__(self, files, epoch=1):
+        self.port = free_port()
+        out = os.path.join(FOLDER, f'served-{self.port}')
+        self.process = subprocess.Popen([COGTOOLS, 'cogserve', '--listen', f'127.0.0.1:{self.port}', '--epoch', str(epoch), '--connections',
+                                         '100000000', *(f'{name}={path}' for name, path in files.items())], stdout=open(out, 'w'))
+        while 'listening' not in open(out).read():
+            if self.process.poll() is not None:
+                sys.exit('python: cogserve ends')
+            time.sleep(0.01)
+
+    def url(self, name):
+        return f'http://127.0.0.1:{self.port}/{name}'
+
+    def __enter__(self):
+        return self
+
+    def __exit__(self, *_):
+        self.process.kill()
+        self.process.wait()
+
+class Nginx:
+    """nginx with TLS, of a folder."""
+
+    def __init__(self, root):
+        self.folder = tempfile.mkdtemp(dir=FOLDER)
+        self.port = free_port()
+        self.certificate = os.path.join(self.folder, 'certificate')
+        key = os.path.join(self.folder, 'key')
+        subprocess.run(['openssl', 'req', '-x509', '-newkey', 'ec', '-pkeyopt', 'ec_paramgen_curve:prime256v1', '-nodes', '-days', '2', '-subj',
+                        '/CN=localhost', '-addext', 'subjectAltName=DNS:localhost', '-keyout', key, '-out', self.certificate], check=True,
+                       capture_output=True)
+        places = ' '.join(f'{kind}_temp_path {self.folder}/{kind};' for kind in ('client_body', 'proxy', 'fastcgi', 'uwsgi', 'scgi'))
+        lines = f'''daemon off; master_process off; pid {self.folder}/pid; error_log {self.folder}/errors;
+events {{ }}
+http {{ access_log {self.folder}/access; {places} keepalive_requests 100000;
+  server {{ listen 127.0.0.1:{self.port} ssl; server_name localhost; ssl_certificate {self.certificate}; ssl_certificate_key {key};
+    root {root}; location /moved {{ return 301 /grey.tif; }} }} }}'''
+        config = os.path.join(self.folder, 'conf')
+        with open(config, 'w') as file:
+            file.write(lines)
+        os.chmod(FOLDER, 0o755)
+        self.process = subprocess.Popen(['nginx', '-c', config, '-e', os.path.join(self.folder, 'errors')], stderr=subprocess.DEVNULL)
+        for _ in range(500):
+            try:
+                socket.create_connection(('127.0.0.1', self.port)).close()
+                break
+            except OSError:
+                time.sleep(0.01)
+
+    def url(self, name):
+        return f'https://localhost:{self.port}/{name}'
+
+    def context(self):
+        return ssl.create_default_context(cafile=self.certificate)
+
+    def __enter__(self):
+        return self
+
+    def __exit__(self, *_):
+        self.process.kill()
+        self.process.wait()
+
+class Cutting(socketserver.ThreadingTCPServer):
+    """Passes connections on to a server, counts them and their requests, and cuts the first answer after so many bytes."""
+    daemon_threads = True
+    allow_reuse_address = True
+
+    def __init__(self, port, cut=None):
+        self.above, self.cut, self.cuts, self.connections, self.requests = port, cut, 0, 0, 0
+        super().__init__(('127.0.0.1', 0), Passing)
+        threading.Thread(target=self.serve_forever, kwargs={'poll_interval': 0.01}, daemon=True).start()
+
+    def url(self, name):
+        return f'http://127.0.0.1:{self.server_address[1]}/{name}'
+
+
+class Passing(socketserver.BaseRequestHandler):
+    def handle(self):
+        self.server.connections += 1
+        with socket.create_connection(('127.0.0.1', self.server.above)) as above:
+            while self.one(above):
+                self.server.requests += 1
+
+    def one(self, above):
+        """One request with its answer. False where either end has ended."""
+        try:
+            request, _ = self.head_of(self.request)
+            above.sendall(request)
+            answer, end = self.head_of(above)
+            length = end + int(answer[:end].lower().split(b'content-length:')[1].split(b'\r')[0])
+            while len(answer) < length:
+                answer += above.recv(65536)
+            cut, self.server.cut = self.server.cut, None
+            self.server.cuts += cut is not None
+            self.request.sendall(answer[:cut])
+            return cut is None
+        except EOFError:
+            return False
+
+    @staticmethod
+    def head_of(at):
+        """What came up to the end of a head, and where that is."""
+        text = b''
+        while b'\r\n\r\n' not in text:
+            piece = at.recv(65536)
+            if not piece:
+                raise EOFError
+            text += piece
+        return text, text.index(b'\r\n\r\n') + 4

@@ -1,0 +1,28 @@
+"""What the tests share: a folder of their own, what is on the machine, and the programs."""
+import atexit
+import importlib.util
+import os
+import shutil
+import socket
+import tempfile
+import unittest
+
+TOP = os.path.dirname(os.path.dirname(os.path.dirname(os.path.abspath(__file__))))
+COGTOOLS = os.environ.get('COGTOOLS', os.path.join(TOP, 'crates/cogtools/out/cogtools'))
+EXAMPLE = os.path.join(TOP, 'docs/example.tif')
+FOLDER = tempfile.mkdtemp(prefix='delgunsai-')
+os.chmod(FOLDER, 0o755)
+atexit.register(shutil.rmtree, FOLDER, ignore_errors=True)
+
+GDAL = bool(shutil.which('gdal_translate') and shutil.which('gdaladdo'))
+RASTERIO = GDAL and importlib.util.find_spec('rasterio') is not None
+TLS = bool(shutil.which('nginx') and shutil.which('openssl'))
+
+
+def needs(condition, words):
+    return unittest.skipUnless(condition, f'{words} is missing')
+
+
+def free_port():
+    with socket.create_server(('127.0.0.1', 0)) as free:
+        return free.getsockname()[1]

@@ -1,0 +1,33 @@
+"""The examples of the README and of the docstrings."""
+import contextlib
+import doctest
+import io
+import os
+import re
+import unittest
+
+import delgunsai
+from delgunsai import _errors, _file, _info, _sources
+from servers import Cogserve
+from support import EXAMPLE, TOP
+
+
+class Examples(unittest.TestCase):
+    def test_readme(self):
+        """The lines of the README print what stands behind them."""
+        with open(os.path.join(TOP, 'README.md'), encoding='utf-8') as file:
+            lines = re.search(r'```python\n(.*?)```', file.read(), re.DOTALL)[1]
+        printed = io.StringIO()
+        with Cogserve({'a.tif': EXAMPLE}) as server, contextlib.redirect_stdout(printed):
+            exec(lines.replace('127.0.0.1:8080', f'127.0.0.1:{server.port}'), {})
+        self.assertEqual(printed.getvalue().splitlines(), re.findall(r'print\(.*# (.*)', lines))
+
+    def test_docstrings(self):
+        for module in delgunsai, _errors, _file, _info, _sources:
+            self.assertEqual(doctest.testmod(module).failed, 0)
+
+    def test_example_of_docs(self):
+        """The samples that the README prints."""
+        with delgunsai.open_file(EXAMPLE) as file:
+            self.assertEqual(file.levels, [(64, 64), (32, 32), (16, 16)])
+            self.assertEqual(file.read(x=24, y=30, width=4, height=2).tolist(), [[216, 221, 226, 231], [217, 222, 227, 232]])
