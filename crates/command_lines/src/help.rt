@@ -30,8 +30,8 @@ A fault of the file is told as `fault N`, or as `fault N TAG` where it is about 
 
 Exit status:
   0  The report is written
-  1  Standard output can't be written, or out of memory
-  2  The words aren't those above, or `refused N`: 1 the server, 2 the name
+  1  Standard output or the file of --output can't be written, or out of memory
+  2  The words aren't those above, a URL names no file, or `refused N`: 1 the server, 2 the name
   3  A fault of the file
   4  `no report` stands after all requests";
 

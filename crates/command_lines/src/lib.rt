@@ -3,12 +3,14 @@
 
 mod help;
 mod numbers;
+mod place;
 mod read;
 mod serve;
 mod world;
 
 pub use help::VERSION;
 pub use numbers::number_from;
+pub use place::{Place, PlaceError, is_url, place_of};
 pub use read::{AskedWords, ReadLine, WindowWords, read_line};
 pub use serve::{ServeLine, serve_line};
 pub use world::{WorldLine, world_line};

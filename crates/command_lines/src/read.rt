@@ -13,6 +13,14 @@ pub struct ReadLine<'a> {
     pub asked: AskedWords<'a>,
     pub requests: Option<&'a str>,
     pub blocks: Option<&'a str>,
+    /// Whether the connection is kept from one request to the next.
+    pub keep: bool,
+    /// Whether each request has a connection of its own, also where a URL names the file.
+    pub close: bool,
+    /// Where the report is written, if not to standard output.
+    pub output: Option<&'a str>,
+    /// Whether each exchange is told.
+    pub verbose: bool,
 }
 
 /// What is asked of a file.
@@ -20,6 +28,8 @@ pub struct ReadLine<'a> {
 pub enum AskedWords<'a> {
     Info,
     Window(WindowWords<'a>),
+    /// The whole of a level, if one is picked.
+    Whole { level: Option<&'a str> },
 }
 
 /// A window: its left column, its top row, its sides, and the level that is picked, if one is.
@@ -35,15 +45,29 @@ pub struct WindowWords<'a> {
 
 const WINDOW_EXAMPLE: &str = "\
 Example:
-  cogtools cogread window 127.0.0.1:8080 a.tif 0 0 256 256 > window.pgm";
+  cogtools cogread window 127.0.0.1:8080 a.tif 0 0 256 256 > window.pgm
+  cogtools cogread window http://127.0.0.1:8080/a.tif 0 0 256 256 --output window.pgm
+
+http://HOST[:PORT]/NAME stands for SERVER NAME, and its connection is kept.";
 
 const INFO_EXAMPLE: &str = "\
 Example:
-  cogtools cogread info 127.0.0.1:8080 a.tif";
+  cogtools cogread info 127.0.0.1:8080 a.tif
+  cogtools cogread info http://127.0.0.1:8080/a.tif
+
+http://HOST[:PORT]/NAME stands for SERVER NAME, and its connection is kept.";
 
 /// A word that has to stand.
 fn word<'a>(alloc: Global, name: &'a str, help: &'a str) -> Arg<'a> {
     Arg::new(alloc, name).help(help).required(true)
+}
+
+/// A word that has to stand where the whole of a level isn't asked for.
+fn side<'a>(alloc: Global, name: &'a str, help: &'a str) -> Result<Arg<'a>, AllocError> {
+    Arg::new(alloc, name)
+        .help(help)
+        .required_unless_present("whole")?
+        .conflicts_with("whole")
 }
 
 /// An option with one value.
@@ -55,15 +79,16 @@ fn option<'a>(alloc: Global, name: &'a str, value: &'a str, help: &'a str) -> Ar
         .action(ArgAction::Set)
 }
 
-/// A command with the words and options that both have: the server and the name first, the options last.
-fn command<'a>(
-    alloc: Global,
-    name: &'a str,
-    about: &'a str,
-    example: &'a str,
-) -> Result<Command<'a>, AllocError> {
-    let server = word(alloc, "SERVER", "The server, as HOST:PORT");
-    let file = word(alloc, "NAME", "The name of the file at the server");
+/// An option without a value.
+fn flag<'a>(alloc: Global, name: &'a str, help: &'a str) -> Arg<'a> {
+    Arg::new(alloc, name)
+        .long(name)
+        .help(help)
+        .action(ArgAction::SetTrue)
+}
+
+/// Adds the options of how the file is asked for.
+fn add_asking<'a>(alloc: Global, command: Command<'a>) -> Result<Command<'a>, AllocError> {
     let requests = option(
         alloc,
         "requests",
@@ -76,16 +101,67 @@ fn command<'a>(
         "N",
         "Blocks of 16384 bytes that are kept, 66 to 4096 (default 256)",
     );
-    Command::new(alloc, name)
+    let keep = flag(
+        alloc,
+        "keep",
+        "Keeps one connection for all requests, as long as the server does",
+    );
+    let close = flag(
+        alloc,
+        "close",
+        "Connects anew for each request (the default for SERVER NAME; a URL's connection is kept)",
+    );
+    command
+        .arg(requests)?
+        .arg(blocks)?
+        .arg(keep.conflicts_with("close")?)?
+        .arg(close)
+}
+
+/// Adds the options of what is written.
+fn add_telling<'a>(alloc: Global, command: Command<'a>) -> Result<Command<'a>, AllocError> {
+    let output = option(
+        alloc,
+        "output",
+        "FILE",
+        "Writes to this file, which is replaced once all is there (default: standard output)",
+    );
+    let verbose = flag(
+        alloc,
+        "verbose",
+        "Tells each exchange, and why there is none, on standard error",
+    );
+    command.arg(output)?.arg(verbose)
+}
+
+/// A command with the words and options that both have: the server and the name first, the options last.
+fn command<'a>(
+    alloc: Global,
+    name: &'a str,
+    about: &'a str,
+    example: &'a str,
+) -> Result<Command<'a>, AllocError> {
+    let server = word(alloc, "SERVER", "The server, as HOST:PORT");
+    let file = word(alloc, "NAME", "The name of the file at the server");
+    let named = Command::new(alloc, name)
         .about(about)
         .after_help(example)
         .arg(server)?
-        .arg(file)?
-        .arg(requests)?
-        .arg(blocks)
+        .arg(file)?;
+    add_telling(alloc, add_asking(alloc, named)?)
 }
 
-fn window_command<'a>(alloc: Global) -> Result<Command<'a>, AllocError> {
+/// Adds the sides of a window.
+fn add_sides<'a>(alloc: Global, command: Command<'a>) -> Result<Command<'a>, AllocError> {
+    let x = side(alloc, "X", "The left column, in pixels from 0")?;
+    let y = side(alloc, "Y", "The top row, in pixels from 0")?;
+    let w = side(alloc, "W", "The width, in pixels")?;
+    let h = side(alloc, "H", "The height, in pixels")?;
+    command.arg(x)?.arg(y)?.arg(w)?.arg(h)
+}
+
+/// Adds the options of which level is read, and how much of it.
+fn add_levels<'a>(alloc: Global, command: Command<'a>) -> Result<Command<'a>, AllocError> {
     let level = option(
         alloc,
         "level",
@@ -98,14 +174,21 @@ fn window_command<'a>(alloc: Global) -> Result<Command<'a>, AllocError> {
         "C",
         "The smallest level in which the window is at least C columns wide; X Y W H are then of level 0 (no default)",
     );
-    let about = "Writes a window of a file to standard output, as P5 or P6 (PGM, PPM)";
-    command(alloc, "window", about, WINDOW_EXAMPLE)?
-        .arg(word(alloc, "X", "The left column, in pixels from 0"))?
-        .arg(word(alloc, "Y", "The top row, in pixels from 0"))?
-        .arg(word(alloc, "W", "The width, in pixels"))?
-        .arg(word(alloc, "H", "The height, in pixels"))?
+    let whole = flag(
+        alloc,
+        "whole",
+        "The whole of the level, in the place of X Y W H",
+    );
+    command
         .arg(level.conflicts_with("columns")?)?
-        .arg(columns)
+        .arg(columns)?
+        .arg(whole.conflicts_with("columns")?)
+}
+
+fn window_command<'a>(alloc: Global) -> Result<Command<'a>, AllocError> {
+    let about = "Writes a window of a file to standard output, as P5 or P6 (PGM, PPM)";
+    let named = command(alloc, "window", about, WINDOW_EXAMPLE)?;
+    add_levels(alloc, add_sides(alloc, named)?)
 }
 
 fn read_command<'a>(alloc: Global) -> Result<Command<'a>, AllocError> {
@@ -126,15 +209,19 @@ fn value<'a>(matches: &ArgMatches<'a>, name: &str) -> &'a str {
     matches.get_str(name).unwrap_or("")
 }
 
-fn window_words<'a>(matches: &ArgMatches<'a>) -> WindowWords<'a> {
-    WindowWords {
+fn window_words<'a>(matches: &ArgMatches<'a>) -> AskedWords<'a> {
+    let level = matches.get_str("level");
+    if matches.get_flag("whole") {
+        return AskedWords::Whole { level };
+    }
+    AskedWords::Window(WindowWords {
         x: value(matches, "X"),
         y: value(matches, "Y"),
         w: value(matches, "W"),
         h: value(matches, "H"),
-        level: matches.get_str("level"),
+        level,
         columns: matches.get_str("columns"),
-    }
+    })
 }
 
 /// The line of a subcommand's words.
@@ -145,6 +232,10 @@ fn line_of<'a>(matches: &ArgMatches<'a>, asked: AskedWords<'a>) -> ReadLine<'a> 
         asked,
         requests: matches.get_str("requests"),
         blocks: matches.get_str("blocks"),
+        keep: matches.get_flag("keep"),
+        close: matches.get_flag("close"),
+        output: matches.get_str("output"),
+        verbose: matches.get_flag("verbose"),
     }
 }
 
@@ -153,7 +244,7 @@ pub fn read_line<'a, S: AsStr>(alloc: Global, words: &'a [S]) -> Result<ReadLine
     let command = read_command(alloc)?;
     let matches = command.try_get_matches_from(words)?;
     match matches.subcommand() {
-        Some(("window", window)) => Ok(line_of(window, AskedWords::Window(window_words(window)))),
+        Some(("window", window)) => Ok(line_of(window, window_words(window))),
         Some((_, info)) => Ok(line_of(info, AskedWords::Info)),
         None => Ok(line_of(&matches, AskedWords::Info)),
     }

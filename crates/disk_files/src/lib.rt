@@ -1,8 +1,10 @@
-//! Files of the disk that a server publishes: reading them, and when they have to be read again.
+//! Files of the disk: reading those that a server publishes, when they have to be read again, and writing one whole.
 #![tactic(auto)]
 
 mod reading;
 mod watched;
+mod writing;
 
 pub use reading::read_file;
 pub use watched::{WatchError, Watched};
+pub use writing::replace_file;

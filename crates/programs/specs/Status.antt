@@ -5,7 +5,7 @@ use Rattle.clap.specs.declared.error.kind.ErrorKind.TheVariants as kind
 use Rattle.scripts.specs.declared.line.ScriptError.TheVariants as script
 use Rattle.programs.specs.declared.fault.Fault.{Fault}
 use Rattle.programs.specs.declared.fault.Fault.TheVariants.{NotText, NotAProgram, CommandLine, NotANumber, NotAFile, Script}
-use Rattle.programs.specs.declared.fault.Fault.TheVariants.{RefusedClient, OfFile, NoReport, CantRead, Refused, CantListen, CantAccept, CantWrite, Memory}
+use Rattle.programs.specs.declared.fault.Fault.TheVariants.{RefusedClient, NotAPlace, OfFile, NoReport, CantRead, Refused, CantListen, CantAccept, CantWrite, CantWriteFile, Memory}
 
 -- 1 for files, sockets, publications and memory, 2 for the command line and scripts, 3 for a fault of the file that is read, 4
 -- where there is no report; to ask for help is no fault
@@ -15,15 +15,17 @@ HasStatus (NotAProgram word) n = n ≡ 2
 HasStatus (CommandLine error) n = kind_of error ≢ kind.DisplayHelp → kind_of error ≢ kind.DisplayVersion → n ≡ 2
 HasStatus (NotANumber word) n = n ≡ 2
 HasStatus (NotAFile word) n = n ≡ 2
-HasStatus (RefusedClient number) n = n ≡ 2
+HasStatus (RefusedClient refusal) n = n ≡ 2
+HasStatus (NotAPlace word error) n = n ≡ 2
 HasStatus (OfFile fault) n = n ≡ 3
 HasStatus NoReport n = n ≡ 4
 HasStatus (Script (script.NotAnEvent line)) n = n ≡ 2
 HasStatus (Script (script.CantRead line)) n = n ≡ 1
 HasStatus (Script script.Memory) n = n ≡ 1
 HasStatus (CantRead path) n = n ≡ 1
-HasStatus (Refused number name) n = n ≡ 1
+HasStatus (Refused refusal name) n = n ≡ 1
 HasStatus CantListen n = n ≡ 1
 HasStatus CantAccept n = n ≡ 1
 HasStatus CantWrite n = n ≡ 1
+HasStatus (CantWriteFile path) n = n ≡ 1
 HasStatus Memory n = n ≡ 1

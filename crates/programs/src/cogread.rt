@@ -1,23 +1,27 @@
 //! `cogread`: reads a window or the info of a file over sockets.
-ghost use Rattle.std.specs.Prelude.{◌+◌, ◌<◌, ◌^◌};
-
 use crate::fault::Fault;
 use crate::number::number;
-use crate::socket::Socket;
-use cog_client::{Client, ClientError, Outcome, Pieces, Query, Report};
-use cog_fetch::fetch_pieces;
-use command_lines::{AskedWords, ReadLine, WindowWords, read_line};
+use crate::reading::{Asked, Exchanges};
+use clap::error::ErrorKind;
+use cog_client::{Client, ClientError, Query};
+use command_lines::{
+    AskedWords, Place, PlaceError, ReadLine, WindowWords, is_url, place_of, read_line,
+};
+use disk_files::replace_file;
+use exchange_notes::{Noted, NotedNet};
 use range_cache::{MAX_CAPACITY, MIN_CAPACITY};
-use report_text::{info_text, picture};
+use sockets::Socket;
+use std::alloc::{AllocError, Global};
 use std::io;
 use std::io::Write;
 use std::net::{Net, TcpStream};
+use std::rt::{Clock, Files};
 use tiff_dir::Pick;
 
 /// What a line asks for, by its numbers.
-#[derive(Clone, Copy, Debug, PartialEq, Eq)]
+#[derive(Clone, Copy)]
 struct Numbers {
-    query: Query,
+    asked: Asked,
     requests: u32,
     blocks: u32,
 }
@@ -43,66 +47,153 @@ fn pick<R: AllocGlobal>(rt: &R, words: &WindowWords<'_>) -> Result<Pick, Fault> 
     }
 }
 
-fn query<R: AllocGlobal>(rt: &R, asked: AskedWords<'_>) -> Result<Query, Fault> {
-    let AskedWords::Window(words) = asked else {
-        return Ok(Query::Info);
-    };
+fn window<R: AllocGlobal>(rt: &R, words: &WindowWords<'_>) -> Result<Query, Fault> {
     Ok(Query::Window {
         x: number(rt, words.x, 0, u32::MAX)?,
         y: number(rt, words.y, 0, u32::MAX)?,
         w: number(rt, words.w, 0, u32::MAX)?,
         h: number(rt, words.h, 0, u32::MAX)?,
-        pick: pick(rt, &words)?,
+        pick: pick(rt, words)?,
     })
+}
+
+fn asked<R: AllocGlobal>(rt: &R, words: AskedWords<'_>) -> Result<Asked, Fault> {
+    match words {
+        AskedWords::Info => Ok(Asked::Query(Query::Info)),
+        AskedWords::Window(words) => Ok(Asked::Query(window(rt, &words)?)),
+        AskedWords::Whole { level } => Ok(Asked::Whole {
+            level: number_or(rt, level, (0, u32::MAX), 0)?,
+        }),
+    }
 }
 
 fn numbers_of<R: AllocGlobal>(rt: &R, line: &ReadLine<'_>) -> Result<Numbers, Fault> {
     Ok(Numbers {
-        query: query(rt, line.asked)?,
+        asked: asked(rt, line.asked)?,
         requests: number_or(rt, line.requests, (1, 65_536), 64)?,
         blocks: number_or(rt, line.blocks, (MIN_CAPACITY, MAX_CAPACITY), 256)?,
     })
 }
 
-/// Writes a report to standard output. A fault of the file is told as one.
-fn write_report<R: Print + AllocGlobal>(rt: &R, report: &Report) -> Result<(), Fault> {
-    let text = match &report.outcome {
-        Outcome::Window(window) => picture(rt.alloc(), window)?,
-        Outcome::Info(info) => info_text(rt.alloc(), &report.tag, info)?,
-        Outcome::Fault(fault) => return Err(Fault::OfFile(*fault)),
+/// Tells why no client is made of a server and a name.
+fn tell_refusal<R: Eprint>(rt: &R, refusal: &ClientError) {
+    let words = match refusal {
+        ClientError::Host =>
+            "the server is 1 to 64 letters, digits, '.', '-' and ':', and no address in brackets",
+        ClientError::Name => "the name is 1 to 200 of A-Z a-z 0-9 . _ - /",
+        ClientError::Blocks => "66 to 4096 blocks are kept",
+        ClientError::Memory => "out of memory",
     };
-    Ok(io::writer(rt).write_all(&text)?)
+    let _ = eprintln!(rt; "cogread: {words}");
 }
 
-/// Reads what the client asks over a source of answers in pieces, in so many exchanges at most, and writes the report.
-pub fn fetch_report<R: Print + AllocGlobal, P: Pieces>(
+/// The client of a line's server and name, which keeps so many blocks.
+fn client_of<R: Eprint + AllocGlobal>(
     rt: &R,
-    client: &mut Client,
-    pieces: &mut P,
-    requests: u32,
-) -> Result<(), Fault>
-    requires { P.count pieces.old + requests < 2 ^ 64 }
-{
-    match fetch_pieces(client, pieces, requests)? {
-        Some(report) => write_report(rt, report),
-        None => Err(Fault::NoReport),
+    line: &ReadLine<'_>,
+    blocks: u32,
+) -> Result<Client, Fault> {
+    let server = line.server.as_bytes();
+    match Client::new(rt.alloc(), server, line.name.as_bytes(), blocks) {
+        Ok(client) => Ok(client),
+        Err(ClientError::Memory) => Err(Fault::Memory),
+        Err(refusal) => {
+            if line.verbose {
+                tell_refusal(rt, &refusal);
+            }
+            Err(Fault::RefusedClient(refusal))
+        }
     }
+}
+
+/// What a line asks for, over sockets. Here is the place of blocks that are read ahead.
+fn text_of_line<R>(rt: &R, line: &ReadLine<'_>) -> Result<Vec<u8>, Fault>
+where
+    R: Clock + Eprint + AllocGlobal + Net<Stream = TcpStream>,
+{
+    let numbers = numbers_of(rt, line)?;
+    let mut client = client_of(rt, line, numbers.blocks)?;
+    let net = NotedNet::new(rt);
+    let mut socket = Socket::new(&net, line.server);
+    if line.keep {
+        client.keep_open();
+        socket.keep_open();
+    }
+    let mut noted = Noted::new(rt.alloc(), socket);
+    let exchanges = Exchanges {
+        rt,
+        net: &net,
+        requests: numbers.requests,
+        is_told: line.verbose,
+    };
+    exchanges.text(&mut client, &mut noted, numbers.asked)
+}
+
+/// Reads what a line asks for, and writes it.
+fn run_read<R>(rt: &R, line: &ReadLine<'_>) -> Result<(), Fault>
+where
+    R: Files + Clock + Print + Eprint + AllocGlobal + Net<Stream = TcpStream>,
+{
+    let text = text_of_line(rt, line)?;
+    let Some(path) = line.output else {
+        return Ok(io::writer(rt).write_all(&text)?);
+    };
+    match replace_file(rt, path, &text) {
+        Ok(()) => Ok(()),
+        Err(error) if error.kind() == io::ErrorKind::OutOfMemory => Err(Fault::Memory),
+        Err(_) => Err(Fault::CantWriteFile(String::from_str(rt.alloc(), path)?)),
+    }
+}
+
+/// The words with a server and a name in the place of their URL.
+fn named_words(
+    alloc: Global,
+    words: &[&str],
+    url: &str,
+    place: &Place<'_>,
+) -> Result<Vec<String>, AllocError> {
+    let mut named = Vec::new(alloc);
+    for word in words {
+        if *word == url {
+            named.push(String::from_str(alloc, place.server.as_str())?)?;
+            named.push(String::from_str(alloc, place.name)?)?;
+        } else {
+            named.push(String::from_str(alloc, word)?)?;
+        }
+    }
+    Ok(named)
+}
+
+/// Runs the program on words of which one is a URL, which stands for a server and a name; without one they are missing. Its connection
+/// is kept.
+fn run_url<R>(rt: &R, words: &[&str], missing: clap::Error) -> Result<(), Fault>
+where
+    R: Files + Clock + Print + Eprint + AllocGlobal + Net<Stream = TcpStream>,
+{
+    let Some(url) = words.iter().copied().find(|word| is_url(word)) else {
+        return Err(Fault::from(missing));
+    };
+    let place = match place_of(rt.alloc(), url) {
+        Ok(place) => place,
+        Err(PlaceError::Memory) => return Err(Fault::Memory),
+        Err(error) => return Err(Fault::NotAPlace(String::from_str(rt.alloc(), url)?, error)),
+    };
+    let named = named_words(rt.alloc(), words, url, &place)?;
+    let mut line = read_line(rt.alloc(), &named)?;
+    line.keep = !line.close;
+    run_read(rt, &line)
 }
 
 /// Runs the program on its words, of which the first is its own name.
 pub fn run_line<R>(rt: &R, words: &[&str]) -> Result<(), Fault>
 where
-    R: Print + AllocGlobal + Net<Stream = TcpStream>,
+    R: Files + Clock + Print + Eprint + AllocGlobal + Net<Stream = TcpStream>,
 {
-    let line = read_line(rt.alloc(), words)?;
-    let numbers = numbers_of(rt, &line)?;
-    let server = line.server.as_bytes();
-    let mut client = match Client::new(rt.alloc(), server, line.name.as_bytes(), numbers.blocks) {
-        Ok(client) => client,
-        Err(ClientError::Memory) => return Err(Fault::Memory),
-        Err(refusal) => return Err(Fault::RefusedClient(refusal.number())),
-    };
-    client.open(numbers.query);
-    let mut socket = Socket::new(rt, line.server);
-    fetch_report(rt, &mut client, &mut socket, numbers.requests)
+    match read_line(rt.alloc(), words) {
+        Ok(line) => run_read(rt, &line),
+        Err(error) if error.kind() == ErrorKind::MissingRequiredArgument => {
+            run_url(rt, words, error)
+        }
+        Err(error) => Err(Fault::from(error)),
+    }
 }

@@ -6,6 +6,7 @@ use crate::number::number;
 use cog_server::{PublishError, Server};
 use command_lines::{ServeLine, serve_line};
 use disk_files::{WatchError, Watched};
+use exchange_notes::moment;
 use http_range::Tag;
 use serving::{Limits, Serving};
 use std::alloc::AllocError;
@@ -13,7 +14,6 @@ use std::io::ErrorKind;
 use std::net::{Net, TcpListener, TcpStream};
 use std::num::NonZeroUsize;
 use std::rt::{Clock, Files};
-use std::time::Duration;
 
 /// Runs the program on its words, of which the first is its own name.
 pub fn run_line<R>(rt: &R, words: &[&str]) -> Result<(), Fault>
@@ -69,14 +69,13 @@ fn print_published<R: Print>(rt: &R, name: &str, tag: &Tag) -> Result<(), Fault>
 fn fault_of<R: AllocGlobal>(
     rt: &R,
     file: &Watched<'_>,
-    error: &WatchError,
+    error: WatchError,
 ) -> Result<Fault, AllocError> {
     match error {
         WatchError::Refused(PublishError::Memory) => Ok(Fault::Memory),
-        WatchError::Refused(refusal) => Ok(Fault::Refused(
-            refusal.number(),
-            String::from_str(rt.alloc(), file.name)?,
-        )),
+        WatchError::Refused(refusal) => {
+            Ok(Fault::Refused(refusal, String::from_str(rt.alloc(), file.name)?))
+        }
         WatchError::CantRead(error) if error.kind() == ErrorKind::OutOfMemory => Ok(Fault::Memory),
         WatchError::CantRead(_) | WatchError::NotAFile => {
             Ok(Fault::CantRead(String::from_str(rt.alloc(), file.path)?))
@@ -93,7 +92,7 @@ pub fn publish_all<R: Files + Clock + Print + AllocGlobal>(
     for file in files.iter_mut() {
         match file.publish(rt, server) {
             Ok(tag) => print_published(rt, file.name, &tag)?,
-            Err(error) => return Err(fault_of(rt, file, &error)?),
+            Err(error) => return Err(fault_of(rt, file, error)?),
         }
     }
     Ok(())
@@ -107,34 +106,29 @@ fn is_named_again(files: &[Watched<'_>], k: usize) -> bool
     files[k + 1..].iter().any(|file| file.name == name)
 }
 
-/// Publishes the files whose bytes changed, of several of one name the last.
+/// Publishes the files whose bytes changed, of several of one name the last. A line that can't be written is lost: the next ones are
+/// tried.
 fn look_again<R: Files + Clock + Print + AllocGlobal>(
     rt: &R,
     server: &mut Server,
     files: &mut [Watched<'_>],
-) -> Result<(), Fault> {
+) {
     for k in 0..files.len() {
         if !is_named_again(files, k)
             && let Ok(Some(tag)) = files[k].publish_changed(rt, server)
         {
-            print_published(rt, files[k].name, &tag)?;
+            let _ = print_published(rt, files[k].name, &tag);
         }
     }
-    Ok(())
 }
 
-/// The moment, in milliseconds since an arbitrary start.
-fn moment<R: Clock>(rt: &R) -> u64 {
-    let since = rt.monotonic().unwrap_or(Duration::ZERO);
-    u64::try_from(since.as_millis()).unwrap_or(u64::MAX)
-}
-
-/// Tells of each connection that has ended, from the next one on, and gives how many were told.
-fn print_served<R: Print>(rt: &R, told: u32, ended: u32) -> Result<u32, Fault> {
+/// Tells of each connection that has ended, from the next one on, and gives how many were told. A line that can't be written is lost:
+/// the next ones are tried.
+fn print_served<R: Print>(rt: &R, told: u32, ended: u32) -> u32 {
     for k in told..ended {
-        println!(rt; "served {}", k + 1)?;
+        let _ = println!(rt; "served {}", k + 1);
     }
-    Ok(told.max(ended))
+    told.max(ended)
 }
 
 /// Gives each connection that is ready its turn, accepts newcomers, and looks at the files where one came. Turns come first: a
@@ -151,7 +145,7 @@ fn turn<R: Files + Clock + Print + AllocGlobal>(
         return Err(Fault::CantAccept);
     };
     if newcomers > 0 {
-        look_again(rt, server, files)?;
+        look_again(rt, server, files);
     }
     Ok(())
 }
@@ -173,7 +167,7 @@ where
     let mut told = 0;
     for _ in 0..u64::MAX {
         turn(rt, server, files, &mut serving)?;
-        told = print_served(rt, told, serving.ended())?;
+        told = print_served(rt, told, serving.ended());
         if serving.is_over() {
             break;
         }

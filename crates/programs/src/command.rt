@@ -56,8 +56,10 @@ fn help(alloc: Global, name: &str) -> Result<String, AllocError> {
     format!(in alloc;
         "\
 Usage: {name} cogserve --listen HOST:PORT --epoch N --connections N [--at-once N] [--patience SECONDS] NAME=PATH..
-       {name} cogread window SERVER NAME X Y W H [--level N] [--columns C] [--requests N] [--blocks N]
-       {name} cogread info SERVER NAME [--requests N] [--blocks N]
+       {name} cogread window SERVER NAME X Y W H [--level N] [--columns C] [--requests N] [--blocks N] [--keep]
+       {name} cogread info SERVER NAME [--requests N] [--blocks N] [--keep]
+       {name} cogread window .. --whole [--level N] ..
+       {name} cogread .. http://HOST[:PORT]/NAME .. [--close] [--output FILE] [--verbose]
        {name} cogworld [--pieces N] SCRIPT
        {name} --version
 
@@ -89,7 +91,12 @@ fn words_of<'a>(
 /// Runs a program on its words: the command as it was typed, and those behind it.
 fn run_program<R>(rt: &R, program: Program, command: &str, rest: &[String]) -> Result<(), Fault>
 where
-    R: Files + Clock + Print + AllocGlobal + Net<Listener = TcpListener, Stream = TcpStream>,
+    R: Files
+        + Clock
+        + Print
+        + Eprint
+        + AllocGlobal
+        + Net<Listener = TcpListener, Stream = TcpStream>,
 {
     let words = words_of(rt.alloc(), command, rest)?;
     match program {
@@ -102,7 +109,12 @@ where
 /// Runs the program that the words name. Without a second word the script "one window" is run, with its file from memory.
 fn run_words<R>(rt: &R, words: &[String]) -> Result<(), Fault>
 where
-    R: Files + Clock + Print + AllocGlobal + Net<Listener = TcpListener, Stream = TcpStream>,
+    R: Files
+        + Clock
+        + Print
+        + Eprint
+        + AllocGlobal
+        + Net<Listener = TcpListener, Stream = TcpStream>,
 {
     let name = own_name(words);
     if let Some(program) = Program::from_name(name) {

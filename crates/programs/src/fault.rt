@@ -1,6 +1,8 @@
 //! Why a program ends early.
 use clap::error::ErrorKind;
-use cog_client::FetchError;
+use cog_client::{ClientError, FetchError};
+use cog_server::PublishError;
+use command_lines::PlaceError;
 use http_range::Memory;
 use scripts::ScriptError;
 use std::alloc::AllocError;
@@ -23,10 +25,12 @@ pub enum Fault {
     Script(ScriptError),
     /// The file at this path can't be read.
     CantRead(String),
-    /// The file of this name isn't published, under this number.
-    Refused(u8, String),
-    /// No client of the host and name is made, for this number.
-    RefusedClient(u8),
+    /// The file of this name isn't published.
+    Refused(PublishError, String),
+    /// No client of the host and name is made.
+    RefusedClient(ClientError),
+    /// This URL names no file of a server.
+    NotAPlace(String, PlaceError),
     /// The report is this fault of the file.
     OfFile(FileFault),
     /// No report stands after all requests.
@@ -37,6 +41,8 @@ pub enum Fault {
     CantAccept,
     /// The standard output can't be written.
     CantWrite,
+    /// The file at this path can't be written.
+    CantWriteFile(String),
     Memory,
 }
 
@@ -56,6 +62,7 @@ impl Fault {
             | Fault::NotANumber(_)
             | Fault::NotAFile(_)
             | Fault::RefusedClient(_)
+            | Fault::NotAPlace(_, _)
             | Fault::Script(ScriptError::NotAnEvent(_)) => 2,
             Fault::OfFile(_) => 3,
             Fault::NoReport => 4,
@@ -65,6 +72,7 @@ impl Fault {
             | Fault::CantListen
             | Fault::CantAccept
             | Fault::CantWrite
+            | Fault::CantWriteFile(_)
             | Fault::Memory => 1,
         }
     }
@@ -109,8 +117,11 @@ impl fmt::Display for FaultLine<'_> {
             Fault::NotANumber(word) => write!(f, "{program}: not a number: {word}"),
             Fault::NotAFile(word) => write!(f, "{program}: not a file: {word}"),
             Fault::CantRead(path) => write!(f, "{program}: can't read {path}"),
-            Fault::Refused(number, name) => write!(f, "{program}: refused {number} {name}"),
-            Fault::RefusedClient(number) => write!(f, "{program}: refused {number}"),
+            Fault::Refused(refusal, name) => {
+                write!(f, "{program}: refused {} {name}", refusal.number())
+            }
+            Fault::RefusedClient(refusal) => write!(f, "{program}: refused {}", refusal.number()),
+            Fault::NotAPlace(word, error) => write!(f, "{program}: not a place: {word}: {error}"),
             Fault::OfFile(fault) => match fault.tag() {
                 Some(tag) => write!(f, "{program}: fault {} {tag}", fault.number()),
                 None => write!(f, "{program}: fault {}", fault.number()),
@@ -119,6 +130,7 @@ impl fmt::Display for FaultLine<'_> {
             Fault::CantListen => write!(f, "{program}: can't listen"),
             Fault::CantAccept => write!(f, "{program}: can't accept"),
             Fault::CantWrite => write!(f, "{program}: can't write"),
+            Fault::CantWriteFile(path) => write!(f, "{program}: can't write {path}"),
             Fault::Script(ScriptError::Memory) | Fault::Memory => {
                 write!(f, "{program}: out of memory")
             }

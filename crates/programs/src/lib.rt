@@ -8,12 +8,11 @@ mod command;
 mod disk;
 mod fault;
 mod number;
-mod socket;
+mod reading;
 mod stored;
 
-pub use cogread::fetch_report;
 pub use cogserve::{publish_all, serve_connections};
 pub use command::run;
 pub use disk::Disk;
 pub use fault::Fault;
-pub use socket::Socket;
+pub use reading::{Asked, Exchanges};

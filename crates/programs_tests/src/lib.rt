@@ -10,11 +10,12 @@
 //! | `cogserve: not a file: WORD` | 2 | `serves` |
 //! | `cogserve: can't read PATH`, `cogserve: refused K NAME`, `cogserve: can't listen` | 1 | `serves`; 5 of the refusals in `faults` |
 //! | `cogserve: can't accept` | 1 | `socket_tests` |
-//! | `cogread: refused K` | 2 | `reads` |
+//! | `cogread: refused K`, `cogread: not a place: URL: ..` | 2 | `reads` |
+//! | each exchange, and why there is no window (`--verbose`) | | `told` |
 //! | `cogread: fault K`, and with a tag | 3 | `reads`, `faults` |
 //! | `cogread: no report` | 4 | `reads` |
 //! | `line L: not an event`, `line L: can't read`, `cogworld: can't read PATH` | 2, 1, 1 | `worlds` |
-//! | `PROGRAM: can't write` | 1 | `worlds`, `reads` |
+//! | `PROGRAM: can't write`, `cogread: can't write PATH` | 1 | `worlds`, `reads`; `output` |
 //! | `PROGRAM: out of memory` | 1 | `faults` |
 #![tactic(auto)]
 

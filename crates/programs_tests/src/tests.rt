@@ -3,9 +3,11 @@ mod disk;
 mod faults;
 mod helps;
 mod line_numbers;
+mod output;
 mod reads;
 mod report_texts;
 mod serves;
+mod told;
 mod words;
 mod worlds;
 

@@ -1,8 +1,10 @@
-//! Reports as users see them: a window as a picture, and what Info tells as lines of text.
+//! Reports as users see them: a window as a picture, what Info tells as lines of text, and faults as sentences.
 #![tactic(auto)]
 
 mod info;
 mod netpbm;
+mod sentences;
 
 pub use info::info_text;
 pub use netpbm::picture;
+pub use sentences::{FaultSentence, WhySentence};

@@ -56,10 +56,7 @@ fn tells_a_fault_of_the_file_by_its_number(rt: HostRuntime) {
 /// The fifth refusal needs more publications than a test can make.
 #[test]
 fn tells_that_an_epoch_is_exhausted(rt: HostRuntime) -> Result<(), Fail> {
-    let refused = Fault::Refused(
-        PublishError::Exhausted.number(),
-        String::from_str(rt.alloc(), "a")?,
-    );
+    let refused = Fault::Refused(PublishError::Exhausted, String::from_str(rt.alloc(), "a")?);
     assert!(rt;
         is_told(
             Capture::new(&rt),

@@ -5,7 +5,7 @@ use std::alloc::{AllocError, Global};
 use std::test::Fail;
 
 const WINDOW_PARTS: &[&str] = &[
-    "Usage: cogtools cogread window [OPTIONS] <SERVER> <NAME> <X> <Y> <W> <H>\n",
+    "Usage: cogtools cogread window [OPTIONS] <SERVER> <NAME> [X] [Y] [W] [H]\n",
     "HOST:PORT",
     "in pixels from 0",
     "in pixels\n",
@@ -17,7 +17,17 @@ const WINDOW_PARTS: &[&str] = &[
     "1 to 65536 (default 64)",
     "--blocks <N>",
     "Blocks of 16384 bytes that are kept, 66 to 4096 (default 256)",
+    "--keep",
+    "Keeps one connection for all requests, as long as the server does",
+    "--close",
+    "Connects anew for each request (the default for SERVER NAME; a URL's connection is kept)",
+    "--whole",
+    "The whole of the level, in the place of X Y W H",
+    "--output <FILE>",
+    "(default: standard output)",
+    "--verbose",
     "Example:\n  cogtools cogread window 127.0.0.1:8080 a.tif 0 0 256 256 > window.pgm\n",
+    "cogtools cogread window http://127.0.0.1:8080/a.tif 0 0 256 256 --output window.pgm\n",
 ];
 
 /// A command line that asks for help, and what stands in the help: each word and option with its unit and its default, and an
@@ -26,8 +36,10 @@ const WINDOW_PARTS: &[&str] = &[
 const HELPS: [(&str, &[&str]); 7] = [
     ("--help", &[
         "cogtools cogserve --listen HOST:PORT --epoch N --connections N [--at-once N] [--patience SECONDS] NAME=PATH..\n",
-        "cogtools cogread window SERVER NAME X Y W H [--level N] [--columns C] [--requests N] [--blocks N]\n",
-        "cogtools cogread info SERVER NAME [--requests N] [--blocks N]\n",
+        "cogtools cogread window SERVER NAME X Y W H [--level N] [--columns C] [--requests N] [--blocks N] [--keep]\n",
+        "cogtools cogread info SERVER NAME [--requests N] [--blocks N] [--keep]\n",
+        "cogtools cogread window .. --whole [--level N] ..\n",
+        "cogtools cogread .. http://HOST[:PORT]/NAME .. [--close] [--output FILE] [--verbose]\n",
         "cogtools cogworld [--pieces N] SCRIPT\n",
         "cogtools --version\n",
     ]),
@@ -56,6 +68,7 @@ const HELPS: [(&str, &[&str]); 7] = [
         "HOST:PORT",
         "1 to 65536 (default 64)",
         "Blocks of 16384 bytes that are kept, 66 to 4096 (default 256)",
+        "Keeps one connection for all requests, as long as the server does",
         "Example:\n  cogtools cogread info 127.0.0.1:8080 a.tif\n",
     ]),
     ("cogworld --help", &[

@@ -2,15 +2,19 @@
 use super::{FaultRow, expect_faults};
 use cog_client::{Client, Query};
 use cog_server::Server;
+use exchange_notes::{Noted, NotedNet};
 use fixtures_support::f1;
-use programs::{Fault, fetch_report};
+use programs::{Asked, Exchanges, Fault};
 use programs_support::{Capture, Told};
+use std::io;
+use std::io::Write;
+use std::rt::Clock;
 use std::test::Fail;
 use tiff_dir::Pick;
 use transports::{InMemory, InPieces, server_of_one};
 
 #[rattlefmt::skip]
-const FAULTS: [FaultRow<'static>; 14] = [
+const FAULTS: [FaultRow<'static>; 23] = [
     // Nobody listens there.
     ("cogread info 127.0.0.1:1 a", "cogread: no report\n", 4),
     ("cogread window 127.0.0.1:1 a 4294967295 0 1 1 --requests 2", "cogread: no report\n", 4),
@@ -27,6 +31,17 @@ const FAULTS: [FaultRow<'static>; 14] = [
     ("cogread info 127.0.0.1:1 a?", "cogread: refused 2\n", 2),
     // No address has that name.
     ("cogread info 127.0.0.1 a --requests 1", "cogread: no report\n", 4),
+    // A URL in the place of a server and a name.
+    ("cogread info http://127.0.0.1:1/a", "cogread: no report\n", 4),
+    ("cogread window http://127.0.0.1:1/a/b.tif 0 0 1 x", "cogread: not a number: x\n", 2),
+    ("cogread info http://127.0.0.1:1/a+", "cogread: refused 2\n", 2),
+    ("cogread info http://[::1]:1/a", "cogread: refused 1\n", 2),
+    ("cogread info http://h/a?b", "cogread: not a place: http://h/a?b: the path isn't /NAME as it is asked for, byte for byte\n", 2),
+    ("cogread info http://h/a/../b", "cogread: not a place: http://h/a/../b: the path isn't /NAME as it is asked for, byte for byte\n", 2),
+    ("cogread info http://h", "cogread: not a place: http://h: the path isn't /NAME as it is asked for, byte for byte\n", 2),
+    ("cogread info http://me@h/a", "cogread: not a place: http://me@h/a: a user's name or a password\n", 2),
+    // As it was before there were URLs: a server and a name.
+    ("cogread info http://h/a b", "cogread: refused 1\n", 2),
 ];
 
 #[test]
@@ -35,26 +50,30 @@ fn tells_why_nothing_is_read(rt: HostRuntime) -> Result<(), Fail> {
 }
 
 /// What is read of a server in memory, over a runtime, and whether it is written.
-fn read<R: AllocGlobal>(
+fn read<R: AllocGlobal + Clock>(
     capture: &Capture<'_, R>,
     server: &Server,
-    query: Query,
+    asked: Asked,
 ) -> Result<(), Fault> {
-    let Ok(mut client) = Client::new(capture.alloc(), b"cog.test", b"a", 66) else {
+    let alloc = capture.alloc();
+    let Ok(mut client) = Client::new(alloc, b"cog.test", b"a", 66) else {
         return Err(Fault::Memory);
     };
-    client.open(query);
-    let mut pieces = InPieces::new(
-        capture.alloc(),
-        InMemory::new(server, b"a"),
-        &[1, 170, 4096],
-    );
-    fetch_report(capture, &mut client, &mut pieces, 3)
+    let memory = InMemory::new(server, b"a");
+    let mut noted = Noted::new(alloc, InPieces::new(alloc, memory, &[1, 170, 4096]));
+    let exchanges = Exchanges {
+        rt: capture,
+        net: &NotedNet::new(capture),
+        requests: 3,
+        is_told: false,
+    };
+    let text = exchanges.text(&mut client, &mut noted, asked)?;
+    Ok(io::writer(capture).write_all(&text)?)
 }
 
-/// What is printed of a query, told and ended with.
-fn told_of<R: AllocGlobal>(capture: Capture<'_, R>, server: &Server, query: Query) -> Told {
-    let status = match read(&capture, server, query) {
+/// What is printed of what is asked, told and ended with.
+fn told_of<R: AllocGlobal + Clock>(capture: Capture<'_, R>, server: &Server, asked: Asked) -> Told {
+    let status = match read(&capture, server, asked) {
         Ok(()) => 0,
         Err(fault) => fault.tell(&capture, "cogread"),
     };
@@ -63,9 +82,9 @@ fn told_of<R: AllocGlobal>(capture: Capture<'_, R>, server: &Server, query: Quer
 }
 
 /// Two rows of three columns, from row 1 on.
-fn window(x: u32, pick: Pick) -> Query {
+fn window(x: u32, pick: Pick) -> Asked {
     let (y, w, h) = (1, 3, 2);
-    Query::Window { x, y, w, h, pick }
+    Asked::Query(Query::Window { x, y, w, h, pick })
 }
 
 #[test]
@@ -76,9 +95,10 @@ fn prints_what_is_read_or_tells_the_fault(rt: HostRuntime) -> Result<(), Fail> {
     let outside = "cogread: fault 14\n";
     for (query, out, err, status) in [
         (window(2, Pick::Level(0)), picture, "", 0),
-        (Query::Info, info, "", 0),
+        (Asked::Query(Query::Info), info, "", 0),
         (window(14, Pick::Level(0)), "", outside, 3),
         (window(2, Pick::Level(1)), "", outside, 3),
+        (Asked::Whole { level: 1 }, "", outside, 3),
     ] {
         let told = told_of(Capture::new(&rt), &server, query);
         assert!(rt; told.is(out, err, status), "{query:?}: {told:?}");
@@ -86,10 +106,25 @@ fn prints_what_is_read_or_tells_the_fault(rt: HostRuntime) -> Result<(), Fail> {
     Ok(())
 }
 
+/// The sample of f1 at x, y is 16y + x.
+#[test]
+fn reads_the_whole_of_a_level(rt: HostRuntime) -> Result<(), Fail> {
+    let server = server_of_one(rt.alloc(), 1, b"a", f1(rt.alloc())?)?;
+    let told = told_of(Capture::new(&rt), &server, Asked::Whole { level: 0 });
+    let mut want = Vec::from_slice(rt.alloc(), b"P5\n16 16\n255\n")?;
+    for sample in 0..=u8::MAX {
+        want.push(sample)?;
+    }
+    assert_eq!(rt; told.out, want);
+    assert!(rt; told.err.is_empty());
+    assert_eq!(rt; told.status, 0);
+    Ok(())
+}
+
 #[test]
 fn tells_that_standard_output_is_closed(rt: HostRuntime) -> Result<(), Fail> {
     let server = server_of_one(rt.alloc(), 1, b"a", f1(rt.alloc())?)?;
-    let told = told_of(Capture::closed(&rt), &server, Query::Info);
+    let told = told_of(Capture::closed(&rt), &server, Asked::Query(Query::Info));
     assert!(rt; told.is("", "cogread: can't write\n", 1), "{told:?}");
     Ok(())
 }
@@ -101,7 +136,7 @@ fn tells_a_fault_with_its_tag(rt: HostRuntime) -> Result<(), Fail> {
     assert!(rt; file.len() > 54);
     file[54] = 5;
     let server = server_of_one(rt.alloc(), 1, b"a", file)?;
-    let told = told_of(Capture::new(&rt), &server, Query::Info);
+    let told = told_of(Capture::new(&rt), &server, Asked::Query(Query::Info));
     assert!(rt; told.is("", "cogread: fault 9 259\n", 3), "{told:?}");
     Ok(())
 }

@@ -31,6 +31,10 @@ const LINE: ReadLine<'static> = ReadLine {
     asked: AskedWords::Window(WINDOW),
     requests: None,
     blocks: None,
+    keep: false,
+    close: false,
+    output: None,
+    verbose: false,
 };
 
 const INFO: ReadLine<'static> = ReadLine {
@@ -40,13 +44,20 @@ const INFO: ReadLine<'static> = ReadLine {
 
 /// Words of `cogread`, and the line that they are.
 #[rattlefmt::skip]
-const READ: [(&str, ReadLine<'static>); 6] = [
+const READ: [(&str, ReadLine<'static>); 13] = [
     ("cogread window h:1 a 2 1 3 2", LINE),
     ("cogread window h:1 a 2 1 3 2 --level 0", ReadLine { asked: AskedWords::Window(OF_LEVEL_0), ..LINE }),
     ("cogread window --columns=4 h:1 a 2 1 3 2", ReadLine { asked: AskedWords::Window(OF_4_COLUMNS), ..LINE }),
     ("cogread info h:1 a", INFO),
     ("cogread info --blocks 66 h:1 --requests=1 a", ReadLine { requests: Some("1"), blocks: Some("66"), ..INFO }),
     ("cogread window --requests x h:1 a 2 1 3 2 --blocks ''", ReadLine { requests: Some("x"), blocks: Some(""), ..LINE }),
+    ("cogread window h:1 a --whole", ReadLine { asked: AskedWords::Whole { level: None }, ..LINE }),
+    ("cogread window --level 1 h:1 --whole a", ReadLine { asked: AskedWords::Whole { level: Some("1") }, ..LINE }),
+    ("cogread info --keep h:1 a", ReadLine { keep: true, ..INFO }),
+    ("cogread window h:1 a 2 1 3 2 --keep", ReadLine { keep: true, ..LINE }),
+    ("cogread info h:1 a --close", ReadLine { close: true, ..INFO }),
+    ("cogread info h:1 --verbose a", ReadLine { verbose: true, ..INFO }),
+    ("cogread window h:1 a 2 1 3 2 --output=w.pgm", ReadLine { output: Some("w.pgm"), ..LINE }),
 ];
 
 fn is_read(alloc: Global, line: &str, want: &ReadLine<'_>) -> Result<bool, AllocError> {
@@ -112,7 +123,7 @@ fn reads_the_options_and_files_of_cogserve_anywhere(rt: HostRuntime) -> Result<(
 
 /// Words that are refused, or ask for help, and how clap names that.
 #[rattlefmt::skip]
-const REFUSED: [(&str, ErrorKind); 20] = [
+const REFUSED: [(&str, ErrorKind); 26] = [
     ("cogread --help", ErrorKind::DisplayHelp),
     ("cogread window --help", ErrorKind::DisplayHelp),
     ("cogread info -h", ErrorKind::DisplayHelp),
@@ -121,6 +132,12 @@ const REFUSED: [(&str, ErrorKind); 20] = [
     ("cogread info h:1", ErrorKind::MissingRequiredArgument),
     ("cogread info h:1 a 0", ErrorKind::UnknownArgument),
     ("cogread info h:1 a --level 0", ErrorKind::UnknownArgument),
+    ("cogread window h:1 a", ErrorKind::MissingRequiredArgument),
+    ("cogread window h:1 --whole", ErrorKind::MissingRequiredArgument),
+    ("cogread window h:1 a --whole --columns 4", ErrorKind::ArgumentConflict),
+    ("cogread window h:1 a 0 0 1 1 --whole", ErrorKind::ArgumentConflict),
+    ("cogread info h:1 a --keep --keep", ErrorKind::ArgumentConflict),
+    ("cogread info h:1 a --keep --close", ErrorKind::ArgumentConflict),
     ("cogread window h:1 a 0 0 1", ErrorKind::MissingRequiredArgument),
     ("cogread window h:1 a 0 0 1 1 --level 0 --level 0", ErrorKind::ArgumentConflict),
     ("cogread window h:1 a 0 0 1 1 --level 0 --columns 4", ErrorKind::ArgumentConflict),

@@ -160,6 +160,20 @@ fn counts_each_connection(rt: HostRuntime) -> Result<(), Fail> {
     Ok(())
 }
 
+/// A line that can't be written is lost, and the server goes on.
+#[test]
+fn serves_on_where_standard_output_is_closed(rt: HostRuntime) -> Result<(), Fail> {
+    let mut server = Server::new(rt.alloc(), 1);
+    let listener = TcpListener::bind(&rt, "127.0.0.1:0")?;
+    let address = listener.local_addr()?;
+    let _first = connect(&rt, address, ASK)?;
+    let _second = connect(&rt, address, ASK)?;
+    let capture = Capture::closed(&rt);
+    assert!(rt; serve_connections(&capture, &mut server, &mut [], listener, limits(2)).is_ok());
+    assert!(rt; capture.into_texts().0.is_empty());
+    Ok(())
+}
+
 /// Of two files of one name both are published, and only the last is looked at again.
 #[test]
 fn looks_again_at_the_last_file_of_a_name_alone(rt: HostRuntime) -> Result<(), Fail> {

@@ -3,8 +3,8 @@ use cog_client::{Client, Delivered, Lost, Outcome, Pieces, Query, Report};
 use cog_server::{Server, Stream};
 use fixtures_support::{f1, f3};
 use http_range::publication_tag;
-use programs::Socket;
 use report_text::{info_text, picture};
+use sockets::Socket;
 use std::alloc::Global;
 use std::net::{Net, TcpListener, TcpStream};
 use std::rt::Runtime;
@@ -23,7 +23,7 @@ fn window(x: u32, y: u32, w: u32, h: u32) -> Query {
 }
 
 /// A server that has a file as `a` in epoch 1.
-fn server_of(alloc: Global, file: Vec<u8>) -> Result<Server, Fail> {
+pub fn server_of(alloc: Global, file: Vec<u8>) -> Result<Server, Fail> {
     let mut server = Server::new(alloc, 1);
     server.publish(b"a", file)?;
     Ok(server)

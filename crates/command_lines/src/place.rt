@@ -1,0 +1,102 @@
+//! A server and a name as one word: `http://HOST[:PORT]/NAME`.
+ghost use Rattle.std.specs.Prelude.{◌≡◌, IfOk, IfSome, None, Ok, OnOk, codes, drop};
+ghost use Rattle.url.specs.Parser.{parse_url};
+ghost use Rattle.url.specs.Parts.{Parts};
+
+use std::alloc::{AllocError, Global};
+use thiserror::Error;
+use url::{ParseError, Url};
+
+/// The port of `http` (RFC 9110, section 4.2.1).
+const HTTP_PORT: u16 = 80;
+
+/// A file of a server: the server as `HOST:PORT`, and the file's name as it was typed.
+#[derive(Debug, Drop)]
+pub struct Place<'a> {
+    pub server: String,
+    pub name: &'a str,
+}
+
+/// Why a URL is no place of a file.
+#[derive(Debug, Drop, Error)]
+pub enum PlaceError {
+    #[error("{0}")]
+    NotAUrl(ParseError),
+    #[error("no TLS is spoken: ask a server in front by http, which asks this one (as nginx with proxy_pass https://..)")]
+    Tls,
+    #[error("not of http")]
+    Scheme,
+    #[error("a user's name or a password")]
+    User,
+    #[error("the path isn't /NAME as it is asked for, byte for byte")]
+    Path,
+    #[error("out of memory")]
+    Memory,
+}
+
+impl From<ParseError> for PlaceError {
+    fn from(error: ParseError) -> PlaceError {
+        match error {
+            ParseError::OutOfMemory => PlaceError::Memory,
+            other => PlaceError::NotAUrl(other),
+        }
+    }
+}
+
+impl From<AllocError> for PlaceError {
+    fn from(_refused: AllocError) -> PlaceError {
+        PlaceError::Memory
+    }
+}
+
+/// Whether a word is a URL of the web, and no server's `HOST:PORT`.
+pub fn is_url(word: &str) -> bool {
+    word.starts_with("http://") || word.starts_with("https://")
+}
+
+/// The name in a URL's path, where the URL as it was typed ends in that path.
+fn name_in<'a>(word: &'a str, path: &str) -> Option<&'a str>
+    ensures { IfSome result (λ name. name.now ≡ drop 1 path.now) }
+{
+    let (_, behind) = word.split_once("://")?;
+    let (_, name) = behind.split_once('/')?;
+    let asked = path.strip_prefix('/')?;
+    if name != asked {
+        return None;
+    }
+    Some(name)
+}
+
+/// What is wrong with the parts of a URL in front of its path.
+fn check_front(url: &Url) -> Result<(), PlaceError>
+    ensures { OnOk result (url.now.scheme ≡ codes "http") }
+{
+    match url.scheme() {
+        "http" => {}
+        "https" => return Err(PlaceError::Tls),
+        _ => return Err(PlaceError::Scheme),
+    }
+    if !url.username().is_empty() || url.password().is_some() {
+        return Err(PlaceError::User);
+    }
+    Ok(())
+}
+
+/// The file that a URL names. Without a port it is 80. A path that would be asked for otherwise than it was typed, as one with `..`
+/// or a query, is refused.
+pub fn place_of(alloc: Global, word: &str) -> Result<Place<'_>, PlaceError>
+    ensures { IfOk result (λ place. (url : Parts) × (parse_url None word.now ≡ Ok url) × (url.scheme ≡ codes "http")
+        × (place.name.now ≡ drop 1 url.path)) }
+{
+    let url = Url::parse(alloc, word)?;
+    check_front(&url)?;
+    let host = url.host_str().unwrap_or_default();
+    let port = url.port().unwrap_or(HTTP_PORT);
+    match name_in(word, url.path()) {
+        Some(name) => Ok(Place {
+            server: format!(in alloc; "{host}:{port}")?,
+            name,
+        }),
+        None => Err(PlaceError::Path),
+    }
+}

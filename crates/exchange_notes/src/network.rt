@@ -1,0 +1,70 @@
+//! A runtime that notes why the last connection wasn't made.
+ghost use Rattle.std.specs.Prelude.{◌≤◌, length, IfOk};
+
+use std::alloc::Global;
+use std::cell::Cell;
+use std::io;
+use std::io::ErrorKind;
+use std::net::{Net, SocketAddr};
+
+/// A runtime whose network is another one's, and notes why the last connection wasn't made.
+#[derive(Drop)]
+pub struct NotedNet<'r, R> {
+    rt: &'r R,
+    refusal: Cell<Option<ErrorKind>>,
+}
+
+impl<'r, R> NotedNet<'r, R> {
+    /// The network of a runtime, before the first connection.
+    pub fn new(rt: &'r R) -> Self {
+        NotedNet {
+            rt,
+            refusal: Cell::new(None),
+        }
+    }
+
+    /// Why the last connection wasn't made; none where it was.
+    pub fn refusal(&self) -> Option<ErrorKind> {
+        self.refusal.get()
+    }
+}
+
+impl<R: AllocGlobal> Alloc for NotedNet<'_, R> {
+    type A = Global;
+
+    fn alloc(&self) -> Global {
+        self.rt.alloc()
+    }
+}
+
+/// The kind of an error, if there is one.
+fn kind_of<T>(made: &io::Result<T>) -> Option<ErrorKind> {
+    match made {
+        Ok(_) => None,
+        Err(error) => Some(error.kind()),
+    }
+}
+
+impl<R: Net> Net for NotedNet<'_, R> {
+    type Stream = R::Stream;
+
+    type Listener = R::Listener;
+
+    fn bind(&self, addr: SocketAddr) -> io::Result<R::Listener> {
+        self.rt.bind(addr)
+    }
+
+    fn connect(&self, addr: SocketAddr) -> io::Result<R::Stream> {
+        let made = self.rt.connect(addr);
+        self.refusal.set(kind_of(&made));
+        made
+    }
+
+    fn lookup_host(&self, host: &str, port: u16, found: &mut [SocketAddr]) -> io::Result<usize>
+        ensures in_bounds { IfOk result (λ n. n ≤ length found.new) }
+    {
+        let count = self.rt.lookup_host(host, port, found);
+        self.refusal.set(kind_of(&count));
+        count
+    }
+}

@@ -1,0 +1,134 @@
+//! A source of answers in pieces that is another one, and notes what came of the last exchange.
+ghost use Rattle.std.specs.Prelude.{◌≡◌};
+ghost use Rattle.exchange_notes.specs.Noted.{source_of};
+
+use cog_client::{Lost, Pieces, Why};
+use http_range::{Head, HeadReading, read_head, read_request};
+use std::alloc::Global;
+
+/// The most bytes of an answer's front that are noted: those that a head may have.
+const FRONT_ROOM: usize = 4096;
+
+/// What came of an exchange.
+#[derive(Debug, Drop)]
+pub enum Came {
+    /// The request wasn't sent.
+    Unsent,
+    /// Not one byte of an answer.
+    Nothing,
+    /// An answer that can't be used.
+    NotUsed(Why),
+    /// The head of an answer that brings a piece of a file, and so many bytes of its body.
+    Brought(Head, u64),
+}
+
+/// Another source, whose requests and answers are noted as they pass. It speaks for what the other one speaks for.
+#[derive(Drop)]
+pub struct Noted<P> {
+    source: P,
+    is_sent: bool,
+    range: Vec<u8>,
+    front: Vec<u8>,
+    bytes: u64,
+}
+
+impl<P> Noted<P> {
+    /// A source of which nothing is noted so far.
+    pub fn new(alloc: Global, source: P) -> Noted<P>
+        ensures { source_of result ≡ source }
+    {
+        Noted {
+            source,
+            is_sent: false,
+            range: Vec::new(alloc),
+            front: Vec::new(alloc),
+            bytes: 0,
+        }
+    }
+
+    /// The Range field of the last request, as `bytes=0-65535`.
+    pub fn range(&self) -> &[u8] {
+        &self.range
+    }
+
+    /// The status of the last answer, by its three digits.
+    pub fn status(&self) -> Option<&str> {
+        let line = self.front.strip_prefix(b"HTTP/1.1 ".as_slice())?;
+        str::from_utf8(line.get(..3)?).ok()
+    }
+
+    /// How many bytes came of the last answer, its head among them.
+    pub fn bytes(&self) -> u64 {
+        self.bytes
+    }
+
+    /// What came of the last exchange.
+    pub fn came(&self) -> Came {
+        if !self.is_sent {
+            return Came::Unsent;
+        }
+        if self.bytes == 0 {
+            return Came::Nothing;
+        }
+        match read_head(&self.front) {
+            HeadReading::NotUsed(why) => Came::NotUsed(why),
+            HeadReading::Head(head) => {
+                let body = self.bytes.saturating_sub(head.size as u64);
+                let brought = body.min(head.length);
+                Came::Brought(head, brought)
+            }
+        }
+    }
+
+    /// Notes a request, and drops what was noted before. What there is no memory for isn't noted.
+    fn note_request(&mut self, request: &[u8])
+        ensures { source_of self.new ≡ source_of self.old }
+    {
+        self.is_sent = false;
+        self.bytes = 0;
+        self.front.clear();
+        self.range.clear();
+        if let Some(request) = read_request(request)
+            && let Some(range) = request.only(b"range")
+        {
+            let _ = self.range.extend_from_slice(range);
+        }
+    }
+
+    /// Notes the next bytes of the answer.
+    fn note_piece(&mut self, piece: &[u8])
+        ensures { source_of self.new ≡ source_of self.old }
+    {
+        let room = FRONT_ROOM.saturating_sub(self.front.len());
+        let count = piece.len().min(room);
+        let _ = self.front.extend_from_slice(&piece[..count]);
+        self.bytes = self.bytes.saturating_add(piece.len() as u64);
+    }
+}
+
+impl<P: Pieces> Pieces for Noted<P> {
+    ghost use Rattle.exchange_notes.specs.Noted.{source_of};
+
+    ghost speaks_for = { λ s. P.speaks_for (source_of s) };
+
+    ghost count = { λ s. P.count (source_of s) };
+
+    ghost rest = { λ s. P.rest (source_of s) };
+
+    fn start(&mut self, request: &[u8]) -> Result<(), Lost> {
+        self.note_request(request);
+        let sent = self.source.start(request);
+        self.is_sent = sent.is_ok();
+        sent
+    }
+
+    fn next(&mut self, out: &mut [u8]) -> Result<usize, Lost> {
+        let count = self.source.next(out)?;
+        self.note_piece(&out[..count]);
+        Ok(count)
+    }
+
+    fn starts(&self) -> u64 {
+        self.source.starts()
+    }
+}

@@ -1,0 +1,142 @@
+//! How `cogread` reads: its exchanges, which are told with `--verbose`, and what is asked of the file.
+ghost use Rattle.std.specs.Prelude.{◌+◌, ◌<◌, ◌^◌};
+ghost use Rattle.exchange_notes.specs.Noted.{source_of};
+
+use crate::fault::Fault;
+use cog_client::{Client, Outcome, Pieces, Query, Report, Tag};
+use cog_fetch::fetch_pieces;
+use exchange_notes::{Noted, NotedNet, exchanges_told};
+use report_text::{FaultSentence, info_text, picture};
+use std::rt::Clock;
+use tiff_dir::Pick;
+
+/// What is asked of a file.
+#[derive(Clone, Copy, Debug, PartialEq, Eq)]
+pub enum Asked {
+    Query(Query),
+    /// The whole of a level.
+    Whole { level: u32 },
+}
+
+/// How exchanges are made: at most so many in all, each told on standard error or not.
+#[derive(Drop)]
+pub struct Exchanges<'a, 'r, R> {
+    pub rt: &'a R,
+    pub net: &'a NotedNet<'r, R>,
+    pub requests: u32,
+    pub is_told: bool,
+}
+
+/// How many exchanges of so many are left.
+fn left<P: Pieces>(noted: &Noted<P>, requests: u32) -> u32
+    ensures { P.count (source_of noted.now) + result < 2 ^ 64 }
+{
+    let starts = noted.starts();
+    if starts < u64::from(requests) {
+        requests - starts as u32
+    } else {
+        0
+    }
+}
+
+impl<R: Eprint + Clock + AllocGlobal> Exchanges<'_, '_, R> {
+    /// Sends what the client asks, until a report stands or no exchange is left.
+    fn fetch<P: Pieces>(&self, client: &mut Client, noted: &mut Noted<P>) -> Result<(), Fault> {
+        let left = left(noted, self.requests);
+        if self.is_told {
+            exchanges_told(self.rt, self.net, client, noted, left)?;
+        } else {
+            fetch_pieces(client, noted, left)?;
+        }
+        Ok(())
+    }
+
+    /// Reads the sides of a level, and then the whole of it. Where the file was replaced between, it begins again.
+    fn fetch_whole<P: Pieces>(
+        &self,
+        client: &mut Client,
+        noted: &mut Noted<P>,
+        level: u32,
+    ) -> Result<(), Fault> {
+        for _ in 0..self.requests {
+            client.open(Query::Info);
+            self.fetch(client, noted)?;
+            let Some((tag, window)) = whole_of(client, level) else {
+                return Ok(());
+            };
+            client.open(window);
+            self.fetch(client, noted)?;
+            if !has_another_tag(client, &tag) {
+                return Ok(());
+            }
+        }
+        client.open(Query::Info);
+        Ok(())
+    }
+
+    /// Reads what is asked over a source that is noted, and gives its text: a picture, or what Info tells. With `is_told` each exchange
+    /// is told on standard error, and so is why there is no text.
+    pub fn text<P: Pieces>(
+        &self,
+        client: &mut Client,
+        noted: &mut Noted<P>,
+        asked: Asked,
+    ) -> Result<Vec<u8>, Fault> {
+        match asked {
+            Asked::Query(query) => {
+                client.open(query);
+                self.fetch(client, noted)?;
+            }
+            Asked::Whole { level } => self.fetch_whole(client, noted, level)?,
+        }
+        match client.report() {
+            Some(report) => self.text_of(report),
+            None => Err(self.no_report()),
+        }
+    }
+
+    /// The text of a report. A fault of the file is told as one.
+    fn text_of(&self, report: &Report) -> Result<Vec<u8>, Fault> {
+        let alloc = self.rt.alloc();
+        match &report.outcome {
+            Outcome::Window(window) => Ok(picture(alloc, window)?),
+            Outcome::Info(info) => Ok(info_text(alloc, &report.tag, info)?),
+            Outcome::Fault(fault) => {
+                if self.is_told {
+                    let _ = eprintln!(self.rt; "cogread: {}", FaultSentence(*fault));
+                }
+                Err(Fault::OfFile(*fault))
+            }
+        }
+    }
+
+    fn no_report(&self) -> Fault {
+        let requests = self.requests;
+        if self.is_told {
+            let _ = eprintln!(self.rt;
+                "cogread: no report by {requests} requests, the most that --requests allows"
+            );
+        }
+        Fault::NoReport
+    }
+}
+
+/// The tag that a client has told the sides of a file under, and the window that is the whole of a level. A level that isn't there has
+/// a window that isn't, either.
+fn whole_of(client: &Client, level: u32) -> Option<(Tag, Query)> {
+    let report = client.report()?;
+    let Outcome::Info(info) = &report.outcome else {
+        return None;
+    };
+    let (w, h) = info.sides.get(level as usize).copied().unwrap_or((1, 1));
+    let (x, y, pick) = (0, 0, Pick::Level(level));
+    Some((report.tag.copy(), Query::Window { x, y, w, h, pick }))
+}
+
+/// Whether a client's report stands under another tag.
+fn has_another_tag(client: &Client, tag: &Tag) -> bool {
+    match client.report() {
+        Some(report) => report.tag != *tag,
+        None => false,
+    }
+}

@@ -1,0 +1,179 @@
+//! `cogread --verbose`: each exchange is told, and why there is no window. The time of an exchange is any number.
+use cog_client::{Client, Query, Why};
+use cog_server::Server;
+use exchange_notes::{Noted, NotedNet};
+use fixtures_support::f1;
+use programs::{Asked, Exchanges};
+use programs_support::{Capture, tell};
+use report_text::{FaultSentence, WhySentence};
+use std::alloc::{AllocError, Global};
+use std::rt::Clock;
+use std::test::Fail;
+use tiff_dir::{FileFault, Pick};
+use transports::{Fate, InMemory, InPieces, Scripted, server_of_one};
+
+/// A text in which the time of each exchange is told as `T ms`.
+fn without_times(alloc: Global, text: &str) -> Result<String, AllocError> {
+    let mut told = String::new(alloc);
+    for line in text.split_inclusive('\n') {
+        match line.split_once(" ms: ") {
+            Some((front, what)) => {
+                let (front, _) = front.rsplit_once(' ').unwrap_or((front, ""));
+                told.push_str(front)?;
+                told.push_str(" T ms: ")?;
+                told.push_str(what)?;
+            }
+            None => told.push_str(line)?,
+        }
+    }
+    Ok(told)
+}
+
+/// Asks a query of a server in memory, whose answers have these fates, in three exchanges at most, which are told.
+fn ask_and_tell<R: Print + Eprint + AllocGlobal + Clock>(
+    rt: &R,
+    server: &Server,
+    query: Query,
+    fates: &[Fate],
+) -> Result<(), Fail> {
+    let mut client = Client::new(rt.alloc(), b"cog.test", b"a", 66)?;
+    let lossy = Scripted::new(InMemory::new(server, b"a"), fates);
+    let mut noted = Noted::new(
+        rt.alloc(),
+        InPieces::new(rt.alloc(), lossy, &[1, 170, 4096]),
+    );
+    let net = NotedNet::new(rt);
+    let exchanges = Exchanges {
+        rt,
+        net: &net,
+        requests: 3,
+        is_told: true,
+    };
+    if let Err(fault) = exchanges.text(&mut client, &mut noted, Asked::Query(query)) {
+        fault.tell(rt, "cogread");
+    }
+    Ok(())
+}
+
+/// What is told of a query on standard error.
+fn told_of<R: AllocGlobal + Clock>(
+    capture: Capture<'_, R>,
+    server: &Server,
+    query: Query,
+    fates: &[Fate],
+) -> Result<String, Fail> {
+    let alloc = capture.alloc();
+    ask_and_tell(&capture, server, query, fates)?;
+    let (_, err) = capture.into_texts();
+    Ok(without_times(alloc, str::from_utf8(&err).unwrap_or("?"))?)
+}
+
+/// A window of one pixel, in this column.
+fn pixel(x: u32) -> Query {
+    let (y, w, h, pick) = (0, 1, 1, Pick::Level(0));
+    Query::Window { x, y, w, h, pick }
+}
+
+/// What becomes of the answers, the column of the pixel that is asked for, and what is told. An answer has a head of 165 bytes and 378
+/// of the file.
+#[rattlefmt::skip]
+const TOLD: [(&[Fate], u32, &str); 4] = [
+    (&[Fate::Whole], 1, "cogread: GET /a bytes=0-65535: 206, 543 bytes, T ms: 378 bytes of the file, tag \"1-1\"\n"),
+    (
+        &[Fate::Lost, Fate::Cut(3), Fate::Cut(0)], 1,
+        "cogread: GET /a bytes=0-65535: 0 bytes, T ms: no connection: the server isn't HOST:PORT, or it broke\n\
+        cogread: GET /a bytes=0-65535: 3 bytes, T ms: the answer ends inside its head\n\
+        cogread: GET /a bytes=0-65535: 0 bytes, T ms: no answer came\n\
+        cogread: no report by 3 requests, the most that --requests allows\n\
+        cogread: no report\n",
+    ),
+    (
+        &[Fate::Cut(173), Fate::Whole], 1,
+        "cogread: GET /a bytes=0-65535: 206, 173 bytes, T ms: 8 bytes of the file, tag \"1-1\"; the connection broke before 378\n\
+        cogread: GET /a bytes=0-377: 206, 543 bytes, T ms: 378 bytes of the file, tag \"1-1\"\n",
+    ),
+    (
+        &[Fate::Whole], 16,
+        "cogread: GET /a bytes=0-65535: 206, 543 bytes, T ms: 378 bytes of the file, tag \"1-1\"\n\
+        cogread: the window is empty, or passes its level\n\
+        cogread: fault 14\n",
+    ),
+];
+
+#[test]
+fn tells_each_exchange(rt: HostRuntime) -> Result<(), Fail> {
+    let server = server_of_one(rt.alloc(), 1, b"a", f1(rt.alloc())?)?;
+    for (fates, x, want) in TOLD {
+        let told = told_of(Capture::new(&rt), &server, pixel(x), fates)?;
+        assert_eq!(rt; told.as_str(), want);
+    }
+    Ok(())
+}
+
+/// Where nobody listens, and what is no server.
+#[rattlefmt::skip]
+const NOWHERE: [(&[&str], &str, u8); 3] = [
+    (
+        &["cogread", "info", "127.0.0.1:1", "a", "--verbose", "--requests", "1"],
+        "cogread: GET /a bytes=0-65535: 0 bytes, T ms: no connection: connection refused\n\
+        cogread: no report by 1 requests, the most that --requests allows\n\
+        cogread: no report\n",
+        4,
+    ),
+    (
+        &["cogread", "info", "http://[::1]:1/a", "--verbose"],
+        "cogread: the server is 1 to 64 letters, digits, '.', '-' and ':', and no address in brackets\ncogread: refused 1\n",
+        2,
+    ),
+    (
+        &["cogread", "info", "h:1", "a?", "--verbose"],
+        "cogread: the name is 1 to 200 of A-Z a-z 0-9 . _ - /\ncogread: refused 2\n",
+        2,
+    ),
+];
+
+#[test]
+fn tells_why_no_connection_is_made(rt: HostRuntime) -> Result<(), Fail> {
+    for (words, want, status) in NOWHERE {
+        let told = tell(&rt, words)?;
+        let err = without_times(rt.alloc(), str::from_utf8(&told.err).unwrap_or("?"))?;
+        assert_eq!(rt; err.as_str(), want);
+        assert!(rt; told.out.is_empty());
+        assert_eq!(rt; told.status, status);
+    }
+    Ok(())
+}
+
+/// Faults about a field, and what is told of them.
+#[rattlefmt::skip]
+const FAULTS: [(FileFault, &str); 6] = [
+    (FileFault::Unsupported(259), "Compression (259) has another value: only none (1) and PackBits (32773) are read"),
+    (FileFault::Unsupported(339), "SampleFormat (339) has another value: only samples without a sign (1) are read"),
+    (FileFault::Missing(322), "a level has no TileWidth (322): only tiles are read, no strips"),
+    (FileFault::Missing(262), "a level has no PhotometricInterpretation (262): it is needed"),
+    (FileFault::FieldType(325), "TileByteCounts (325) has another type or count than it is to have"),
+    (FileFault::Header, "the file is no classic TIFF: it begins otherwise, as BigTIFF does"),
+];
+
+/// Answers that aren't used, and what is told of them.
+#[rattlefmt::skip]
+const REASONS: [(Why, &str); 5] = [
+    (Why::Status(404), "404: the server has no such file"),
+    (Why::Status(403), "403: the server doesn't give the file"),
+    (Why::Status(301), "301: the file is elsewhere, and redirections aren't followed"),
+    (Why::NoTag, "no ETag: the server doesn't say which content it is"),
+    (Why::WeakTag, "weak tag: the server doesn't say that the bytes are the same"),
+];
+
+#[test]
+fn tells_faults_and_reasons_as_sentences(rt: HostRuntime) -> Result<(), Fail> {
+    for (fault, want) in FAULTS {
+        let told = format!(in rt.alloc(); "{}", FaultSentence(fault))?;
+        assert_eq!(rt; told.as_str(), want);
+    }
+    for (why, want) in REASONS {
+        let told = format!(in rt.alloc(); "{}", WhySentence(why))?;
+        assert_eq!(rt; told.as_str(), want);
+    }
+    Ok(())
+}

@@ -1,0 +1,147 @@
+//! Sentences for people: what is wrong with a file, and why an answer isn't used.
+use cog_client::Why;
+use std::fmt;
+use tiff_dir::FileFault;
+
+/// A fault of a file, as a sentence without its end.
+#[derive(Clone, Copy, Debug, PartialEq, Eq)]
+pub struct FaultSentence(pub FileFault);
+
+/// A field of a directory by its tag, with its name where it has one here (TIFF 6.0, section 8; GeoTIFF 1.1).
+#[derive(Clone, Copy)]
+struct FieldName(u16);
+
+impl fmt::Display for FieldName {
+    fn fmt<W: fmt::Write>(&self, f: &mut fmt::Formatter<W>) -> fmt::Result {
+        let tag = self.0;
+        let name = match tag {
+            254 => "NewSubfileType",
+            256 => "ImageWidth",
+            257 => "ImageLength",
+            258 => "BitsPerSample",
+            259 => "Compression",
+            262 => "PhotometricInterpretation",
+            277 => "SamplesPerPixel",
+            284 => "PlanarConfiguration",
+            322 => "TileWidth",
+            323 => "TileLength",
+            324 => "TileOffsets",
+            325 => "TileByteCounts",
+            339 => "SampleFormat",
+            33550 => "ModelPixelScale",
+            33922 => "ModelTiepoint",
+            34264 => "ModelTransformation",
+            34735 => "GeoKeyDirectory",
+            34736 => "GeoDoubleParams",
+            34737 => "GeoAsciiParams",
+            _ => "the field",
+        };
+        write!(f, "{name} ({tag})")
+    }
+}
+
+/// What is read of a field whose value isn't.
+fn taken(tag: u16) -> &'static str {
+    match tag {
+        258 => "only 8 or 16 bits are read, the same for all samples",
+        259 => "only none (1) and PackBits (32773) are read",
+        262 => "only grey, black being 0 (1), and RGB (2) are read",
+        277 => "only one sample that is grey, or three that are RGB, are read",
+        284 => "only samples side by side (1) are read",
+        339 => "only samples without a sign (1) are read",
+        _ => "such a value isn't read",
+    }
+}
+
+/// What is missing without a field.
+fn needed(tag: u16) -> &'static str {
+    match tag {
+        322 | 323 => "only tiles are read, no strips",
+        _ => "it is needed",
+    }
+}
+
+impl fmt::Display for FaultSentence {
+    fn fmt<W: fmt::Write>(&self, f: &mut fmt::Formatter<W>) -> fmt::Result {
+        match self.0 {
+            FileFault::Missing(tag) => {
+                return write!(f, "a level has no {}: {}", FieldName(tag), needed(tag));
+            }
+            FileFault::FieldType(tag) => {
+                return write!(
+                    f,
+                    "{} has another type or count than it is to have",
+                    FieldName(tag)
+                );
+            }
+            FileFault::Unsupported(tag) => {
+                return write!(f, "{} has another value: {}", FieldName(tag), taken(tag));
+            }
+            _ => {}
+        }
+        f.write_str(plain_sentence(self.0))
+    }
+}
+
+/// The sentence of a fault that is about no field.
+fn plain_sentence(fault: FileFault) -> &'static str {
+    match fault {
+        FileFault::Header => "the file is no classic TIFF: it begins otherwise, as BigTIFF does",
+        FileFault::PastEnd => "bytes that are needed lie behind the file's end",
+        FileFault::DirPlace => "a directory's offset is odd or below 8",
+        FileFault::DirCount => "a directory has no entries, or more than 256",
+        FileFault::TagOrder => "the tags of a directory don't ascend",
+        FileFault::TooManyDirs => "there are more than 16 directories",
+        FileFault::LevelShape => "a side is 0, or a level isn't smaller than the one before",
+        FileFault::TileArray => {
+            "the array of tiles has not as many values as there are tiles, or more than 65536"
+        }
+        FileFault::TileSize => "a tile's side, plain size or byte count is wrong",
+        FileFault::Packet => "the packed bytes of a tile don't fill it",
+        FileFault::Outside => "the window is empty, or passes its level",
+        FileFault::TooLarge => {
+            "the window has more than 4194304 samples, or a geo field more than 65536 bytes"
+        }
+        FileFault::KeyHead => "the geo keys' version, revision or length is wrong",
+        FileFault::KeyOrder => "the geo keys don't ascend",
+        FileFault::KeyPlace => "a geo key's values aren't where it says",
+        FileFault::Missing(_) | FileFault::FieldType(_) | FileFault::Unsupported(_) => {
+            "a field isn't as it is to be"
+        }
+    }
+}
+
+/// Why an answer isn't used, as a sentence without its end.
+#[derive(Clone, Copy, Debug, PartialEq, Eq)]
+pub struct WhySentence(pub Why);
+
+/// What a status other than 200 and 206 says of a file (RFC 9110, section 15).
+fn status_words(status: u16) -> &'static str {
+    match status {
+        301 | 302 | 303 | 307 | 308 => "the file is elsewhere, and redirections aren't followed",
+        400 => "the server doesn't take the request",
+        401 | 403 => "the server doesn't give the file",
+        404 | 410 => "the server has no such file",
+        416 => "the file has no such bytes",
+        429 | 503 => "the server is busy",
+        500..=599 => "the server can't answer",
+        _ => "neither the file nor a part of it",
+    }
+}
+
+impl fmt::Display for WhySentence {
+    fn fmt<W: fmt::Write>(&self, f: &mut fmt::Formatter<W>) -> fmt::Result {
+        let words = match self.0 {
+            Why::Status(status) => return write!(f, "{status}: {}", status_words(status)),
+            Why::Cut => "the answer ends inside its head",
+            Why::Head => "no head of HTTP/1.1 in 4096 bytes, or more than 32 fields",
+            Why::NoTag => "no ETag: the server doesn't say which content it is",
+            Why::WeakTag => "weak tag: the server doesn't say that the bytes are the same",
+            Why::TagTooLong => "the ETag is too long",
+            Why::NoRange => "206 without a Content-Range that is read",
+            Why::NoLength => "no Content-Length",
+            Why::Coding => "the answer is coded: by a transfer coding, or compressed",
+        };
+        f.write_str(words)
+    }
+}

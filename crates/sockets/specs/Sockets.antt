@@ -1,0 +1,32 @@
+-- What others know of a source over sockets.
+use Rattle.std.specs.Prelude.{ℕ, nat_eq, Bool, true, false, List, IfSome, IsSome}
+use Rattle.cog_fetch.specs.AnswerEnd.{Came}
+use Rattle.cog_fetch.specs.declared.answer_end.Lacks.{Lacks}
+use Rattle.cog_fetch.specs.declared.answer_end.Lacks.TheVariants.{Body, End, Head}
+use Rattle.sockets.specs.declared.socket.Socket.{Socket}
+
+-- the exchanges so far
+abbrev pub exchanges_of : {R : Type 0} → Socket R → ℕ
+exchanges_of s = s.exchanges
+
+-- the server's address, as it was given
+abbrev pub server_of : {R : Type 0} → Socket R → List ℕ
+server_of s = s.server.now
+
+-- a request was sent, and its connection goes on
+abbrev pub IsConnected : {R : Type 0} → Socket R → Type 0
+IsConnected s = IsSome s.stream
+
+-- the connection is kept, and these bytes of the answer on it came
+abbrev pub HasCome : {R : Type 0} → Socket R → List ℕ → Type 0
+HasCome s bytes = IfSome s.kept (λ k. Came k.end bytes)
+
+-- nothing more of an answer is waited for: it is whole, or has no length that can be trusted
+abbrev pub is_over : Lacks → Bool
+is_over Head = false
+is_over (Body left) = nat_eq left 0
+is_over End = true
+
+-- it speaks for no file
+abbrev pub Nothing : Type 0
+Nothing = ⊥

@@ -1,0 +1,8 @@
+//! Sockets under a client: requests go to a server that is named by its address, and answers come as they arrive, over one connection
+//! for each request, or over one that is kept from answer to answer.
+#![tactic(auto)]
+
+mod kept;
+mod socket;
+
+pub use socket::Socket;

@@ -1,0 +1,199 @@
+//! Connections to a server that is named by its address: one for each request, or one that is kept from answer to answer.
+ghost use Rattle.std.specs.Prelude.{◌≡◌, ◌≤◌, ℕ, List, IfOk, IsErr, IsSome, OnOk, length, true};
+ghost use Rattle.cog_fetch.specs.AnswerEnd.{IsWholeAnswer};
+ghost use Rattle.sockets.specs.Sockets.{exchanges_of, server_of, HasCome, IsConnected};
+
+use crate::kept::Kept;
+use cog_client::{Lost, Pieces};
+use std::io::{ErrorKind, Read, Write};
+use std::net::{Net, TcpStream};
+
+/// Reads what is there, or waits for it. None at the end of the stream.
+fn read_some(stream: &mut TcpStream, out: &mut [u8]) -> Result<usize, Lost>
+    ensures { IfOk result (λ n. n ≤ length out.new) }
+{
+    for _ in 0..u64::MAX {
+        match stream.read(out) {
+            Err(error) if error.kind() == ErrorKind::Interrupted => {}
+            read => return read.map_err(|_| Lost),
+        }
+    }
+    Err(Lost)
+}
+
+/// Sends requests, and brings the answers as they arrive. It speaks for no file, since no contract says what a network brings. A
+/// connection that fails loses the rest of the answer.
+#[derive(Drop)]
+pub struct Socket<'r, R> {
+    rt: &'r R,
+    server: &'r str,
+    stream: Option<TcpStream>,
+    exchanges: u64,
+    kept: Option<Kept>,
+}
+
+impl<'r, R> Socket<'r, R> {
+    /// A source at the server at `HOST:PORT`, without exchanges. Each request has a connection of its own.
+    pub fn new(rt: &'r R, server: &'r str) -> Self
+        ensures server { server_of result ≡ server.entry.now }
+        ensures exchanges { exchanges_of result ≡ 0 }
+        ensures alone { ¬ IsConnected result }
+    {
+        Socket {
+            rt,
+            server,
+            stream: None,
+            exchanges: 0,
+            kept: None,
+        }
+    }
+
+    /// Reads the next bytes of the answer. The connection ends with the stream, and with a read that fails.
+    fn receive(&mut self, out: &mut [u8]) -> Result<usize, Lost>
+        ensures few { IfOk result (λ n. n ≤ length out.new) }
+        ensures server { server_of self.new ≡ server_of self.old }
+        ensures exchanges { exchanges_of self.new ≡ exchanges_of self.old }
+        ensures unsent { ¬ IsConnected self.old → IsErr result }
+    {
+        let Some(stream) = &mut self.stream else {
+            return Err(Lost);
+        };
+        let read = read_some(stream, out);
+        if !matches!(&read, Ok(1..)) {
+            self.stream = None;
+        }
+        read
+    }
+
+    /// Reads the next bytes of the answer on a connection that is kept, and notes how far it has come.
+    fn receive_noting(&mut self, out: &mut [u8]) -> Result<usize, Lost>
+        ensures few { IfOk result (λ n. n ≤ length out.new) }
+        ensures server { server_of self.new ≡ server_of self.old }
+        ensures exchanges { exchanges_of self.new ≡ exchanges_of self.old }
+    {
+        let read = self.receive(out);
+        if let (Some(kept), Ok(count @ 1..)) = (&mut self.kept, read) {
+            kept.came(&out[..count]);
+        }
+        read
+    }
+
+    /// Whether nothing is waited for any more of the answer on a connection that is kept.
+    fn is_over(&self) -> bool {
+        match &self.kept {
+            Some(kept) => kept.is_over(),
+            None => false,
+        }
+    }
+
+    /// The request that is sent once more: its connection was kept, and ended before a byte of its answer came.
+    fn unanswered(&mut self) -> Option<Vec<u8>>
+        ensures ended { IsSome result → ¬ IsConnected self.old }
+        ensures server { server_of self.new ≡ server_of self.old }
+        ensures exchanges { exchanges_of self.new ≡ exchanges_of self.old }
+    {
+        match (&self.stream, &mut self.kept) {
+            (None, Some(kept)) => kept.unanswered(),
+            _ => None,
+        }
+    }
+}
+
+impl<'r, R: Net<Stream = TcpStream> + AllocGlobal> Socket<'r, R> {
+    /// Keeps its connection from here on: it reads each answer by the length that its head announces, and sends the next request
+    /// behind it. It connects anew where the server closed the connection, or says that it does, where an answer has no length that
+    /// can be trusted, and where one wasn't read to its end (RFC 9112, section 9.3). Its requests are to be GETs.
+    pub fn keep_open(&mut self)
+        ensures server { server_of self.new ≡ server_of self.old }
+        ensures exchanges { exchanges_of self.new ≡ exchanges_of self.old }
+        ensures alone { ¬ IsConnected self.new }
+    {
+        self.stream = None;
+        self.kept = Some(Kept::new(self.rt.alloc()));
+    }
+
+    /// Writes a request: on the connection that is kept, or on a new one.
+    pub fn send(&mut self, request: &[u8]) -> Result<(), Lost>
+        ensures server { server_of self.new ≡ server_of self.old }
+        ensures exchanges { exchanges_of self.new ≡ exchanges_of self.old }
+        ensures connected { OnOk result (IsConnected self.new) }
+        ensures alone { IsErr result → ¬ IsConnected self.new }
+    {
+        if self.send_on(request) {
+            return Ok(());
+        }
+        self.connect(request)
+    }
+
+    /// Writes a request on the connection that is kept, if there is one and the answer before is whole. Says whether it did.
+    fn send_on(&mut self, request: &[u8]) -> bool
+        ensures server { server_of self.new ≡ server_of self.old }
+        ensures exchanges { exchanges_of self.new ≡ exchanges_of self.old }
+        ensures connected { result ≡ true → IsConnected self.new }
+        ensures whole { result ≡ true → (bytes : List ℕ) → HasCome self.old bytes → IsWholeAnswer bytes }
+    {
+        let (Some(kept), Some(stream)) = (&mut self.kept, &mut self.stream) else {
+            return false;
+        };
+        kept.goes_on(self.rt.alloc(), request) && stream.write_all(request).is_ok()
+    }
+
+    /// Connects, and writes a request.
+    fn connect(&mut self, request: &[u8]) -> Result<(), Lost>
+        ensures server { server_of self.new ≡ server_of self.old }
+        ensures exchanges { exchanges_of self.new ≡ exchanges_of self.old }
+        ensures connected { OnOk result (IsConnected self.new) }
+        ensures alone { IsErr result → ¬ IsConnected self.new }
+    {
+        self.stream = None;
+        if let Some(kept) = &mut self.kept {
+            kept.begin();
+        }
+        let mut stream = TcpStream::connect(self.rt, self.server).map_err(|_| Lost)?;
+        stream.write_all(request).map_err(|_| Lost)?;
+        self.stream = Some(stream);
+        Ok(())
+    }
+
+    /// Reads the next bytes of an answer on a connection that is kept. One that is found closed before the first byte of an answer is
+    /// tried once anew.
+    fn receive_next(&mut self, out: &mut [u8]) -> Result<usize, Lost>
+        ensures few { IfOk result (λ n. n ≤ length out.new) }
+        ensures server { server_of self.new ≡ server_of self.old }
+        ensures exchanges { exchanges_of self.new ≡ exchanges_of self.old }
+    {
+        let read = self.receive_noting(out);
+        let Some(request) = self.unanswered() else {
+            return read;
+        };
+        self.connect(&request)?;
+        self.receive_noting(out)
+    }
+}
+
+impl<R: Net<Stream = TcpStream> + AllocGlobal> Pieces for Socket<'_, R> {
+    ghost use Rattle.std.specs.Prelude.{[]};
+    ghost use Rattle.sockets.specs.Sockets.{exchanges_of, Nothing};
+
+    ghost speaks_for = { λ _ _. Nothing };
+
+    ghost count = { exchanges_of };
+
+    ghost rest = { λ _. [] };
+
+    fn start(&mut self, request: &[u8]) -> Result<(), Lost> {
+        self.exchanges += 1;
+        self.send(request)
+    }
+
+    fn next(&mut self, out: &mut [u8]) -> Result<usize, Lost> {
+        if self.is_over() {
+            return Ok(0);
+        }
+        self.receive_next(out)
+    }
+
+    fn starts(&self) -> u64 {
+        self.exchanges
+    }
+}
