@@ -10,6 +10,7 @@ use command_lines::{
 use disk_files::replace_file;
 use exchange_notes::{Noted, NotedNet};
 use range_cache::{MAX_CAPACITY, MIN_CAPACITY};
+use report_text::RefusalSentence;
 use sockets::Socket;
 use std::alloc::{AllocError, Global};
 use std::io;
@@ -75,18 +76,6 @@ fn numbers_of<R: AllocGlobal>(rt: &R, line: &ReadLine<'_>) -> Result<Numbers, Fa
     })
 }
 
-/// Tells why no client is made of a server and a name.
-fn tell_refusal<R: Eprint>(rt: &R, refusal: &ClientError) {
-    let words = match refusal {
-        ClientError::Host =>
-            "the server is 1 to 64 letters, digits, '.', '-' and ':', and no address in brackets",
-        ClientError::Name => "the name is 1 to 200 of A-Z a-z 0-9 . _ - /",
-        ClientError::Blocks => "66 to 4096 blocks are kept",
-        ClientError::Memory => "out of memory",
-    };
-    let _ = eprintln!(rt; "cogread: {words}");
-}
-
 /// The client of a line's server and name, which keeps so many blocks.
 fn client_of<R: Eprint + AllocGlobal>(
     rt: &R,
@@ -99,7 +88,7 @@ fn client_of<R: Eprint + AllocGlobal>(
         Err(ClientError::Memory) => Err(Fault::Memory),
         Err(refusal) => {
             if line.verbose {
-                tell_refusal(rt, &refusal);
+                let _ = eprintln!(rt; "cogread: {}", RefusalSentence(&refusal));
             }
             Err(Fault::RefusedClient(refusal))
         }
@@ -164,13 +153,23 @@ fn named_words(
     Ok(named)
 }
 
+/// The first word that is a URL.
+fn url_among<'a>(words: &[&'a str]) -> Option<&'a str> {
+    for word in words {
+        if is_url(word) {
+            return Some(word);
+        }
+    }
+    None
+}
+
 /// Runs the program on words of which one is a URL, which stands for a server and a name; without one they are missing. Its connection
 /// is kept.
 fn run_url<R>(rt: &R, words: &[&str], missing: clap::Error) -> Result<(), Fault>
 where
     R: Files + Clock + Print + Eprint + AllocGlobal + Net<Stream = TcpStream>,
 {
-    let Some(url) = words.iter().copied().find(|word| is_url(word)) else {
+    let Some(url) = url_among(words) else {
         return Err(Fault::from(missing));
     };
     let place = match place_of(rt.alloc(), url) {

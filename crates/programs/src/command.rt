@@ -8,7 +8,7 @@ use std::net::{Net, TcpListener, TcpStream};
 use std::rt::{Clock, Files};
 
 /// One of the programs.
-#[derive(Clone, Copy, Debug, PartialEq, Eq)]
+#[derive(Clone, Copy)]
 enum Program {
     Cogread,
     Cogserve,
@@ -36,7 +36,10 @@ impl Program {
 
 /// The command's own name: the last part of the path by which it was called.
 fn own_name(words: &[String]) -> &str {
-    let path = words.first().map_or("cogtools", |word| word.as_str());
+    let path = match words.first() {
+        Some(word) => word.as_str(),
+        None => "cogtools",
+    };
     path.rsplit('/').next().unwrap_or(path)
 }
 
@@ -45,9 +48,12 @@ fn program_of(words: &[String]) -> &'static str {
     if let Some(program) = Program::from_name(own_name(words)) {
         return program.name();
     }
-    match words.get(1) {
-        Some(word) => Program::from_name(word.as_str()).map_or("cogtools", Program::name),
-        None => Program::Cogworld.name(),
+    let Some(word) = words.get(1) else {
+        return Program::Cogworld.name();
+    };
+    match Program::from_name(word.as_str()) {
+        Some(program) => program.name(),
+        None => "cogtools",
     }
 }
 

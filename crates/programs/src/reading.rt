@@ -11,7 +11,7 @@ use std::rt::Clock;
 use tiff_dir::Pick;
 
 /// What is asked of a file.
-#[derive(Clone, Copy, Debug, PartialEq, Eq)]
+#[derive(Clone, Copy, Debug)]
 pub enum Asked {
     Query(Query),
     /// The whole of a level.
@@ -89,10 +89,16 @@ impl<R: Eprint + Clock + AllocGlobal> Exchanges<'_, '_, R> {
             }
             Asked::Whole { level } => self.fetch_whole(client, noted, level)?,
         }
-        match client.report() {
-            Some(report) => self.text_of(report),
-            None => Err(self.no_report()),
-        }
+        let Some(report) = client.report() else {
+            if self.is_told {
+                let requests = self.requests;
+                let _ = eprintln!(self.rt;
+                    "cogread: no report by {requests} requests, the most that --requests allows"
+                );
+            }
+            return Err(Fault::NoReport);
+        };
+        self.text_of(report)
     }
 
     /// The text of a report. A fault of the file is told as one.
@@ -108,16 +114,6 @@ impl<R: Eprint + Clock + AllocGlobal> Exchanges<'_, '_, R> {
                 Err(Fault::OfFile(*fault))
             }
         }
-    }
-
-    fn no_report(&self) -> Fault {
-        let requests = self.requests;
-        if self.is_told {
-            let _ = eprintln!(self.rt;
-                "cogread: no report by {requests} requests, the most that --requests allows"
-            );
-        }
-        Fault::NoReport
     }
 }
 

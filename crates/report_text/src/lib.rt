@@ -7,4 +7,4 @@ mod sentences;
 
 pub use info::info_text;
 pub use netpbm::picture;
-pub use sentences::{FaultSentence, WhySentence};
+pub use sentences::{FaultSentence, RefusalSentence, WhySentence};

@@ -1,5 +1,5 @@
 //! Sentences for people: what is wrong with a file, and why an answer isn't used.
-use cog_client::Why;
+use cog_client::{ClientError, Why};
 use std::fmt;
 use tiff_dir::FileFault;
 
@@ -141,6 +141,23 @@ impl fmt::Display for WhySentence {
             Why::NoRange => "206 without a Content-Range that is read",
             Why::NoLength => "no Content-Length",
             Why::Coding => "the answer is coded: by a transfer coding, or compressed",
+        };
+        f.write_str(words)
+    }
+}
+
+/// Why no client is made of a server and a name, as a sentence without its end.
+#[derive(Clone, Copy, Debug)]
+pub struct RefusalSentence<'a>(pub &'a ClientError);
+
+impl fmt::Display for RefusalSentence<'_> {
+    fn fmt<W: fmt::Write>(&self, f: &mut fmt::Formatter<W>) -> fmt::Result {
+        let words = match self.0 {
+            ClientError::Host =>
+                "the server is 1 to 64 letters, digits, '.', '-' and ':', and no address in brackets",
+            ClientError::Name => "the name is 1 to 200 of A-Z a-z 0-9 . _ - /",
+            ClientError::Blocks => "66 to 4096 blocks are kept",
+            ClientError::Memory => "out of memory",
         };
         f.write_str(words)
     }
