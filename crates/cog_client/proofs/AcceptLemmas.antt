@@ -10,7 +10,7 @@ use Rattle.cog_client.specs.Client.{ClientState, asked_of, blocks_of, feed_of, r
 use Rattle.cog_client.specs.Feeding.{nothing_fed}
 use Rattle.cog_client.specs.Calls.{unless_reported}
 use Rattle.cog_client.specs.Keeps.{GoesOnKeeping, Misses}
-use Rattle.cog_client.specs.Going.{AreSame}
+use Rattle.cached_reader.specs.Going.{AreSame}
 use Rattle.cog_client.specs.Steps.{Stores, StopsStoring, AcceptsPiece}
 use Rattle.cog_client.proofs.ClientLemmas.{same_trans, stays_trans}
 

@@ -1,5 +1,5 @@
 -- What the steps of a client keep.
-use Rattle.std.proofs.Common.{◌≡◌, ℕ, false, List, [], length, Option, Some, None, refl, sym, ap, ◌∙◌, subst}
+use Rattle.std.proofs.Common.{◌≡◌, ℕ, List, [], length, Option, Some, None, refl, sym, ap, ◌∙◌, subst}
 use Rattle.std.proofs.lemmas.Bool.{false≢true}
 use Rattle.std.specs.Prelude.{IfSome, IsSome, IsSomeAnd, is_some, if◌then◌else◌}
 use Rattle.std.specs.Option.{option_map, option_map_or}
@@ -22,9 +22,9 @@ use Rattle.cog_client.specs.Take.{emptied, stored_front}
 use Rattle.cog_client.specs.Feeding.{Feed, nothing_fed}
 use Rattle.cog_client.specs.Client.{ClientAgrees, ClientState, IsAlone, IsClient, IsFew, IsReadingOf, IsReportOf, Knows, KnowsBy, KnowsOne, asked_of, blocks_of, feed_of, host_of, how_of, name_of, query_of, report_of, revision_at, revision_of, tag_of, to_come, unread}
 use Rattle.cog_client.specs.Calls.{SameClient}
-use Rattle.cog_client.specs.Keeps.{GoesOnKeeping, KeepsOpen, OpensKeeping, StaysOf}
-use Rattle.cog_client.specs.Going as going
-use Rattle.cog_client.specs.Going.{work}
+use Rattle.cog_client.specs.Keeps.{GoesOnKeeping, OpensKeeping, StaysOf}
+use Rattle.cached_reader.specs.Going as going
+use Rattle.cached_reader.specs.Going.{work}
 use Rattle.cog_client.specs.Steps.{Adopts, Concludes, Stores}
 use Rattle.cog_client.proofs.GoingLemmas.{end_nil, end_refl, end_trans, same_refl, same_trans as blocks_trans}
 
@@ -292,7 +292,7 @@ refed c e f knows = at c.source refl knows
 pub rehow_sound : (c : ClientState) (how : Asking) → IsClient c → IsClient (record c { how = how })
 rehow_sound c how s = record { hosted = s.hosted; named = s.named; alone = s.alone; reading = s.reading; standing = s.standing; few = s.few }
 
-rehowed : (c : ClientState) (how : Asking) (f : List ℕ) → Knows f c → Knows f (record c { how = how })
+pub rehowed : (c : ClientState) (how : Asking) (f : List ℕ) → Knows f c → Knows f (record c { how = how })
 unfolding Knows
 rehowed c how f knows = at c.source refl knows
   where
@@ -303,17 +303,6 @@ rehowed c how f knows = at c.source refl knows
       blocks = k.blocks;
       report = k.report;
       sound = rehow_sound c how k.sound;
-    }
-
-pub keeps_open : (c : ClientState) → KeepsOpen c (record c { how = record (how_of c) { closes = false } })
-unfolding name_of revision_of to_come
-keeps_open c =
-    let how : Asking = record (how_of c) { closes = false } in
-    record {
-      seen = refl;
-      knows = rehowed c how;
-      come = λ f. refl;
-      agrees = agrees_by c (record c { how = how }) refl refl (rehowed c how);
     }
 
 pub stays_refed : (s new : ClientState) (e : Feed) (f : List ℕ) → StaysOf f (record s { feed = e }) new → StaysOf f s new

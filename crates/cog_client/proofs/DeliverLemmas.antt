@@ -32,7 +32,7 @@ use Rattle.cog_client.specs.Client.{ClientAgrees, ClientState, IsReadingOf, IsSt
 use Rattle.cog_client.specs.Feeding.{nothing_fed}
 use Rattle.cog_client.specs.Calls.{unless_reported}
 use Rattle.cog_client.specs.Keeps.{DeliversKeeping, StaysOf, StopsDelivery}
-use Rattle.cog_client.specs.Going.{AreSame}
+use Rattle.cached_reader.specs.Going.{AreSame}
 use Rattle.cog_client.specs.Steps.{Adopts, StopsStoring, AcceptsPiece}
 use Rattle.cog_client.proofs.GoingLemmas.{end_refl, same_refl}
 use Rattle.cog_client.proofs.ClientLemmas.{agrees_by, refed, same_trans}

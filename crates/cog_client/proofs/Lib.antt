@@ -5,6 +5,7 @@ pub mod RequestLemmas
 pub mod DeliverLemmas
 pub mod ProgressLemmas
 pub mod OwnLemmas
+pub mod WholeLemmas
 pub mod TruthLemmas
 pub mod Worked
 pub mod FedLemmas

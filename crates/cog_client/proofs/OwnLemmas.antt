@@ -1,9 +1,9 @@
 -- The whole answer to what a client asks for brings it on.
-use Rattle.std.proofs.Common.{◌≡◌, ◌⊎◌, ℕ, ◌+◌, ◌-◌, ◌*◌, ◌/◌, ◌<◌, ◌≤◌, Bool, true, false, cond, min, List, [], ◌∷◌, length, take, drop, Option, Some, None, Result, Ok, Err, refl, sym, ap, ◌∙◌, subst, arith, inl, inr, append-nil, length-take, length-drop}
+use Rattle.std.proofs.Common.{◌≡◌, ◌⊎◌, ℕ, ◌+◌, ◌-◌, ◌*◌, ◌<◌, ◌≤◌, Bool, true, false, cond, min, List, [], ◌∷◌, length, take, drop, Option, Some, None, Result, Ok, Err, refl, sym, ap, ◌∙◌, subst, arith, inl, inr, append-nil, length-take, length-drop}
 use Rattle.std.specs.Prelude.{IfOk, nat_le, nat_lt, not, ◌==◌}
 use Rattle.std.specs.Option.{option_map}
 use Rattle.std.specs.Str.{bytes_eq}
-use Rattle.std.proofs.lemmas.Bool.{and_from, cases_Bool}
+use Rattle.std.proofs.lemmas.Bool.{and_from, and_parts, cases_Bool, leb-true, ltb-true}
 use Rattle.std.proofs.lemmas.Bool.Decides.{nat_tests}
 use Rattle.std.proofs.lemmas.List.{length-append, take_all}
 use Rattle.std.proofs.lemmas.Option.{none-some, same_Some}
@@ -24,8 +24,9 @@ use Rattle.http_range.specs.Reply.{head_text}
 use Rattle.http_range.specs.Response.{Response, IsAnswer, is_current, refused, response_to_client, serve_part, text_of, ending}
 use Rattle.tiff_dir.specs.Block.{blocks, first_block, is_whole}
 use Rattle.range_cache.specs.Cache.{Blocks, numbers}
-use Rattle.range_cache.specs.Laws.{FoundAreThere, MissingIsFew, MissingIsSame, StoredStay, StoresAreSome, WholeAreBrought}
-use Rattle.range_cache.specs.Piece.{IsPieceOf, is_brought}
+use Rattle.range_cache.specs.Laws.{FoundAreThere, MissingIsFew, MissingIsFewer, MissingIsSame, OnlyWholeAreBrought, StoredStay, WholeAreBrought, WholeAreFew}
+use Rattle.range_cache.specs.Numbers.{AreGone, has}
+use Rattle.range_cache.specs.Piece.{IsPieceOf, is_brought, whole_blocks}
 use Rattle.cog_client.specs.declared.case.Case.{Case}
 use Rattle.cog_client.specs.declared.case.Case.TheVariants as cases
 use Rattle.cog_client.specs.declared.delivered.Delivered.{Delivered}
@@ -35,7 +36,7 @@ use Rattle.cog_client.specs.Case.{Revision, case_of, is_beside}
 use Rattle.cog_client.specs.Take.{Holding, IsIgnored, asked_or_first, brought_by, stored_of, take as taken, take_by}
 use Rattle.cog_client.specs.Client.{ClientState, Knows, asked_of, blocks_of, holding, host_of, name_of, revision_of, tag_of, to_come, closes}
 use Rattle.cog_client.specs.Keeps.{AsksFor, DeliversKeeping, Lacks, StaysOf}
-use Rattle.cog_client.specs.Going.{AreSame}
+use Rattle.cached_reader.specs.Going.{AreSame}
 use Rattle.cog_client.specs.Progress.{BringsOn, IsOwnAnswer, OwnAnswersBringOn, left, left_of}
 use Rattle.cog_client.proofs.DeliverLemmas.{piece_at}
 use Rattle.cog_client.proofs.ProgressLemmas.{LengthsAreKnown, first_split, inside, known_length, left_on, missing_inside}
@@ -91,6 +92,20 @@ own_response answered c p span text own =
     let P : List ℕ → Type 0 = λ m. IsAnswer own.catalogue m own.response in
     (answered own.catalogue (closes c) (host_of c) (name_of c) [] span.first span.last (tag_of c) own.response own.can span.ascending).0 (subst P (sym (append-nil message)) own.answers)
     ∙ ap (λ o. ending (closes c) (response_to_client o span.first span.last (tag_of c))) own.has
+
+-- it is honest for that publication
+pub own_honest : RequestsAreAnswered → PublishedIsNamed → (c : ClientState) (p : Publication) (span : Span) (text : List ℕ) → IsOwnAnswer c p span text → IsHonestFor text p
+own_honest answered named c p span text own = record {
+  catalogue = own.catalogue;
+  message = request_by (closes c) (host_of c) (name_of c) span.first span.last (tag_of c);
+  response = own.response;
+  lawful = own.lawful;
+  answers = own.answers;
+  has = ap (λ n. published n own.catalogue) (named.named (name_of c) own.catalogue p own.has) ∙ own.has;
+  named = subst (λ (r : Response). (r.name ≡ Some p.name) ⊎ (r.name ≡ None)) (sym (own_response answered c p span text own))
+      (part_named p span.first span.last (is_current (tag_of c) p.tag) (nat_lt span.first (length p.file)));
+  front = ([], append-nil text ∙ own.shown);
+}
 
 module _ (answered : RequestsAreAnswered) (fronts : FrontsAreRead) where
   pub own_reading : (old new : ClientState) (p : Publication) (span : Span) (text : List ℕ) (what : Delivered) → (own : IsOwnAnswer old p span text) → (d : DeliversKeeping old text what new)
@@ -164,46 +179,40 @@ record IsAskedOf (f : List ℕ) (c : ClientState) (s : Span) : Type 0 where
   last : s.last + 1 ≡ min (to * 16384) (length f)
   begins : first_block range.first ≤ from
   some : from < to
-  ends : to ≤ first_block range.first + blocks range.first range.len
+  ends : from < first_block range.first + blocks range.first range.len
   low : s.first < length f
   fits : min s.last (length f - 1) ≡ s.last
   within : range.first + range.len ≤ length f
 
-asked_of_file : (f : List ℕ) (c : ClientState) (v : Revision) (s : Span) → length f ≡ v.complete → Knows f c → Lacks c v s → IsAskedOf f c s
-asked_of_file f c v s size knows l =
+asked_of_file : (f : List ℕ) (c : ClientState) (v : Revision) (ahead : ℕ) (s : Span) → length f ≡ v.complete → Knows f c → Lacks c v ahead s → IsAskedOf f c s
+asked_of_file f c v ahead s size knows l =
     let m = l.missing in
     let gap = m.lacks.gap in
     let some = gap.some in
     let begins = gap.begins in
     let ends = gap.within in
     let within = m.within in
-    let more = m.some in
     let first = m.first ∙ m.lacks.first_is in
     let last = m.last in
-    let last_is = m.lacks.last_is in
+    let on = m.on in
+    let inside = m.inside in
     let next = first_split l.range (to_come c f) (l.next f knows) in
-    let touched : blocks l.range.first l.range.len ≡ (l.range.first + l.range.len - 1) / 16384 - l.range.first / 16384 + 1 = touches l.range.first l.range.len more in
-    let low : s.first < length f = omega (arith, first, begins, ends, some, touched, within, size, more) in
+    let low : s.first < length f = omega (arith, first, some, on, inside, size) in
     record {
       range = l.range;
       rest = next.0;
       come = next.1;
       from = m.lacks.from;
-      to = m.lacks.to;
+      to = m.to;
       first = first;
-      last = omega (arith, last, last_is, size, some);
+      last = omega (arith, last, size, some, on);
       begins = begins;
-      some = some;
-      ends = ends;
+      some = omega (arith, some, on);
+      ends = omega (arith, some, ends);
       low = low;
-      fits = omega (arith, last, last_is, size, some, low, first);
+      fits = omega (arith, last, size, some, on, low, first);
       within = omega (arith, within, size);
     }
-  where
-    touches : (first len : ℕ) → 0 < len → blocks first len ≡ (first + len - 1) / 16384 - first / 16384 + 1
-    touches first len more =
-        let n : (len == 0) ≡ false = grind (arith, nat_tests) in
-        ap (λ t. cond t 0 ((first + len - 1) / 16384 - first / 16384 + 1)) n
 
 part_length : (p : Publication) (a b : ℕ) → a ≤ b → b < length p.file → length (part p a b).body ≡ b - a + 1
 part_length p a b low high =
@@ -231,14 +240,40 @@ whole_at complete first end n there begins ends = grind (arith, nat_tests)
 
 -- ---- less is left
 
+-- what is known of blocks that are stored
+pub record StoringLaws : Type 0 where
+  pub stay : StoredStay
+  pub brought : WholeAreBrought
+  pub only : OnlyWholeAreBrought
+  pub whole : WholeAreFew
+  pub few : MissingIsFew
+  pub fewer : MissingIsFewer
+
+-- a block that lies wholly in the span is one of those that the client lacks
+whole_lies : (complete first end from to k : ℕ) → first ≡ from * 16384 → end ≡ min (to * 16384) complete → is_whole complete first end k ≡ true → (from ≤ k) × (k < to)
+whole_lies complete first end from to k first_is end_is whole =
+    let outer = and_parts _ _ whole in
+    let inner = and_parts _ _ outer.0 in
+    let there : k * 16384 < complete = ltb-true (k * 16384) complete inner.0 in
+    let begins : first ≤ k * 16384 = leb-true first (k * 16384) inner.1 in
+    let ends : min ((k + 1) * 16384) complete ≤ end = leb-true (min ((k + 1) * 16384) complete) end outer.1 in
+    (omega (arith, there, begins), omega (arith, there, ends))
+
+-- so is each that a piece brings of the span
+brought_lies : OnlyWholeAreBrought → (complete first : ℕ) (body : List ℕ) (s : Span) (from to k : ℕ) → s.first ≡ from * 16384 → s.last + 1 ≡ min (to * 16384) complete
+    → has k (numbers (whole_blocks complete first body s)) ≡ true → (from ≤ k) × (k < to)
+brought_lies only complete first body s from to k first_is last_is among =
+    whole_lies complete s.first (s.last + 1) from to k first_is last_is (and_parts _ _ (only complete first body s k among)).1
+
 -- the blocks of the piece are stored: one of them was missing, and none of the range leaves
-fewer : StoredStay → WholeAreBrought → StoresAreSome → (p : Publication) (c : ClientState) (v : Revision) (s : Span) → length p.file ≡ v.complete → Knows p.file c → Lacks c v s
+fewer : StoringLaws → (p : Publication) (c : ClientState) (v : Revision) (ahead : ℕ) (s : Span) → length p.file ≡ v.complete → Knows p.file c → Lacks c v ahead s
     → left_of p.file (numbers (stored_of (part p s.first s.last) s (blocks_of c)).entries) (to_come c p.file) + 1 ≤ left p.file c
 unfolding left asked_of_file
-fewer law brought some p c v s size knows l =
+fewer laws p c v ahead s size knows l =
     let f = p.file in
     let b = blocks_of c in
-    let q = asked_of_file f c v s size knows l in
+    let there = numbers b.entries in
+    let q = asked_of_file f c v ahead s size knows l in
     let r = l.range in
     let n = first_block r.first in
     let count = blocks r.first r.len in
@@ -253,19 +288,25 @@ fewer law brought some p c v s size knows l =
     let high : s.last < length f = omega arith in
     let long = part_length p s.first s.last up high in
     let new = brought_by piece s in
-    let stays = law b (length f) s.first piece.body s n count l.missing.room (omega arith) (omega arith) l.missing.led in
+    let gone : AreGone there (numbers new) =
+    λ k among.
+    let lies = brought_lies laws.only (length f) s.first piece.body s q.from q.to k first last among in
+    l.missing.gone k lies.0 lies.1 in
+    let few : length new ≤ q.to - q.from = laws.whole (length f) s.first piece.body s (q.to - q.from) (omega arith) in
+    let room = l.missing.room in
+    let stays = laws.stay b (length f) s.first piece.body s n count gone (omega (arith, few, room)) l.missing.led in
     let whole : is_brought (length f) s.first (length piece.body) s q.from ≡ true =
     and_from _ _ (whole_at (length f) s.first (s.first + length piece.body) q.from (omega arith) (omega arith) (omega arith))
     (whole_at (length f) s.first (s.last + 1) q.from (omega arith) (omega arith) (omega arith)) in
-    let one = some b.capacity new b.entries q.from (brought (length f) s.first piece.body s q.from whole) (l.missing.lacks.gap.gone q.from (omega arith) run) in
+    let one = laws.fewer there (numbers (stored_of piece s b).entries) n count q.from stays.kept begins ends (l.missing.gone q.from (omega arith) run)
+    (stays.came q.from (laws.brought (length f) s.first piece.body s q.from whole)) in
     let here = inside f r v.complete size l.missing.within in
     omega (
       arith,
-      stays.fewer,
       one,
-      ap (left_of f (numbers b.entries)) q.come,
+      ap (left_of f there) q.come,
       ap (left_of f (numbers (stored_of piece s b).entries)) q.come,
-      missing_inside f (numbers b.entries) r here,
+      missing_inside f there r here,
       missing_inside f (numbers (stored_of piece s b).entries) r here,
     )
 
@@ -290,7 +331,7 @@ module _ (answered : RequestsAreAnswered) (fronts : FrontsAreRead) (named : Publ
       own_reading answered fronts old new p span text what own d (λ t. fits (ap (λ o. is_current o p.tag) (sym is) ∙ t))
       ∙ ap (λ o. Ok (piece_for p span.first span.last o)) is
 
-  begins : revision_of old ≡ None → AsksFor old None span → BringsOn p old new what
+  begins : revision_of old ≡ None → AsksFor old None own.ahead span → BringsOn p old new what
   begins is asks =
       let none = tag_in old None is in
       let first = ap (λ (s : Span). s.first) asks in
@@ -311,13 +352,13 @@ module _ (answered : RequestsAreAnswered) (fronts : FrontsAreRead) (named : Publ
       restarts_by : bytes_eq v.tag p.tag ≡ false → case_of (Some v) (Some span) (all_of p) ≡ cases.Restarted
       restarts_by e = ap (λ t. cond (not t) cases.Restarted (cond (not (v.complete == length p.file)) (cases.Ignored OtherLength) (cond (is_beside span (all_of p)) (cases.Ignored NotAsked) cases.Accepted))) e
 
-  same : LengthsAreKnown → FoundAreThere → MissingIsFew → MissingIsSame → StoredStay → WholeAreBrought → StoresAreSome
-      → (v : Revision) → revision_of old ≡ Some v → bytes_eq v.tag p.tag ≡ true → Knows p.file old → Lacks old v span → BringsOn p old new what
-  same lengths there few missing law brought some v is equal knows l =
+  same : LengthsAreKnown → FoundAreThere → MissingIsSame → StoringLaws
+      → (v : Revision) → revision_of old ≡ Some v → bytes_eq v.tag p.tag ≡ true → Knows p.file old → Lacks old v own.ahead span → BringsOn p old new what
+  same lengths there missing laws v is equal knows l =
       let tag = tag_in old (Some v) is in
       let own_tag = (bytes_eq-Decides v.tag p.tag).0 equal in
       let size = known_length lengths p.file old v is knows in
-      let q = asked_of_file p.file old v span size knows l in
+      let q = asked_of_file p.file old v own.ahead span size knows l in
       let low = q.low in
       let fits = q.fits in
       let high : span.last < length p.file = omega arith in
@@ -329,25 +370,14 @@ module _ (answered : RequestsAreAnswered) (fronts : FrontsAreRead) (named : Publ
       let case = takes p v span.first span.last own_tag (sym size) in
       let at : case_of (revision_of old) (asked_of old) piece ≡ cases.Accepted = ap (λ o. case_of o (asked_of old) piece) is ∙ ap (λ a. case_of (Some v) a piece) own.asked ∙ applies in
       let does = does_of cases.Accepted piece old new text what d reading at in
-      let honest : IsHonestFor text p = record {
-        catalogue = own.catalogue;
-        message = request_by (closes old) (host_of old) (name_of old) span.first span.last (tag_of old);
-        response = own.response;
-        lawful = own.lawful;
-        answers = own.answers;
-        has = ap (λ n. published n own.catalogue) (named.named (name_of old) own.catalogue p own.has) ∙ own.has;
-        named = subst (λ (r : Response). (r.name ≡ Some p.name) ⊎ (r.name ≡ None)) (sym (own_response answered old p span text own))
-            (part_named p span.first span.last (is_current (tag_of old) p.tag) (nat_lt span.first (length p.file)));
-        front = ([], append-nil text ∙ own.shown);
-      } in
-      let read = fronts.honest text p d.seen.reading honest d.seen.reads in
+      let read = fronts.honest text p d.seen.reading (own_honest answered named old p span text own) d.seen.reads in
       let still : revision_of new ≡ revision_of old = does.revision in
       let stays : StaysOf p.file old new = d.file p.file still (piece_of d.seen.reading read) knows in
       let blocks : AreSame (stored_of piece span (blocks_of old)) (blocks_of new) =
       subst (λ a. AreSame (stored_of piece (asked_or_first a) (blocks_of old)) (blocks_of new)) own.asked does.blocks in
-      let on = left_on there few missing p.file old new (stored_of piece span (blocks_of old)) blocks stays.come in
+      let on = left_on there laws.few missing p.file old new (stored_of piece span (blocks_of old)) blocks stays.come in
       brings cases.Accepted (Some v) piece case is reading applies
-      (λ _. omega (arith, on, fewer law brought some p old v span size knows l))
+      (λ _. omega (arith, on, fewer laws p old v own.ahead span size knows l))
     where
       piece_of : (r : Result SeenPiece Why) → IfOk r (IsOf p) → IfOk r (λ x. IsPieceOf p.file x.first x.body)
       piece_of (Ok x) of = piece_at p x of
@@ -355,16 +385,16 @@ module _ (answered : RequestsAreAnswered) (fronts : FrontsAreRead) (named : Publ
 
 -- ---- the law
 
-module _ (answered : RequestsAreAnswered) (fronts : FrontsAreRead) (named : PublishedIsNamed) (lengths : LengthsAreKnown) (there : FoundAreThere) (few : MissingIsFew) (missing : MissingIsSame)
-    (law : StoredStay) (brought : WholeAreBrought) (some : StoresAreSome) where
+module _ (answered : RequestsAreAnswered) (fronts : FrontsAreRead) (named : PublishedIsNamed) (lengths : LengthsAreKnown) (there : FoundAreThere) (missing : MissingIsSame)
+    (laws : StoringLaws) where
   pub own_answers : OwnAnswersBringOn
   own_answers old new p span text what own knows d = at (revision_of old) refl own.asks
     where
-      at : (v : Option Revision) → revision_of old ≡ v → AsksFor old v span → BringsOn p old new what
+      at : (v : Option Revision) → revision_of old ≡ v → AsksFor old v own.ahead span → BringsOn p old new what
       at None is asks = begins answered fronts named old new p span text what own d is asks
       at (Some v) is l = elim (cases_Bool (bytes_eq v.tag p.tag)) [
         | inl equal ↦
-            same answered fronts named old new p span text what own d lengths there few missing law brought some v is equal
+            same answered fronts named old new p span text what own d lengths there missing laws v is equal
             (knows (tag_in old (Some v) is ∙ ap Some ((bytes_eq-Decides v.tag p.tag).0 equal))) l
         | inr differ ↦ other answered fronts named old new p span text what own d v is differ
       ]

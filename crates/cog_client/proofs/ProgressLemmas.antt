@@ -19,10 +19,10 @@ use Rattle.cog_reader.specs.Reader as reader
 use Rattle.cog_client.specs.declared.source.Source.{Source}
 use Rattle.cog_client.specs.Case.{Revision}
 use Rattle.http_range.specs.Book.{Publication, In}
-use Rattle.cog_client.specs.Client.{AgreementIsSeen, ClientAgrees, ClientState, IsOf, Knows, KnowsBy, KnowsOne, IsReadingOf, asked_of, blocks_of, query_of, report_of, revision_at, revision_of, to_come}
+use Rattle.cog_client.specs.Client.{AgreementIsSeen, ClientAgrees, ClientState, IsOf, Knows, KnowsBy, KnowsOne, IsReadingOf, ahead_of, asked_of, blocks_of, query_of, report_of, revision_at, revision_of, to_come}
 use Rattle.cog_client.specs.Keeps.{AsksFor, ComesFirst, Lacks, Misses}
-use Rattle.cog_client.specs.Going.{AreSame}
-use Rattle.cog_client.specs.Progress.{CostIsMost, DeliveryReports, GoingOnLeavesNoMore, IsAtWork, IsGone, IsOfNeeded, NeededAreAsked, OpeningLeavesCost, RequestReports, blocks_of_ranges, left, left_of, missing_of_range}
+use Rattle.cached_reader.specs.Going.{AreSame, AreTouched, LooksAtOneRange, OneTouches}
+use Rattle.cog_client.specs.Progress.{AskingLeavesAsMuch, CostIsMost, DeliveryReports, GoingOnLeavesNoMore, IsAtWork, IsGone, IsOfNeeded, NeededAreAsked, OneRangeIsAsked, OpeningLeavesCost, RequestReports, blocks_of_ranges, left, left_of, missing_of_range}
 
 -- ---- sums over ranges
 
@@ -80,6 +80,12 @@ left_on there few same f old new b are come =
 pub goes_left : FoundAreThere → MissingIsFew → MissingIsSame → GoingOnLeavesNoMore
 unfolding left
 goes_left there few same old new f goes knows = left_on there few same f old new (blocks_of old) goes.seen.blocks (goes.file f knows).come
+
+-- however it asks
+pub asking_left : AskingLeavesAsMuch
+unfolding left blocks_of
+asking_left how old new f h =
+    ap (λ (b : Blocks). left_of f (numbers b.entries) (to_come new f)) (ap blocks_of h.seen) ∙ ap (left_of f (numbers (blocks_of old).entries)) (h.come f)
 
 -- ---- the cost
 
@@ -150,9 +156,9 @@ inside f r complete size within = grind (arith, nat_tests)
 pub missing_inside : (f there : List ℕ) (r : Extent) → ends_past f r ≡ false → missing_of_range f there r ≡ missing there (first_block r.first) (blocks r.first r.len)
 missing_inside f there r e = ap (λ t. cond t 0 (missing there (first_block r.first) (blocks r.first r.len))) e
 
-lacks_left : LengthsAreKnown → MissingIsSome → (f : List ℕ) (c : ClientState) (v : Revision) (s : Span) → revision_of c ≡ Some v → Knows f c → Lacks c v s → 1 ≤ left f c
+lacks_left : LengthsAreKnown → MissingIsSome → (f : List ℕ) (c : ClientState) (v : Revision) (ahead : ℕ) (s : Span) → revision_of c ≡ Some v → Knows f c → Lacks c v ahead s → 1 ≤ left f c
 unfolding left
-lacks_left lengths some f c v s is knows l =
+lacks_left lengths some f c v ahead s is knows l =
     let r = l.range in
     let there = numbers (blocks_of c).entries in
     let next = first_split r (to_come c f) (l.next f knows) in
@@ -172,14 +178,14 @@ reports lengths some f c work zero None idle = elim idle [
 ]
 reports lengths some f c work zero (Some s) asks = at (revision_of c) refl asks
   where
-    at : (v : Option Revision) → revision_of c ≡ v → AsksFor c v s → IsSome (report_of c)
+    at : (v : Option Revision) → revision_of c ≡ v → AsksFor c v (ahead_of c) s → IsSome (report_of c)
     at None is asks = absurd (false≢true (sym (ap is_some is) ∙ work.revision))
-    at (Some v) is l = absurd (omega (arith, lacks_left lengths some f c v s is work.knows l, zero))
+    at (Some v) is l = absurd (omega (arith, lacks_left lengths some f c v (ahead_of c) s is work.knows l, zero))
 
 pub request_reports : LengthsAreKnown → MissingIsSome → RequestReports
 request_reports lengths some old new request f h work zero = reports lengths some f new work zero (asked_of new) (misses (asked_of new) refl h.asks)
   where
-    misses : (o : Option Span) → asked_of new ≡ o → IfSome o (AsksFor new (revision_of new)) → Misses new o
+    misses : (o : Option Span) → asked_of new ≡ o → IfSome o (AsksFor new (revision_of new) (ahead_of new)) → Misses new o
     misses None is asks = h.seen.silent is
     misses (Some s) is asks = asks
 
@@ -195,34 +201,52 @@ among_joined : (front : List Extent) (r : Extent) (after : List Extent) → IsAm
 among_joined [] r after = (0, (omega arith, refl))
 among_joined (x ∷ front) r after = let there = among_joined front r after in (suc there.0, (omega (arith, there.1.0), there.1.1))
 
-needed_by : LengthsAreKnown → (c : ClientState) (v : Revision) (f : List ℕ) (s : Span) (q : Query) → revision_of c ≡ Some v → Knows f c → Lacks c v s → IsEndOf (to_come c f) (needs f q) → IsOfNeeded f q s
-needed_by lengths c v f s q is knows l ends =
+-- of one range, where it looks no block ahead
+needed_by : LengthsAreKnown → LooksAtOneRange → (c : ClientState) (v : Revision) (f : List ℕ) (s : Span) (q : Query) → revision_of c ≡ Some v → Knows f c → Lacks c v 0 s → IsEndOf (to_come c f) (needs f q) → IsOfNeeded f q s
+needed_by lengths one c v f s q is knows l ends =
     let next = first_split l.range (to_come c f) (l.next f knows) in
     let gap = l.missing.lacks.gap in
     let to = l.missing.lacks.to in
+    let last = (one (blocks_of c) v.complete l.range s l.missing).1 in
     record {
       range = l.range;
       needed = subst (λ rs. IsAmong rs l.range) (sym (ends.joined ∙ ap (λ rs. ends.front ++ rs) next.1)) (among_joined ends.front l.range next.0);
       from = l.missing.lacks.from;
       to = to;
       first = l.missing.first ∙ l.missing.lacks.first_is;
-      last = ap (λ k. k + 1) l.missing.last ∙ l.missing.lacks.last_is ∙ ap (λ n. end_of n (to - 1)) (sym (known_length lengths f c v is knows));
+      last = ap (λ k. k + 1) last ∙ l.missing.lacks.last_is ∙ ap (λ n. end_of n (to - 1)) (sym (known_length lengths f c v is knows));
       begins = gap.begins;
       some = gap.some;
       ends = gap.within;
     }
 
-gone_of : (c : ClientState) (v : Revision) (s : Span) → Lacks c v s → IsGone (numbers (blocks_of c).entries) s
-gone_of c v s l k low high =
+gone_of : (c : ClientState) (v : Revision) (ahead : ℕ) (s : Span) → Lacks c v ahead s → IsGone (numbers (blocks_of c).entries) s
+gone_of c v ahead s l k low high =
     let m = l.missing in
     let some = m.lacks.gap.some in
+    let on = m.on in
     let first = m.first ∙ m.lacks.first_is in
     let last = m.last in
-    let last_is = m.lacks.last_is in
-    m.lacks.gap.gone k (omega arith) (omega arith)
+    m.gone k (omega arith) (omega arith)
 
-pub needed_asked : LengthsAreKnown → ((c : ClientState) (f : List ℕ) → Knows f c → IfSome (query_of c) (λ q. IsEndOf (to_come c f) (needs f q))) → NeededAreAsked
-needed_asked lengths ends c v f s is knows l = (
-  some_map (query_of c) (λ q. IsEndOf (to_come c f) (needs f q)) (λ q. IsOfNeeded f q s) (λ q. needed_by lengths c v f s q is knows l) (ends c f knows),
-  gone_of c v s l,
+-- what touches one of the ranges that are still to come touches one that the query needs
+touched_behind : (front few : List Extent) (k : ℕ) → OneTouches few k → OneTouches (front ++ few) k
+touched_behind [] few k one = one
+touched_behind (r ∷ front) few k one = let there = touched_behind front few k one in (suc there.0, there.1)
+
+touched_among : (front few many : List Extent) (s : Span) → many ≡ front ++ few → AreTouched few s → AreTouched many s
+touched_among front few many s joined touched k low high =
+    subst (λ rs. OneTouches rs k) (sym joined) (touched_behind front few k (touched k low high))
+
+abbrev pub EndsAreNeeded : Type 0
+EndsAreNeeded = (c : ClientState) (f : List ℕ) → Knows f c → IfSome (query_of c) (λ q. IsEndOf (to_come c f) (needs f q))
+
+pub needed_asked : EndsAreNeeded → NeededAreAsked
+needed_asked ends c v ahead f s is knows l = (
+  some_map (query_of c) (λ q. IsEndOf (to_come c f) (needs f q)) (λ q. AreTouched (needs f q) s) (λ q h. touched_among h.front (to_come c f) (needs f q) s h.joined (l.needed f knows)) (ends c f knows),
+  gone_of c v ahead s l,
 )
+
+pub one_asked : LengthsAreKnown → LooksAtOneRange → EndsAreNeeded → OneRangeIsAsked
+one_asked lengths one ends c v f s is knows l =
+    some_map (query_of c) (λ q. IsEndOf (to_come c f) (needs f q)) (λ q. IsOfNeeded f q s) (λ q. needed_by lengths one c v f s q is knows l) (ends c f knows)

@@ -1,5 +1,5 @@
 -- Asking: what is asked for is no part of what is known.
-use Rattle.std.proofs.Common.{◌≡◌, ℕ, ◌≤◌, List, Option, Some, None, true, false, refl, sym, ap, ◌∙◌, subst, arith, inl, inr}
+use Rattle.std.proofs.Common.{◌≡◌, ℕ, List, Option, Some, None, true, false, refl, sym, ap, ◌∙◌, subst, arith, inl, inr}
 use Rattle.std.specs.Prelude.{IfSome, IsSome, is_some}
 use Rattle.std.proofs.lemmas.Option.{none-some}
 use Rattle.std.proofs.lemmas.Bool.{false≢true}
@@ -15,23 +15,20 @@ use Rattle.cog_client.specs.declared.report.Report.{Report}
 use Rattle.cog_client.specs.declared.source.Source.{Source}
 use Rattle.cog_client.specs.Case.{Revision}
 use Rattle.cog_client.specs.Feeding.{Feed, TakesNoBody, nothing_fed}
-use Rattle.cog_client.specs.Client.{ClientState, IsAlone, IsClient, IsFew, IsStanding, Knows, asked_of, blocks_of, feed_of, host_of, how_of, name_of, query_of, report_of, revision_of, tag_of, to_come}
+use Rattle.cog_client.specs.Client.{ClientState, IsAlone, IsClient, IsFew, IsStanding, Knows, ahead_of, asked_of, blocks_of, feed_of, host_of, how_of, name_of, query_of, report_of, revision_of, tag_of, to_come}
 use Rattle.cog_client.specs.Calls.{IsAsked, IsIdle, request_for, unless_reported}
-use Rattle.cog_client.specs.Keeps.{AsksFor, GoesOnKeeping, ComesFirst, Lacks, RequestsKeeping}
-use Rattle.cog_client.specs.Going.{IsMissing}
-use Rattle.cog_client.proofs.GoingLemmas.{end_refl, few_blocks, same_refl}
-use Rattle.cog_client.proofs.ClientLemmas.{goes_by, goes_trans, known}
+use Rattle.cog_client.specs.Keeps.{AsksFor, AsksLike, GoesOnKeeping, ComesFirst, Lacks, RequestsKeeping}
+use Rattle.cached_reader.specs.Going.{AreTouched, IsMissing}
+use Rattle.cog_client.proofs.GoingLemmas.{end_refl, same_refl}
+use Rattle.cog_client.proofs.ClientLemmas.{agrees_by, goes_by, goes_trans, known, rehowed}
 
-pub few_missing : (b : Blocks) (complete : ℕ) (r : Extent) (span : Span) → IsMissing b complete r span → IsFew span
-few_missing b complete r span m =
-    let count : blocks r.first r.len ≤ 65 = few_blocks r.first r.len m.small in
-    let g = m.lacks.gap in
-    let begins = g.begins in
-    let within = g.within in
-    let some = g.some in
+pub few_missing : (b : Blocks) (complete : ℕ) (r : Extent) (ahead : ℕ) (span : Span) → IsMissing b complete r ahead span → IsFew span
+few_missing b complete r ahead span m =
+    let some = m.lacks.gap.some in
+    let on = m.on in
+    let few = m.few in
     let first = m.first ∙ m.lacks.first_is in
     let last = m.last in
-    let last_is = m.lacks.last_is in
     omega arith
 
 -- ---- what is asked for changes nothing that is known
@@ -83,27 +80,39 @@ same_lawful old new span host name revision can =
     (subst (λ n. CanAsk (host_of old) n span.first span.last (tag_of new)) name (subst (λ h. CanAsk h (name_of new) span.first span.last (tag_of new)) host can))
 
 -- the range that is needed next, of what is known before
-lacks_back : (old new : ClientState) (v : Revision) (span : Span) → blocks_of new ≡ blocks_of old → ((f : List ℕ) → Knows f new → Knows f old) → ((f : List ℕ) → to_come new f ≡ to_come old f)
-    → Lacks old v span → Lacks new v span
-lacks_back old new v span blocks knows come l = record {
+lacks_back : (old new : ClientState) (v : Revision) (ahead : ℕ) (span : Span) → blocks_of new ≡ blocks_of old → ((f : List ℕ) → Knows f new → Knows f old) → ((f : List ℕ) → to_come new f ≡ to_come old f)
+    → Lacks old v ahead span → Lacks new v ahead span
+lacks_back old new v ahead span blocks knows come l = record {
   range = l.range;
   next = λ f k. subst (ComesFirst l.range) (sym (come f)) (l.next f (knows f k));
-  missing = subst (λ b. IsMissing b v.complete l.range span) (sym blocks) l.missing;
+  missing = subst (λ b. IsMissing b v.complete l.range ahead span) (sym blocks) l.missing;
+  needed = λ f k. subst (λ rs. AreTouched rs span) (sym (come f)) (l.needed f (knows f k));
 }
 
-asks_back : (old new : ClientState) (v : Option Revision) (span : Span) → blocks_of new ≡ blocks_of old → ((f : List ℕ) → Knows f new → Knows f old) → ((f : List ℕ) → to_come new f ≡ to_come old f)
-    → AsksFor old v span → AsksFor new v span
-asks_back old new None span blocks knows come asks = asks
-asks_back old new (Some v) span blocks knows come l = lacks_back old new v span blocks knows come l
+asks_back : (old new : ClientState) (v : Option Revision) (ahead : ℕ) (span : Span) → blocks_of new ≡ blocks_of old → ((f : List ℕ) → Knows f new → Knows f old) → ((f : List ℕ) → to_come new f ≡ to_come old f)
+    → AsksFor old v ahead span → AsksFor new v ahead span
+asks_back old new None ahead span blocks knows come asks = asks
+asks_back old new (Some v) ahead span blocks knows come l = lacks_back old new v ahead span blocks knows come l
+
+-- however it asks, this is what it lacks
+pub asks_like : (c : ClientState) (how : Asking) → AsksLike how c (record c { how = how })
+unfolding how_of name_of revision_of blocks_of to_come
+asks_like c how = record {
+  seen = refl;
+  knows = rehowed c how;
+  come = λ f. refl;
+  agrees = agrees_by c (record c { how = how }) refl refl (rehowed c how);
+  asks = λ v ahead span. asks_back c (record c { how = how }) v ahead span refl (rehowed (record c { how = how }) (how_of c)) (λ f. refl);
+}
 
 -- what a caller sees of it
-pub is_asked : (c : ClientState) (v : Option Revision) (span : Span) → AsksFor c v span → IsAsked c v span
-is_asked c None span asks = asks
-is_asked c (Some v) span l = (l.range, l.missing)
+pub is_asked : (c : ClientState) (v : Option Revision) (ahead : ℕ) (span : Span) → AsksFor c v ahead span → IsAsked c v ahead span
+is_asked c None ahead span asks = asks
+is_asked c (Some v) ahead span l = (l.range, l.missing)
 
-few_asked : (c : ClientState) (v : Option Revision) (span : Span) → AsksFor c v span → IsFew span
-few_asked c None span is = let first = ap (λ (s : Span). s.first) is in let last = ap (λ (s : Span). s.last) is in omega arith
-few_asked c (Some v) span l = few_missing (blocks_of c) v.complete l.range span l.missing
+few_asked : (c : ClientState) (v : Option Revision) (ahead : ℕ) (span : Span) → AsksFor c v ahead span → IsFew span
+few_asked c None ahead span is = let first = ap (λ (s : Span). s.first) is in let last = ap (λ (s : Span). s.last) is in omega arith
+few_asked c (Some v) ahead span l = few_missing (blocks_of c) v.complete l.range ahead span l.missing
 
 module _ (e : Feed) (how : Asking) (h n : List ℕ) (q : Option Query) (a : Option Span) (s : Option Source) (b : Blocks) (r : Option Report) (span : Span) where
   -- the same client, before and after it asks for this
@@ -113,7 +122,7 @@ module _ (e : Feed) (how : Asking) (h n : List ℕ) (q : Option Query) (a : Opti
   abbrev pub new : ClientState
   new = known e how h n q (Some span) s b r
 
-  pub asking_sound : IsClient mid → report_of mid ≡ None → AsksFor mid (revision_of mid) span → IsClient new
+  pub asking_sound : IsClient mid → report_of mid ≡ None → AsksFor mid (revision_of mid) (ahead_of mid) span → IsClient new
   unfolding report_of
   asking_sound c none asks = record {
     hosted = c.hosted;
@@ -121,20 +130,20 @@ module _ (e : Feed) (how : Asking) (h n : List ℕ) (q : Option Query) (a : Opti
     alone = c.alone;
     reading = c.reading;
     standing = subst (λ o. IfSome o (IsStanding q (Some span))) (sym none) tt;
-    few = few_asked mid (revision_of mid) span asks;
+    few = few_asked mid (revision_of mid) (ahead_of mid) span asks;
   }
 
   pub requested : (old : ClientState) (text : List ℕ) → GoesOnKeeping old mid → IsClient mid → IsClient new → is_some (query_of old) ≡ true → is_some (report_of old) ≡ false → report_of mid ≡ None
-      → feed_of mid ≡ nothing_fed → Some text ≡ request_for mid (Some span) → CanAsk (host_of mid) (name_of mid) span.first span.last (tag_of mid) → AsksFor mid (revision_of mid) span → RequestsKeeping old (Some text) new
+      → feed_of mid ≡ nothing_fed → Some text ≡ request_for mid (Some span) → CanAsk (host_of mid) (name_of mid) span.first span.last (tag_of mid) → AsksFor mid (revision_of mid) (ahead_of mid) span → RequestsKeeping old (Some text) new
   unfolding how_of host_of name_of query_of asked_of revision_of report_of blocks_of feed_of to_come
   requested old text goes c d query quiet none dropped is can asks =
       let on = goes_trans old mid new goes (reasked e e how h n q a (Some span) b r s d) in
-      let asking = asks_back mid new (revision_of mid) span refl (λ f k. ((reasked e e how h n q (Some span) a b r s c).file f k).knows) (λ f. refl) asks in
+      let asking = asks_back mid new (revision_of mid) (ahead_of mid) span refl (λ f k. ((reasked e e how h n q (Some span) a b r s c).file f k).knows) (λ f. refl) asks in
       record {
         seen = record {
           goes = on.seen;
           text = is ∙ same_text old mid span goes.seen.same.how goes.seen.same.host goes.seen.same.name goes.seen.revision;
-          asks = is_asked new (revision_of mid) span asking;
+          asks = is_asked new (revision_of mid) (ahead_of mid) span asking;
           lawful = same_lawful old mid span goes.seen.same.host goes.seen.same.name goes.seen.revision can;
           silent = λ none_is. absurd (none-some span (sym none_is));
           idle = λ idle. absurd (elim idle [
@@ -155,7 +164,7 @@ requests_none old new goes none idle report dropped = record {
   seen = record {
     goes = goes.seen;
     text = sym (ap (request_for old) none);
-    asks = subst (λ a. IfSome a (IsAsked new (revision_of new))) (sym none) tt;
+    asks = subst (λ a. IfSome a (IsAsked new (revision_of new) (ahead_of new))) (sym none) tt;
     lawful = subst (λ a. IfSome a (λ s. CanAsk (host_of old) (name_of old) s.first s.last (tag_of old))) (sym none) tt;
     silent = λ _. idle;
     idle = λ _. none;
@@ -163,7 +172,7 @@ requests_none old new goes none idle report dropped = record {
     feed = dropped;
   };
   goes = goes;
-  asks = subst (λ a. IfSome a (AsksFor new (revision_of new))) (sym none) tt;
+  asks = subst (λ a. IfSome a (AsksFor new (revision_of new) (ahead_of new))) (sym none) tt;
 }
 
 pub none_of : {A : Type 0} (o : Option A) → is_some o ≡ false → o ≡ None

@@ -23,7 +23,7 @@ use Rattle.cog_client.specs.Client.{ClientState, IsAlone, IsClient, IsStanding, 
 use Rattle.cog_client.specs.Fed.{case_of_head, piece_with}
 use Rattle.cog_client.specs.FedClient.{Begins, FedAllBut, FedBefore, FedBody, case_for}
 use Rattle.cog_client.specs.Feeding.{Feed, nothing_fed, waits, unused, passed, follows}
-use Rattle.cog_client.specs.Going.{AreSame}
+use Rattle.cached_reader.specs.Going.{AreSame}
 use Rattle.cog_client.specs.Keeps.{StopsDelivery}
 use Rattle.cog_client.specs.Steps.{Stores, StopsStoring}
 use Rattle.cog_client.specs.Take.{brought_by, stored_front}

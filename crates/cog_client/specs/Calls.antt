@@ -13,8 +13,8 @@ use Rattle.cog_client.specs.declared.report.Report.{Report}
 use Rattle.cog_client.specs.Case.{Revision}
 use Rattle.cog_client.specs.Feeding.{nothing_fed}
 use Rattle.cog_client.specs.Take.{IsIgnored, emptied, first_span, take}
-use Rattle.cog_client.specs.Client.{ClientState, asked_of, blocks_of, closes, feed_of, holding, host_of, how_of, name_of, query_of, report_of, revision_of, tag_of}
-use Rattle.cog_client.specs.Going.{AreSame, IsMissing}
+use Rattle.cog_client.specs.Client.{ClientState, ahead_of, asked_of, blocks_of, closes, feed_of, holding, host_of, how_of, name_of, query_of, report_of, revision_of, tag_of}
+use Rattle.cached_reader.specs.Going.{AreSame, IsMissing}
 
 -- host, name, query and how it asks stay
 pub record SameClient (old new : ClientState) : Type 0 where
@@ -38,6 +38,7 @@ pub record Starts (host name : List ℕ) (blocks : ℕ) (new : ClientState) : Ty
   pub named : name_of new ≡ name
   pub query : query_of new ≡ None
   pub closing : closes new ≡ true
+  pub near : ahead_of new ≡ 0
   pub capacity : (blocks_of new).capacity ≡ blocks
   pub empty : HoldsNothing new
 
@@ -70,10 +71,11 @@ pub record GoesOn (old new : ClientState) : Type 0 where
 abbrev pub IsIdle : ClientState → Type 0
 IsIdle c = (query_of c ≡ None) ⊎ IsSome (report_of c)
 
--- What is asked for: without a revision the first 65,536 bytes, with one what is missing of one range.
-abbrev pub IsAsked : ClientState → Option Revision → Span → Type 0
-IsAsked c None span = span ≡ first_span
-IsAsked c (Some v) span = (range : Extent) × IsMissing (blocks_of c) v.complete range span
+-- What a client that looks so many blocks ahead asks for: without a revision the first 65,536 bytes, with one what is missing of
+-- one range, and at most so many missing blocks behind it.
+abbrev pub IsAsked : ClientState → Option Revision → ℕ → Span → Type 0
+IsAsked c None ahead span = span ≡ first_span
+IsAsked c (Some v) ahead span = (range : Extent) × IsMissing (blocks_of c) v.complete range ahead span
 
 -- ---- request
 
@@ -85,7 +87,7 @@ request_for c span = option_map (λ (s : Span). request_by (closes c) (host_of c
 pub record Requests (old : ClientState) (request : Option (List ℕ)) (new : ClientState) : Type 0 where
   pub goes : GoesOn old new
   pub text : request ≡ request_for old (asked_of new)
-  pub asks : IfSome (asked_of new) (IsAsked new (revision_of new))
+  pub asks : IfSome (asked_of new) (IsAsked new (revision_of new) (ahead_of new))
   pub lawful : IfSome (asked_of new) (λ s. CanAsk (host_of old) (name_of old) s.first s.last (tag_of old))
   -- there is none exactly where there is no query, or a report stands, from before or from now on
   pub silent : asked_of new ≡ None → IsIdle new

@@ -70,6 +70,10 @@ name_of c = c.name
 abbrev pub closes : ClientState → Bool
 closes c = (how_of c).closes
 
+-- how many blocks it looks ahead
+abbrev pub ahead_of : ClientState → ℕ
+ahead_of c = (how_of c).ahead
+
 -- The query of the last opening.
 unfoldable pub query_of : ClientState → Option Query
 query_of c = c.query

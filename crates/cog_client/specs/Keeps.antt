@@ -16,8 +16,9 @@ use Rattle.cog_client.specs.Case.{Revision, case_of}
 use Rattle.cog_client.specs.Feeding.{nothing_fed}
 use Rattle.cog_client.specs.Take.{IsIgnored, asked_or_first, base_of, first_span, stored_front, take}
 use Rattle.cog_client.specs.Report.{IsTrueReport}
-use Rattle.cog_client.specs.Client.{ClientState, Knows, ClientAgrees, asked_of, blocks_of, feed_of, holding, how_of, name_of, query_of, report_of, revision_of, to_come, unread}
-use Rattle.cog_client.specs.Going.{AreSame, IsMissing}
+use Rattle.cog_client.specs.declared.asking.Asking.{Asking}
+use Rattle.cog_client.specs.Client.{ClientState, Knows, ClientAgrees, ahead_of, asked_of, blocks_of, feed_of, holding, how_of, name_of, query_of, report_of, revision_of, to_come, unread}
+use Rattle.cached_reader.specs.Going.{AreSame, AreTouched, IsMissing}
 use Rattle.cog_client.specs.Calls.{Delivers, GoesOn, IsIdle, Opens, Requests, SameClient}
 
 -- What the query needs is to come, but for what is held.
@@ -26,13 +27,6 @@ pub record OpensKeeping (query : Query) (old new : ClientState) : Type 0 where
   pub knows : (f : List ℕ) → Knows f old → Knows f new
   pub come : (f : List ℕ) → Knows f old → IsEndOf (to_come new f) (needs f query)
   pub held : (f : List ℕ) → to_come new f ≡ unread old f query
-  pub agrees : (book : Book) → ClientAgrees old book → ClientAgrees new book
-
--- Its requests let the connection go on; all else stays.
-pub record KeepsOpen (old new : ClientState) : Type 0 where
-  pub seen : new ≡ record old { how = record (how_of old) { closes = false } }
-  pub knows : (f : List ℕ) → Knows f old → Knows f new
-  pub come : (f : List ℕ) → to_come new f ≡ to_come old f
   pub agrees : (book : Book) → ClientAgrees old book → ClientAgrees new book
 
 -- ---- going on
@@ -51,33 +45,53 @@ pub record GoesOnKeeping (old new : ClientState) : Type 0 where
 abbrev pub ComesFirst : Extent → List Extent → Type 0
 ComesFirst r rs = slice_get rs 0 ≡ Some r
 
--- The range that the client needs next, of whatever file it knows, isn't all there: this is missing of it, and the blocks of
--- the range that are there lead.
-pub record Lacks (c : ClientState) (v : Revision) (span : Span) : Type 0 where
+-- The range that the client needs next, of whatever file it knows, isn't all there: this is missing of it, and of those that it
+-- needs later at most so many blocks behind it.
+pub record Lacks (c : ClientState) (v : Revision) (ahead : ℕ) (span : Span) : Type 0 where
   pub range : Extent
   pub next : (f : List ℕ) → Knows f c → ComesFirst range (to_come c f)
-  pub missing : IsMissing (blocks_of c) v.complete range span
+  pub missing : IsMissing (blocks_of c) v.complete range ahead span
+  pub needed : (f : List ℕ) → Knows f c → AreTouched (to_come c f) span
 
--- What is asked for: without a revision the first 65,536 bytes, with one what is missing of the range that is needed next.
-abbrev pub AsksFor : ClientState → Option Revision → Span → Type 0
-AsksFor c None span = span ≡ first_span
-AsksFor c (Some v) span = Lacks c v span
+-- What a client that looks so many blocks ahead asks for: without a revision the first 65,536 bytes, with one what is missing of
+-- the range that is needed next, and of later ones behind it.
+abbrev pub AsksFor : ClientState → Option Revision → ℕ → Span → Type 0
+AsksFor c None ahead span = span ≡ first_span
+AsksFor c (Some v) ahead span = Lacks c v ahead span
 
 -- what it misses, none where nothing is to do
 abbrev pub Misses : ClientState → Option Span → Type 0
 Misses c None = IsIdle c
-Misses c (Some span) = AsksFor c (revision_of c) span
+Misses c (Some span) = AsksFor c (revision_of c) (ahead_of c) span
 
 -- it has gone on as far as the blocks reach
 abbrev pub Rests : ClientState → Type 0
 Rests c = (o : Option Span) × Misses c o
+
+-- ---- how it asks
+
+-- It asks like this from here on; all else stays, and what it asked for is still what it lacks.
+pub record AsksLike (how : Asking) (old new : ClientState) : Type 0 where
+  pub seen : new ≡ record old { how = how }
+  pub knows : (f : List ℕ) → Knows f old → Knows f new
+  pub come : (f : List ℕ) → to_come new f ≡ to_come old f
+  pub agrees : (book : Book) → ClientAgrees old book → ClientAgrees new book
+  pub asks : (v : Option Revision) (ahead : ℕ) (span : Span) → AsksFor old v ahead span → AsksFor new v ahead span
+
+-- Its requests let the connection go on.
+abbrev pub KeepsOpen : ClientState → ClientState → Type 0
+KeepsOpen old new = AsksLike (record (how_of old) { closes = false }) old new
+
+-- It looks so many blocks ahead.
+abbrev pub LooksAhead : ℕ → ClientState → ClientState → Type 0
+LooksAhead blocks old new = AsksLike (record (how_of old) { ahead = blocks }) old new
 
 -- ---- request
 
 pub record RequestsKeeping (old : ClientState) (request : Option (List ℕ)) (new : ClientState) : Type 0 where
   pub seen : Requests old request new
   pub goes : GoesOnKeeping old new
-  pub asks : IfSome (asked_of new) (AsksFor new (revision_of new))
+  pub asks : IfSome (asked_of new) (AsksFor new (revision_of new) (ahead_of new))
 
 -- After want of memory nothing is asked.
 pub record StopsAsking (old new : ClientState) : Type 0 where

@@ -2,7 +2,6 @@ pub mod Case
 pub mod Take
 pub mod Report
 pub mod Client
-pub mod Going
 pub mod Body
 pub mod Calls
 pub mod Keeps

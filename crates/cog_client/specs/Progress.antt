@@ -1,21 +1,23 @@
 -- How much of a file a client still has to get for its query, counted in blocks, and what its calls make of that.
-use Rattle.std.specs.Prelude.{◌≡◌, ℕ, ◌+◌, ◌-◌, ◌*◌, ◌<◌, ◌≤◌, false, not, if◌then◌else◌, List, [], ◌∷◌, length, sum_by, Option, Some, IfSome, IsSome}
+use Rattle.std.specs.Prelude.{◌≡◌, ◌⊎◌, ℕ, zero, suc, ◌+◌, ◌-◌, ◌*◌, ◌<◌, ◌≤◌, false, not, if◌then◌else◌, List, [], ◌∷◌, length, sum_by, Option, Some, IfSome, IsSome}
 use Rattle.std.specs.List.{filter, IsAmong}
 use Rattle.tiff_dir.specs.declared.query.Query.{Query}
 use Rattle.tiff_dir.specs.declared.span.Span.{Span}
 use Rattle.tiff_dir.specs.Needs.{Extent, ends_past}
 use Rattle.tiff_dir.specs.Query.{blocks_of_extent as touched, cost, needs}
 use Rattle.http_range.specs.Ask.{CanAsk, request_by}
-use Rattle.http_range.specs.Book.{Publication, Catalogue, IsCatalogue, published}
+use Rattle.http_range.specs.Book.{Publication, Book, Catalogue, HasDistinctTags, In, IsCatalogue, published}
 use Rattle.http_range.specs.Response.{Response, IsAnswer, text_of}
 use Rattle.tiff_dir.specs.Block.{block_size, first_block, blocks, end_of}
 use Rattle.range_cache.specs.Numbers.{has, missing}
 use Rattle.range_cache.specs.Cache.{numbers}
+use Rattle.cached_reader.specs.Going.{AreTouched}
+use Rattle.cog_client.specs.declared.asking.Asking.{Asking}
 use Rattle.cog_client.specs.declared.delivered.Delivered.{Delivered}
 use Rattle.cog_client.specs.Case.{Revision}
 use Rattle.cog_client.specs.Take.{IsIgnored}
-use Rattle.cog_client.specs.Client.{ClientState, Knows, asked_of, blocks_of, closes, host_of, name_of, query_of, report_of, revision_of, tag_of, to_come}
-use Rattle.cog_client.specs.Keeps.{AsksFor, DeliversKeeping, GoesOnKeeping, OpensKeeping, RequestsKeeping}
+use Rattle.cog_client.specs.Client.{ClientAgrees, ClientState, Knows, asked_of, blocks_of, closes, host_of, name_of, query_of, report_of, revision_of, tag_of, to_come}
+use Rattle.cog_client.specs.Keeps.{AsksFor, AsksLike, DeliversKeeping, GoesOnKeeping, LooksAhead, OpensKeeping, RequestsKeeping}
 
 -- ---- counting
 
@@ -47,6 +49,10 @@ OpeningLeavesCost = (old new : ClientState) (q : Query) (f : List ℕ) → Opens
 -- Going on, as each request does, never leaves more.
 abbrev pub GoingOnLeavesNoMore : Type 0
 GoingOnLeavesNoMore = (old new : ClientState) (f : List ℕ) → GoesOnKeeping old new → Knows f old → left f new ≤ left f old
+
+-- However it asks, as much is left.
+abbrev pub AskingLeavesAsMuch : Type 0
+AskingLeavesAsMuch = (how : Asking) (old new : ClientState) (f : List ℕ) → AsksLike how old new → left f new ≡ left f old
 
 -- ---- nothing left
 
@@ -84,20 +90,27 @@ pub record IsOfNeeded (f : List ℕ) (q : Query) (s : Span) : Type 0 where
 abbrev pub IsGone : List ℕ → Span → Type 0
 IsGone there s = (k : ℕ) → s.first ≤ k * block_size → k * block_size ≤ s.last → has k there ≡ false
 
--- What a client with a revision asks for are blocks of one range that it needs, and none of them is there.
+-- What a client with a revision asks for are blocks each of which touches a range that it needs, and none of them is there.
 abbrev pub NeededAreAsked : Type 0
-NeededAreAsked = (c : ClientState) (v : Revision) (f : List ℕ) (s : Span) → revision_of c ≡ Some v → Knows f c →
-    AsksFor c (Some v) s → IfSome (query_of c) (λ q. IsOfNeeded f q s) × IsGone (numbers (blocks_of c).entries) s
+NeededAreAsked = (c : ClientState) (v : Revision) (ahead : ℕ) (f : List ℕ) (s : Span) → revision_of c ≡ Some v → Knows f c →
+    AsksFor c (Some v) ahead s → IfSome (query_of c) (λ q. AreTouched (needs f q) s) × IsGone (numbers (blocks_of c).entries) s
+
+-- Where it looks no block ahead, they are of one range.
+abbrev pub OneRangeIsAsked : Type 0
+OneRangeIsAsked = (c : ClientState) (v : Revision) (f : List ℕ) (s : Span) → revision_of c ≡ Some v → Knows f c →
+    AsksFor c (Some v) 0 s → IfSome (query_of c) (λ q. IsOfNeeded f q s)
 
 -- ---- the answer to what is asked
 
--- The text is a server's whole answer to what the client asks for, and the server has p under the client's name.
+-- The text is a server's whole answer to what the client asks for, and the server has p under the client's name. However far it
+-- looked ahead when it asked, it may look otherwise now.
 pub record IsOwnAnswer (c : ClientState) (p : Publication) (span : Span) (text : List ℕ) : Type 0 where
   pub catalogue : Catalogue
   pub lawful : IsCatalogue catalogue
   pub has : published (name_of c) catalogue ≡ Some p
   pub asked : asked_of c ≡ Some span
-  pub asks : AsksFor c (revision_of c) span
+  pub ahead : ℕ
+  pub asks : AsksFor c (revision_of c) ahead span
   pub can : CanAsk (host_of c) (name_of c) span.first span.last (tag_of c)
   pub response : Response
   pub answers : IsAnswer catalogue (request_by (closes c) (host_of c) (name_of c) span.first span.last (tag_of c)) response
@@ -114,3 +127,34 @@ abbrev pub OwnAnswersBringOn : Type 0
 OwnAnswersBringOn = (old new : ClientState) (p : Publication) (span : Span) (text : List ℕ) (what : Delivered) →
     IsOwnAnswer old p span text → (tag_of old ≡ Some p.tag → Knows p.file old) →
     DeliversKeeping old text what new → BringsOn p old new what
+
+-- ---- whole answers, one after another
+
+-- A client is told how to ask, asks, may be told then to look otherwise ahead, and takes the whole answer of a server that has p.
+pub record Exchanges (p : Publication) (old new : ClientState) : Type 0 where
+  pub how : Asking
+  pub told : ClientState
+  pub tells : AsksLike how old told
+  pub request : Option (List ℕ)
+  pub asking : ClientState
+  pub requests : RequestsKeeping told request asking
+  pub ahead : ℕ
+  pub waiting : ClientState
+  pub looks : LooksAhead ahead asking waiting
+  pub span : Span
+  pub text : List ℕ
+  pub own : IsOwnAnswer waiting p span text
+  pub what : Delivered
+  pub delivers : DeliversKeeping waiting text what new
+
+-- so many of them, one after another
+abbrev pub AreExchanges : Publication → ℕ → ClientState → ClientState → Type 0
+AreExchanges p zero old new = new ≡ old
+AreExchanges p (suc n) old new = (mid : ClientState) × Exchanges p old mid × AreExchanges p n mid new
+
+-- After an opening no more whole answers are taken than the query costs of p's file, and one more; with as many the report stands,
+-- however far the client looks ahead at each of them.
+abbrev pub WholeAnswersReport : Type 0
+WholeAnswersReport = (book : Book) (p : Publication) (q : Query) (old opened new : ClientState) (n : ℕ) →
+    HasDistinctTags book → In p book → ClientAgrees old book → OpensKeeping q old opened → AreExchanges p n opened new →
+    (n ≤ cost p.file q + 1) × (IsSome (report_of new) ⊎ (n ≤ cost p.file q))

@@ -12,7 +12,7 @@ use Rattle.cog_client.specs.Case.{Revision}
 use Rattle.cog_client.specs.Take.{asked_or_first, stored_count, emptied, stored_front, stored_of}
 use Rattle.cog_client.specs.Client.{ClientState, Knows, asked_of, blocks_of, feed_of, report_of, revision_of}
 use Rattle.cog_client.specs.Feeding.{nothing_fed}
-use Rattle.cog_client.specs.Going.{AreSame}
+use Rattle.cached_reader.specs.Going.{AreSame}
 use Rattle.cog_client.specs.Calls.{SameClient, unless_reported}
 use Rattle.cog_client.specs.Keeps.{Rests, StaysOf}
 

@@ -5,4 +5,6 @@
 pub struct Asking {
     /// Its requests ask that the connection end with the answer.
     pub closes: bool,
+    /// How many blocks they ask for at most that are needed later, behind what is missing of the range that is needed next.
+    pub ahead: u32,
 }

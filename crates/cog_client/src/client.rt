@@ -8,9 +8,9 @@ use crate::arrival::Arrival;
 use crate::asking::Asking;
 use crate::delivered::{Current, Unknown};
 use crate::error::ClientError;
-use crate::going;
 use crate::report::Report;
 use crate::source::Source;
+use cached_reader::fill;
 use cog_reader::{end_is_wanted, nothing_comes};
 use http_range::{
     CheckReading, Head, Span, Tag, fronts_are_read, is_host, is_name, read_check, write_check,
@@ -90,7 +90,7 @@ impl Client {
     ghost use Rattle.cog_client.specs.Client.{client_refusal, IsFew, IsClientRefusal, asked_of, feed_of, host_of, name_of, blocks_of, query_of, report_of, revision_of, tag_of};
     ghost use Rattle.cog_client.specs.FedClient.{revision_of_head};
     ghost use Rattle.cog_client.specs.Calls.{Forgets, Starts, request_for, unless_reported};
-    ghost use Rattle.cog_client.specs.Keeps.{GoesOnKeeping, KeepsOpen, Misses, OpensKeeping, RequestsKeeping, Stands, StopsAsking};
+    ghost use Rattle.cog_client.specs.Keeps.{GoesOnKeeping, KeepsOpen, LooksAhead, Misses, OpensKeeping, RequestsKeeping, Stands, StopsAsking};
     ghost use Rattle.cog_reader.specs.Reader.{outcome_of};
     ghost use Rattle.cog_client.specs.Steps.{Adopts};
     ghost use Rattle.cog_client.specs.Check.{IsCurrent, IsStillThere, check_of};
@@ -125,7 +125,10 @@ impl Client {
         let arrival = Arrival::new(alloc)?;
         Ok(Client {
             alloc,
-            how: Asking { closes: true },
+            how: Asking {
+                closes: true,
+                ahead: 0,
+            },
             host: Vec::from_slice(alloc, host)?,
             name: Vec::from_slice(alloc, name)?,
             query: None,
@@ -154,7 +157,7 @@ impl Client {
         }
     }
 
-    /// Drops everything but host, name, query, and whether connections are kept. It takes no memory.
+    /// Drops everything but host, name, query, and how it asks. It takes no memory.
     pub fn forget(&mut self)
         ensures { Forgets self.old self.new }
     {
@@ -171,6 +174,15 @@ impl Client {
         ensures { KeepsOpen self.old self.new }
     {
         self.how.closes = false;
+    }
+
+    /// Looks ahead by so many blocks from here on, none where this isn't called: a request asks, behind the blocks that are missing
+    /// of the range that is needed next, for the blocks that follow, where each of them is missing and needed later, up to 65 in all
+    /// and as far as they have room in the cache. What is asked for already stays. It takes no memory.
+    pub fn look_ahead(&mut self, blocks: u32)
+        ensures { LooksAhead blocks self.old self.new }
+    {
+        self.how.ahead = blocks;
     }
 
     /// The report that stands, until `open` or `forget`. It takes no memory.
@@ -273,11 +285,12 @@ impl Client {
         let Some(source) = &mut self.source else {
             unreachable!()
         };
-        let missing = going::fill(
+        let missing = fill(
             &mut source.reader,
             &mut self.cache,
             &mut self.buffer,
             source.complete,
+            self.how.ahead,
         )?;
         match missing {
             Some(_) => Ok(missing),

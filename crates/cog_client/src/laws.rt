@@ -6,13 +6,12 @@ ghost use Rattle.cog_client.specs.Client.{AgreementIsSeen, query_of, to_come, Cl
 ghost use Rattle.cog_client.specs.Report.{TruthIsTold};
 ghost use Rattle.cog_client.specs.FedClient.{AnswersBeginAnywhere};
 ghost use Rattle.cog_client.specs.Fed.{CaseIsOfHead, CutsAreStored, EdgesAreStored, EndTells, LeavesByHead, PartsAreNotStored};
-ghost use Rattle.cog_client.specs.Progress.{CostIsMost, DeliveryReports, GoingOnLeavesNoMore, NeededAreAsked, OpeningLeavesCost, OwnAnswersBringOn, RequestReports};
+ghost use Rattle.cog_client.specs.Progress.{AskingLeavesAsMuch, CostIsMost, DeliveryReports, GoingOnLeavesNoMore, NeededAreAsked, OneRangeIsAsked, OpeningLeavesCost, OwnAnswersBringOn, RequestReports, WholeAnswersReport};
 
+use cached_reader::looks_at_one_range;
 use cog_reader::{end_is_wanted, lengths_are_known, nothing_comes};
 use http_range::{clients_are_answered, fronts_are_read, heads_grow, publications_replace};
-use range_cache::{
-    missing_is_exact, parts_bring_blocks, pieces_bring_blocks, stored_stay, stores_are_counted,
-};
+use range_cache::{missing_is_exact, parts_bring_blocks, pieces_bring_blocks, stored_stay};
 
 /// What a client still needs of a file for its query is the end of what the query needs of it.
 pub fn end_is_needed()
@@ -27,6 +26,7 @@ pub fn left_never_grows()
     ensures cost { CostIsMost }
     ensures opening { OpeningLeavesCost }
     ensures goes { GoingOnLeavesNoMore }
+    ensures asks { AskingLeavesAsMuch }
 {
     end_is_needed();
     missing_is_exact();
@@ -41,10 +41,13 @@ pub fn nothing_left_is_reported()
     missing_is_exact();
 }
 
-/// What a client asks for are missing blocks of one range that its query needs.
+/// What a client asks for are missing blocks each of which touches a range that its query needs: where it looks no block ahead,
+/// of one range.
 pub fn needed_are_asked()
-    ensures { NeededAreAsked }
+    ensures needed { NeededAreAsked }
+    ensures one { OneRangeIsAsked }
 {
+    looks_at_one_range();
     end_is_needed();
     lengths_are_known();
 }
@@ -59,8 +62,20 @@ pub fn own_answers_bring_on()
     publications_replace();
     missing_is_exact();
     pieces_bring_blocks();
-    stores_are_counted();
     stored_stay();
+}
+
+/// After an opening as many whole answers as the query costs, and one more, lead to the report, however far the client looks ahead
+/// at each of them.
+pub fn whole_answers_report()
+    ensures { WholeAnswersReport }
+{
+    own_answers_bring_on();
+    left_never_grows();
+    nothing_left_is_reported();
+    clients_are_answered();
+    fronts_are_read();
+    publications_replace();
 }
 
 /// A client that agrees with a book is, as far as a caller sees, of one publication of it.

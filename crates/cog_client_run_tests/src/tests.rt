@@ -2,6 +2,7 @@
 use fixtures_support::f5;
 use std::alloc::{AllocError, Global};
 
+mod ahead;
 mod kept;
 mod large;
 mod memory;

@@ -1,5 +1,5 @@
 -- The range that is wanted is the first of those that are still to come.
-use Rattle.std.proofs.Common.{◌≡◌, ℕ, zero, suc, ◌+◌, ◌++◌, ◌∷◌, [], inl, inr, List, drop, Option, Some, None, refl, sym, subst, ap, ◌∙◌}
+use Rattle.std.proofs.Common.{◌≡◌, ℕ, zero, suc, ◌+◌, ◌++◌, ◌∷◌, [], inl, inr, List, drop, Option, Some, None, refl, sym, subst, ap, ◌∙◌, arith}
 use Rattle.std.specs.Prelude.{slice_get, IsSomeAnd}
 use Rattle.std.specs.Option.{option_map}
 use Rattle.std.proofs.lemmas.Option.{none-some, slice_get-map}
@@ -30,11 +30,13 @@ use Rattle.cog_reader.proofs.FieldLemmas.{geo_ranges_are}
 use Rattle.cog_reader.proofs.GiveLemmas.{group_needed, which_next}
 use Rattle.cog_reader.proofs.StepLemmas.{fair_group, needs_split, IsLevelOf}
 
+pub get_of_drop : (xs : List Extent) (n i : ℕ) → slice_get (drop n xs) i ≡ slice_get xs (n + i)
+get_of_drop xs zero i = let e : i ≡ 0 + i = omega arith in ap (slice_get xs) e
+get_of_drop [] (suc n) i = refl
+get_of_drop (x ∷ xs) (suc n) i = let e : suc (n + i) ≡ suc n + i = omega arith in get_of_drop xs n i ∙ ap (slice_get (x ∷ xs)) e
+
 first_of_drop : (xs : List Extent) (n : ℕ) → slice_get (drop n xs) 0 ≡ slice_get xs n
-first_of_drop [] zero = refl
-first_of_drop [] (suc n) = refl
-first_of_drop (x ∷ xs) zero = refl
-first_of_drop (x ∷ xs) (suc n) = first_of_drop xs n
+first_of_drop xs n = let e : n + 0 ≡ n = omega arith in get_of_drop xs n 0 ∙ ap (slice_get xs) e
 
 front_first : (xs ys : List Extent) (r : Extent) → slice_get xs 0 ≡ Some r → slice_get (xs ++ ys) 0 ≡ Some r
 front_first [] ys r is = absurd (none-some r is)
@@ -53,7 +55,7 @@ first_array complete w k r l p of_level next f q base here =
       | inr h ↦ ap (λ n. slice_get (needs_of_query f q) n) h.0 ∙ ap (λ xs. slice_get xs 1) split ∙ ap (λ x. Some (extent_of_place x)) (sym h.1)
     ]
 
-some_both : (k : Kept) (P : Arrays → Type 0) (R : Type 0) → HasBoth k P → ((a : Arrays) → P a → R) → R
+pub some_both : (k : Kept) (P : Arrays → Type 0) (R : Type 0) → HasBoth k P → ((a : Arrays) → P a → R) → R
 some_both kept.Nothing P R bad more = absurd bad
 some_both (kept.Offsets n o) P R bad more = absurd bad
 some_both (kept.Both n a) P R good more = more a good

@@ -158,15 +158,19 @@ wanted_group w k m P some = at (slice_get m.groups m.given) refl some where
   at None is bad = absurd bad
   at (Some g) is good = (g, is, ap (option_map (λ (g : Group). extent_of_span g.span)) is, good)
 
--- it is among what the query needs
-pub group_needed : (f : List ℕ) (q : Query) (a : Arrays) (m : Mosaic) (g : Group) → IsUnderway f q a m → slice_get m.groups m.given ≡ Some g → slice_get (needs_of_query f q) (2 + m.given) ≡ Some (extent_of_span g.span)
-group_needed f q a m g u is =
+-- a group is among what the query needs
+pub group_at : (f : List ℕ) (q : Query) (a : Arrays) (m : Mosaic) (g : Group) (n : ℕ) → IsUnderway f q a m → slice_get m.groups n ≡ Some g → slice_get (needs_of_query f q) (2 + n) ≡ Some (extent_of_span g.span)
+group_at f q a m g n u is =
     let r = m.picture.rectangle in
     let split = needs_split f q r a.level u.planned.rectangle_is u.planned.good u.planned.layout_is in
-    ap (λ xs. slice_get xs (2 + m.given)) split ∙ shift m.given _ _ _ ∙ slice_get-map (λ (h : queries.Group). h.range) (queries.groups f q) m.given
-    ∙ ap (option_map (λ (h : queries.Group). h.range)) (ap (λ hs. slice_get hs m.given) (sym u.needed.groups) ∙ slice_get-map group_of m.groups m.given ∙ ap (option_map group_of) is) where
+    ap (λ xs. slice_get xs (2 + n)) split ∙ shift n _ _ _ ∙ slice_get-map (λ (h : queries.Group). h.range) (queries.groups f q) n
+    ∙ ap (option_map (λ (h : queries.Group). h.range)) (ap (λ hs. slice_get hs n) (sym u.needed.groups) ∙ slice_get-map group_of m.groups n ∙ ap (option_map group_of) is) where
       shift : (i : ℕ) (x y : Extent) (rest : List Extent) → slice_get (x ∷ y ∷ rest) (2 + i) ≡ slice_get rest i
       shift i x y rest = (let e : 2 + i ≡ suc (suc i) = omega arith in rw e refl)
+
+-- and so is the one that is wanted
+pub group_needed : (f : List ℕ) (q : Query) (a : Arrays) (m : Mosaic) (g : Group) → IsUnderway f q a m → slice_get m.groups m.given ≡ Some g → slice_get (needs_of_query f q) (2 + m.given) ≡ Some (extent_of_span g.span)
+group_needed f q a m g u is = group_at f q a m g m.given u is
 
 next_group : (m : Mosaic) (g : Group) (bytes : List ℕ) (P : Extent → Type 0) → slice_get m.groups m.given ≡ Some g → P (extent_of_span g.span) → IsSomeAnd (slice_get m.groups m.given) (λ g. P (extent_of_span g.span))
 next_group m g bytes P is good = from_some (slice_get m.groups m.given) g (λ g. P (extent_of_span g.span)) is good

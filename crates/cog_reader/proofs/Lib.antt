@@ -12,3 +12,4 @@ pub mod ReaderLemmas
 pub mod InfoLemmas
 pub mod EndLemmas
 pub mod FirstLemmas
+pub mod UpcomingLemmas

@@ -286,10 +286,13 @@ geo_fault f fault bad = info_fault f fault (at fault bad) where
 
 -- ---- a group that can be given
 
-pub fair_group : (complete : ℕ) (a : Arrays) (m : MosaicState) (g : Group) → IsPlan complete a m → slice_get m.groups m.given ≡ Some g → IsFair complete (extent_of_span g.span)
-fair_group complete a m g plan is =
-    let group = subst (λ h. IsGroup (tile_extent a) a.level complete (group_of h)) (get_or_from_slice_get m.groups m.given g g is) (plan.are.each m.given g (slice_get_within m.groups m.given g is)) in
+pub fair_group_at : (complete : ℕ) (a : Arrays) (m : MosaicState) (g : Group) (n : ℕ) → IsPlan complete a m → slice_get m.groups n ≡ Some g → IsFair complete (extent_of_span g.span)
+fair_group_at complete a m g n plan is =
+    let group = subst (λ h. IsGroup (tile_extent a) a.level complete (group_of h)) (get_or_from_slice_get m.groups n g g is) (plan.are.each n g (slice_get_within m.groups n g is)) in
     let up = g.span.ascending in record { some = omega (arith, up); inside = group.inside; few = group.few }
+
+pub fair_group : (complete : ℕ) (a : Arrays) (m : MosaicState) (g : Group) → IsPlan complete a m → slice_get m.groups m.given ≡ Some g → IsFair complete (extent_of_span g.span)
+fair_group complete a m g plan is = fair_group_at complete a m g m.given plan is
 
 -- ---- a geo field that is read
 
@@ -307,7 +310,7 @@ cons_few : (o : Option Place) (ps : List Place) (n : ℕ) → length ps ≤ n �
 cons_few None ps n few = omega (arith, few)
 cons_few (Some p) ps n few = omega (arith, few)
 
-six_few : (g : GeoPlaces) → length (present_in g) ≤ 6
+pub six_few : (g : GeoPlaces) → length (present_in g) ≤ 6
 six_few g = cons_few g.directory _ 5 (cons_few g.doubles _ 4 (cons_few g.ascii _ 3 (cons_few g.scale _ 2 (cons_few g.tiepoints _ 1 (cons_few g.transformation [] 0 (omega arith))))))
 
 pub becomes_fields : (complete : ℕ) (w : WalkState) (k : Kept) (g : GeoPlaces) (x : Fields) → HasEnded w → x ≡ record { places = g; given = 0; bytes = [] } → ((f : List ℕ) → walk.WalkAgrees w f → AreGeoPlaces f g) → IsOver w → Becomes complete w k Info Directories (Geo x)

@@ -28,6 +28,10 @@ next_array Nothing n l = Some l.offsets
 next_array (Offsets k offsets) n l = if k == n then Some l.counts else Some l.offsets
 next_array (Both k arrays) n l = if k == n then None else Some l.offsets
 
+-- where the array of the level stands that is read after the next one
+abbrev pub array_after : Kept → ℕ → Level → Option Place
+array_after k n l = if arrays_held k n == 0 then Some l.counts else None
+
 -- if the offsets of level n are kept alone, they are as long as the level says
 abbrev pub HoldsOffsets : Kept → ℕ → Level → Type 0
 HoldsOffsets Nothing n l = ⊤

@@ -1,5 +1,5 @@
 -- What is known of a reader, which answers one query of one file, given range by range.
-use Rattle.std.specs.Prelude.{◌≡◌, ℕ, ◌+◌, ◌-◌, ◌<◌, ◌≤◌, ⊤, ◌⊎◌, false, List, [], ◌∷◌, ◌++◌, length, drop, slice_get, Option, Some, None, IfSome, IsSome, IsSomeAnd}
+use Rattle.std.specs.Prelude.{◌≡◌, ℕ, ◌+◌, ◌-◌, ◌<◌, ◌≤◌, ⊤, ◌⊎◌, false, ◌==◌, if◌then◌else◌, List, [], ◌∷◌, ◌++◌, length, drop, slice_get, Option, Some, None, IfSome, IsSome, IsSomeAnd}
 use Rattle.std.specs.Option.{option_map, option_map_or}
 use Rattle.tiff_dir.specs.declared.query.Query.{Query}
 use Rattle.tiff_dir.specs.declared.query.Query.TheVariants as query
@@ -20,7 +20,7 @@ use Rattle.cog_reader.specs.declared.state.PendingQuery.{PendingQuery}
 use Rattle.cog_reader.specs.declared.state.State.{State}
 use Rattle.cog_reader.specs.declared.state.State.TheVariants.{Directories, Arrays as Reads, Tiles, Fields, Answered}
 use Rattle.cog_reader.specs.Fields.{present_in, IsReadOf}
-use Rattle.cog_reader.specs.Kept.{arrays_held, next_array, HasBoth, IsKeptOf, KeptAgrees}
+use Rattle.cog_reader.specs.Kept.{array_after, arrays_held, next_array, HasBoth, IsKeptOf, KeptAgrees}
 use Rattle.cog_reader.specs.Mosaic.{IsPlan, IsUnderway}
 use Rattle.cog_reader.specs.Outcome.{IsTrueOf}
 
@@ -44,6 +44,20 @@ wanted_by w k (Answered o) = None
 -- The range that the reader wants next, none without a query or with an outcome.
 unfoldable pub wanted : ReaderState → Option Extent
 wanted r = r.pending >>= λ a. wanted_by r.walk r.kept a.state
+
+-- the range that a state wants after the next one and i more, as far as it knows it
+abbrev pub upcoming_by : WalkState → Kept → State → ℕ → Option Extent
+upcoming_by w k Directories i = None
+upcoming_by w k (Reads r) i =
+    if i == 0 then (slice_get (levels_of w) r.level >>= λ l. option_map extent_of_place (array_after k r.level l)) else None
+upcoming_by w k (Tiles m) i = option_map (λ (g : Group). extent_of_span g.span) (slice_get m.groups (m.given + 1 + i))
+upcoming_by w k (Fields x) i = option_map extent_of_place (slice_get (present_in x.places) (x.given + 1 + i))
+upcoming_by w k (Answered o) i = None
+
+-- The range that the reader wants after the next one and i more, as far as it knows it: the other array of a level, a later
+-- group of a window, a later geo field.
+unfoldable pub upcoming : ReaderState → ℕ → Option Extent
+upcoming r i = r.pending >>= λ a. upcoming_by r.walk r.kept a.state i
 
 abbrev pub outcome_in : State → Option Outcome
 outcome_in (Answered o) = Some o
@@ -155,6 +169,11 @@ Wants r None = (wanted r ≡ None) × (query_of r ≡ None ⊎ IsSome (outcome_o
 Wants r (Some span) =
     (wanted r ≡ Some (extent_of_span span)) × (span.last < complete_of r) × (span.last + 1 ≤ span.first + max_range_bytes)
     × (outcome_of r ≡ None)
+
+-- No such range is known that ends in the file, or it is this one.
+abbrev pub IsUpcoming : ReaderState → ℕ → Option Span → Type 0
+IsUpcoming r i None = IfSome (upcoming r i) (λ x. complete_of r < x.first + x.len)
+IsUpcoming r i (Some span) = (upcoming r i ≡ Some (extent_of_span span)) × (span.last < complete_of r)
 
 -- What is to come after the wanted range was given: the ranges but for it, or none where the query is answered.
 abbrev pub AcceptsFirstRange : List ℕ → ReaderState → ReaderState → Type 0

@@ -1,6 +1,7 @@
 -- What a state becomes without another byte of the file.
-use Rattle.std.specs.Prelude.{◌≡◌, ℕ, ◌+◌, ◌<◌, ◌≤◌, ⊤, List, length, slice_get, Some, None, IsSome}
+use Rattle.std.specs.Prelude.{◌≡◌, ℕ, ◌+◌, ◌<◌, ◌≤◌, ⊤, List, length, slice_get, Option, Some, None, IfSome, IsSome}
 use Rattle.tiff_dir.specs.declared.query.Query.{Query}
+use Rattle.tiff_dir.specs.declared.span.Span.{Span}
 use Rattle.tiff_dir.specs.Faulty.{IsFaulty}
 use Rattle.tiff_dir.specs.declared.query.Query.TheVariants as query
 use Rattle.tiff_dir.specs.WalkState.{WalkState}
@@ -16,7 +17,7 @@ use Rattle.cog_reader.specs.declared.state.State.TheVariants.{Answered}
 use Rattle.cog_reader.specs.declared.state.Step.{Step}
 use Rattle.cog_reader.specs.declared.state.Step.TheVariants.{Read, Answer}
 use Rattle.cog_reader.specs.Kept.{KeptAgrees}
-use Rattle.cog_reader.specs.Reader.{come_by, outcome_in, steps_by, wanted_by, IsState, StateAgrees}
+use Rattle.cog_reader.specs.Reader.{come_by, outcome_in, steps_by, upcoming_by, wanted_by, IsState, StateAgrees}
 
 -- the walk and the arrays that are kept are those of a file of so many bytes
 pub record IsBase (f : List ℕ) (complete : ℕ) (w : WalkState) (k : Kept) : Type 0 where
@@ -46,6 +47,15 @@ pub record IsWantedBy (complete : ℕ) (w : WalkState) (k : Kept) (state : State
   pub undone : outcome_in state ≡ None
   pub first : (f : List ℕ) (q : Query) → IsBase f complete w k → StateAgrees f q k state
       → slice_get (come_by f w k q state) 0 ≡ Some r
+
+-- No range is known that the state wants after the next one and i more and that ends in the file, or it is this one, and stands
+-- at its place among those that are still to come.
+abbrev pub ComesLater : ℕ → WalkState → Kept → State → ℕ → Option Span → Type 0
+ComesLater complete w k state i None = IfSome (upcoming_by w k state i) (λ r. complete < r.first + r.len)
+ComesLater complete w k state i (Some span) =
+    (upcoming_by w k state i ≡ Some (extent_of_span span)) × (span.last < complete)
+    × ((f : List ℕ) (q : Query) → IsBase f complete w k → StateAgrees f q k state
+    → slice_get (come_by f w k q state) (i + 1) ≡ Some (extent_of_span span))
 
 -- the step leads from a state to a range that is wanted in a state, or to an outcome
 abbrev pub IsStep : ℕ → WalkState → Kept → Query → State → Step → Type 0

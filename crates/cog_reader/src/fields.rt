@@ -102,6 +102,14 @@ impl Fields {
         nth_place(&self.places, self.given)
     }
 
+    /// Where the field stands that is read after the next one and `index` more.
+    pub fn upcoming(&self, index: u32) -> Option<Place>
+        ensures place { result ≡ slice_get (present_in self.now.places) (self.now.given + 1 + index) }
+        ensures typed { AreTyped self.now.places }
+    {
+        nth_place(&self.places, self.given + 1 + index as usize)
+    }
+
     /// Takes the bytes of the next field.
     pub fn give(&mut self, bytes: &[u8]) -> Result<(), Memory>
         requires { IsSomeAnd (slice_get (present_in self.old.places) self.old.given) (λ p. length bytes.now ≡ p.len) }

@@ -5,7 +5,7 @@ ghost use Rattle.tiff_dir.specs.File.{order_of};
 ghost use Rattle.tiff_dir.specs.WalkState.{WalkState};
 ghost use Rattle.tiff_dir.specs.Level.{level_layout};
 ghost use Rattle.tiff_dir.specs.Walk.{levels_of, HasEnded, IsArrayOf};
-ghost use Rattle.cog_reader.specs.Kept.{arrays_held, next_array, HasBoth, HoldsOffsets, IsKeptOf, KeptAgrees};
+ghost use Rattle.cog_reader.specs.Kept.{array_after, arrays_held, next_array, HasBoth, HoldsOffsets, IsKeptOf, KeptAgrees};
 ghost use Rattle.cog_reader.specs.declared.kept.Kept.TheVariants as kept;
 
 use crate::arrays::Arrays;
@@ -41,6 +41,17 @@ impl Kept {
             Kept::Both(kept, arrays) if *kept == number => NextArray::Both(arrays),
             Kept::Offsets(kept, _) if *kept == number => NextArray::Read(level.counts),
             _ => NextArray::Read(level.offsets),
+        }
+    }
+
+    /// Where the array of a level stands that is read after the next one.
+    pub fn after_next(&self, number: usize, level: &Level) -> Option<Place>
+        ensures { result ≡ array_after self.now number level.now }
+    {
+        match self {
+            Kept::Both(kept, _) if *kept == number => None,
+            Kept::Offsets(kept, _) if *kept == number => None,
+            _ => Some(level.counts),
         }
     }
 

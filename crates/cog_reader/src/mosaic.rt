@@ -73,7 +73,7 @@ impl Model for Mosaic {
 }
 
 impl Mosaic {
-    ghost use Rattle.std.specs.Prelude.{◌≡◌, ◌+◌, ℕ, List, IfOk, IfErr, OnOk, MatchOption, Some, slice_get, IsSomeAnd, length};
+    ghost use Rattle.std.specs.Prelude.{◌≡◌, ◌+◌, ℕ, List, IfOk, IfErr, OnOk, MatchOption, None, Some, slice_get, IsSomeAnd, length};
     ghost use Rattle.tiff_dir.specs.declared.query.Query.{Query};
     ghost use Rattle.tiff_dir.specs.Faulty.{IsFaultOfWindow, IsWindow};
     ghost use Rattle.tiff_dir.specs.declared.fault.FileFault.{FileFault as Fault};
@@ -134,6 +134,16 @@ impl Mosaic {
             (λ span. IsSomeAnd (slice_get self.now.groups self.now.given) (λ g. g.span ≡ span)) }
     {
         let group = self.groups.get(self.given)?;
+        Some(group.span)
+    }
+
+    /// The bytes of the group after the next one and `index` more.
+    pub fn upcoming(&self, index: u32) -> Option<Span>
+        ensures { let group = slice_get self.now.groups (self.now.given + 1 + index) in
+            MatchOption result (group ≡ None) (λ span. IsSomeAnd group (λ g. g.span ≡ span)) }
+    {
+        let rest = &self.groups[self.given..];
+        let group = rest.get(index as usize + 1)?;
         Some(group.span)
     }
 

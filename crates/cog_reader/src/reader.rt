@@ -28,13 +28,13 @@ impl Model for Reader {
     ghost invariant = { λ r. IsReader r.complete r.walk r.kept r.pending };
 }
 
-#[tactic(auto, unfolding(crate::specs::Reader::wanted, crate::specs::Reader::outcome_of, crate::specs::Reader::query_of, crate::specs::Reader::complete_of, crate::specs::Reader::to_come, crate::specs::Reader::unread, crate::specs::Reader::steps_of, crate::specs::Reader::ReaderAgrees))]
+#[tactic(auto, unfolding(crate::specs::Reader::wanted, crate::specs::Reader::outcome_of, crate::specs::Reader::query_of, crate::specs::Reader::complete_of, crate::specs::Reader::to_come, crate::specs::Reader::unread, crate::specs::Reader::upcoming, crate::specs::Reader::steps_of, crate::specs::Reader::ReaderAgrees))]
 impl Reader {
-    ghost use Rattle.std.specs.Prelude.{◌≡◌, ◌<◌, ◌≤◌, ℕ, List, [], ◌∷◌, None, Some, IfOk, IfSome, IsSome, IsSomeAnd, MatchOption, OnErr, OnOk, length, slice_get};
+    ghost use Rattle.std.specs.Prelude.{◌≡◌, ◌+◌, ◌<◌, ◌≤◌, ℕ, List, [], ◌∷◌, None, Some, IfOk, IfSome, IsSome, IsSomeAnd, MatchOption, OnErr, OnOk, length, slice_get};
     ghost use Rattle.tiff_dir.specs.Walk.{extent_of_span};
     ghost use Rattle.tiff_dir.specs.declared.query.Query.{Query};
     ghost use Rattle.cog_reader.specs.Outcome.{IsTrueOf};
-    ghost use Rattle.cog_reader.specs.Reader.{complete_of, outcome_of, query_of, steps_of, to_come, unread, wanted, ReaderAgrees, IsWanted, IsWantedOf, AcceptsFirstRange, KeepsHeld, Wants};
+    ghost use Rattle.cog_reader.specs.Reader.{complete_of, outcome_of, query_of, steps_of, to_come, unread, wanted, ReaderAgrees, IsUpcoming, IsWanted, IsWantedOf, AcceptsFirstRange, KeepsHeld, Wants};
 
     /// A reader of a file of `complete` bytes, of which nothing is known yet, and nothing asked. It takes no memory.
     ///
@@ -98,6 +98,18 @@ impl Reader {
             return Ok(None);
         };
         pending.need(self.alloc, self.complete, &self.walk, &self.kept)
+    }
+
+    /// The range that is wanted after the next one and `index` more, as far as it is known and ends in the file: the other array
+    /// of a level, a later group of a window, a later geo field. It takes no memory.
+    pub fn upcoming(&self, index: u32) -> Option<Span>
+        ensures known { IsUpcoming self.now index result }
+        // It stands at this place among the ranges that are still to come.
+        ensures comes { (f : List ℕ) → ReaderAgrees self.now f
+            → IfSome result (λ span. slice_get (to_come self.now f) (index + 1) ≡ Some (extent_of_span span)) }
+    {
+        let pending = self.pending.as_ref()?;
+        pending.upcoming(self.complete, &self.walk, &self.kept, index)
     }
 
     /// Takes all bytes of the range that is wanted. A refusal (`Memory`, the only error) leaves the reader as it was.

@@ -6,7 +6,7 @@ ghost use Rattle.tiff_dir.specs.Walk.{extent_of_span};
 ghost use Rattle.cog_reader.specs.Kept.{IsKeptOf};
 ghost use Rattle.cog_reader.specs.Reader.{outcome_in, wanted_by, IsState};
 ghost use Rattle.cog_reader.specs.Give.{AcceptsRange, Gives};
-ghost use Rattle.cog_reader.specs.Step.{Becomes, IsStep, IsWantedBy};
+ghost use Rattle.cog_reader.specs.Step.{Becomes, ComesLater, IsStep, IsWantedBy};
 
 mod arrays;
 mod directories;
@@ -148,6 +148,19 @@ impl PendingQuery {
                 self.state = state;
                 Err(Memory)
             }
+        }
+    }
+
+    /// The range that is wanted after the next one and `index` more, as far as it is known and ends in the file.
+    pub fn upcoming(&self, complete: u64, walk: &Walk, kept: &Kept, index: u32) -> Option<Span>
+        requires { IsState complete walk.now kept.now self.now.state }
+        ensures { ComesLater complete walk.now kept.now self.now.state index result }
+    {
+        match &self.state {
+            State::Arrays(rect) if index == 0 => arrays::upcoming(complete, walk, kept, *rect),
+            State::Tiles(mosaic) => tiles::upcoming(mosaic, index),
+            State::Fields(fields) => fields::upcoming(complete, fields, index),
+            _ => None,
         }
     }
 

@@ -1,20 +1,20 @@
 -- The laws of the definitions.
-use Rattle.std.proofs.Common.{◌≡◌, ◌||◌, Some, ℕ, zero, suc, ◌+◌, ◌-◌, ◌*◌, ◌/◌, ◌<◌, ◌≤◌, Bool, true, false, cond, List, [], ◌∷◌, length, map, take, max, refl, sym, ap, ◌∙◌, arith, inl, inr, nat_eq}
+use Rattle.std.proofs.Common.{◌≡◌, ◌||◌, Some, ℕ, zero, suc, ◌+◌, ◌-◌, ◌*◌, ◌/◌, ◌<◌, ◌≤◌, Bool, true, false, cond, List, [], ◌∷◌, length, map, take, max, refl, sym, ap, ◌∙◌, subst, arith, inl, inr, nat_eq}
 use Rattle.std.specs.Prelude.{is_some}
-use Rattle.std.proofs.lemmas.Bool.{cases_lt, cases_Bool, and_parts}
+use Rattle.std.proofs.lemmas.Bool.{cases_lt, cases_Bool, and_parts, eqb-true}
 use Rattle.std.proofs.lemmas.Bool.Decides.{eqb_tells}
 use Rattle.std.proofs.lemmas.List.{length-map}
-use Rattle.std.proofs.lemmas.List.Elements.{All-take}
-use Rattle.std.specs.List.{filter, range_with_len}
+use Rattle.std.proofs.lemmas.List.Elements.{All-head, All-tail, All-take}
+use Rattle.std.specs.List.{All, filter, range_with_len}
 use Rattle.tiff_dir.specs.declared.span.Span.{Span}
 use Rattle.tiff_dir.specs.Block.{block_count}
-use Rattle.range_cache.specs.Numbers.{has, missing, IsGap, IsLed, Stays}
+use Rattle.range_cache.specs.Numbers.{has, missing, AreGone, IsGap, IsLed, Stays}
 use Rattle.range_cache.specs.Cache.{Block, Blocks, block_at, numbers, put_one, stored, stores, Holds}
 use Rattle.range_cache.specs.Piece.{block_in, is_brought, whole_blocks, IsPieceOf}
 use Rattle.range_cache.specs.Laws.{HaveSame}
 use Rattle.range_cache.proofs.Bytes.{IsOf}
 use Rattle.range_cache.proofs.Stored.{All-stored, missing-none, missing-next, stored_stays}
-use Rattle.range_cache.proofs.Whole.{all_in_range, all_whole, lies_in}
+use Rattle.range_cache.proofs.Whole.{all_brought, all_whole, lies_in}
 
 both : (b : Bool) → b ≡ true → b ≡ false → ⊥
 both b t f = let e : true ≡ false = sym t ∙ f in cc
@@ -150,10 +150,41 @@ front_holds f c complete first bytes wanted k whole piece held =
     let new : List Block = whole_blocks complete first bytes wanted in
     All-stored (IsOf f) c.capacity (take k new) c.entries (All-take (IsOf f) k new (all_whole f bytes complete first wanted whole piece)) held
 
--- what is stored lies in a range that leads
+-- nothing that is stored is there, and there is room for it
 
-pub stored_stay : (c : Blocks) (complete first : ℕ) (bytes : List ℕ) (wanted : Span) (n count : ℕ) → count < c.capacity → n * 16384 ≤ wanted.first → wanted.last < (n + count) * 16384
-    → IsLed (numbers c.entries) n count
-    → Stays (numbers c.entries) (numbers (stored c.capacity (whole_blocks complete first bytes wanted) c.entries)) n count (stores c.capacity (whole_blocks complete first bytes wanted) c.entries)
-stored_stay c complete first bytes wanted n count room low high led =
-    stored_stays c.capacity n count (whole_blocks complete first bytes wanted) c.entries room (all_in_range complete first bytes wanted n count low high) led
+pub stored_stay : (c : Blocks) (complete first : ℕ) (bytes : List ℕ) (wanted : Span) (n count : ℕ) → AreGone (numbers c.entries) (numbers (whole_blocks complete first bytes wanted))
+    → count - missing (numbers c.entries) n count + length (whole_blocks complete first bytes wanted) ≤ c.capacity → IsLed (numbers c.entries) n count
+    → Stays (numbers c.entries) (numbers (stored c.capacity (whole_blocks complete first bytes wanted) c.entries)) n count (numbers (whole_blocks complete first bytes wanted))
+stored_stay c complete first bytes wanted n count gone room led = stored_stays c.capacity n count (whole_blocks complete first bytes wanted) c.entries gone room led
+
+-- a run that is missing is among what is missing
+
+pub missing-run : (ns : List ℕ) (n count from to : ℕ) → n ≤ from → to ≤ n + count → ((k : ℕ) → from ≤ k → k < to → has k ns ≡ false) → to - from ≤ missing ns n count
+missing-run ns n zero from to low high gone = omega arith
+missing-run ns n (suc count) from to low high gone = elim (cases_lt n from) [
+  | inl lt ↦ omega (arith, missing-next ns n count, missing-run ns (n + 1) count from to (omega arith) (omega arith) gone)
+  | inr le ↦ elim (cases_lt from to) [
+    | inl some ↦
+        let here : cond (has n ns) 0 1 ≡ 1 = ap {B = ℕ} (λ u. cond u 0 1) (gone n (omega arith) (omega arith)) in
+        let rest = missing-run ns (n + 1) count (n + 1) to (omega arith) (omega arith) (λ k above below. gone k (omega arith) below) in
+        omega (arith, missing-next ns n count, here, rest)
+    | inr none ↦ omega arith
+  ]
+]
+
+-- a piece brings no other blocks than those that lie wholly in it and in what is wanted
+
+among_all : (P : ℕ → Type 0) (n : ℕ) (bs : List Block) → All (λ b. P b.0) bs → has n (numbers bs) ≡ true → P n
+among_all P n [] all among = absurd (both false among refl)
+among_all P n (b ∷ bs) all among =
+    (elim (nat_eq n b.0) as (λ t. nat_eq n b.0 ≡ t → (t || has n (numbers bs)) ≡ true → P n) [
+      | true ↦ λ t _. subst P (sym (eqb-true n b.0 t)) (All-head (λ (c : Block). P c.0) b bs all)
+      | false ↦ λ _ later. among_all P n bs (All-tail (λ (c : Block). P c.0) b bs all) later
+    ]) refl among
+
+pub only-brought : (complete first : ℕ) (bytes : List ℕ) (wanted : Span) (n : ℕ) →
+    has n (numbers (whole_blocks complete first bytes wanted)) ≡ true → is_brought complete first (length bytes) wanted n ≡ true
+unfolding whole_blocks
+only-brought complete first bytes wanted n among =
+    let P : ℕ → Type 0 = λ k. is_brought complete first (length bytes) wanted k ≡ true in
+    among_all P n (whole_blocks complete first bytes wanted) (all_brought (λ b. P b.0) complete first bytes wanted (λ k t. t) (range_with_len 0 (block_count complete))) among

@@ -1,11 +1,11 @@
 -- What putting a piece does to a cache, whether it succeeds or not.
-use Rattle.std.proofs.Common.{◌≡◌, ℕ, ◌+◌, ◌<◌, ◌≤◌, List, length, map, take, Result, Ok, Err, IfOk, OnErr, MatchResult, sym, ap, ◌∙◌, subst, arith}
+use Rattle.std.proofs.Common.{◌≡◌, ℕ, ◌+◌, ◌-◌, ◌<◌, ◌≤◌, List, [], length, map, take, Result, Ok, Err, IfOk, OnErr, MatchResult, sym, ap, ◌∙◌, subst, arith}
 use Rattle.std.proofs.lemmas.List.FromFn.{take-map-range_with_len, length-map-range_with_len}
 use Rattle.std.proofs.lemmas.List.Elements.{All-take}
 use Rattle.std.specs.List.{All, range_with_len}
-use Rattle.range_cache.specs.Numbers.{IsLed, Stays}
+use Rattle.range_cache.specs.Numbers.{missing, AreGone, IsLed, Stays}
 use Rattle.range_cache.specs.Cache.{Block, Blocks, numbers, stored, stores}
-use Rattle.range_cache.proofs.Stored.{All-stored, stored_stays, stays_less}
+use Rattle.range_cache.proofs.Stored.{All-stored, stored_stays, front_stays}
 
 module _ {E : Type 0} (old new : Blocks) (whole : List Block) where
   -- all of them are stored, or a beginning
@@ -19,18 +19,14 @@ module _ {E : Type 0} (old new : Blocks) (whole : List Block) where
   puts_hold (Err e) P puts all held =
       subst (λ (v : Blocks). All P v.entries) (sym puts.err.2) (All-stored P old.capacity (take puts.err.0 whole) old.entries (All-take P puts.err.0 whole all) held)
 
-  pub puts_stay : (r : Result ℕ E) (n count : ℕ) → Puts r → count < old.capacity → All (λ b. (n ≤ b.0) × (b.0 < n + count)) whole → IsLed (numbers old.entries) n count →
-      MatchResult r (λ came. Stays (numbers old.entries) (numbers new.entries) n count came) (λ _. Stays (numbers old.entries) (numbers new.entries) n count 0)
-  puts_stay (Ok came) n count puts room all led =
-      subst (λ k. Stays (numbers old.entries) (numbers new.entries) n count k) (sym puts.ok.1)
-      (subst (λ (v : Blocks). Stays (numbers old.entries) (numbers v.entries) n count (stores old.capacity whole old.entries)) (sym puts.ok.0)
-      (stored_stays old.capacity n count whole old.entries room all led))
-  puts_stay (Err e) n count puts room all led =
-      let P : Block → Type 0 = λ b. (n ≤ b.0) × (b.0 < n + count) in
-      let some : List Block = take puts.err.0 whole in
-      subst (λ (v : Blocks). Stays (numbers old.entries) (numbers v.entries) n count 0) (sym puts.err.2)
-      (stays_less (numbers old.entries) (numbers (stored old.capacity some old.entries)) n count (stores old.capacity some old.entries)
-      (stored_stays old.capacity n count some old.entries room (All-take P puts.err.0 whole all) led))
+  pub puts_stay : (r : Result ℕ E) (n count : ℕ) → Puts r → AreGone (numbers old.entries) (numbers whole) → count - missing (numbers old.entries) n count + length whole ≤ old.capacity → IsLed (numbers old.entries) n count →
+      MatchResult r (λ _. Stays (numbers old.entries) (numbers new.entries) n count (numbers whole)) (λ _. Stays (numbers old.entries) (numbers new.entries) n count [])
+  puts_stay (Ok came) n count puts gone room led =
+      subst (λ (v : Blocks). Stays (numbers old.entries) (numbers v.entries) n count (numbers whole)) (sym puts.ok.0)
+      (stored_stays old.capacity n count whole old.entries gone room led)
+  puts_stay (Err e) n count puts gone room led =
+      subst (λ (v : Blocks). Stays (numbers old.entries) (numbers v.entries) n count []) (sym puts.err.2)
+      (front_stays old.capacity n count puts.err.0 whole old.entries room led)
 
 -- from what the work on the blocks says of a run of them
 pub puts_of : {E : Type 0} (old new : Blocks) (whole : List Block) (block : ℕ → Block) (from count : ℕ) (r : Result ℕ E) → whole ≡ map block (range_with_len from count) →

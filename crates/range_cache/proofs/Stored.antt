@@ -1,12 +1,12 @@
 -- Storing blocks one after another.
-use Rattle.std.proofs.Common.{◌≡◌, ◌||◌, ℕ, zero, suc, ◌+◌, ◌-◌, ◌<◌, ◌≤◌, Bool, true, false, cond, not, List, [], ◌∷◌, ◌++◌, length, take, map, refl, sym, ap, ◌∙◌, arith, nat_eq, inl, inr, subst}
-use Rattle.std.proofs.lemmas.Bool.{eq-eqb}
+use Rattle.std.proofs.Common.{◌≡◌, ◌||◌, ℕ, zero, suc, ◌+◌, ◌-◌, ◌<◌, ◌≤◌, Bool, true, false, cond, not, List, [], ◌∷◌, ◌++◌, length, take, map, refl, sym, ap, ◌∙◌, ◌⊎◌, arith, nat_eq, inl, inr, subst, length-take}
+use Rattle.std.proofs.lemmas.Bool.{cases_Bool, eq-eqb, eqb-true}
 use Rattle.std.proofs.lemmas.Bool.Decides.{eqb_tells}
 use Rattle.std.proofs.lemmas.List.{take-map, take-take}
 use Rattle.std.proofs.lemmas.List.Elements.{All-head, All-tail, All-cons, All-take}
 use Rattle.std.proofs.lemmas.List.FromFn.{map-range_with_len_more}
 use Rattle.std.specs.List.{All, filter, range_with_len}
-use Rattle.range_cache.specs.Numbers.{has, missing, IsLed, Stays}
+use Rattle.range_cache.specs.Numbers.{has, missing, AreGone, AreKept, IsLed, Stays}
 use Rattle.range_cache.specs.Cache.{Block, numbers, put_one, stored, stores}
 use Rattle.range_cache.specs.Piece.{block_in}
 
@@ -78,7 +78,7 @@ not_more : (old new : Bool) → (old ≡ true → new ≡ true) → cond new 0 1
 not_more true new h = rw (h refl) (omega arith)
 not_more false new h = at_most_one new
 
-missing-less : (old new : List ℕ) (n count : ℕ) → ((k : ℕ) → n ≤ k → k < n + count → has k old ≡ true → has k new ≡ true) → missing new n count ≤ missing old n count
+pub missing-less : (old new : List ℕ) (n count : ℕ) → AreKept old new n count → missing new n count ≤ missing old n count
 missing-less old new n zero h = omega (arith, missing-none old n, missing-none new n)
 missing-less old new n (suc count) h =
     omega (
@@ -89,7 +89,7 @@ missing-less old new n (suc count) h =
       missing-less old new (n + 1) count (λ k low high. h k (omega arith) (omega arith)),
     )
 
-missing-fewer : (old new : List ℕ) (n count m : ℕ) → ((k : ℕ) → n ≤ k → k < n + count → has k old ≡ true → has k new ≡ true) →
+pub missing-fewer : (old new : List ℕ) (n count m : ℕ) → AreKept old new n count →
     n ≤ m → m < n + count → has m old ≡ false → has m new ≡ true → missing new n count + 1 ≤ missing old n count
 missing-fewer old new n zero m h low high gone came = absurd (omega arith)
 missing-fewer old new n (suc count) m h low high gone came =
@@ -134,28 +134,7 @@ has-of-take x (suc j) [] h = h
 has-of-take x (suc j) (m ∷ ns) h =
     (elim (nat_eq x m) as (λ t. (t || has x (take j ns)) ≡ true → (t || has x ns) ≡ true) [ true ↦ λ _. refl | false ↦ λ i. has-of-take x j ns i ]) h
 
--- a block of theirs that comes evicts none of them
-
-comes : (capacity n count m : ℕ) (ns : List ℕ) → count < capacity → n ≤ m → m < n + count → IsLed ns n count → has m ns ≡ false →
-    Stays ns (m ∷ take (capacity - 1) ns) n count 1
-comes capacity n count m ns room low high led gone =
-    let fits : led.front ≤ capacity - 1 = omega (arith, led.few) in
-    let new : List ℕ = m ∷ take (capacity - 1) ns in
-    let kept : (k : ℕ) → n ≤ k → k < n + count → has k ns ≡ true → has k new ≡ true =
-    λ k low high is. has-cons k m (take (capacity - 1) ns) (has-take-more k led.front (capacity - 1) ns (led.there k low high is) fits) in
-    let fewer = missing-fewer ns new n count m kept low high gone (has-head m (take (capacity - 1) ns)) in
-    record {
-      kept = kept;
-      led = record {
-        front = suc led.front;
-        few = omega (arith, fewer, led.few);
-        there = λ k low high is. (elim (nat_eq k m) as (λ t. (t || has k (take (capacity - 1) ns)) ≡ true → (t || has k (take led.front (take (capacity - 1) ns))) ≡ true) [
-          | true ↦ λ _. refl
-          | false ↦ λ i. has-take-take k led.front (capacity - 1) ns (led.there k low high (has-of-take k (capacity - 1) ns i)) fits
-        ]) is;
-      };
-      fewer = fewer;
-    }
+-- where a block is put, the first ones stay the first ones, with it or without
 
 put_number : ℕ → List ℕ → ℕ → List ℕ
 put_number capacity ns m = cond (has m ns) ns (m ∷ take (capacity - 1) ns)
@@ -168,32 +147,95 @@ numbers-put_one capacity bs b =
       | false ↦ ap (λ ns. b.0 ∷ ns) (sym (take-map (λ (c : Block). c.0) (capacity - 1) bs))
     ]
 
-put_stays : (capacity n count m : ℕ) (ns : List ℕ) → count < capacity → n ≤ m → m < n + count → IsLed ns n count →
-    Stays ns (put_number capacity ns m) n count (cond (has m ns) 0 1)
+put_keeps : (x front capacity m : ℕ) (ns : List ℕ) → has x (take front ns) ≡ true → front < capacity → has x (take (front + 1) (put_number capacity ns m)) ≡ true
 unfolding put_number
-put_stays capacity n count m ns room low high led =
-    (elim (has m ns) as (λ t. has m ns ≡ t → Stays ns (cond t ns (m ∷ take (capacity - 1) ns)) n count (cond t 0 1)) [
-      | true ↦ λ _. record { kept = λ k low high is. is; led = led; fewer = omega arith }
-      | false ↦ λ gone. comes capacity n count m ns room low high led gone
-    ]) refl
+put_keeps x front capacity m ns is room =
+    elim (has m ns) as (λ t. has x (take (front + 1) (cond t ns (m ∷ take (capacity - 1) ns))) ≡ true) [
+      | true ↦ has-take-more x front (front + 1) ns is (omega arith)
+      | false ↦
+          let one : front + 1 ≡ suc front = omega arith in
+          ap (λ j. has x (take j (m ∷ take (capacity - 1) ns))) one
+          ∙ has-cons x m (take front (take (capacity - 1) ns)) (has-take-take x front (capacity - 1) ns is (omega arith))
+    ]
 
--- blocks of a range that leads are stored, and none of that range leaves
-pub stored_stays : (capacity n count : ℕ) (new bs : List Block) → count < capacity → All (λ b. (n ≤ b.0) × (b.0 < n + count)) new → IsLed (numbers bs) n count →
-    Stays (numbers bs) (numbers (stored capacity new bs)) n count (stores capacity new bs)
-unfolding stored stores
-stored_stays capacity n count [] bs room all led = record { kept = λ k low high is. is; led = led; fewer = omega arith }
-stored_stays capacity n count (b ∷ new) bs room all led =
-    let P : Block → Type 0 = λ c. (n ≤ c.0) × (c.0 < n + count) in
-    let head : P b = All-head P b new all in
-    let same = numbers-put_one capacity bs b in
-    let one : Stays (numbers bs) (numbers (put_one capacity bs b)) n count (cond (has b.0 (numbers bs)) 0 1) =
-    subst (λ ns. Stays (numbers bs) ns n count (cond (has b.0 (numbers bs)) 0 1)) (sym same) (put_stays capacity n count b.0 (numbers bs) room head.0 head.1 led) in
-    let rest = stored_stays capacity n count new (put_one capacity bs b) room (All-tail P b new all) one.led in
-    record {
-      kept = λ k low high is. rest.kept k low high (one.kept k low high is);
-      led = rest.led;
-      fewer = omega (arith, one.fewer, rest.fewer);
-    }
+put_head : (front capacity m : ℕ) (ns : List ℕ) → has m ns ≡ false → has m (take (front + 1) (put_number capacity ns m)) ≡ true
+unfolding put_number
+put_head front capacity m ns gone =
+    let one : front + 1 ≡ suc front = omega arith in
+    ap (λ t. has m (take (front + 1) (cond t ns (m ∷ take (capacity - 1) ns)))) gone
+    ∙ ap (λ j. has m (take j (m ∷ take (capacity - 1) ns))) one
+    ∙ has-head m (take front (take (capacity - 1) ns))
 
-pub stays_less : (old new : List ℕ) (n count came : ℕ) → Stays old new n count came → Stays old new n count 0
-stays_less old new n count came s = record { kept = s.kept; led = s.led; fewer = omega (arith, s.fewer) }
+-- the block that is put is among the first ones then, where it was no later one
+put_comes : (front capacity m : ℕ) (ns : List ℕ) → (has m ns ≡ false) ⊎ (has m (take front ns) ≡ true) → front < capacity → has m (take (front + 1) (put_number capacity ns m)) ≡ true
+put_comes front capacity m ns (inr there) room = put_keeps m front capacity m ns there room
+put_comes front capacity m ns (inl gone) room = put_head front capacity m ns gone
+
+-- another one that isn't there comes by no other
+put_others : (x capacity m : ℕ) (ns : List ℕ) → has x ns ≡ false → nat_eq x m ≡ false → has x (put_number capacity ns m) ≡ false
+unfolding put_number
+put_others x capacity m ns gone other =
+    elim (has m ns) as (λ t. has x (cond t ns (m ∷ take (capacity - 1) ns)) ≡ false) [
+      | true ↦ gone
+      | false ↦ ap (λ t. t || has x (take (capacity - 1) ns)) other ∙ short (capacity - 1) (has x (take (capacity - 1) ns)) refl
+    ]
+  where
+    short : (j : ℕ) (t : Bool) → has x (take j ns) ≡ t → t ≡ false
+    short j true is = sym (has-of-take x j ns is) ∙ gone
+    short j false is = refl
+
+-- the first ones stay where there is room for all that is stored
+stored-keeps : (x front capacity : ℕ) (new bs : List Block) → has x (take front (numbers bs)) ≡ true → front + length new ≤ capacity → has x (numbers (stored capacity new bs)) ≡ true
+unfolding stored
+stored-keeps x front capacity [] bs is room = has-of-take x front (numbers bs) is
+stored-keeps x front capacity (b ∷ new) bs is room =
+    stored-keeps x (front + 1) capacity new (put_one capacity bs b)
+    (ap (λ ns. has x (take (front + 1) ns)) (numbers-put_one capacity bs b) ∙ put_keeps x front capacity b.0 (numbers bs) is (omega arith))
+    (omega arith)
+
+-- the blocks that are stored weren't there, or are among the first ones
+abbrev AreNew : ℕ → List ℕ → List Block → Type 0
+AreNew front ns new = (k : ℕ) → has k (numbers new) ≡ true → (has k ns ≡ false) ⊎ (has k (take front ns) ≡ true)
+
+-- so it is with the others where one of them is put
+still_new : (front capacity m k : ℕ) (ns : List ℕ) → has m (take (front + 1) (put_number capacity ns m)) ≡ true → front < capacity → (has k ns ≡ false) ⊎ (has k (take front ns) ≡ true)
+    → (has k (put_number capacity ns m) ≡ false) ⊎ (has k (take (front + 1) (put_number capacity ns m)) ≡ true)
+still_new front capacity m k ns here room (inr there) = inr (put_keeps k front capacity m ns there room)
+still_new front capacity m k ns here room (inl gone) = elim (cases_Bool (nat_eq k m)) [
+  | inl t ↦ inr (ap (λ j. has j (take (front + 1) (put_number capacity ns m))) (eqb-true k m t) ∙ here)
+  | inr f ↦ inl (put_others k capacity m ns gone f)
+]
+
+-- and all of them are there then
+stored-comes : (x front capacity : ℕ) (new bs : List Block) → AreNew front (numbers bs) new → has x (numbers new) ≡ true → front + length new ≤ capacity → has x (numbers (stored capacity new bs)) ≡ true
+unfolding stored
+stored-comes x front capacity [] bs are among room = absurd (let e : false ≡ true = among in cc)
+stored-comes x front capacity (b ∷ new) bs are among room =
+    let after : List ℕ = put_number capacity (numbers bs) b.0 in
+    let same : numbers (put_one capacity bs b) ≡ after = numbers-put_one capacity bs b in
+    let first : has b.0 (take (front + 1) after) ≡ true = put_comes front capacity b.0 (numbers bs) (are b.0 (has-head b.0 (numbers new))) (omega arith) in
+    let rest : AreNew (front + 1) (numbers (put_one capacity bs b)) new =
+    λ k later. subst (λ ns. (has k ns ≡ false) ⊎ (has k (take (front + 1) ns) ≡ true)) (sym same)
+    (still_new front capacity b.0 k (numbers bs) first (omega arith) (are k (has-cons k b.0 (numbers new) later))) in
+    (elim (nat_eq x b.0) as (λ t. nat_eq x b.0 ≡ t → (t || has x (numbers new)) ≡ true → has x (numbers (stored capacity new (put_one capacity bs b))) ≡ true) [
+      | true ↦ λ t _.
+          stored-keeps x (front + 1) capacity new (put_one capacity bs b)
+          (ap (λ ns. has x (take (front + 1) ns)) same ∙ ap (λ j. has j (take (front + 1) after)) (eqb-true x b.0 t) ∙ first) (omega arith)
+      | false ↦ λ _ later. stored-comes x (front + 1) capacity new (put_one capacity bs b) rest later (omega arith)
+    ]) refl among
+
+-- where none of the blocks is there, and they have room beside those of a range that lead, none of that range leaves
+pub stored_stays : (capacity n count : ℕ) (new bs : List Block) → AreGone (numbers bs) (numbers new) → count - missing (numbers bs) n count + length new ≤ capacity → IsLed (numbers bs) n count →
+    Stays (numbers bs) (numbers (stored capacity new bs)) n count (numbers new)
+stored_stays capacity n count new bs gone room led = record {
+  kept = λ k low high is. stored-keeps k led.front capacity new bs (led.there k low high is) (omega (arith, led.few, room));
+  came = λ k among. stored-comes k 0 capacity new bs (λ k among. inl (gone k among)) among (omega (arith, room));
+}
+
+-- where a beginning of them is stored, none of that range leaves either
+pub front_stays : (capacity n count k : ℕ) (new bs : List Block) → count - missing (numbers bs) n count + length new ≤ capacity → IsLed (numbers bs) n count →
+    Stays (numbers bs) (numbers (stored capacity (take k new) bs)) n count []
+front_stays capacity n count k new bs room led = record {
+  kept = λ x low high is. stored-keeps x led.front capacity (take k new) bs (led.there x low high is) (omega (arith, led.few, room, length-take k new));
+  came = λ x among. absurd (let e : false ≡ true = among in cc);
+}

@@ -133,14 +133,3 @@ all_whole f bytes complete first wanted whole piece =
     all_brought (IsOf f) complete first bytes wanted
     (λ n t. block_of_piece f bytes complete first n whole piece (lies_in complete first (first + length bytes) n (and_parts _ _ t).0))
     (range_with_len 0 (block_count complete))
-
--- they lie in the blocks that what is wanted lies in
-pub all_in_range : (complete first : ℕ) (bytes : List ℕ) (wanted : Span) (n count : ℕ) → n * 16384 ≤ wanted.first → wanted.last < (n + count) * 16384 →
-    All (λ b. (n ≤ b.0) × (b.0 < n + count)) (whole_blocks complete first bytes wanted)
-unfolding whole_blocks
-all_in_range complete first bytes wanted n count low high =
-    let P : Block → Type 0 = λ b. (n ≤ b.0) × (b.0 < n + count) in
-    all_brought P complete first bytes wanted
-    (λ k t. let asked = lies_in complete wanted.first (wanted.last + 1) k (and_parts _ _ t).1 in
-    (omega (arith, asked.begins), omega (arith, asked.there, asked.ends)))
-    (range_with_len 0 (block_count complete))

@@ -2,7 +2,7 @@
 use Rattle.std.specs.Prelude.{◌≡◌, ◌⊎◌, ℕ, ◌+◌, ◌-◌, ◌*◌, ◌<◌, ◌≤◌, true, false, List, [], ◌++◌, length, take, drop, min, max, is_some}
 use Rattle.tiff_dir.specs.declared.span.Span.{Span}
 use Rattle.tiff_dir.specs.Block.{block_size, end_of}
-use Rattle.range_cache.specs.Numbers.{has, missing, IsGap, IsLed, Stays}
+use Rattle.range_cache.specs.Numbers.{has, missing, AreGone, AreKept, IsGap, IsLed, Stays}
 use Rattle.range_cache.specs.Cache.{Block, Blocks, block_at, numbers, stored, stores, Holds}
 use Rattle.range_cache.specs.Piece.{is_brought, is_wanted, whole_blocks, IsPieceOf}
 
@@ -31,6 +31,19 @@ MissingIsFew = (ns : List ℕ) (n count : ℕ) → missing ns n count ≤ count
 abbrev pub MissingIsSome : Type 0
 MissingIsSome = (ns : List ℕ) (n count k : ℕ) → n ≤ k → k < n + count → has k ns ≡ false → 1 ≤ missing ns n count
 
+-- of some blocks a run that is missing is no longer than what is missing
+abbrev pub RunsAreMissing : Type 0
+RunsAreMissing = (ns : List ℕ) (n count from to : ℕ) → n ≤ from → to ≤ n + count →
+    ((k : ℕ) → from ≤ k → k < to → has k ns ≡ false) → to - from ≤ missing ns n count
+
+-- where none leaves, no more are missing, and fewer where one of the missing ones came
+abbrev pub MissingIsLess : Type 0
+MissingIsLess = (old new : List ℕ) (n count : ℕ) → AreKept old new n count → missing new n count ≤ missing old n count
+
+abbrev pub MissingIsFewer : Type 0
+MissingIsFewer = (old new : List ℕ) (n count k : ℕ) → AreKept old new n count →
+    n ≤ k → k < n + count → has k old ≡ false → has k new ≡ true → missing new n count + 1 ≤ missing old n count
+
 -- of some blocks no more are stored than there are
 abbrev pub StoresAreFew : Type 0
 StoresAreFew = (capacity : ℕ) (new bs : List Block) → stores capacity new bs ≤ length new
@@ -40,17 +53,24 @@ abbrev pub StoresAreSome : Type 0
 StoresAreSome = (capacity : ℕ) (new bs : List Block) (n : ℕ) →
     has n (numbers new) ≡ true → has n (numbers bs) ≡ false → 1 ≤ stores capacity new bs
 
--- where what a piece brings lies in a range that has room and whose blocks lead, no block of the range leaves
+-- where nothing that a piece brings is there, and has room beside those of a range that are there and lead, no block of the range
+-- leaves, and all that the piece brings is there
 abbrev pub StoredStay : Type 0
-StoredStay = (c : Blocks) (complete first : ℕ) (bytes : List ℕ) (wanted : Span) (n count : ℕ) → count < c.capacity →
-    n * block_size ≤ wanted.first → wanted.last < (n + count) * block_size → IsLed (numbers c.entries) n count →
-    Stays (numbers c.entries) (numbers (stored c.capacity (whole_blocks complete first bytes wanted) c.entries)) n count
-    (stores c.capacity (whole_blocks complete first bytes wanted) c.entries)
+StoredStay = (c : Blocks) (complete first : ℕ) (bytes : List ℕ) (wanted : Span) (n count : ℕ) →
+    let new = whole_blocks complete first bytes wanted in
+    AreGone (numbers c.entries) (numbers new) → count - missing (numbers c.entries) n count + length new ≤ c.capacity →
+    IsLed (numbers c.entries) n count →
+    Stays (numbers c.entries) (numbers (stored c.capacity new c.entries)) n count (numbers new)
 
 -- which blocks a piece brings
 abbrev pub WholeAreBrought : Type 0
 WholeAreBrought = (complete first : ℕ) (bytes : List ℕ) (wanted : Span) (n : ℕ) →
     is_brought complete first (length bytes) wanted n ≡ true → has n (numbers (whole_blocks complete first bytes wanted)) ≡ true
+
+-- and it brings no others
+abbrev pub OnlyWholeAreBrought : Type 0
+OnlyWholeAreBrought = (complete first : ℕ) (bytes : List ℕ) (wanted : Span) (n : ℕ) →
+    has n (numbers (whole_blocks complete first bytes wanted)) ≡ true → is_brought complete first (length bytes) wanted n ≡ true
 
 -- what is wanted is no longer than n blocks: a piece brings n at most
 abbrev pub WholeAreFew : Type 0

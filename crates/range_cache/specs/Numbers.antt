@@ -29,8 +29,22 @@ pub record IsLed (ns : List ℕ) (n count : ℕ) : Type 0 where
   pub few : front + missing ns n count ≤ count
   pub there : (k : ℕ) → n ≤ k → k < n + count → has k ns ≡ true → has k (take front ns) ≡ true
 
--- None of count blocks from n has left, those that are there are still among the first ones, and so many came.
-pub record Stays (old new : List ℕ) (n count came : ℕ) : Type 0 where
-  pub kept : (k : ℕ) → n ≤ k → k < n + count → has k old ≡ true → has k new ≡ true
-  pub led : IsLed new n count
-  pub fewer : missing new n count + came ≤ missing old n count
+-- Of the blocks from one number up to another, those before end are missing, and the one at it, if any, is there.
+pub record IsRunEnd (ns : List ℕ) (from to end : ℕ) : Type 0 where
+  pub begins : from ≤ end
+  pub within : end ≤ to
+  pub gone : (k : ℕ) → from ≤ k → k < end → has k ns ≡ false
+  pub ends : end < to → has end ns ≡ true
+
+-- none of these blocks is there
+abbrev pub AreGone : List ℕ → List ℕ → Type 0
+AreGone ns ms = (k : ℕ) → has k ms ≡ true → has k ns ≡ false
+
+-- those of count blocks from n that were there are still there
+abbrev pub AreKept : List ℕ → List ℕ → ℕ → ℕ → Type 0
+AreKept old new n count = (k : ℕ) → n ≤ k → k < n + count → has k old ≡ true → has k new ≡ true
+
+-- None of count blocks from n has left, and those that came are there.
+pub record Stays (old new : List ℕ) (n count : ℕ) (arrived : List ℕ) : Type 0 where
+  pub kept : AreKept old new n count
+  pub came : (k : ℕ) → has k arrived ≡ true → has k new ≡ true

@@ -2,7 +2,7 @@
 ghost use Rattle.std.specs.Prelude.{nat_eq, ◌≡◌, true, false, ℕ, List, ◌+◌, ◌-◌, ◌*◌, ◌<◌, ◌≤◌, ◌^◌, ◌==◌, IfOk, OnErr, MatchOption, length, take, map, if◌then◌else◌};
 ghost use Rattle.std.specs.List.{All, IsDistinct, filter, range_with_len, slice_range};
 ghost use Rattle.tiff_dir.specs.Block.{block_size, block_of, first_block, blocks as touched, block_count, end_of};
-ghost use Rattle.range_cache.specs.Numbers.{has, AreThere};
+ghost use Rattle.range_cache.specs.Numbers.{has, missing, AreThere, IsRunEnd};
 ghost use Rattle.range_cache.specs.Cache.{blocks_in, numbers, brought, put_one, stored, stores};
 ghost use Rattle.lru.specs.LruCache.{promoted};
 ghost use Rattle.range_cache.specs.Piece.{block_in, is_brought};
@@ -22,9 +22,7 @@ pub fn last_of(number: u64, complete: u64) -> u64
 /// Where the run of missing blocks ends that goes on here.
 pub fn end_of_run(blocks: &LruCache<u64, Vec<u8>>, from: u64, to: u64) -> u64
     requires { from ≤ to }
-    ensures within { (from ≤ result) × (result ≤ to) }
-    ensures gone { (k : ℕ) → from ≤ k → k < result → has k (numbers (blocks_in blocks.now.entries)) ≡ false }
-    ensures ends { result < to → has result (numbers (blocks_in blocks.now.entries)) ≡ true }
+    ensures { IsRunEnd (numbers (blocks_in blocks.now.entries)) from to result }
 {
     for number in from..to {
         if blocks.contains(&number) {
@@ -32,6 +30,20 @@ pub fn end_of_run(blocks: &LruCache<u64, Vec<u8>>, from: u64, to: u64) -> u64
         }
     }
     to
+}
+
+/// How many of the blocks from one number up to another are there.
+pub fn count_present(blocks: &LruCache<u64, Vec<u8>>, from: u64, to: u64) -> u64
+    requires { from ≤ to }
+    ensures { result + missing (numbers (blocks_in blocks.now.entries)) from (to - from) ≡ to - from }
+{
+    let mut count = 0;
+    for number in from..to {
+        if blocks.contains(&number) {
+            count += 1;
+        }
+    }
+    count
 }
 
 /// Copies a part of a block, from a place in it on, and brings the block to the front. Whether it is there.

@@ -2,12 +2,12 @@
 ghost use Rattle.std.specs.Prelude.{◌≡◌, ◌+◌, ◌-◌, ◌*◌, ◌<◌, ◌≤◌, ◌^◌, ℕ, List, [], IfOk, OnOk, OnErr, IsErrOf, MatchResult, length, take};
 ghost use Rattle.std.specs.List.{range_with_len, slice_range};
 ghost use Rattle.tiff_dir.specs.Block.{block_size, first_block, blocks};
-ghost use Rattle.range_cache.specs.Numbers.{has, AreThere, IsLed, Stays};
+ghost use Rattle.range_cache.specs.Numbers.{has, missing, AreGone, AreThere, IsLed, IsRunEnd, Stays};
 ghost use Rattle.range_cache.specs.Cache.{Blocks, block_at, max_capacity, min_capacity, numbers, Holds, IsSound, brought, stored, stores};
 ghost use Rattle.range_cache.specs.Piece.{whole_blocks, IsPieceOf, is_wanted};
 ghost use Rattle.range_cache.specs.Missing.{IsFirstGap};
 
-use crate::blocks::{copy, end_of_run, last_of, store, whole_run};
+use crate::blocks::{copy, count_present, end_of_run, last_of, store, whole_run};
 use crate::missing::Missing;
 use lru::LruCache;
 use std::alloc::Global;
@@ -139,12 +139,14 @@ impl Cache {
             (k : ℕ) × (k < length new)
             × (self.new ≡ record self.old { entries = stored self.old.capacity (take k new) self.old.entries })) }
 
-        // What follows of the entries: each is still the file's, and no block of a range that leads leaves.
+        // What follows of the entries: each is still the file's; and where none of the blocks is there, and they have room
+        // beside those of a range that are there and lead, no block of the range leaves, and they are there.
         ensures holds { (f : List ℕ) → complete ≡ length f → IsPieceOf f first bytes.now → Holds f self.old → Holds f self.new }
-        ensures stays { (n count : ℕ) → count < self.old.capacity → n * block_size ≤ wanted.first →
-            wanted.last < (n + count) * block_size → IsLed (numbers self.old.entries) n count →
-            MatchResult result (λ came. Stays (numbers self.old.entries) (numbers self.new.entries) n count came)
-            (λ _. Stays (numbers self.old.entries) (numbers self.new.entries) n count 0) }
+        ensures stays { let new = whole_blocks complete first bytes.now wanted in let there = numbers self.old.entries in
+            (n count : ℕ) → AreGone there (numbers new) → count - missing there n count + length new ≤ self.old.capacity →
+            IsLed there n count →
+            MatchResult result (λ _. Stays there (numbers self.new.entries) n count (numbers new))
+            (λ _. Stays there (numbers self.new.entries) n count []) }
     {
         self.law();
         let (from, to) = whole_run(complete, first, bytes.len() as u64, wanted);
@@ -178,5 +180,31 @@ impl Cache {
             return false;
         }
         last_of(block, complete) <= wanted.last && !self.blocks.contains(&block)
+    }
+
+    /// How many of the blocks from one number up to another are there.
+    pub fn present(&self, from: u64, to: u64) -> u64
+        requires { from ≤ to }
+        ensures { result + missing (numbers self.now.entries) from (to - from) ≡ to - from }
+    {
+        count_present(&self.blocks, from, to)
+    }
+
+    /// Where the run of missing blocks ends that begins with a block, before another one. Where the block is there, that is
+    /// the block itself.
+    pub fn run_end(&self, from: u64, to: u64) -> u64
+        requires { from ≤ to }
+        ensures { IsRunEnd (numbers self.now.entries) from to result }
+    {
+        end_of_run(&self.blocks, from, to)
+    }
+
+    /// How many blocks it has at most, 66 to 4,096.
+    pub fn capacity(&self) -> u32
+        ensures exact { result ≡ self.now.capacity }
+        ensures sound { IsSound self.now }
+    {
+        self.law();
+        self.blocks.cap().get() as u32
     }
 }

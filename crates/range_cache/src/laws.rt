@@ -1,5 +1,5 @@
 //! Laws of the definitions, which upper crates rest on. Each function does nothing: its contract is the law.
-ghost use Rattle.range_cache.specs.Laws.{BesideBringNone, CutsPart, EdgesPart, FoundAreThere, FrontHolds, GapsAreUnique, MissingIsSame, MissingIsFew, MissingIsSome, PartsBringNone, StoredHolds, StoredJoin, StoredStay, StoresAreFew, StoresAreSome, StoresJoin, UnwantedStay, WholeAreBrought, WholeAreFew};
+ghost use Rattle.range_cache.specs.Laws.{BesideBringNone, CutsPart, EdgesPart, FoundAreThere, FrontHolds, GapsAreUnique, MissingIsSame, MissingIsFew, MissingIsFewer, MissingIsLess, MissingIsSome, OnlyWholeAreBrought, PartsBringNone, RunsAreMissing, StoredHolds, StoredJoin, StoredStay, StoresAreFew, StoresAreSome, StoresJoin, UnwantedStay, WholeAreBrought, WholeAreFew};
 
 /// What is missing is said by which blocks are there alone.
 pub fn missing_is_exact()
@@ -7,6 +7,9 @@ pub fn missing_is_exact()
     ensures same { MissingIsSame }
     ensures few { MissingIsFew }
     ensures some { MissingIsSome }
+    ensures run { RunsAreMissing }
+    ensures less { MissingIsLess }
+    ensures fewer { MissingIsFewer }
     ensures there { FoundAreThere }
 {}
 
@@ -19,6 +22,7 @@ pub fn stores_are_counted()
 /// Which blocks a piece brings, and at most how many.
 pub fn pieces_bring_blocks()
     ensures brought { WholeAreBrought }
+    ensures only { OnlyWholeAreBrought }
     ensures few { WholeAreFew }
 {}
 
@@ -28,7 +32,7 @@ pub fn stored_are_held()
     ensures front { FrontHolds }
 {}
 
-/// No block of a range that leads leaves where blocks of it are stored.
+/// No block of a range that leads leaves where blocks are stored that have room beside it.
 pub fn stored_stay()
     ensures { StoredStay }
 {}

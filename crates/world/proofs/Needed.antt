@@ -10,7 +10,7 @@ use Rattle.http_range.specs.Book.{Publication, Book, HasDistinctTags, In}
 use Rattle.cog_client.specs.declared.asking.Asking.{Asking}
 use Rattle.cog_client.specs.declared.error.ClientError.{ClientError}
 use Rattle.cog_client.specs.Case.{Revision}
-use Rattle.cog_client.specs.Client.{ClientState, Knows, KnowsOne, ClientAgrees, asked_of, client_refusal, host_of, name_of, query_of, revision_of, tag_of, closes, how_of}
+use Rattle.cog_client.specs.Client.{ClientState, Knows, KnowsOne, ClientAgrees, ahead_of, asked_of, client_refusal, host_of, name_of, query_of, revision_of, tag_of, closes, how_of}
 use Rattle.cog_client.specs.Calls.{Requests, SameClient, request_for}
 use Rattle.cog_client.specs.Keeps.{AsksFor, RequestsKeeping}
 use Rattle.cog_client.specs.Progress.{IsOfNeeded}
@@ -28,10 +28,12 @@ use Rattle.world.specs.LowerLaws.{LowerLaws}
 use Rattle.world.proofs.Lists.{get-map, get-push, get-set}
 use Rattle.world.proofs.Good.{Good}
 
--- ---- every client asks the one host, and by each request that the connection end
+-- ---- every client asks the one host, by each request that the connection end, and looks no block ahead
 
-abbrev pub IsHosted : ClientState → Type 0
-IsHosted c = (host_of c ≡ host) × (closes c ≡ true)
+pub record IsHosted (c : ClientState) : Type 0 where
+  pub host_is : host_of c ≡ host
+  pub closing : closes c ≡ true
+  pub near : ahead_of c ≡ 0
 
 abbrev pub AllHosted : List ClientState → Type 0
 AllHosted cs = (i : ℕ) (c : ClientState) → slice_get cs i ≡ Some c → IsHosted c
@@ -44,8 +46,11 @@ same_hosted : (c next : ClientState) → SameClient c next → StaysHosted c nex
 same_hosted c next same = (same.host, same.how)
 
 stays_hosted : (c next later : ClientState) → StaysHosted c next → later ≡ next → IsHosted c → IsHosted later
-stays_hosted c next later stays is hosted =
-    (ap host_of is ∙ stays.0 ∙ hosted.0, ap closes is ∙ ap (λ (h : Asking). h.closes) stays.1 ∙ hosted.1)
+stays_hosted c next later stays is hosted = record {
+  host_is = ap host_of is ∙ stays.0 ∙ hosted.host_is;
+  closing = ap closes is ∙ ap (λ (h : Asking). h.closes) stays.1 ∙ hosted.closing;
+  near = ap ahead_of is ∙ ap (λ (h : Asking). h.ahead) stays.1 ∙ hosted.near;
+}
 
 hosted_same : (old new : List ClientState) → new ≡ old → AllHosted old → AllHosted new
 hosted_same old new same all = subst AllHosted (sym same) all
@@ -64,7 +69,7 @@ hosted_made : (o : Option ClientError) (name : List ℕ) (blocks : ℕ) (n : Ent
 hosted_made (Some refusal) name blocks n old new h all = hosted_same old new h.same all
 hosted_made None name blocks n old new h all =
     hosted_same (old ++ h.made ∷ []) new h.added (λ j d e. elim (get-push old j h.made d e) [
-      | inl is ↦ (ap host_of is ∙ h.starts.hosted, ap closes is ∙ h.starts.closing)
+      | inl is ↦ record { host_is = ap host_of is ∙ h.starts.hosted; closing = ap closes is ∙ h.starts.closing; near = ap ahead_of is ∙ h.starts.near }
       | inr there ↦ all j d there
     ])
 
@@ -121,12 +126,12 @@ tag_is c v is = ap (λ x. option_map (λ (v : Revision). v.tag) x) is
 module _ (laws : LowerLaws) where
   -- ---- requests
 
-  needed_under : (w : World) (c mid : ClientState) (v : Revision) (span : Span) (q : Query) → revision_of mid ≡ Some v → ClientAgrees mid w.book → AsksFor mid (Some v) span → name_of mid ≡ name_of c → query_of c ≡ Some q → query_of mid ≡ Some q
+  needed_under : (w : World) (c mid : ClientState) (v : Revision) (span : Span) (q : Query) → revision_of mid ≡ Some v → ClientAgrees mid w.book → AsksFor mid (Some v) 0 span → name_of mid ≡ name_of c → query_of c ≡ Some q → query_of mid ≡ Some q
       → IsOfPublished w (seen c) v.tag span
   unfolding ClientAgrees
   needed_under w c mid v span q is agrees asks name query queried =
       let k : KnowsOne mid w.book v = subst (λ o. IfSome o (KnowsOne mid w.book)) is agrees in
-      let needed = (laws.needed mid v k.source.file span is k.knows asks).0 in
+      let needed = laws.one_range mid v k.source.file span is k.knows asks in
       record {
         source = k.source;
         published = k.published;
@@ -135,7 +140,7 @@ module _ (laws : LowerLaws) where
         needed = subst (λ o. IsSomeAnd o (λ q. IsOfNeeded k.source.file q span)) (sym query) (subst (λ o. IfSome o (λ q. IsOfNeeded k.source.file q span)) queried needed);
       }
 
-  needed_by : (w : World) (c mid : ClientState) (a : AnsweredRequest) (o : Option Revision) (q : Query) → revision_of mid ≡ o → a.tag ≡ tag_of mid → ClientAgrees mid w.book → AsksFor mid o a.span → name_of mid ≡ name_of c → query_of c ≡ Some q
+  needed_by : (w : World) (c mid : ClientState) (a : AnsweredRequest) (o : Option Revision) (q : Query) → revision_of mid ≡ o → a.tag ≡ tag_of mid → ClientAgrees mid w.book → AsksFor mid o 0 a.span → name_of mid ≡ name_of c → query_of c ≡ Some q
       → query_of mid ≡ Some q → IsNeededBy w (seen c) a.tag a.span
   needed_by w c mid a None q is tag agrees asks name query queried =
       let none : a.tag ≡ None = tag ∙ ap (λ x. option_map (λ (v : Revision). v.tag) x) is in
@@ -161,13 +166,15 @@ module _ (laws : LowerLaws) where
       let tag : a.tag ≡ tag_of c = answered.tag ∙ ap (λ x. option_map (λ (v : Revision). v.tag) x) r.goes.revision in
       let text : a.request.items ≡ request_by (closes c) (host_of c) (name_of c) a.span.first a.span.last (tag_of c) = same_Some _ _ (r.text ∙ ap (request_for c) asked) in
       let agrees : ClientAgrees mid w.book = k.goes.agrees w.book (g.agree i c at w.book (λ p j. j) g.distinct) in
-      let asks : AsksFor mid (revision_of mid) a.span = subst (λ o. IfSome o (AsksFor mid (revision_of mid))) asked k.asks in
+      let near : ahead_of mid ≡ 0 = ap (λ (h : Asking). h.ahead) r.goes.same.how ∙ (hosts i c at).near in
+      let asks : AsksFor mid (revision_of mid) 0 a.span =
+      subst (λ n. AsksFor mid (revision_of mid) n a.span) near (subst (λ o. IfSome o (AsksFor mid (revision_of mid) (ahead_of mid))) asked k.asks) in
       record {
         seen = seen c;
         there = ap (λ j. slice_get w.clients j) answered.client
             ∙ ap (λ (ss : List Seen). slice_get ss i) (sym g.seen_are) ∙ get-map seen cs i ∙ ap (λ (o : Option ClientState). option_map seen o) at;
-        text = text ∙ ap (λ b. request_by b (host_of c) (name_of c) a.span.first a.span.last (tag_of c)) (hosts i c at).1
-            ∙ ap (λ h. request_text h (name_of c) a.span.first a.span.last (tag_of c)) (hosts i c at).0
+        text = text ∙ ap (λ b. request_by b (host_of c) (name_of c) a.span.first a.span.last (tag_of c)) (hosts i c at).closing
+            ∙ ap (λ h. request_text h (name_of c) a.span.first a.span.last (tag_of c)) (hosts i c at).host_is
             ∙ ap (λ t. request_text host (name_of c) a.span.first a.span.last t) (sym tag);
         needed = needed_by w c mid a (revision_of mid) q.0 refl answered.tag agrees asks r.goes.same.name (sym r.goes.same.query ∙ q.1) q.1;
       }

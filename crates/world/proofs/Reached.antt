@@ -15,7 +15,7 @@ use Rattle.cog_client.specs.declared.delivered.Delivered.{Delivered}
 use Rattle.cog_client.specs.declared.report.Report.{Report}
 use Rattle.cog_client.specs.Report.{IsTrueReport, Told, told}
 use Rattle.cog_client.specs.Case.{Revision}
-use Rattle.cog_client.specs.Client.{ClientState, Knows, ClientAgrees, asked_of, host_of, name_of, query_of, report_of, tag_of, closes}
+use Rattle.cog_client.specs.Client.{ClientState, Knows, ClientAgrees, ahead_of, asked_of, host_of, name_of, query_of, report_of, tag_of, closes}
 use Rattle.cog_client.specs.Calls.{request_for}
 use Rattle.cog_client.specs.Keeps.{DeliversKeeping, RequestsKeeping}
 use Rattle.cog_client.specs.Progress.{BringsOn, IsAtWork, IsOwnAnswer, left}
@@ -100,6 +100,7 @@ module _ (laws : LowerLaws) (w : World) (cs : List ClientState) (i : ℕ) (c : C
         lawful = g.lawful;
         has = ap (λ n. published n w.catalogue) name ∙ has;
         asked = asked;
+        ahead = ahead_of mid;
         asks = some_of (asked_of mid) span _ asked k.asks;
         can = subst (λ h. CanAsk h (name_of mid) span.first span.last (tag_of mid)) (sym host)
             (subst (λ n. CanAsk (host_of c) n span.first span.last (tag_of mid)) (sym name) (subst (λ t. CanAsk (host_of c) (name_of c) span.first span.last t) (sym tag) can));

@@ -6,7 +6,7 @@ use Rattle.geokeys.specs.Same.{KeysAreUnique}
 use Rattle.http_range.specs.Laws.{TagsTellOne, TagsTellPublications, PublicationTagsAreKept, RequestsAreAnswered, ChecksAreAnswered, ChecksAreRead, PublishReplaces, PublishedIsNamed, HonestyIsKept}
 use Rattle.cog_client.specs.Client.{AgreementIsSeen}
 use Rattle.cog_client.specs.Report.{TruthIsTold}
-use Rattle.cog_client.specs.Progress.{CostIsMost, DeliveryReports, GoingOnLeavesNoMore, NeededAreAsked, OwnAnswersBringOn, RequestReports}
+use Rattle.cog_client.specs.Progress.{CostIsMost, DeliveryReports, GoingOnLeavesNoMore, OneRangeIsAsked, OwnAnswersBringOn, RequestReports}
 
 pub record LowerLaws : Type 0 where
   pub apart : TagsTellPublications
@@ -26,5 +26,5 @@ pub record LowerLaws : Type 0 where
   pub goes : GoingOnLeavesNoMore
   pub request : RequestReports
   pub delivery : DeliveryReports
-  pub needed : NeededAreAsked
+  pub one_range : OneRangeIsAsked
   pub brings : OwnAnswersBringOn

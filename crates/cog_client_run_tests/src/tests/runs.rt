@@ -1,18 +1,27 @@
 //! Random runs: answers that are cut, lost, repeated or late, of a file that is replaced again and again. Each report is what
-//! the plain program reads in the file that has its tag.
+//! the plain program reads in the file that has its tag. However far the client looks ahead, whole answers lead to one by the
+//! answer after as many as the query costs.
 ghost use Rattle.std.specs.Prelude.{◌<◌};
 
+use super::ahead::{AHEAD, cog};
 use super::other_file;
 use cog_client::{Client, Outcome, Report};
 use cog_client_support::{NotDone, Publication, client_of_a};
 use cog_reader_support::{Plain, of_level};
 use fixtures_support::{Numbers, f2, f2b, f5};
+use reference_support::cost;
 use std::alloc::{AllocError, Global};
+use std::process::Abort;
 use std::test::Fail;
 use tiff_dir::Query;
 
-/// The seed of each run.
-const SEED: u64 = 1;
+/// A run: the generator's first state, how many windows are read, and whether the client looks ahead.
+#[derive(Clone, Copy, Debug)]
+struct Run {
+    seed: u64,
+    windows: u32,
+    is_looking: bool,
+}
 
 /// A publication, and what the plain program reads in its file.
 #[derive(Clone, Copy)]
@@ -144,6 +153,49 @@ impl<'a> Net<'a> {
         }
         Ok(false)
     }
+
+    /// Has the client look ahead by some number of blocks.
+    fn look(&mut self, client: &mut Client) {
+        let at = self.numbers.below(4);
+        client.look_ahead(AHEAD[at]);
+    }
+
+    /// Makes a request, if there is one, and delivers its whole answer. How far the client looks ahead may be another each time.
+    fn exchange_looking(&mut self, alloc: Global, client: &mut Client) -> Result<(), NotDone> {
+        self.look(client);
+        if client.request()?.is_none() {
+            return Ok(());
+        }
+        self.look(client);
+        let answer = self.answer(alloc, client)?;
+        client.deliver(&answer)?;
+        Ok(())
+    }
+
+    /// Lets some things happen, and then whole answers alone come, of the file of now, after as many as the query costs and one
+    /// more. Whether the report is right.
+    fn is_in_time(
+        &mut self,
+        alloc: Global,
+        client: &mut Client,
+        query: Query,
+    ) -> Result<bool, NotDone> {
+        for _ in 0..self.numbers.below(8) {
+            self.look(client);
+            self.happen(alloc, client)?;
+        }
+        client.open(query);
+        let revision = self.revisions.get(self.now).ok_or(NotDone::NoSuchPart)?;
+        let file = revision.publication.file;
+        let cost = cost(alloc, file, query)?.ok_or(NotDone::NoSuchPart)?;
+        for _ in 0..cost.saturating_add(1) {
+            self.exchange_looking(alloc, client)?;
+        }
+        match client.report() {
+            None => Ok(false),
+            Some(report) => Ok(is_right(alloc, report, self.revisions, query)?),
+        }
+    }
 }
 
 /// Where a window begins along a side, and how long it is there, at most 300.
@@ -155,22 +207,27 @@ fn stretch(numbers: &mut Numbers, side: u32) -> (u32, u32)
     (first as u32, len as u32)
 }
 
-/// Reads so many windows of an image of these sides. The first that isn't read right.
+/// Reads so many windows of an image of these sides, by requests that look ahead or don't. The first that isn't read right.
 fn wrong_window(
     alloc: Global,
     net: &mut Net<'_>,
     sides: (u32, u32),
-    windows: u32,
+    run: Run,
 ) -> Result<Option<Query>, NotDone>
     requires width { 0 < sides.0 }
     requires length { 0 < sides.1 }
 {
     let mut client = client_of_a(alloc, 66)?;
-    for _ in 0..windows {
+    for _ in 0..run.windows {
         let (x, w) = stretch(&mut net.numbers, sides.0);
         let (y, h) = stretch(&mut net.numbers, sides.1);
         let query = of_level(x, y, w, h, 0);
-        if !net.settle(alloc, &mut client, query)? {
+        let is_read = if run.is_looking {
+            net.is_in_time(alloc, &mut client, query)?
+        } else {
+            net.settle(alloc, &mut client, query)?
+        };
+        if !is_read {
             return Ok(Some(query));
         }
     }
@@ -190,7 +247,7 @@ fn wrong_of_two(
     alloc: Global,
     files: [&Plain; 2],
     sides: (u32, u32),
-    windows: u32,
+    run: Run,
 ) -> Result<Option<Query>, NotDone>
     requires width { 0 < sides.0 }
     requires length { 0 < sides.1 }
@@ -206,25 +263,76 @@ fn wrong_of_two(
         revisions: &revisions,
         now: 0,
         kept: Vec::new(alloc),
-        numbers: Numbers::new(SEED),
+        numbers: Numbers::new(run.seed),
     };
-    wrong_window(alloc, &mut net, sides, windows)
+    wrong_window(alloc, &mut net, sides, run)
+}
+
+/// Reads windows of f2, which is replaced by f2b and back.
+fn expect_small(rt: &(impl Abort + AllocGlobal), run: Run) -> Result<(), Fail> {
+    let old = Plain::new(rt.alloc(), f2(rt.alloc())?)?;
+    let new = Plain::new(rt.alloc(), f2b(rt.alloc())?)?;
+    let found = wrong_of_two(rt.alloc(), [&old, &new], (256, 256), run)?;
+    assert!(rt; found.is_none(), "{run:?}: {found:?}");
+    Ok(())
 }
 
 #[test]
 fn reads_small_tiles_whatever_befalls_the_answers(rt: HostRuntime) -> Result<(), Fail> {
-    let old = Plain::new(rt.alloc(), f2(rt.alloc())?)?;
-    let new = Plain::new(rt.alloc(), f2b(rt.alloc())?)?;
-    let found = wrong_of_two(rt.alloc(), [&old, &new], (256, 256), 300)?;
-    assert!(rt; found.is_none(), "seed {SEED}: {found:?}");
-    Ok(())
+    let run = Run {
+        seed: 1,
+        windows: 300,
+        is_looking: false,
+    };
+    expect_small(&rt, run)
 }
 
 #[test]
 fn reads_large_tiles_whatever_befalls_the_answers(rt: HostRuntime) -> Result<(), Fail> {
     let old = Plain::new(rt.alloc(), f5(rt.alloc())?)?;
     let new = Plain::new(rt.alloc(), other_file(rt.alloc())?)?;
-    let found = wrong_of_two(rt.alloc(), [&old, &new], (1280, 1024), 60)?;
-    assert!(rt; found.is_none(), "seed {SEED}: {found:?}");
+    let run = Run {
+        seed: 1,
+        windows: 60,
+        is_looking: false,
+    };
+    let found = wrong_of_two(rt.alloc(), [&old, &new], (1280, 1024), run)?;
+    assert!(rt; found.is_none(), "{run:?}: {found:?}");
+    Ok(())
+}
+
+#[test]
+fn reports_small_tiles_in_time_however_far_it_looks(rt: HostRuntime) -> Result<(), Fail> {
+    let run = Run {
+        seed: 2,
+        windows: 450,
+        is_looking: true,
+    };
+    expect_small(&rt, run)
+}
+
+#[test]
+fn reports_more_small_tiles_in_time_however_far_it_looks(rt: HostRuntime) -> Result<(), Fail> {
+    let run = Run {
+        seed: 3,
+        windows: 450,
+        is_looking: true,
+    };
+    expect_small(&rt, run)
+}
+
+#[test]
+fn reports_tiles_that_stand_apart_in_time_however_far_it_looks(
+    rt: HostRuntime,
+) -> Result<(), Fail> {
+    let old = Plain::new(rt.alloc(), cog(rt.alloc(), 3, false)?)?;
+    let new = Plain::new(rt.alloc(), cog(rt.alloc(), 3, true)?)?;
+    let run = Run {
+        seed: 4,
+        windows: 100,
+        is_looking: true,
+    };
+    let found = wrong_of_two(rt.alloc(), [&old, &new], (768, 768), run)?;
+    assert!(rt; found.is_none(), "{run:?}: {found:?}");
     Ok(())
 }

@@ -7,14 +7,14 @@ ghost use Rattle.cog_reader.specs.declared.state.State.TheVariants as state;
 ghost use Rattle.cog_reader.specs.Give.{Advances};
 ghost use Rattle.cog_reader.specs.Kept.{IsKeptOf};
 ghost use Rattle.cog_reader.specs.Reader.{wanted_by, IsState};
-ghost use Rattle.cog_reader.specs.Step.{IsStep};
+ghost use Rattle.cog_reader.specs.Step.{ComesLater, IsStep};
 
 use crate::Outcome;
 use crate::kept::{Kept, NextArray};
 use crate::mosaic::Mosaic;
 use crate::state::{State, Step, span_of, tiles};
 use std::alloc::Global;
-use tiff_dir::{FileFault, Memory, Walk, levels_are_described, what_comes};
+use tiff_dir::{FileFault, Memory, Span, Walk, levels_are_described, what_comes};
 use tile_plan::{PlanError, Rectangle};
 
 /// What comes next: an array, or, where both are kept, the window's tiles.
@@ -44,6 +44,19 @@ pub fn next(
             Err(PlanError::Memory) => Err(Memory),
         },
     }
+}
+
+/// The bytes of the array after the next one.
+pub fn upcoming(complete: u64, walk: &Walk, kept: &Kept, rect: Rectangle) -> Option<Span>
+    requires ended { HasEnded walk.now }
+    requires small { IsSomeAnd (slice_get (levels_of walk.now) rect.level) (λ l. IsSmall l rect) }
+    ensures { ComesLater complete walk.now kept.now (state.Arrays rect) 0 result }
+{
+    what_comes();
+    levels_are_described();
+    let level = &walk.levels()[rect.level];
+    let place = kept.after_next(rect.level, level)?;
+    span_of(place, complete)
 }
 
 /// Keeps an array of the rectangle's level.

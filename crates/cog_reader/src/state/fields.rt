@@ -2,9 +2,10 @@
 ghost use Rattle.std.specs.Prelude.{◌≡◌, IfErr, IfOk};
 ghost use Rattle.tiff_dir.specs.declared.query.Query.{Query as Asks};
 ghost use Rattle.tiff_dir.specs.Walk.{HasEnded};
+ghost use Rattle.tiff_dir.specs.WalkState.{WalkState};
 ghost use Rattle.cog_reader.specs.declared.kept.Kept.{Kept as Keeps};
 ghost use Rattle.cog_reader.specs.declared.state.State.TheVariants as state;
-ghost use Rattle.cog_reader.specs.Step.{IsStep};
+ghost use Rattle.cog_reader.specs.Step.{ComesLater, IsStep};
 
 use crate::Outcome;
 use crate::fields::Fields;
@@ -12,7 +13,7 @@ use crate::info::info;
 use crate::state::{State, Step, span_of};
 use geokeys::GeoError;
 use std::alloc::Global;
-use tiff_dir::{FileFault, Walk};
+use tiff_dir::{FileFault, Span, Walk};
 
 /// What comes next: a geo field, or, where all were given, what the file says of its place. A refusal of memory gives the
 /// fields back.
@@ -32,4 +33,12 @@ pub fn next(alloc: Global, complete: u64, walk: &Walk, fields: Fields) -> Result
             Err(GeoError::Memory) => Err(fields),
         },
     }
+}
+
+/// The bytes of the field after the next one and `index` more.
+pub fn upcoming(complete: u64, fields: &Fields, index: u32) -> Option<Span>
+    ensures { (w : WalkState) (k : Keeps) → ComesLater complete w k (state.Fields fields.now) index result }
+{
+    let place = fields.upcoming(index)?;
+    span_of(place, complete)
 }

@@ -3,19 +3,20 @@ ghost use Rattle.std.specs.Prelude.{◌≡◌, ℕ, length};
 ghost use Rattle.tiff_dir.specs.declared.query.Query.{Query as Asks};
 ghost use Rattle.tiff_dir.specs.Walk.{HasEnded};
 ghost use Rattle.tiff_dir.specs.WalkState.{WalkState};
+ghost use Rattle.cog_reader.specs.declared.kept.Kept.{Kept as Keeps};
 ghost use Rattle.cog_reader.specs.declared.kept.Kept.TheVariants as kept;
 ghost use Rattle.cog_reader.specs.declared.state.State.TheVariants as state;
 ghost use Rattle.cog_reader.specs.Give.{AcceptsRange};
 ghost use Rattle.cog_reader.specs.Kept.{HasBoth, IsKeptOf};
 ghost use Rattle.cog_reader.specs.Mosaic.{HasPlan, IsGroupLen, IsPlan};
-ghost use Rattle.cog_reader.specs.Step.{IsStep};
+ghost use Rattle.cog_reader.specs.Step.{ComesLater, IsStep};
 
 use crate::Outcome;
 use crate::arrays::Arrays;
 use crate::kept::Kept;
 use crate::mosaic::Mosaic;
 use crate::state::{State, Step};
-use tiff_dir::FileFault;
+use tiff_dir::{FileFault, Span};
 
 /// What comes next: a group, or, where all were given, the window.
 pub fn next(arrays: &Arrays, mosaic: Mosaic) -> Step
@@ -26,6 +27,14 @@ pub fn next(arrays: &Arrays, mosaic: Mosaic) -> Step
         Some(span) => Step::Read(State::Tiles(mosaic), span),
         None => Step::Answer(Outcome::Window(mosaic.into_window(arrays))),
     }
+}
+
+/// The bytes of the group after the next one and `index` more.
+pub fn upcoming(mosaic: &Mosaic, index: u32) -> Option<Span>
+    ensures { (complete : ℕ) (w : WalkState) (k : Keeps) → HasBoth k (λ a. IsPlan complete a mosaic.now)
+        → ComesLater complete w k (state.Tiles mosaic.now) index result }
+{
+    mosaic.upcoming(index)
 }
 
 /// Gives the window a group, or tells the fault that it has.

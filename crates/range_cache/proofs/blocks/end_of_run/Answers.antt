@@ -5,8 +5,13 @@ use Rattle.range_cache.specs.Cache.{blocks_in, numbers}
 use Rattle.range_cache.proofs.Entries.{told}
 use Rattle.range_cache.proofs.blocks.end_of_run.Goals as goal
 
-pub returns-then-contains-clause-ends : goal.returns-then-contains-clause-ends
-returns-then-contains-clause-ends c = λ _. told c.loop-number.number-counter c.args.blocks.now.entries c.contains.result c.contains.ensures ∙ c.if-contains.true
+pub returns-then-contains : goal.returns-then-contains
+returns-then-contains c = record {
+  begins = omega arith;
+  within = omega arith;
+  gone = c.loop-number.invariant;
+  ends = λ _. told c.loop-number.number-counter c.args.blocks.now.entries c.contains.result c.contains.ensures ∙ c.if-contains.true;
+}
 
 pub loop-number-preserved : goal.loop-number-preserved
 loop-number-preserved c = λ k low high.

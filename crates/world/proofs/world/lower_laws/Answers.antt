@@ -19,6 +19,6 @@ returns c = record {
   goes = c.left_never_grows.ensures.goes;
   request = c.nothing_left_is_reported.ensures.request;
   delivery = c.nothing_left_is_reported.ensures.delivery;
-  needed = c.needed_are_asked.ensures;
+  one_range = c.needed_are_asked.ensures.one;
   brings = c.own_answers_bring_on.ensures;
 }

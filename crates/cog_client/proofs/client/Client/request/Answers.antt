@@ -2,7 +2,7 @@ use Rattle.std.proofs.Common.{◌≡◌, Some, None, true, false, sym, ap, subst
 use Rattle.std.specs.Prelude.{is_some, not}
 use Rattle.std.proofs.lemmas.Bool.{false≢true}
 use Rattle.http_range.specs.Ask.{CanAsk}
-use Rattle.cog_client.specs.Client.{ClientState, asked_of, feed_of, host_of, name_of, query_of, report_of, revision_of, tag_of}
+use Rattle.cog_client.specs.Client.{ClientState, ahead_of, asked_of, feed_of, host_of, name_of, query_of, report_of, revision_of, tag_of}
 use Rattle.cog_client.specs.Calls.{IsIdle, request_for}
 use Rattle.cog_client.specs.Keeps.{AsksFor, GoesOnKeeping, Misses, StopsAsking}
 use Rattle.cog_client.proofs.GoingLemmas.{refused}
@@ -32,7 +32,7 @@ invariant_of-self-3 c =
     let m : known j.arrival j.how j.host.items j.name.items j.query j.asked j.source j.cache j.report ≡ c.missing.new.self = c.self-2.view_is in
     asking_sound j.arrival j.how j.host.items j.name.items j.query j.asked j.source j.cache j.report c.in-Some.span c.self-2.invariant
     (ap report_of m ∙ e.silent (ap is_some c.in-Some.is))
-    (subst (λ k. AsksFor k (revision_of k) c.in-Some.span) (sym m) (subst (Misses c.missing.new.self) c.in-Some.is e.ok))
+    (subst (λ k. AsksFor k (revision_of k) (ahead_of k) c.in-Some.span) (sym m) (subst (Misses c.missing.new.self) c.in-Some.is e.ok))
 
 pub returns-clause-ok : goal.returns-clause-ok
 unfolding query_of report_of feed_of
@@ -44,7 +44,7 @@ returns-clause-ok c =
     let old : GoesOnKeeping c.args.self.now before = subst (λ k. GoesOnKeeping k before) c.self.view_is (unasked i.arrival c.clear.new.self c.clear.ensures i.how i.host.items i.name.items i.query i.asked i.source i.cache i.report c.self.invariant) in
     let m : known j.arrival j.how j.host.items j.name.items j.query j.asked j.source j.cache j.report ≡ c.missing.new.self = c.self-2.view_is in
     let silent = ap report_of m ∙ e.silent (ap is_some c.in-Some.is) in
-    let asks = subst (λ k. AsksFor k (revision_of k) c.in-Some.span) (sym m) (subst (Misses c.missing.new.self) c.in-Some.is e.ok) in
+    let asks = subst (λ k. AsksFor k (revision_of k) (ahead_of k) c.in-Some.span) (sym m) (subst (Misses c.missing.new.self) c.in-Some.is e.ok) in
     let some : is_some i.query ≡ true = c.is_none.ensures ∙ ap not c.if-is_none.false in
     let quiet : is_some i.report ≡ false = sym c.is_some.ensures ∙ c.if-is_some.false in
     requested j.arrival j.how j.host.items j.name.items j.query j.asked j.source j.cache j.report c.in-Some.span c.args.self.now c.in_ok-text.text.items

@@ -1,7 +1,7 @@
 use Rattle.std.proofs.Common.{◌-◌, ◌<◌, ◌^◌, map, ap, arith, subst}
 use Rattle.range_cache.specs.Cache.{Blocks, kept_blocks, stores, Holds}
 use Rattle.range_cache.specs.Piece.{block_in, whole_blocks}
-use Rattle.range_cache.proofs.Whole.{all_whole, all_in_range}
+use Rattle.range_cache.proofs.Whole.{all_whole}
 use Rattle.range_cache.proofs.Bytes.{IsOf}
 use Rattle.range_cache.proofs.Putting.{Puts, puts_of, puts_hold, puts_stay}
 use Rattle.range_cache.proofs.cache.Cache.put.Goals as goal
@@ -37,6 +37,5 @@ returns-clause-holds c = λ f complete piece held.
     (all_whole f c.args.bytes.now c.args.complete c.args.first c.args.wanted complete piece) held
 
 pub returns-clause-stays : goal.returns-clause-stays
-returns-clause-stays c = λ n count room low high led.
-    puts_stay c.args.self.now (kept_blocks c.store.new.blocks) (whole_blocks c.args.complete c.args.first c.args.bytes.now c.args.wanted) c.store.result n count (puts c) room
-    (all_in_range c.args.complete c.args.first c.args.bytes.now c.args.wanted n count low high) led
+returns-clause-stays c = λ n count gone room led.
+    puts_stay c.args.self.now (kept_blocks c.store.new.blocks) (whole_blocks c.args.complete c.args.first c.args.bytes.now c.args.wanted) c.store.result n count (puts c) gone room led

@@ -47,7 +47,7 @@ returns-clause-exact c =
             to = end;
             gap = subst (λ bs. IsGap (numbers bs) from (blocks first len) start end) view
                 (gap (numbers old) (numbers (blocks_in c.copy.new.blocks.entries)) from (blocks first len) start end same
-                missing.0 missing.2 missing.3 run.within.0 (omega (arith, run.within.1, count)) run.gone (λ less. run.ends (omega (arith, less, count))));
+                missing.0 missing.2 missing.3 run.begins (omega (arith, run.within, count)) run.gone (λ less. run.ends (omega (arith, less, count))));
             first_is = refl;
             last_is = w.last_of.ensures;
           })

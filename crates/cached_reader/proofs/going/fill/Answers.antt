@@ -1,7 +1,7 @@
 use Rattle.std.proofs.Common.{◌∙◌}
-use Rattle.cog_client.specs.Going.{work}
-use Rattle.cog_client.proofs.GoingLemmas.{goes_trans, needed}
-use Rattle.cog_client.proofs.going.fill.Goals as goal
+use Rattle.cached_reader.specs.Going.{work}
+use Rattle.cached_reader.proofs.GoingLemmas.{goes_trans, needed}
+use Rattle.cached_reader.proofs.going.fill.Goals as goal
 
 pub returns-in_err-missing-clause-goes : goal.returns-in_err-missing-clause-goes
 returns-in_err-missing-clause-goes c =

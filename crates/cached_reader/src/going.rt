@@ -3,12 +3,12 @@ ghost use Rattle.std.specs.Prelude.{◌≡◌, ◌+◌, ◌-◌, ◌<◌, ◌≤
 ghost use Rattle.tiff_dir.specs.Needs.{max_range_bytes};
 ghost use Rattle.tiff_dir.specs.Walk.{extent_of_span};
 ghost use Rattle.cog_reader.specs.Reader.{complete_of, steps_of, wanted};
-ghost use Rattle.cog_client.specs.Going.{work, ReaderGoesOn, IsFilled, IsGiven};
+ghost use Rattle.cached_reader.specs.Going.{work, ReaderGoesOn, IsFilled, IsGiven};
 
+use crate::ahead::extend;
 use cog_reader::{Reader, lengths_are_known, nothing_comes};
-use http_range::Span;
-use range_cache::{Cache, Missing};
-use tiff_dir::Memory;
+use range_cache::{Cache, Missing, missing_is_exact};
+use tiff_dir::{Memory, Span};
 
 fn span_of(missing: Missing) -> Span
     ensures first { result.first ≡ missing.first }
@@ -37,6 +37,7 @@ fn give_from(
     ensures given { IfOk result (IsGiven (extent_of_span span) (work reader.old cache.old) (work reader.new cache.new)) }
 {
     lengths_are_known();
+    missing_is_exact();
     match cache.read_into(complete, span.first, out) {
         Ok(()) => {
             reader.give(out)?;
@@ -68,21 +69,24 @@ fn give_next(
     give_from(reader, cache, complete, span, &mut buffer[..len])
 }
 
-/// Gives the reader one range after another, as far as the cache has them, and says what is missing then.
+/// Gives the reader one range after another, as far as the cache has them, and says what is missing then: of the next range, and
+/// at most `ahead` blocks behind that which are needed later.
 pub fn fill(
     reader: &mut Reader,
     cache: &mut Cache,
     buffer: &mut Vec<u8>,
     complete: u64,
+    ahead: u32,
 ) -> Result<Option<Span>, Memory>
     requires { complete_of reader.old ≡ complete }
     ensures goes { ReaderGoesOn (work reader.old cache.old) (work reader.new cache.new) }
-    ensures filled { IfOk result (IsFilled (work reader.new cache.new)) }
+    ensures filled { IfOk result (IsFilled (work reader.new cache.new) ahead) }
 {
     nothing_comes();
     while let Some(span) = reader.need()? {
         if let Some(missing) = give_next(reader, cache, buffer, complete, span)? {
-            return Ok(Some(missing));
+            let asked = extend(reader, cache, complete, span, missing, ahead);
+            return Ok(Some(asked));
         }
     }
     Ok(None)

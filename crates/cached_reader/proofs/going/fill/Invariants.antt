@@ -1,7 +1,7 @@
 use Rattle.std.proofs.Common.{◌≡◌}
 use Rattle.cog_reader.specs.Reader.{complete_of, steps_of}
-use Rattle.cog_client.specs.Going.{work, ReaderGoesOn}
-use Rattle.cog_client.proofs.going.fill.Given as goal
+use Rattle.cached_reader.specs.Going.{work, ReaderGoesOn}
+use Rattle.cached_reader.proofs.going.fill.Given as goal
 
 abbrev pub invariant-loop-span : goal.invariant-loop-span
 invariant-loop-span l = record {

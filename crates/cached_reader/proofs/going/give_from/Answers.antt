@@ -2,9 +2,9 @@ use Rattle.std.proofs.Common.{◌≡◌, ◌+◌, length, arith, refl, sym, ap, 
 use Rattle.std.specs.Prelude.{slice_range}
 use Rattle.tiff_dir.specs.Walk.{extent_of_span}
 use Rattle.range_cache.specs.Cache.{Blocks}
-use Rattle.cog_client.specs.Going.{IsMissing}
-use Rattle.cog_client.proofs.GoingLemmas.{given, lacking, read}
-use Rattle.cog_client.proofs.going.give_from.Goals as goal
+use Rattle.cached_reader.specs.Going.{IsMissing}
+use Rattle.cached_reader.proofs.GoingLemmas.{given, lacking, read}
+use Rattle.cached_reader.proofs.going.give_from.Goals as goal
 
 pub returns-in_ok-give-in-Ok-clause-goes : goal.returns-in_ok-give-in-Ok-clause-goes
 returns-in_ok-give-in-Ok-clause-goes c =
@@ -31,7 +31,7 @@ returns-in-Err-clause-given c =
     let small = c.requires.small in
     let complete = c.requires.complete in (
       refl,
-      subst (λ n. IsMissing c.read_into.new.self n (extent_of_span a.span) c.span_of.result) (sym complete)
-          (lacking a.cache.now c.read_into.new.self a.complete (length a.out.now) (extent_of_span a.span) c.in-Err.missing c.span_of.result
+      subst (λ n. IsMissing c.read_into.new.self n (extent_of_span a.span) 0 c.span_of.result) (sym complete)
+          (lacking c.missing_is_exact.ensures.run c.missing_is_exact.ensures.few a.cache.now c.read_into.new.self a.complete (length a.out.now) (extent_of_span a.span) c.in-Err.missing c.span_of.result
           c.requires.room (omega arith) (omega arith) (omega arith) (omega (arith, e.sound.least, ap (λ (b : Blocks). b.capacity) e.entries)) e.same e.exact e.led c.span_of.ensures.first c.span_of.ensures.last),
     )

@@ -1,0 +1,16 @@
+use Rattle.std.proofs.Common.{◌≡◌, ℕ, List, ◌+◌, ◌*◌, ◌<◌, ◌≤◌, false}
+use Rattle.tiff_dir.specs.Block.{block_size}
+use Rattle.range_cache.specs.Cache.{numbers}
+use Rattle.range_cache.specs.Numbers.{has}
+use Rattle.cog_reader.specs.Reader.{complete_of, to_come, ReaderAgrees}
+use Rattle.cached_reader.specs.Going.{OneTouches}
+use Rattle.cached_reader.proofs.ahead.reach.Given as goal
+
+abbrev pub invariant-loop-index : goal.invariant-loop-index
+invariant-loop-index l = record {
+  low : l.from ≤ l.end;
+  high : l.end ≤ l.limit;
+  inside : l.end * block_size < complete_of l.reader + block_size;
+  gone : (k : ℕ) → l.from ≤ k → k < l.end → has k (numbers l.cache.entries) ≡ false;
+  needed : (f : List ℕ) → ReaderAgrees l.reader f → (k : ℕ) → l.from ≤ k → k < l.end → OneTouches (to_come l.reader f) k;
+}

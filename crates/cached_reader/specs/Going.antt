@@ -1,0 +1,94 @@
+-- Going on: the reader is given what the cache has, and what is missing then.
+use Rattle.std.specs.Prelude.{◌≡◌, ℕ, ◌+◌, ◌-◌, ◌*◌, ◌<◌, ◌≤◌, false, List, Option, Some, None, IsSome, IsSomeAnd, ◌⊎◌, slice_get}
+use Rattle.tiff_dir.specs.declared.span.Span.{Span}
+use Rattle.tiff_dir.specs.Needs.{Extent, IsEndOf, max_range_bytes}
+use Rattle.tiff_dir.specs.Block.{block_size, end_of, first_block, blocks}
+use Rattle.range_cache.specs.Cache.{Blocks, Holds, block_at, numbers}
+use Rattle.range_cache.specs.Numbers.{has, missing as absent, IsLed}
+use Rattle.range_cache.specs.Missing.{IsFirstGap}
+use Rattle.range_cache.specs.declared.missing.Missing.{Missing}
+use Rattle.cog_reader.specs.Reader.{ReaderState, ReaderAgrees, complete_of, outcome_of, query_of, steps_of, to_come}
+
+-- a reader, and the blocks that it reads from
+pub record CachedReader : Type 0 where
+  pub reader : ReaderState
+  pub cache : Blocks
+
+abbrev pub work : ReaderState → Blocks → CachedReader
+work r b = record { reader = r; cache = b }
+
+-- the same blocks, in whatever order
+pub record AreSame (old new : Blocks) : Type 0 where
+  pub capacity : new.capacity ≡ old.capacity
+  pub blocks : (k : ℕ) → block_at k new.entries ≡ block_at k old.entries
+
+-- what it holds is still the file's, and what is to come is an end of what was
+pub record ReaderStaysOf (f : List ℕ) (old new : CachedReader) : Type 0 where
+  pub reader : ReaderAgrees new.reader f
+  pub cache : Holds f new.cache
+  pub come : IsEndOf (to_come new.reader f) (to_come old.reader f)
+
+-- What the reader is given changes no block, no length and no query.
+pub record ReaderGoesOn (old new : CachedReader) : Type 0 where
+  pub complete : complete_of new.reader ≡ complete_of old.reader
+  pub query : query_of new.reader ≡ query_of old.reader
+  pub blocks : AreSame old.cache new.cache
+  pub file : (f : List ℕ) → ReaderAgrees old.reader f → Holds f old.cache → ReaderStaysOf f old new
+
+-- a range touches block k
+abbrev pub Touches : Extent → ℕ → Type 0
+Touches r k = (first_block r.first ≤ k) × (k < first_block r.first + blocks r.first r.len)
+
+-- one of these ranges touches block k
+abbrev pub OneTouches : List Extent → ℕ → Type 0
+OneTouches rs k = (place : ℕ) × IsSomeAnd (slice_get rs place) (λ r. Touches r k)
+
+-- each block that begins in the span is touched by one of these ranges
+abbrev pub AreTouched : List Extent → Span → Type 0
+AreTouched rs s = (k : ℕ) → s.first ≤ k * block_size → k * block_size ≤ s.last → OneTouches rs k
+
+-- no more than 65 blocks are asked for
+abbrev pub max_blocks : ℕ
+max_blocks = 65
+
+-- Of a range these are the bytes of the first run of missing blocks, and behind it of at most so many more, none of which is there:
+-- 65 blocks at most in all, which have room beside those of the range that are there and lead.
+pub record IsMissing (b : Blocks) (complete : ℕ) (r : Extent) (ahead : ℕ) (span : Span) : Type 0 where
+  pub some : 0 < r.len
+  pub within : r.first + r.len ≤ complete
+  pub small : r.len ≤ max_range_bytes
+  pub missing : Missing
+  pub lacks : IsFirstGap b complete r.first r.len missing
+  pub first : span.first ≡ missing.first
+  pub to : ℕ
+  pub last : span.last + 1 ≡ end_of complete (to - 1)
+  pub on : lacks.to ≤ to
+  pub near : to ≤ lacks.to + ahead
+  pub few : to ≤ lacks.from + max_blocks
+  pub inside : to * block_size < complete + block_size
+  pub gone : (k : ℕ) → lacks.from ≤ k → k < to → has k (numbers b.entries) ≡ false
+  pub led : IsLed (numbers b.entries) (first_block r.first) (blocks r.first r.len)
+  pub room : blocks r.first r.len - absent (numbers b.entries) (first_block r.first) (blocks r.first r.len) + (to - lacks.from) ≤ b.capacity
+
+-- The range that is still to come first, of whatever file is read, isn't all there: this is missing of it, and behind it of those
+-- that are to come later.
+pub record IsStopped (w : CachedReader) (ahead : ℕ) (span : Span) : Type 0 where
+  pub range : Extent
+  pub first : (f : List ℕ) → ReaderAgrees w.reader f → slice_get (to_come w.reader f) 0 ≡ Some range
+  pub missing : IsMissing w.cache (complete_of w.reader) range ahead span
+  pub needed : (f : List ℕ) → ReaderAgrees w.reader f → AreTouched (to_come w.reader f) span
+
+-- The reader needs nothing more, or stopped where the cache lacks something.
+abbrev pub IsFilled : CachedReader → ℕ → Option Span → Type 0
+IsFilled w ahead None = (query_of w.reader ≡ None) ⊎ IsSome (outcome_of w.reader)
+IsFilled w ahead (Some span) = IsStopped w ahead span
+
+-- Looking no block ahead is asking for what is missing of one range.
+abbrev pub LooksAtOneRange : Type 0
+LooksAtOneRange = (b : Blocks) (complete : ℕ) (r : Extent) (span : Span) (m : IsMissing b complete r 0 span) →
+    (m.to ≡ m.lacks.to) × (span.last ≡ m.missing.last)
+
+-- One range: it was given, and one step less is left; or it isn't all there, and the reader is as it was.
+abbrev pub IsGiven : Extent → CachedReader → CachedReader → Option Span → Type 0
+IsGiven r old new None = steps_of new.reader < steps_of old.reader
+IsGiven r old new (Some span) = (new.reader ≡ old.reader) × IsMissing new.cache (complete_of new.reader) r 0 span

@@ -1,0 +1,86 @@
+//! Looking ahead: behind what is missing of the range that is needed next, the blocks that follow it may be asked for too.
+ghost use Rattle.std.specs.Prelude.{◌≡◌, ◌+◌, ◌*◌, ◌/◌, ◌<◌, ◌≤◌, ℕ, List, Some, false, slice_get};
+ghost use Rattle.tiff_dir.specs.Block.{block_size};
+ghost use Rattle.tiff_dir.specs.Walk.{extent_of_span};
+ghost use Rattle.range_cache.specs.Numbers.{has};
+ghost use Rattle.range_cache.specs.Cache.{numbers};
+ghost use Rattle.cog_reader.specs.Reader.{complete_of, to_come, ReaderAgrees};
+ghost use Rattle.cached_reader.specs.Going.{work, IsMissing, OneTouches, IsStopped, Touches};
+
+use cog_reader::Reader;
+use range_cache::{Cache, missing_is_exact};
+use tiff_dir::Span;
+use tiff_dir::limits::BLOCK_SIZE;
+
+/// The most blocks that one request asks for.
+const MAX_BLOCKS: u64 = 65;
+
+/// Where a run of missing blocks ends that goes on in a range, before a limit.
+fn reach_in(cache: &Cache, range: Span, from: u64, limit: u64) -> u64
+    requires { from ≤ limit }
+    ensures low { from ≤ result }
+    ensures high { result ≤ limit }
+    ensures gone { (k : ℕ) → from ≤ k → k < result → has k (numbers cache.now.entries) ≡ false }
+    ensures touches { (k : ℕ) → from ≤ k → k < result → Touches (extent_of_span range) k }
+    ensures within { from < result → result ≤ range.last / block_size + 1 }
+{
+    let to = (range.last / BLOCK_SIZE + 1).min(limit);
+    if range.first / BLOCK_SIZE > from || to <= from {
+        return from;
+    }
+    cache.run_end(from, to)
+}
+
+/// Where a run of missing blocks ends that goes on in the ranges that are known to be needed later, before a limit.
+fn reach(reader: &Reader, cache: &Cache, from: u64, limit: u64) -> u64
+    requires low { from ≤ limit }
+    requires inside { from * block_size < complete_of reader.now + block_size }
+    ensures low { from ≤ result }
+    ensures high { result ≤ limit }
+    ensures inside { result * block_size < complete_of reader.now + block_size }
+    ensures gone { (k : ℕ) → from ≤ k → k < result → has k (numbers cache.now.entries) ≡ false }
+    ensures needed { (f : List ℕ) → ReaderAgrees reader.now f → (k : ℕ) → from ≤ k → k < result → OneTouches (to_come reader.now f) k }
+{
+    let mut end = from;
+    for index in 0..u32::MAX {
+        if end >= limit {
+            return end;
+        }
+        let Some(range) = reader.upcoming(index) else {
+            return end;
+        };
+        if range.first / BLOCK_SIZE > end {
+            return end;
+        }
+        end = reach_in(cache, range, end, limit);
+    }
+    end
+}
+
+/// What to ask for: what is missing of the range that is needed next, and behind it at most so many blocks that are needed
+/// later. All have room beside the blocks of the range that are there.
+pub fn extend(
+    reader: &Reader,
+    cache: &Cache,
+    complete: u64,
+    range: Span,
+    missing: Span,
+    ahead: u32,
+) -> Span
+    requires missing { IsMissing cache.now (complete_of reader.now) (extent_of_span range) 0 missing }
+    requires next { (f : List ℕ) → ReaderAgrees reader.now f → slice_get (to_come reader.now f) 0 ≡ Some (extent_of_span range) }
+    requires complete { complete_of reader.now ≡ complete }
+    ensures { IsStopped (work reader.now cache.now) ahead result }
+{
+    missing_is_exact();
+    let from = missing.first / BLOCK_SIZE;
+    let end = missing.last / BLOCK_SIZE + 1;
+    let present = cache.present(range.first / BLOCK_SIZE, range.last / BLOCK_SIZE + 1);
+    let room = u64::from(cache.capacity()) - present;
+    let limit = (from + room.min(MAX_BLOCKS)).min(end + u64::from(ahead));
+    let end = reach(reader, cache, end, limit);
+    Span {
+        first: missing.first,
+        last: ((end - 1) * BLOCK_SIZE + (BLOCK_SIZE - 1)).min(complete - 1),
+    }
+}

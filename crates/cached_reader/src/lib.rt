@@ -1,0 +1,10 @@
+//! A reader that is given what a cache of the file's blocks has, and what is missing then: of the range that it needs next,
+//! and, where a request looks ahead, of those that it needs later.
+#![tactic(auto)]
+
+mod ahead;
+mod going;
+mod laws;
+
+pub use going::fill;
+pub use laws::looks_at_one_range;

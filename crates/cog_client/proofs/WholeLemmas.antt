@@ -1,0 +1,168 @@
+-- Whole answers, one after another, lead to a report.
+use Rattle.std.proofs.Common.{◌≡◌, ◌⊎◌, ℕ, zero, suc, true, ◌+◌, ◌<◌, ◌≤◌, List, Option, Some, None, refl, sym, ap, ◌∙◌, subst, arith, inl, inr}
+use Rattle.std.specs.Prelude.{IfSome, IsSome, is_some}
+use Rattle.std.specs.Option.{option_map}
+use Rattle.std.proofs.lemmas.Bool.{false≢true}
+use Rattle.std.proofs.lemmas.Option.{none-some, same_Some}
+use Rattle.tiff_dir.specs.declared.query.Query.{Query}
+use Rattle.tiff_dir.specs.Query.{cost}
+use Rattle.http_range.specs.Book.{Publication, Book, HasDistinctTags, In}
+use Rattle.http_range.specs.Honest.{IsHonest}
+use Rattle.http_range.specs.Laws.{PublishedIsNamed, RequestsAreAnswered, TagsTellOne}
+use Rattle.cog_client.specs.declared.asking.Asking.{Asking}
+use Rattle.cog_client.specs.declared.report.Report.{Report}
+use Rattle.cog_client.specs.Case.{Revision}
+use Rattle.cog_client.specs.Client.{ClientAgrees, ClientState, Knows, KnowsOne, asked_of, how_of, name_of, query_of, report_of, revision_of, tag_of}
+use Rattle.cog_client.specs.Keeps.{AsksLike}
+use Rattle.cog_client.specs.Progress.{AreExchanges, AskingLeavesAsMuch, BringsOn, CostIsMost, DeliveryReports, Exchanges, GoingOnLeavesNoMore, OwnAnswersBringOn, WholeAnswersReport, left}
+use Rattle.cog_client.proofs.OwnLemmas.{own_honest}
+
+-- what is known of the single steps
+pub record StepLaws : Type 0 where
+  pub own : OwnAnswersBringOn
+  pub goes : GoingOnLeavesNoMore
+  pub asks : AskingLeavesAsMuch
+  pub delivery : DeliveryReports
+  pub cost_is : CostIsMost
+  pub one : TagsTellOne
+  pub answered : RequestsAreAnswered
+  pub named : PublishedIsNamed
+
+-- ---- how a client asks
+
+-- what else a caller sees of a client
+record IsSeenAs (old new : ClientState) : Type 0 where
+  query : query_of new ≡ query_of old
+  asked : asked_of new ≡ asked_of old
+  revision : revision_of new ≡ revision_of old
+  report : report_of new ≡ report_of old
+
+seen_as : (how : Asking) (old new : ClientState) → AsksLike how old new → IsSeenAs old new
+unfolding query_of asked_of revision_of report_of
+seen_as how old new h = record { query = ap query_of h.seen; asked = ap asked_of h.seen; revision = ap revision_of h.seen; report = ap report_of h.seen }
+
+abbrev tag_by : Option Revision → Option (List ℕ)
+tag_by o = option_map (λ (v : Revision). v.tag) o
+
+-- ---- one exchange
+
+-- at most m whole answers are left for a client: nothing of p's file was read yet, or so many blocks are left
+abbrev IsWithin : Publication → Query → ℕ → ClientState → Type 0
+IsWithin p q m c = (cost p.file q < m) ⊎ ((tag_of c ≡ Some p.tag) × (left p.file c ≤ m) × (1 ≤ m))
+
+some_of : {A : Type 0} (o : Option A) (x : A) (P : A → Type 0) → o ≡ Some x → IfSome o P → P x
+some_of o x P is h = subst (λ z. IfSome z P) is h
+
+some_left : (n : ℕ) → (n ≡ 0 → ⊥) → 1 ≤ n
+some_left zero not = absurd (not refl)
+some_left (suc n) not = omega arith
+
+record IsReading (book : Book) (q : Query) (c : ClientState) : Type 0 where
+  agrees : ClientAgrees c book
+  query : query_of c ≡ Some q
+
+-- where the report stands nothing is asked any more
+ends : (p : Publication) (c next : ClientState) → Exchanges p c next → is_some (report_of c) ≡ true → ⊥
+ends p c next x stands =
+    let told = seen_as x.how c x.told x.tells in
+    let waits = seen_as (record (how_of x.asking) { ahead = x.ahead }) x.asking x.waiting x.looks in
+    let there : is_some (report_of x.told) ≡ true = ap is_some told.report ∙ stands in
+    let still : is_some (report_of x.asking) ≡ true = ap is_some (x.requests.seen.report there) ∙ there in
+    let asked : asked_of x.asking ≡ Some x.span = sym waits.asked ∙ x.own.asked in
+    none-some x.span (sym (x.requests.seen.idle (inr still)) ∙ asked)
+
+module _ (laws : StepLaws) (book : Book) (p : Publication) (q : Query) (distinct : HasDistinctTags book) (among : In p book) where
+  -- a client that agrees with the book knows p's file, where it has the tag
+  knows_file : (c : ClientState) → ClientAgrees c book → tag_of c ≡ Some p.tag → Knows p.file c
+  unfolding ClientAgrees
+  knows_file c agrees tag = at (revision_of c) refl agrees
+    where
+      at : (o : Option Revision) → revision_of c ≡ o → IfSome o (KnowsOne c book) → Knows p.file c
+      at None is k = absurd (none-some p.tag (sym (ap tag_by is) ∙ tag))
+      at (Some v) is k =
+          let same_tag : v.tag ≡ p.tag = same_Some _ _ (sym (ap tag_by is) ∙ tag) in
+          let same : k.source ≡ p = laws.one book distinct k.source p k.published among (k.of_tag ∙ same_tag) in
+          subst (λ (s : Publication). Knows s.file c) same k.knows
+
+  step : (m : ℕ) (c next : ClientState) → IsReading book q c → IsWithin p q (suc m) c → Exchanges p c next → IsReading book q next × (IsSome (report_of next) ⊎ IsWithin p q m next)
+  step m c next r within x = (record { agrees = after; query = query }, by (report_of next) refl)
+    where
+      told : IsSeenAs c x.told
+      told = seen_as x.how c x.told x.tells
+
+      waits : IsSeenAs x.asking x.waiting
+      waits = seen_as (record (how_of x.asking) { ahead = x.ahead }) x.asking x.waiting x.looks
+
+      told_agrees : ClientAgrees x.told book
+      told_agrees = x.tells.agrees book r.agrees
+
+      agrees : ClientAgrees x.waiting book
+      agrees = x.looks.agrees book (x.requests.goes.agrees book told_agrees)
+
+      honest : IsHonest x.text (name_of x.waiting) book
+      honest =
+          inl (p, among, laws.named.named (name_of x.waiting) x.own.catalogue p x.own.has, own_honest laws.answered laws.named x.waiting p x.span x.text x.own)
+
+      after : ClientAgrees next book
+      after = x.delivers.agrees book distinct agrees honest
+
+      query : query_of next ≡ Some q
+      query = x.delivers.seen.same.query ∙ waits.query ∙ x.requests.seen.goes.same.query ∙ told.query ∙ r.query
+
+      brings : BringsOn p x.waiting next x.what
+      brings = laws.own x.waiting next p x.span x.text x.what x.own (knows_file x.waiting agrees) x.delivers
+
+      tag : tag_of next ≡ Some p.tag
+      tag = ap tag_by brings.revision
+
+      knows : Knows p.file next
+      knows = knows_file next after tag
+
+      most : left p.file next ≤ cost p.file q
+      most = some_of (query_of next) q (λ k. left p.file next ≤ cost p.file k) query (laws.cost_is next p.file knows)
+
+      -- less is left than before, where something of the file was read
+      less : tag_of c ≡ Some p.tag → left p.file next + 1 ≤ left p.file c
+      less had =
+          let told_tag : tag_of x.told ≡ Some p.tag = ap tag_by told.revision ∙ had in
+          let waiting_tag : tag_of x.waiting ≡ Some p.tag = ap tag_by (waits.revision ∙ x.requests.seen.goes.revision) ∙ told_tag in
+          omega (
+            arith,
+            brings.less waiting_tag,
+            laws.asks (record (how_of x.asking) { ahead = x.ahead }) x.asking x.waiting p.file x.looks,
+            laws.goes x.told x.asking p.file x.requests.goes (knows_file x.told told_agrees told_tag),
+            laws.asks x.how c x.told p.file x.tells,
+          )
+
+      few : IsWithin p q (suc m) c → 1 ≤ left p.file next → left p.file next ≤ m
+      few (inl low) more = omega (arith, low, most)
+      few (inr had) more = omega (arith, had.1, less had.0)
+
+      by : (o : Option Report) → report_of next ≡ o → IsSome (report_of next) ⊎ IsWithin p q m next
+      by (Some t) is = inl (ap is_some is)
+      by None is =
+          let more : 1 ≤ left p.file next = some_left (left p.file next) (λ e.
+          false≢true (sym (ap is_some is)
+          ∙ laws.delivery x.waiting next x.text x.what p.file x.delivers brings.used (record { revision = ap is_some brings.revision; knows = knows; query = ap is_some query }) e)) in
+          inr (inr (tag, few within more, omega (arith, few within more, more)))
+
+  -- ---- so many
+
+  reach : (n m : ℕ) (c new : ClientState) → IsReading book q c → IsSome (report_of c) ⊎ IsWithin p q m c → AreExchanges p n c new → (n ≤ m) × (IsSome (report_of new) ⊎ (n + 1 ≤ m))
+  reach zero m c new r (inl stands) is = (omega arith, inl (ap (λ (x : ClientState). is_some (report_of x)) is ∙ stands))
+  reach zero m c new r (inr within) is = (omega arith, inr (some within))
+    where
+      some : IsWithin p q m c → 1 ≤ m
+      some (inl low) = omega (arith, low)
+      some (inr had) = had.2
+  reach (suc n) m c new r (inl stands) (mid, x, rest) = absurd (ends p c mid x stands)
+  reach (suc n) zero c new r (inr within) (mid, x, rest) = absurd (elim within [ inl low ↦ omega (arith, low) | inr had ↦ omega (arith, had.2) ])
+  reach (suc n) (suc m) c new r (inr within) (mid, x, rest) =
+      let on = step m c mid r within x in
+      let far = reach n m mid new on.0 on.1 rest in
+      (omega (arith, far.0), elim far.1 [ inl stands ↦ inl stands | inr few ↦ inr (omega (arith, few)) ])
+
+pub whole_answers : StepLaws → WholeAnswersReport
+whole_answers laws book p q old opened new n distinct among agrees opens are =
+    let far = reach laws book p q distinct among n (cost p.file q + 1) opened new (record { agrees = opens.agrees book agrees; query = opens.seen.asks }) (inr (inl (omega arith))) are in
+    (far.0, elim far.1 [ inl stands ↦ inl stands | inr few ↦ inr (omega (arith, few)) ])

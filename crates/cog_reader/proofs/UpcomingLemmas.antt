@@ -1,0 +1,134 @@
+-- The ranges that are known after the one that is wanted.
+use Rattle.std.proofs.Common.{◌≡◌, ℕ, ◌+◌, ◌<◌, ◌≤◌, List, Option, Some, None, refl, sym, subst, ap, ◌∙◌, arith}
+use Rattle.std.specs.Prelude.{slice_get, IfSome, IsSomeAnd, MatchOption, if◌then◌else◌}
+use Rattle.std.specs.Option.{option_map}
+use Rattle.std.proofs.lemmas.Bool.Decides.{eqb_tells}
+use Rattle.std.proofs.Common.{inl, inr}
+use Rattle.std.proofs.lemmas.Option.{none-some, same_Some, slice_get-map}
+use Rattle.tiff_dir.specs.declared.level.Level.{Level}
+use Rattle.tiff_dir.specs.declared.level.Place.{Place}
+use Rattle.tiff_dir.specs.declared.query.Query.{Query}
+use Rattle.tiff_dir.specs.declared.span.Span.{Span}
+use Rattle.tiff_dir.specs.File.{◌>>=◌}
+use Rattle.tiff_dir.specs.Geo.{geo_ranges}
+use Rattle.tiff_dir.specs.WalkState.{WalkState}
+use Rattle.tiff_dir.specs.Needs.{Extent, extent_of_place}
+use Rattle.tiff_dir.specs.Query.{needs_of_query}
+use Rattle.tiff_dir.specs.Walk.{extent_of_span}
+use Rattle.tile_plan.specs.declared.asked.Rectangle.{Rectangle}
+use Rattle.tile_plan.specs.declared.plan.Group.{Group}
+use Rattle.cog_reader.specs.declared.fields.Fields.{Fields}
+use Rattle.cog_reader.specs.declared.kept.Kept.{Kept}
+use Rattle.cog_reader.specs.declared.mosaic.Mosaic.{Mosaic}
+use Rattle.cog_reader.specs.declared.state.State.{State}
+use Rattle.cog_reader.specs.declared.state.State.TheVariants.{Arrays as Reads, Tiles, Fields as Geo}
+use Rattle.cog_reader.specs.Fields.{present_in}
+use Rattle.cog_reader.specs.Kept.{array_after, arrays_held, HasBoth}
+use Rattle.cog_reader.specs.Mosaic.{IsPlan, IsUnderway}
+use Rattle.cog_reader.specs.Reader.{come_by, upcoming_by, StateAgrees}
+use Rattle.cog_reader.specs.Step.{ComesLater, IsBase}
+use Rattle.cog_reader.proofs.FieldLemmas.{geo_ranges_are}
+use Rattle.cog_reader.proofs.FirstLemmas.{get_of_drop, some_both}
+use Rattle.cog_reader.proofs.GiveLemmas.{group_at}
+use Rattle.cog_reader.proofs.SoundLemmas.{array_some}
+use Rattle.cog_reader.proofs.StepLemmas.{fair_group_at, needs_split, IsLevelOf}
+
+-- ---- a group
+
+pub later_group : (complete : ℕ) (w : WalkState) (k : Kept) (m : Mosaic) (i : ℕ) (o : Option Span) → HasBoth k (λ a. IsPlan complete a m)
+    → MatchOption o (slice_get m.groups (m.given + 1 + i) ≡ None) (λ span. IsSomeAnd (slice_get m.groups (m.given + 1 + i)) (λ g. g.span ≡ span))
+    → ComesLater complete w k (Tiles m) i o
+later_group complete w k m i None both is =
+    subst (λ x. IfSome x (λ r. complete < r.first + r.len)) (sym (ap (option_map (λ (g : Group). extent_of_span g.span)) is)) tt
+later_group complete w k m i (Some span) both is = at (slice_get m.groups (m.given + 1 + i)) refl is
+  where
+    come : (g : Group) → slice_get m.groups (m.given + 1 + i) ≡ Some g → (f : List ℕ) (q : Query) → StateAgrees f q k (Tiles m)
+        → slice_get (come_by f w k q (Tiles m)) (i + 1) ≡ Some (extent_of_span g.span)
+    come g is f q here =
+        let place : 2 + m.given + (i + 1) ≡ 2 + (m.given + 1 + i) = omega arith in
+        get_of_drop (needs_of_query f q) (2 + m.given) (i + 1) ∙ ap (slice_get (needs_of_query f q)) place
+        ∙ some_both k (λ a. IsUnderway f q a m) (slice_get (needs_of_query f q) (2 + (m.given + 1 + i)) ≡ Some (extent_of_span g.span)) here.0 (λ a u. group_at f q a m g (m.given + 1 + i) u is)
+
+    at : (x : Option Group) → slice_get m.groups (m.given + 1 + i) ≡ x → IsSomeAnd x (λ g. g.span ≡ span) → ComesLater complete w k (Tiles m) i (Some span)
+    at None is bad = absurd bad
+    at (Some g) is same =
+        let inside : g.span.last < complete = some_both k (λ a. IsPlan complete a m) (g.span.last < complete) both (λ a plan.
+        let fair = fair_group_at complete a m g (m.given + 1 + i) plan is in
+        let up = g.span.ascending in
+        omega (arith, up, fair.inside)) in (
+          ap (option_map (λ (g : Group). extent_of_span g.span)) is ∙ ap (λ s. Some (extent_of_span s)) same,
+          subst (λ (s : Span). s.last < complete) same inside,
+          λ f q base here. come g is f q here ∙ ap (λ s. Some (extent_of_span s)) same,
+        )
+
+-- ---- a place, whose bytes may end after the file
+
+placed : (complete : ℕ) (w : WalkState) (k : Kept) (state : State) (i : ℕ) (p : Place) (o : Option Span) → upcoming_by w k state i ≡ Some (extent_of_place p)
+    → ((f : List ℕ) (q : Query) → IsBase f complete w k → StateAgrees f q k state → slice_get (come_by f w k q state) (i + 1) ≡ Some (extent_of_place p))
+    → MatchOption o (complete < p.first + p.len) (λ span. (extent_of_span span ≡ extent_of_place p) × (p.first + p.len ≤ complete))
+    → ComesLater complete w k state i o
+placed complete w k state i p None is come past = subst (λ x. IfSome x (λ r. complete < r.first + r.len)) (sym is) past
+placed complete w k state i p (Some span) is come within =
+    let up = span.ascending in
+    let first = ap (λ (r : Extent). r.first) within.0 in
+    let len = ap (λ (r : Extent). r.len) within.0 in
+    let inside = within.1 in (
+      is ∙ ap Some (sym within.0),
+      omega (arith, up, first, len, inside),
+      λ f q base here. come f q base here ∙ ap Some (sym within.0),
+    )
+
+none_placed : (complete : ℕ) (w : WalkState) (k : Kept) (state : State) (i : ℕ) → upcoming_by w k state i ≡ None → ComesLater complete w k state i None
+none_placed complete w k state i none = subst (λ x. IfSome x (λ r. complete < r.first + r.len)) (sym none) tt
+
+-- ---- a geo field
+
+pub no_later_field : (complete : ℕ) (w : WalkState) (k : Kept) (x : Fields) (i : ℕ) → slice_get (present_in x.places) (x.given + 1 + i) ≡ None → ComesLater complete w k (Geo x) i None
+no_later_field complete w k x i none = none_placed complete w k (Geo x) i (ap (option_map extent_of_place) none)
+
+pub later_field : (complete : ℕ) (w : WalkState) (k : Kept) (x : Fields) (i : ℕ) (p : Place) (o : Option Span) → slice_get (present_in x.places) (x.given + 1 + i) ≡ Some p
+    → MatchOption o (complete < p.first + p.len) (λ span. (extent_of_span span ≡ extent_of_place p) × (p.first + p.len ≤ complete))
+    → ComesLater complete w k (Geo x) i o
+unfolding needs_of_query
+later_field complete w k x i p o is placed_at = placed complete w k (Geo x) i p o (ap (option_map extent_of_place) is) come placed_at
+  where
+    come : (f : List ℕ) (q : Query) → IsBase f complete w k → StateAgrees f q k (Geo x) → slice_get (come_by f w k q (Geo x)) (i + 1) ≡ Some (extent_of_place p)
+    come f q base here =
+        let needs : needs_of_query f q ≡ geo_ranges f = ap (needs_of_query f) here.0 in
+        let place : x.given + (i + 1) ≡ x.given + 1 + i = omega arith in
+        get_of_drop (needs_of_query f q) x.given (i + 1) ∙ ap (slice_get (needs_of_query f q)) place
+        ∙ ap (λ l. slice_get l (x.given + 1 + i)) (needs ∙ geo_ranges_are f x.places here.1.places)
+        ∙ slice_get-map extent_of_place (present_in x.places) (x.given + 1 + i) ∙ ap (option_map extent_of_place) is
+
+-- ---- an array
+
+-- what is read after the next array are the counts, where none is held
+after_is : (k : Kept) (n : ℕ) (l : Level) (p : Place) → array_after k n l ≡ Some p → (arrays_held k n ≡ 0) × (p ≡ l.counts)
+after_is k n l p is = elim (eqb_tells (arrays_held k n) 0) [
+  | inl e ↦ (e.1, sym (same_Some l.counts p (sym (ap (λ t. if t then Some l.counts else None) e.0) ∙ is)))
+  | inr e ↦ absurd (none-some p (sym (ap (λ t. if t then Some l.counts else None) e.0) ∙ is))
+]
+
+pub no_later_array : (complete : ℕ) (w : WalkState) (k : Kept) (r : Rectangle) (l : Level) → IsLevelOf w r.level l → array_after k r.level l ≡ None → ComesLater complete w k (Reads r) 0 None
+no_later_array complete w k r l of_level none =
+    none_placed complete w k (Reads r) 0 (ap (λ o. o >>= λ l. option_map extent_of_place (array_after k r.level l)) of_level.there ∙ ap (option_map extent_of_place) none)
+
+pub later_array : (complete : ℕ) (w : WalkState) (k : Kept) (r : Rectangle) (l : Level) (p : Place) (o : Option Span) → IsLevelOf w r.level l → array_after k r.level l ≡ Some p
+    → MatchOption o (complete < p.first + p.len) (λ span. (extent_of_span span ≡ extent_of_place p) × (p.first + p.len ≤ complete))
+    → ComesLater complete w k (Reads r) 0 o
+later_array complete w k r l p o of_level is placed_at =
+    placed complete w k (Reads r) 0 p o (ap (λ o. o >>= λ l. option_map extent_of_place (array_after k r.level l)) of_level.there ∙ ap (option_map extent_of_place) is) come placed_at
+  where
+    come : (f : List ℕ) (q : Query) → IsBase f complete w k → StateAgrees f q k (Reads r) → slice_get (come_by f w k q (Reads r)) (0 + 1) ≡ Some (extent_of_place p)
+    come f q base here =
+        let after = after_is k r.level l p is in
+        let split = needs_split f q r l here.0 here.1 (of_level.layout f base.walked) in
+        get_of_drop (needs_of_query f q) (arrays_held k r.level) 1
+        ∙ ap (λ n. slice_get (needs_of_query f q) (n + 1)) after.0
+        ∙ ap (λ xs. slice_get xs 1) split ∙ ap (λ x. Some (extent_of_place x)) (sym after.1)
+
+pub some_later : (k : Kept) (n : ℕ) (l : Level) (p : Place) → array_after k n l ≡ Some p → 0 < p.len
+some_later k n l p is =
+    let some = (array_some l).1 in
+    let len = ap (λ (y : Place). y.len) (after_is k n l p is).1 in
+    omega (arith, some, len)
