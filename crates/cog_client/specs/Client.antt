@@ -1,5 +1,5 @@
 -- The words for what callers know of a client, and when what it holds is of a published file.
-use Rattle.std.specs.Prelude.{◌≡◌, ℕ, ◌+◌, ◌*◌, ◌<◌, Bool, not, ◌||◌, nat_lt, IsTrue, if◌then◌else◌, List, [], length, Option, Some, None, IfSome, is_some, ⊤}
+use Rattle.std.specs.Prelude.{◌≡◌, ℕ, ◌+◌, ◌*◌, ◌<◌, Bool, not, ◌||◌, nat_lt, IsTrue, if◌then◌else◌, List, [], length, Option, Some, None, IfSome, IsSomeAnd, is_some, ⊤}
 use Rattle.std.specs.Option.{option_map, option_map_or}
 use Rattle.tiff_dir.specs.declared.query.Query.{Query}
 use Rattle.tiff_dir.specs.declared.span.Span.{Span}
@@ -111,6 +111,10 @@ to_come c f = option_map_or (λ (s : Source). reader.to_come s.reader f) c.sourc
 -- What a query needs of the file but for the directories and the arrays that are held.
 unfoldable pub unread : ClientState → List ℕ → Query → List Extent
 unread c f q = option_map_or (λ (s : Source). reader.unread s.reader f q) c.source []
+
+-- All directories of the file that is read are known.
+unfoldable pub AreDirectoriesKnown : ClientState → Type 0
+AreDirectoriesKnown c = IsSomeAnd c.source (λ s. reader.AreDirectoriesRead s.reader)
 
 abbrev pub tag_of : ClientState → Option (List ℕ)
 tag_of c = option_map (λ (v : Revision). v.tag) (revision_of c)

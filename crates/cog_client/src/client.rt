@@ -19,7 +19,7 @@ use http_range::{
 use range_cache::{Cache, CacheError};
 use std::alloc::Global;
 use std::marker::Model;
-use tiff_dir::{Memory, Query};
+use tiff_dir::{Level, Memory, Query};
 
 /// What a client asks for that has no revision: the first 65,536 bytes.
 fn first_span() -> Span
@@ -79,15 +79,16 @@ impl Model for Client {
     }) };
 }
 
-#[tactic(auto, unfolding(crate::specs::Client::how_of, crate::specs::Client::host_of, crate::specs::Client::name_of, crate::specs::Client::query_of, crate::specs::Client::asked_of, crate::specs::Client::revision_of, crate::specs::Client::blocks_of, crate::specs::Client::report_of, crate::specs::Client::feed_of, crate::specs::Client::to_come, crate::specs::Client::Knows, crate::specs::Client::ClientAgrees))]
+#[tactic(auto, unfolding(crate::specs::Client::how_of, crate::specs::Client::host_of, crate::specs::Client::name_of, crate::specs::Client::query_of, crate::specs::Client::asked_of, crate::specs::Client::revision_of, crate::specs::Client::blocks_of, crate::specs::Client::report_of, crate::specs::Client::feed_of, crate::specs::Client::to_come, crate::specs::Client::AreDirectoriesKnown, crate::specs::Client::Knows, crate::specs::Client::ClientAgrees))]
 impl Client {
-    ghost use Rattle.std.specs.Prelude.{◌≡◌, None, Some, IfErr, IfOk, IfSome, IsSome, IsTrue, OnErr, OnOk, option_copied};
+    ghost use Rattle.std.specs.Prelude.{◌≡◌, ℕ, List, None, Some, IfErr, IfOk, IfSome, IsSome, IsTrue, MatchOption, OnErr, OnOk, option_copied};
     ghost use Rattle.std.specs.Option.{option_map};
+    ghost use Rattle.tiff_dir.specs.Described.{AreLevels};
     ghost use Rattle.http_range.specs.Ask.{CanAsk, CanCheck};
     ghost use Rattle.http_range.specs.Announced.{announced};
     ghost use Rattle.http_range.specs.Tag.{is_kept_tag};
     ghost use Rattle.cog_client.specs.declared.delivered.Current.TheVariants.{Same};
-    ghost use Rattle.cog_client.specs.Client.{client_refusal, IsFew, IsClientRefusal, asked_of, feed_of, host_of, name_of, blocks_of, query_of, report_of, revision_of, tag_of};
+    ghost use Rattle.cog_client.specs.Client.{client_refusal, AreDirectoriesKnown, IsFew, IsClientRefusal, Knows, asked_of, feed_of, host_of, name_of, blocks_of, query_of, report_of, revision_of, tag_of};
     ghost use Rattle.cog_client.specs.FedClient.{revision_of_head};
     ghost use Rattle.cog_client.specs.Calls.{Forgets, Starts, request_for, unless_reported};
     ghost use Rattle.cog_client.specs.Keeps.{GoesOnKeeping, KeepsOpen, LooksAhead, Misses, OpensKeeping, RequestsKeeping, Stands, StopsAsking};
@@ -218,6 +219,23 @@ impl Client {
             }
             None => None,
         }
+    }
+
+    /// The length in bytes of the file that is read. It takes no memory.
+    pub fn complete(&self) -> Option<u64>
+        ensures { result ≡ option_map (λ v. v.complete) (revision_of self.now) }
+    {
+        let source = self.source.as_ref()?;
+        Some(source.complete)
+    }
+
+    /// The levels of the file that is read, the largest first, once all its directories are known. It takes no memory.
+    pub fn levels(&self) -> Option<&[Level]>
+        ensures known { MatchOption result (¬ AreDirectoriesKnown self.now) (λ _. AreDirectoriesKnown self.now) }
+        ensures levels { (f : List ℕ) → Knows f self.now → IfSome result (λ levels. AreLevels f levels.now) }
+    {
+        let source = self.source.as_ref()?;
+        source.reader.levels()
     }
 
     /// Goes on as far as the blocks reach, and makes the next request: a GET with a Range of bytes (RFC 9110, section 14.2),

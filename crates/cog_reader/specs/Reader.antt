@@ -75,6 +75,10 @@ query_of r = option_map (λ (a : PendingQuery). a.query) r.pending
 unfoldable pub complete_of : ReaderState → ℕ
 complete_of r = r.complete
 
+-- All directories of the file are read.
+unfoldable pub AreDirectoriesRead : ReaderState → Type 0
+AreDirectoriesRead r = HasEnded r.walk
+
 -- how many of the ranges of the query's own are there: of a window the arrays that are kept of its level, then the groups
 abbrev pub own_given : List ℕ → Query → Kept → State → ℕ
 own_given f q k Directories = option_map_or (λ r. arrays_held k r.level) (rectangle f q) 0

@@ -4,7 +4,7 @@ use crate::kept::Kept;
 use crate::state::{PendingQuery, State};
 use std::alloc::Global;
 use std::marker::Model;
-use tiff_dir::{Memory, Query, Span, Walk};
+use tiff_dir::{Level, Memory, Query, Span, Walk};
 
 /// A reader of one TIFF file of a known length, which answers one query after another. It says which bytes it needs next, and is
 /// given them, until the query is answered. The directories, and the tile arrays of the level last read, are kept from one
@@ -28,13 +28,14 @@ impl Model for Reader {
     ghost invariant = { λ r. IsReader r.complete r.walk r.kept r.pending };
 }
 
-#[tactic(auto, unfolding(crate::specs::Reader::wanted, crate::specs::Reader::outcome_of, crate::specs::Reader::query_of, crate::specs::Reader::complete_of, crate::specs::Reader::to_come, crate::specs::Reader::unread, crate::specs::Reader::upcoming, crate::specs::Reader::steps_of, crate::specs::Reader::ReaderAgrees))]
+#[tactic(auto, unfolding(crate::specs::Reader::wanted, crate::specs::Reader::outcome_of, crate::specs::Reader::query_of, crate::specs::Reader::complete_of, crate::specs::Reader::to_come, crate::specs::Reader::unread, crate::specs::Reader::upcoming, crate::specs::Reader::steps_of, crate::specs::Reader::AreDirectoriesRead, crate::specs::Reader::ReaderAgrees))]
 impl Reader {
     ghost use Rattle.std.specs.Prelude.{◌≡◌, ◌+◌, ◌<◌, ◌≤◌, ℕ, List, [], ◌∷◌, None, Some, IfOk, IfSome, IsSome, IsSomeAnd, MatchOption, OnErr, OnOk, length, slice_get};
+    ghost use Rattle.tiff_dir.specs.Described.{AreLevels};
     ghost use Rattle.tiff_dir.specs.Walk.{extent_of_span};
     ghost use Rattle.tiff_dir.specs.declared.query.Query.{Query};
     ghost use Rattle.cog_reader.specs.Outcome.{IsTrueOf};
-    ghost use Rattle.cog_reader.specs.Reader.{complete_of, outcome_of, query_of, steps_of, to_come, unread, wanted, ReaderAgrees, IsUpcoming, IsWanted, IsWantedOf, AcceptsFirstRange, KeepsHeld, Wants};
+    ghost use Rattle.cog_reader.specs.Reader.{complete_of, outcome_of, query_of, steps_of, to_come, unread, wanted, AreDirectoriesRead, ReaderAgrees, IsUpcoming, IsWanted, IsWantedOf, AcceptsFirstRange, KeepsHeld, Wants};
 
     /// A reader of a file of `complete` bytes, of which nothing is known yet, and nothing asked. It takes no memory.
     ///
@@ -145,6 +146,17 @@ impl Reader {
                 },
             ) => Some(outcome),
             _ => None,
+        }
+    }
+
+    /// The levels of the file, the largest first, once its directories are read. It takes no memory.
+    pub fn levels(&self) -> Option<&[Level]>
+        ensures known { MatchOption result (¬ AreDirectoriesRead self.now) (λ _. AreDirectoriesRead self.now) }
+        ensures levels { (f : List ℕ) → ReaderAgrees self.now f → IfSome result (λ levels. AreLevels f levels.now) }
+    {
+        match self.walk.need(self.complete) {
+            Ok(None) => Some(self.walk.levels()),
+            Ok(Some(_)) | Err(_) => None,
         }
     }
 

@@ -1,0 +1,65 @@
+//! The description of a file.
+use crate::facts::{CoordinateSystem, LevelFacts, RasterType, readable};
+use crate::placement::{Corners, Placement};
+use cog_client::{Client, Memory, Outcome};
+use serde::Serialize;
+use std::alloc::Global;
+use std::borrow::CowStr;
+
+/// What a file says of itself. In JSON, what gdalinfo says as well has gdalinfo's keys.
+#[derive(Debug, Drop, Serialize)]
+#[serde(rename_all = "camelCase")]
+pub struct Description<'a> {
+    /// The entity tag, with its quotes.
+    pub tag: CowStr<'a>,
+    /// The file's length in bytes.
+    pub length: u64,
+    /// Columns and rows of the first level.
+    #[serde(skip_serializing_if = "Option::is_none")]
+    pub size: Option<(u32, u32)>,
+    /// The levels, the largest first.
+    pub levels: Vec<LevelFacts>,
+    #[serde(skip_serializing_if = "Option::is_none")]
+    pub coordinate_system: Option<CoordinateSystem<'a>>,
+    #[serde(skip_serializing_if = "Option::is_none")]
+    pub raster_type: Option<RasterType>,
+    #[serde(skip)]
+    pub placement: Option<Placement>,
+    #[serde(skip_serializing_if = "Option::is_none")]
+    pub geo_transform: Option<[f64; 6]>,
+    #[serde(skip_serializing_if = "Option::is_none")]
+    pub corner_coordinates: Option<Corners>,
+}
+
+impl<'a> Description<'a> {
+    /// What a client's report of Info says of the file, with what the client knows of its levels; none without such a report.
+    pub fn of(alloc: Global, client: &'a Client) -> Result<Option<Description<'a>>, Memory> {
+        let (Some(report), Some(length)) = (client.report(), client.complete()) else {
+            return Ok(None);
+        };
+        let Outcome::Info(info) = &report.outcome else {
+            return Ok(None);
+        };
+        let raster_type = RasterType::of(info);
+        let placement = Placement::of(info, raster_type == Some(RasterType::Point));
+        let size = info.sides.first().copied();
+        let levels = client.levels().unwrap_or_default();
+        Ok(Some(Description {
+            tag: readable(alloc, report.tag.as_bytes())?,
+            length,
+            size,
+            levels: levels.iter().map(LevelFacts::of).collect(alloc)?,
+            coordinate_system: CoordinateSystem::of(alloc, info)?,
+            raster_type,
+            placement,
+            geo_transform: placement.map(|it| it.numbers()),
+            corner_coordinates: placement.zip(size).map(|(it, size)| it.corners(size)),
+        }))
+    }
+}
+
+/// The text of a description in JSON, with lines and indents. A number that JSON doesn't have (NaN, or one without end) is `null`.
+/// `Memory` is the only error: every description can be written.
+pub fn json_text(alloc: Global, description: &Description<'_>) -> Result<String, Memory> {
+    serde_json::to_string_pretty(alloc, description).map_err(|_| Memory)
+}

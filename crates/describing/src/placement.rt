@@ -1,0 +1,117 @@
+//! Where the columns and rows of an image lie (GeoTIFF 1.1, OGC 19-008, section 7.3).
+use cog_client::Info;
+use serde::Serialize;
+use std::num::f64_from_bits_with_nan;
+
+/// The place of a column and a row, which may have fractions: `left + across.0 * column + down.0 * row` to the right, and
+/// `top + across.1 * column + down.1 * row` upwards, in the units of the coordinate system.
+#[derive(Clone, Copy, Debug, PartialEq)]
+pub struct Placement {
+    pub left: f64,
+    pub top: f64,
+    /// The step from a column to the next one, to the right and upwards.
+    pub across: (f64, f64),
+    /// The step from a row to the next one, to the right and upwards.
+    pub down: (f64, f64),
+}
+
+/// The places of an image's corners and of its middle, each to the right and upwards.
+#[derive(Clone, Copy, Debug, PartialEq, Serialize)]
+#[serde(rename_all = "camelCase")]
+pub struct Corners {
+    pub upper_left: (f64, f64),
+    pub lower_left: (f64, f64),
+    pub lower_right: (f64, f64),
+    pub upper_right: (f64, f64),
+    pub center: (f64, f64),
+}
+
+/// The number of an item: a double, its most significant byte first.
+fn number_of(item: &[u8; 8]) -> f64 {
+    f64_from_bits_with_nan(u64::from_be_bytes(*item))
+}
+
+/// The number at a place of a field, where it has one there.
+fn number_at(items: &[[u8; 8]], place: usize) -> Option<f64> {
+    items.get(place).map(number_of)
+}
+
+/// By the transformation's numbers, of which four stand in a row.
+fn by_transformation(items: &[[u8; 8]]) -> Option<Placement> {
+    Some(Placement {
+        left: number_at(items, 3)?,
+        top: number_at(items, 7)?,
+        across: (number_at(items, 0)?, number_at(items, 4)?),
+        down: (number_at(items, 1)?, number_at(items, 5)?),
+    })
+}
+
+/// By the sizes of a pixel and one tiepoint: a column, a row, a height, and the place of that. Of several tiepoints there is none.
+fn by_scale(scale: &[[u8; 8]], tiepoint: &[[u8; 8]]) -> Option<Placement> {
+    if tiepoint.len() != 6 {
+        return None;
+    }
+    let (width, height) = (number_at(scale, 0)?, number_at(scale, 1)?);
+    let (column, row) = (number_at(tiepoint, 0)?, number_at(tiepoint, 1)?);
+    let (x, y) = (number_at(tiepoint, 3)?, number_at(tiepoint, 4)?);
+    Some(Placement {
+        left: x - column * width,
+        top: y + row * height,
+        across: (width, 0.0),
+        down: (0.0, -height),
+    })
+}
+
+/// As the fields say it of columns and rows: by the scale and a tiepoint, or else by the transformation.
+fn as_said(info: &Info) -> Option<Placement> {
+    match (&info.scale, &info.tiepoints, &info.transformation) {
+        (Some(scale), Some(tiepoints), _) => by_scale(scale, tiepoints),
+        (_, _, Some(items)) => by_transformation(items),
+        (_, _, None) => None,
+    }
+}
+
+impl Placement {
+    /// Where the corners of the columns and rows lie, where the file says it. Where a pixel is a point, what the file says is the
+    /// middle of its first pixel, and the corner lies half a pixel before it.
+    pub fn of(info: &Info, is_point: bool) -> Option<Placement> {
+        let said = as_said(info)?;
+        if !is_point {
+            return Some(said);
+        }
+        let (left, top) = said.at(-0.5, -0.5);
+        Some(Placement { left, top, ..said })
+    }
+
+    /// The place of a column and a row.
+    pub fn at(&self, column: f64, row: f64) -> (f64, f64) {
+        (
+            self.left + self.across.0 * column + self.down.0 * row,
+            self.top + self.across.1 * column + self.down.1 * row,
+        )
+    }
+
+    /// The six numbers of GDAL's GetGeoTransform, in its order.
+    pub fn numbers(&self) -> [f64; 6] {
+        [
+            self.left,
+            self.across.0,
+            self.down.0,
+            self.top,
+            self.across.1,
+            self.down.1,
+        ]
+    }
+
+    /// The corners of an image of so many columns and rows.
+    pub fn corners(&self, (width, length): (u32, u32)) -> Corners {
+        let (width, length) = (f64::from(width), f64::from(length));
+        Corners {
+            upper_left: self.at(0.0, 0.0),
+            lower_left: self.at(0.0, length),
+            lower_right: self.at(width, length),
+            upper_right: self.at(width, 0.0),
+            center: self.at(width / 2.0, length / 2.0),
+        }
+    }
+}

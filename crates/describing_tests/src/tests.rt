@@ -1,0 +1,3 @@
+//! Tests of the public calls.
+mod descriptions;
+mod places;
