@@ -3,9 +3,12 @@ use fixtures_support::f5;
 use std::alloc::{AllocError, Global};
 
 mod ahead;
+mod changed;
 mod kept;
 mod large;
+mod lying;
 mod memory;
+mod revisions;
 mod runs;
 
 /// The file f5 in another revision, 7 bytes longer: every byte of tile t is 255 - t.

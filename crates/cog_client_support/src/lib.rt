@@ -8,5 +8,5 @@ mod steps;
 
 pub use answers::{Answer, NEW, NOT_FOUND, NotDone, OLD, Publication, published};
 pub use new_client::{ASKS_END, ASKS_FRONT, END, F2_REPLACED, F2_TWICE, Revisions};
-pub use session::{Session, client_of_a, otherwise};
+pub use session::{Session, WAYS, client_of_a, hand, otherwise, otherwise_by};
 pub use steps::{FIRST, Kind, Positions, Said, Step};

@@ -39,8 +39,8 @@ pub const ASKS_END: [Step<'static>; 4] = [
 ];
 
 impl Revisions<'_> {
-    /// Does these lists of steps, one after another, with a new client that has the least cache. The number of the first step
-    /// that went otherwise than expected, counted from the first of all.
+    /// Does these lists of steps, one after another, with new clients that have the least cache, and answers that come whole, and in
+    /// pieces of five sizes. The number of the first step that went otherwise than expected, counted from the first of all.
     pub fn otherwise(
         &self,
         alloc: Global,
@@ -50,6 +50,6 @@ impl Revisions<'_> {
         let [tag, next_tag] = self.tags;
         let (old, new) = (old.file(alloc)?, new.file(alloc)?);
         let files = Publication::in_turn(tag, &old, next_tag, &new);
-        otherwise(alloc, 66, &files, parts)
+        otherwise(alloc, &files, parts)
     }
 }

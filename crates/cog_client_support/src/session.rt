@@ -56,13 +56,29 @@ fn asks_nothing(client: &mut Client) -> Result<bool, Memory> {
     Ok(text.is_none() && client.asked().is_none())
 }
 
+/// Delivers an answer, whole or in pieces of so many bytes.
+pub fn hand(client: &mut Client, answer: &[u8], piece: Option<usize>) -> Result<Delivered, Memory> {
+    let Some(size) = piece else {
+        return client.deliver(answer);
+    };
+    client.begin();
+    for part in answer.chunks(size.max(1)) {
+        client.feed(part)?;
+    }
+    client.end()
+}
+
 /// What an answer does that changes neither what is asked, nor the revision's tag, nor whether a report stands. None where it
 /// changes one of them.
-fn does_quietly(client: &mut Client, answer: &[u8]) -> Result<Option<Delivered>, Memory> {
+fn does_quietly(
+    client: &mut Client,
+    answer: &[u8],
+    piece: Option<usize>,
+) -> Result<Option<Delivered>, Memory> {
     let asked = client.asked();
     let tag = client.tag().map(|tag| tag.copy());
     let is_silent = client.report().is_none();
-    let delivered = client.deliver(answer)?;
+    let delivered = hand(client, answer, piece)?;
     if client.asked() == asked
         && client.tag() == tag.as_ref()
         && client.report().is_none() == is_silent
@@ -74,25 +90,39 @@ fn does_quietly(client: &mut Client, answer: &[u8]) -> Result<Option<Delivered>,
 }
 
 /// Whether an answer is ignored under this number, and nothing that callers see is changed by it.
-fn ignores(client: &mut Client, answer: &[u8], number: u8) -> Result<bool, Memory> {
-    match does_quietly(client, answer)? {
+fn ignores(
+    client: &mut Client,
+    answer: &[u8],
+    piece: Option<usize>,
+    number: u8,
+) -> Result<bool, Memory> {
+    match does_quietly(client, answer, piece)? {
         Some(Delivered::Ignored(why)) => Ok(why.number() == number),
         _ => Ok(false),
     }
 }
 
 /// Whether an answer is taken with so many blocks, and the client goes on asking for the same.
-fn takes_more(client: &mut Client, answer: &[u8], blocks: u32) -> Result<bool, Memory> {
-    match does_quietly(client, answer)? {
+fn takes_more(
+    client: &mut Client,
+    answer: &[u8],
+    piece: Option<usize>,
+    blocks: u32,
+) -> Result<bool, Memory> {
+    match does_quietly(client, answer, piece)? {
         Some(Delivered::Took(count)) => Ok(count == blocks && client.report().is_none()),
         _ => Ok(false),
     }
 }
 
 /// Whether each of these answers is ignored under its number, and nothing that callers see is changed by it.
-fn refuses(client: &mut Client, answers: &[(&str, u8)]) -> Result<bool, Memory> {
+fn refuses(
+    client: &mut Client,
+    answers: &[(&str, u8)],
+    piece: Option<usize>,
+) -> Result<bool, Memory> {
     for (answer, number) in answers {
-        if !ignores(client, answer.as_bytes(), *number)? {
+        if !ignores(client, answer.as_bytes(), piece, *number)? {
             return Ok(false);
         }
     }
@@ -100,8 +130,8 @@ fn refuses(client: &mut Client, answers: &[(&str, u8)]) -> Result<bool, Memory> 
 }
 
 /// Whether an answer isn't ignored.
-fn uses(client: &mut Client, answer: &[u8]) -> Result<bool, Memory> {
-    let delivered = client.deliver(answer)?;
+fn uses(client: &mut Client, answer: &[u8], piece: Option<usize>) -> Result<bool, Memory> {
+    let delivered = hand(client, answer, piece)?;
     Ok(!matches!(delivered, Delivered::Ignored(_)))
 }
 
@@ -110,13 +140,14 @@ fn read(
     alloc: Global,
     client: &mut Client,
     publication: Publication<'_>,
+    piece: Option<usize>,
 ) -> Result<usize, NotDone> {
     for count in 0..1000usize {
         if client.request()?.is_none() {
             return Ok(count);
         }
         let span = client.asked().ok_or(NotDone::NoSuchPart)?;
-        client.deliver(&publication.asked(alloc, span)?)?;
+        hand(client, &publication.asked(alloc, span)?, piece)?;
     }
     Ok(1000)
 }
@@ -155,21 +186,24 @@ fn hears(client: &Client, kinds: &[Kind<'_>]) -> bool {
         .all(|(answers, said)| says(client, answers, *said))
 }
 
-/// A client, the publications that its answers are of, and its query.
+/// A client, the publications that its answers are of, its query, and the size of the pieces in which answers come, none where they
+/// come whole.
 #[derive(Drop)]
 pub struct Session<'a> {
     pub client: Client,
     files: &'a [Publication<'a>],
     query: Option<Query>,
+    piece: Option<usize>,
 }
 
 impl<'a> Session<'a> {
-    /// A client that has been asked nothing yet.
-    pub fn new(client: Client, files: &'a [Publication<'a>]) -> Session<'a> {
+    /// A client that has been asked nothing yet, and gets answers whole, or in pieces of so many bytes.
+    pub fn new(client: Client, files: &'a [Publication<'a>], piece: Option<usize>) -> Session<'a> {
         Session {
             client,
             files,
             query: None,
+            piece,
         }
     }
 
@@ -200,7 +234,7 @@ impl<'a> Session<'a> {
         want: Delivered,
     ) -> Result<bool, NotDone> {
         let text = answer.text(alloc, self.files)?;
-        Ok(self.client.deliver(&text)? == want)
+        Ok(hand(&mut self.client, &text, self.piece)? == want)
     }
 
     /// Does a step in which an answer is delivered, and says whether it went as expected.
@@ -210,20 +244,20 @@ impl<'a> Session<'a> {
             Step::Restarts(answer) => self.does(alloc, answer, Delivered::Restarted),
             Step::Uses(answer) => {
                 let text = answer.text(alloc, self.files)?;
-                Ok(uses(&mut self.client, &text)?)
+                Ok(uses(&mut self.client, &text, self.piece)?)
             }
             Step::TakesMore(answer, blocks) => {
                 let text = answer.text(alloc, self.files)?;
-                Ok(takes_more(&mut self.client, &text, blocks)?)
+                Ok(takes_more(&mut self.client, &text, self.piece, blocks)?)
             }
             Step::Ignores(answer, number) => {
                 let text = answer.text(alloc, self.files)?;
-                Ok(ignores(&mut self.client, &text, number)?)
+                Ok(ignores(&mut self.client, &text, self.piece, number)?)
             }
-            Step::Refuses(answers) => Ok(refuses(&mut self.client, answers)?),
+            Step::Refuses(answers) => Ok(refuses(&mut self.client, answers, self.piece)?),
             Step::Reads(which, requests) => {
                 let publication = published(self.files, which)?;
-                Ok(read(alloc, &mut self.client, publication)? == requests)
+                Ok(read(alloc, &mut self.client, publication, self.piece)? == requests)
             }
             _ => Ok(false),
         }
@@ -298,14 +332,39 @@ impl<'a> Session<'a> {
     }
 }
 
-/// Does these lists of steps, one after another, with a new client that has so many blocks. The number of the first step that
-/// went otherwise than expected, counted from the first of all.
+/// Does these lists of steps, one after another, with a new client that has the least cache, and answers that come whole, or in
+/// pieces of so many bytes. The number of the first step that went otherwise than expected, counted from the first of all.
+pub fn otherwise_by(
+    alloc: Global,
+    files: &[Publication<'_>],
+    parts: &[&[Step<'_>]],
+    piece: Option<usize>,
+) -> Result<Option<usize>, NotDone> {
+    let client = client_of_a(alloc, 66)?;
+    Session::new(client, files, piece).go_through(alloc, parts)
+}
+
+/// How answers come: whole, and in pieces of so many bytes. The head of an answer has about 171, a block 16,384.
+pub const WAYS: [Option<usize>; 6] = [
+    None,
+    Some(1),
+    Some(7),
+    Some(171),
+    Some(16_384),
+    Some(100_000),
+];
+
+/// The same with answers that come in each of these ways, each time with another client.
 pub fn otherwise(
     alloc: Global,
-    blocks: u32,
     files: &[Publication<'_>],
     parts: &[&[Step<'_>]],
 ) -> Result<Option<usize>, NotDone> {
-    let client = client_of_a(alloc, blocks)?;
-    Session::new(client, files).go_through(alloc, parts)
+    for piece in WAYS {
+        let step = otherwise_by(alloc, files, parts, piece)?;
+        if step.is_some() {
+            return Ok(step);
+        }
+    }
+    Ok(None)
 }

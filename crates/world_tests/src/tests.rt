@@ -44,22 +44,36 @@ fn log_of(alloc: Global, text: &str) -> Result<Log, Fail> {
 /// Sizes of the pieces in which answers come: the head of an answer has about 171 bytes, a block 16,384.
 const PIECES: [usize; 5] = [1, 7, 171, 16_384, 100_000];
 
-/// Expects a script's log, whether answers come whole or in pieces.
-fn expect(rt: &(impl Abort + AllocGlobal), text: &str, want: &str) -> Result<(), Fail> {
+/// Whether the log is that of the events with answers in pieces of this size.
+fn is_log_of_pieces(
+    alloc: Global,
+    events: &[Event],
+    piece: usize,
+    log: &Log,
+) -> Result<bool, Fail> {
+    let mut cut = Log::new(alloc);
+    run_cut(alloc, events, piece, &mut cut)?;
+    Ok(log_text(alloc, &cut)? == log_text(alloc, log)?)
+}
+
+/// The log of a script, which is expected to be the same whether answers come whole or in pieces.
+fn log_however_cut(rt: &(impl Abort + AllocGlobal), text: &str) -> Result<Log, Fail> {
     let log = log_of(rt.alloc(), text)?;
-    let found = log_text(rt.alloc(), &log)?;
-    assert_eq!(rt; str::from_utf8(&found), Ok(want), "of the script {text:?}");
     let events = events_of(rt.alloc(), text)?;
     for piece in PIECES {
-        let mut log = Log::new(rt.alloc());
-        run_cut(rt.alloc(), &events, piece, &mut log)?;
-        let found = log_text(rt.alloc(), &log)?;
-        assert_eq!(rt;
-            str::from_utf8(&found),
-            Ok(want),
+        assert!(rt;
+            is_log_of_pieces(rt.alloc(), &events, piece, &log)?,
             "of the script {text:?} by {piece}"
         );
     }
+    Ok(log)
+}
+
+/// Expects a script's log, whether answers come whole or in pieces.
+fn expect(rt: &(impl Abort + AllocGlobal), text: &str, want: &str) -> Result<(), Fail> {
+    let log = log_however_cut(rt, text)?;
+    let found = log_text(rt.alloc(), &log)?;
+    assert_eq!(rt; str::from_utf8(&found), Ok(want), "of the script {text:?}");
     Ok(())
 }
 

@@ -1,5 +1,5 @@
-//! Each test passes whether memory is there or is refused once: `rt try --test --fail-alloc N -- NAME` refuses the Nth. The
-//! call that finds no memory is made again, and goes on to the same report.
+//! Each test passes with ample memory, and wherever one allocation is refused. The call that finds no memory is made again, and goes
+//! on to the same report; an answer that found none begins again.
 use cog_client::{Client, ClientError, Query, Tag};
 use cog_client_support::Answer::{Part, Whole};
 use cog_client_support::Step::{Asks, AsksNothing, Checks, Copies, Open, Opens, Reports, Uses};
@@ -8,6 +8,7 @@ use cog_client_support::{
 };
 use cog_reader_support::{FACTS_OF_F3, Fixture, Want};
 use std::alloc::{AllocError, Global};
+use std::process::Abort;
 use std::test::Fail;
 use tiff_dir::Pick;
 
@@ -67,18 +68,70 @@ fn step_otherwise(
     Ok(None)
 }
 
-/// The number of the first step of a new client that goes otherwise.
+/// The number of the first step of a new client that goes otherwise, with answers that come whole or in pieces of so many bytes.
 fn otherwise(
     alloc: Global,
     revisions: &Revisions<'_>,
     steps: &[Step<'_>],
+    piece: Option<usize>,
 ) -> Result<Option<usize>, NotDone> {
     let [old, new] = revisions.files;
     let [tag, next_tag] = revisions.tags;
     let (old, new) = (file_again(alloc, old)?, file_again(alloc, new)?);
     let files = Publication::in_turn(tag, &old, next_tag, &new);
-    let mut session = Session::new(client_again(alloc)?, &files);
+    let client = client_again(alloc)?;
+    let mut session = Session::new(client, &files, piece);
     step_otherwise(alloc, &mut session, steps)
+}
+
+/// Expects that a new client goes through these steps, with answers that come whole, and in pieces.
+fn expect(
+    rt: &(impl Abort + AllocGlobal),
+    revisions: &Revisions<'_>,
+    steps: &[Step<'_>],
+) -> Result<(), Fail> {
+    for piece in [None, Some(1_000)] {
+        assert_eq!(rt;
+            otherwise(rt.alloc(), revisions, steps, piece)?,
+            None,
+            "by {piece:?}"
+        );
+    }
+    Ok(())
+}
+
+const F1_TWICE: Revisions<'static> = Revisions {
+    files: [Fixture::F1, Fixture::F1],
+    ..F2_REPLACED
+};
+
+const ONE_WINDOW: [Step<'static>; 4] = [
+    Opens(2, 1, 3, 2),
+    Asks(FIRST, None),
+    Uses(Part(0, 0, 377)),
+    Reports(
+        OLD,
+        Want::Window(3, 2, 1, 8, &[0x12, 0x13, 0x14, 0x22, 0x23, 0x24]),
+    ),
+];
+
+#[test]
+fn goes_on_after_refused_memory_with_one_window(rt: HostRuntime) -> Result<(), Fail> {
+    expect(&rt, &F1_TWICE, &ONE_WINDOW)
+}
+
+const TWO_EXCHANGES: [Step<'static>; 6] = [
+    Opens(240, 240, 16, 16),
+    Asks(FIRST, None),
+    Uses(Part(0, 0, 65535)),
+    Asks((65536, 67705), Some(OLD)),
+    Uses(Part(0, 65536, 67705)),
+    Reports(OLD, Want::Window(16, 16, 1, 8, &[255; 256])),
+];
+
+#[test]
+fn goes_on_after_refused_memory_between_two_exchanges(rt: HostRuntime) -> Result<(), Fail> {
+    expect(&rt, &F2_REPLACED, &TWO_EXCHANGES)
 }
 
 /// The last window is read from blocks that are there: the going on is in the request.
@@ -99,8 +152,7 @@ const REPLACED: [Step<'static>; 12] = [
 
 #[test]
 fn goes_on_after_refused_memory_where_the_file_is_replaced(rt: HostRuntime) -> Result<(), Fail> {
-    assert_eq!(rt; otherwise(rt.alloc(), &F2_REPLACED, &REPLACED)?, None);
-    Ok(())
+    expect(&rt, &F2_REPLACED, &REPLACED)
 }
 
 /// The file f3, published twice.
@@ -142,6 +194,26 @@ const INFO: [Step<'static>; 16] = [
 
 #[test]
 fn goes_on_after_refused_memory_between_info_and_windows(rt: HostRuntime) -> Result<(), Fail> {
-    assert_eq!(rt; otherwise(rt.alloc(), &F3_TWICE, &INFO)?, None);
-    Ok(())
+    expect(&rt, &F3_TWICE, &INFO)
+}
+
+/// A window of the smallest level of f3 with at least one column, rounded outwards.
+const COLUMNS: Query = Query::Window {
+    x: 5,
+    y: 0,
+    w: 3,
+    h: 1,
+    pick: Pick::Columns(1),
+};
+
+const BY_COLUMNS: [Step<'static>; 4] = [
+    Open(COLUMNS),
+    Asks(FIRST, None),
+    Uses(Part(0, 0, 1455)),
+    Reports(OLD, Want::Window(2, 1, 1, 8, &[0, 0])),
+];
+
+#[test]
+fn goes_on_after_refused_memory_with_a_window_by_columns(rt: HostRuntime) -> Result<(), Fail> {
+    expect(&rt, &F3_TWICE, &BY_COLUMNS)
 }

@@ -5,8 +5,9 @@ ghost use Rattle.std.specs.Prelude.{◌<◌};
 
 use super::ahead::{AHEAD, cog};
 use super::other_file;
-use cog_client::{Client, Outcome, Report};
-use cog_client_support::{NotDone, Publication, client_of_a};
+use super::revisions::{Revision, is_right, revision_of};
+use cog_client::{Client, Outcome};
+use cog_client_support::{NotDone, client_of_a};
 use cog_reader_support::{Plain, of_level};
 use fixtures_support::{Numbers, f2, f2b, f5};
 use reference_support::cost;
@@ -21,33 +22,6 @@ struct Run {
     seed: u64,
     windows: u32,
     is_looking: bool,
-}
-
-/// A publication, and what the plain program reads in its file.
-#[derive(Clone, Copy)]
-struct Revision<'a> {
-    publication: Publication<'a>,
-    plain: &'a Plain,
-}
-
-/// Whether a report is the window that the plain program reads in the file that was published under its tag.
-fn is_right(
-    alloc: Global,
-    report: &Report,
-    revisions: &[Revision<'_>],
-    query: Query,
-) -> Result<bool, AllocError> {
-    if report.query != query || !matches!(&report.outcome, Outcome::Window(_)) {
-        return Ok(false);
-    }
-    let tag = report.tag.as_bytes();
-    match revisions
-        .iter()
-        .find(|revision| revision.publication.tag.as_bytes() == tag)
-    {
-        None => Ok(false),
-        Some(revision) => revision.plain.is_answer(alloc, query, &report.outcome),
-    }
 }
 
 /// Where answers come from, and those that may come again.
@@ -148,7 +122,8 @@ impl<'a> Net<'a> {
                 self.exchange(alloc, client, false)?;
             }
             if let Some(report) = client.report() {
-                return Ok(is_right(alloc, report, self.revisions, query)?);
+                let is_window = matches!(&report.outcome, Outcome::Window(_));
+                return Ok(is_window && is_right(alloc, report, self.revisions, query)?);
             }
         }
         Ok(false)
@@ -232,14 +207,6 @@ fn wrong_window(
         }
     }
     Ok(None)
-}
-
-fn revision_of<'a>(tag: &'a str, plain: &'a Plain) -> Revision<'a> {
-    let file = &plain.file;
-    Revision {
-        publication: Publication { tag, file },
-        plain,
-    }
 }
 
 /// Reads windows of two files that are published in turn. The first that isn't read right.

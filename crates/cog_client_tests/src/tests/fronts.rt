@@ -1,8 +1,8 @@
-//! Every front of an answer, each to a new client.
+//! Every front of an answer, each to a new client: whole, by single bytes, and in pieces of 171 bytes.
 use super::only;
 use cog_client_support::Answer::{Part, Text};
 use cog_client_support::Step::{Ignores, IsSilent, Stands, Takes};
-use cog_client_support::{ASKS_FRONT, FIRST, NotDone, OLD, Publication, otherwise};
+use cog_client_support::{ASKS_FRONT, FIRST, NotDone, OLD, Publication, otherwise_by};
 use fixtures_support::f2;
 use std::alloc::Global;
 use std::ops::Range;
@@ -16,14 +16,18 @@ fn front_otherwise(
     files: &[Publication<'_>],
     front: &[u8],
     body: Option<u32>,
+    piece: Option<usize>,
 ) -> Result<Option<usize>, NotDone> {
     let (taken, tag) = match body {
         None => (Ignores(Text(front), 1), None),
         Some(body) => (Takes(Text(front), body / 16384), Some(OLD)),
     };
     let steps = [taken, IsSilent, Stands(Some(FIRST), tag)];
-    otherwise(alloc, 66, files, &[&ASKS_FRONT, &steps])
+    otherwise_by(alloc, files, &[&ASKS_FRONT, &steps], piece)
 }
+
+/// How a front comes: its head has 171 bytes.
+const WAYS: [Option<usize>; 3] = [None, Some(1), Some(171)];
 
 /// The first front of the answer that is taken otherwise, of those with so many bytes.
 fn len_otherwise(
@@ -34,8 +38,10 @@ fn len_otherwise(
 ) -> Result<Option<u32>, NotDone> {
     for len in lens {
         let front = answer.get(..len as usize).ok_or(NotDone::NoSuchPart)?;
-        if front_otherwise(alloc, files, front, len.checked_sub(171))?.is_some() {
-            return Ok(Some(len));
+        for piece in WAYS {
+            if front_otherwise(alloc, files, front, len.checked_sub(171), piece)?.is_some() {
+                return Ok(Some(len));
+            }
         }
     }
     Ok(None)

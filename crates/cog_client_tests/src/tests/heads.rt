@@ -191,7 +191,7 @@ fn head_otherwise(
         Some(number) => Ignores(Text(head), number),
         None => Takes(Text(head), 0),
     };
-    otherwise(alloc, 66, &[], &[&ASKS_FRONT, &[step]])
+    otherwise(alloc, &[], &[&ASKS_FRONT, &[step]])
 }
 
 /// The first of these heads that is taken otherwise.

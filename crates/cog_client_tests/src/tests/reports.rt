@@ -29,7 +29,7 @@ fn exchange_otherwise(
         AsksNothing,
         Reports(OLD, want),
     ];
-    otherwise(alloc, 66, &only(file), &[&steps])
+    otherwise(alloc, &only(file), &[&steps])
 }
 
 const FACTS_OF_F1: Facts<'static> = Facts {
@@ -146,6 +146,42 @@ fn picks_the_least_level_of_so_many_columns(rt: HostRuntime) -> Result<(), Fail>
         let found = level_otherwise(rt.alloc(), columns, want)?;
         assert_eq!(rt; found, None, "{columns} columns");
     }
+    Ok(())
+}
+
+/// The first front of f1 whose window isn't told as a fault.
+fn front_of_f1_otherwise(alloc: Global) -> Result<Option<usize>, NotDone> {
+    let file = Fixture::F1.file(alloc)?;
+    for len in 1..file.len() {
+        let front = file.get(..len).ok_or(NotDone::NoSuchPart)?;
+        let want = Want::Fault(FileFault::PastEnd);
+        if exchange_otherwise(alloc, front, of_level(2, 1, 3, 2, 0), want)?.is_some() {
+            return Ok(Some(len));
+        }
+    }
+    Ok(None)
+}
+
+/// The first front of f3 whose info is told otherwise than from the first 400 bytes, which have the directories and the keys.
+fn front_of_f3_otherwise(alloc: Global) -> Result<Option<usize>, NotDone> {
+    let file = Fixture::F3.file(alloc)?;
+    for len in 1..file.len() {
+        let front = file.get(..len).ok_or(NotDone::NoSuchPart)?;
+        let want = match len {
+            ..400 => Want::Fault(FileFault::PastEnd),
+            _ => Want::Info(FACTS_OF_F3),
+        };
+        if exchange_otherwise(alloc, front, Query::Info, want)?.is_some() {
+            return Ok(Some(len));
+        }
+    }
+    Ok(None)
+}
+
+#[test]
+fn reports_a_fault_of_a_file_that_ends_early(rt: HostRuntime) -> Result<(), Fail> {
+    assert_eq!(rt; front_of_f1_otherwise(rt.alloc())?, None);
+    assert_eq!(rt; front_of_f3_otherwise(rt.alloc())?, None);
     Ok(())
 }
 

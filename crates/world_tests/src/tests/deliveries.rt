@@ -1,4 +1,4 @@
-//! Answers that come late, cut, again or to a client of another name, and checks, as scripts with their logs.
+//! Answers that come late, cut, again, of other statuses or to a client of another name, and checks, as scripts with their logs.
 use super::{Course, expect, expect_course, texts_of};
 use std::alloc::Global;
 use std::test::Fail;
@@ -78,6 +78,33 @@ const OTHER_NAMES: Course = ("f1.tif", &[
     ("askfrom 1", "skipped"),
 ]);
 
+/// Answers of each status that isn't used, to messages that others sent, and the head of the file without its bytes: that tells the
+/// revision, and no block of it.
+#[rattlefmt::skip]
+const OTHER_STATUSES: Course = ("f1.tif", &[
+    ("client a 66", "client 0"),
+    ("open 0 level 0 2 1 3 2", "opened 0"),
+    ("askfrom 0", "asked 0 0-65535 - answer 0 206 378"),
+    ("ask 00", "answer 1 400 0"),
+    ("deliver 0 1 -", "delivered 0 ignored 3 400"),
+    ("ask 474554202f6120485454502f312e310d0a0d0a", "answer 2 400 0"),
+    ("deliver 0 2 -", "delivered 0 ignored 3 400"),
+    ("ask 474554202f6320485454502f312e310d0a486f73743a20680d0a0d0a", "answer 3 404 0"),
+    ("deliver 0 3 -", "delivered 0 ignored 3 404"),
+    ("ask 44454c455445202f6120485454502f312e310d0a486f73743a20680d0a0d0a", "answer 4 405 0"),
+    ("deliver 0 4 -", "delivered 0 ignored 3 405"),
+    ("ask 474554202f6120485454502f312e310d0a486f73743a20680d0a49662d4d617463683a202231220d0a0d0a", "answer 5 412 0"),
+    ("deliver 0 5 -", "delivered 0 ignored 3 412"),
+    ("ask 474554202f6120485454502f312e310d0a486f73743a20680d0a52616e67653a2062797465733d3337382d0d0a0d0a", "answer 6 416 0"),
+    ("deliver 0 6 -", "delivered 0 ignored 3 416"),
+    ("ask 474554202f6120485454502f312e310d0a486f73743a20680d0a49662d4e6f6e652d4d617463683a202a0d0a0d0a", "answer 7 304 0"),
+    ("deliver 0 7 -", "delivered 0 ignored 3 304"),
+    ("ask 48454144202f6120485454502f312e310d0a486f73743a20680d0a0d0a", "answer 8 200 0"),
+    ("deliver 0 8 -", "delivered 0 took 0"),
+    ("deliver 0 1 -", "delivered 0 ignored 3 400"),
+    ("exchange 0", "asked 0 0-377 \"1-1\" answer 9 206 378 took 1\nreport 0 \"1-1\" window 3 2 1 121314222324"),
+]);
+
 /// Another query is opened, and the first answer comes again before anything is asked.
 #[rattlefmt::skip]
 const OPENED_BETWEEN: Course = ("f2.tif", &[
@@ -137,6 +164,11 @@ fn takes_the_whole_blocks_of_a_cut_answer(rt: HostRuntime) -> Result<(), Fail> {
 #[test]
 fn delivers_no_answer_to_a_client_of_another_name(rt: HostRuntime) -> Result<(), Fail> {
     expect_course(&rt, OTHER_NAMES)
+}
+
+#[test]
+fn ignores_answers_of_other_statuses(rt: HostRuntime) -> Result<(), Fail> {
+    expect_course(&rt, OTHER_STATUSES)
 }
 
 #[test]

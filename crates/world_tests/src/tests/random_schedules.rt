@@ -3,15 +3,15 @@
 //! at the end one comes by the exchange after as many as the query costs. Answers that come in pieces give the same log.
 ghost use Rattle.std.specs.Prelude.{◌<◌};
 
+use super::is_log_of_pieces;
 use cog_reader_support::Plain;
 use fixtures_support::{Numbers, f1, f1m, f2, f2b, f3, f6};
 use reference_support::cost;
-use scripts::log_text;
 use std::alloc::Global;
 use std::process::Abort;
 use std::test::Fail;
 use tiff_dir::{Pick, Query};
-use world::{Effect, Event, Log, Report, run, run_cut};
+use world::{Effect, Event, Log, Report, run};
 
 /// The files that are published, with what the plain program reads in them.
 fn plain_files(alloc: Global) -> Result<Vec<Plain>, Fail> {
@@ -185,18 +185,6 @@ fn size_of_pieces(numbers: &mut Numbers) -> usize {
         1 => 1 + numbers.below(16_384),
         _ => 1 + numbers.below(100_000),
     }
-}
-
-/// Whether the log is that of the schedule with answers in pieces of this size.
-fn is_log_of_pieces(
-    alloc: Global,
-    events: &[Event],
-    piece: usize,
-    log: &Log,
-) -> Result<bool, Fail> {
-    let mut cut = Log::new(alloc);
-    run_cut(alloc, events, piece, &mut cut)?;
-    Ok(log_text(alloc, &cut)? == log_text(alloc, log)?)
 }
 
 /// Runs a schedule, and counts its reports; None where one of them isn't right, where none comes in the stretch, or where answers

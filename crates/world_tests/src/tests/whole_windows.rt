@@ -1,5 +1,5 @@
 //! Whole windows beside the plain program: of a file that is replaced between requests, and of one larger than a small cache.
-use super::log_of;
+use super::log_however_cut;
 use cog_reader_support::Plain;
 use fixtures_support::{f2b, f5};
 use std::alloc::Global;
@@ -72,8 +72,8 @@ fn right_reports(
 #[test]
 fn restarts_where_the_file_is_replaced_between_requests(rt: HostRuntime) -> Result<(), Fail> {
     let alloc = rt.alloc();
-    let log = log_of(
-        alloc,
+    let log = log_however_cut(
+        &rt,
         "epoch 1\npublish a f2.tif\nclient a 66\nopen 0 level 0 0 0 256 256\nexchange 0\npublish a f2b.tif\nexchange 0\nexchange 0\n",
     )?;
     let want = [
@@ -129,7 +129,7 @@ const AGAIN: Step = Step {
 #[test]
 fn asks_again_for_blocks_that_a_small_cache_let_go(rt: HostRuntime) -> Result<(), Fail> {
     let alloc = rt.alloc();
-    let log = log_of(alloc, LARGE)?;
+    let log = log_however_cut(&rt, LARGE)?;
     let first = exchanges(alloc, &log, 0)?;
     let second = exchanges(alloc, &log, 1)?;
     let whole = whole_window();
