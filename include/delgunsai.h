@@ -88,6 +88,10 @@ int32_t cog_client_forget(struct cog_client *client);
  * caller has to know then where an answer ends (RFC 9112, section 6.3), and feeds no byte behind it. Gives 0 or COG_NO_CLIENT. */
 int32_t cog_client_keep_open(struct cog_client *client);
 
+/* cog_client_look_ahead: looks ahead by so many blocks from here on: a request asks, behind the blocks that are missing of the range that is
+ * needed next, for the blocks that follow, where each of them is missing and needed later. Gives 0 or COG_NO_CLIENT. */
+int32_t cog_client_look_ahead(struct cog_client *client, uint32_t blocks);
+
 /* cog_client_open_window: asks for the samples of w columns from x and h rows from y, in pixels of the level of this number, in the place
  * of the query before. What is known of the file stays. Gives 0 or COG_NO_CLIENT. */
 int32_t cog_client_open_window(struct cog_client *client, uint32_t x, uint32_t y, uint32_t w, uint32_t h, uint32_t level);

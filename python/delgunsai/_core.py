@@ -14,6 +14,7 @@ TOOK, RESTARTED, IGNORED = 1, 2, 3
 SAME, OTHER, UNKNOWN = 1, 2, 3
 
 REQUEST_ROOM, TAG_ROOM = 1024, 64
+AHEAD = 64
 MEMORY = -4
 
 
@@ -40,6 +41,7 @@ def _load() -> ctypes.CDLL:
         'free': (None, [client]),
         'forget': (ctypes.c_int32, [client]),
         'keep_open': (ctypes.c_int32, [client]),
+        'look_ahead': (ctypes.c_int32, [client, number]),
         'open_window': (ctypes.c_int32, [client] + [number] * 5),
         'open_columns': (ctypes.c_int32, [client] + [number] * 5),
         'open_info': (ctypes.c_int32, [client]),
@@ -81,6 +83,7 @@ class Core:
         self._room = ctypes.create_string_buffer(REQUEST_ROOM)
         _checked(_library.cog_client_new(host, len(host), name, len(name), blocks, self._at))
         _checked(_library.cog_client_keep_open(self._at))
+        _checked(_library.cog_client_look_ahead(self._at, AHEAD))
 
     def free(self) -> None:
         _library.cog_client_free(self._at)

@@ -13,6 +13,7 @@ pub struct ReadLine<'a> {
     pub asked: AskedWords<'a>,
     pub requests: Option<&'a str>,
     pub blocks: Option<&'a str>,
+    pub ahead: Option<&'a str>,
     /// Whether the connection is kept from one request to the next.
     pub keep: bool,
     /// Whether each request has a connection of its own, also where a URL names the file.
@@ -101,6 +102,12 @@ fn add_asking<'a>(alloc: Global, command: Command<'a>) -> Result<Command<'a>, Al
         "N",
         "Blocks of 16384 bytes that are kept, 66 to 4096 (default 256)",
     );
+    let ahead = option(
+        alloc,
+        "ahead",
+        "N",
+        "Blocks that a request may ask for early, behind those that are needed next, 0 to 64 (default 0; with a URL 64)",
+    );
     let keep = flag(
         alloc,
         "keep",
@@ -114,6 +121,7 @@ fn add_asking<'a>(alloc: Global, command: Command<'a>) -> Result<Command<'a>, Al
     command
         .arg(requests)?
         .arg(blocks)?
+        .arg(ahead)?
         .arg(keep.conflicts_with("close")?)?
         .arg(close)
 }
@@ -232,6 +240,7 @@ fn line_of<'a>(matches: &ArgMatches<'a>, asked: AskedWords<'a>) -> ReadLine<'a> 
         asked,
         requests: matches.get_str("requests"),
         blocks: matches.get_str("blocks"),
+        ahead: matches.get_str("ahead"),
         keep: matches.get_flag("keep"),
         close: matches.get_flag("close"),
         output: matches.get_str("output"),

@@ -1,5 +1,5 @@
 //! Requests are made: for what a query needs, and to check whether the file is still the same.
-ghost use Rattle.cog_client.specs.Keeps.{KeepsOpen};
+ghost use Rattle.cog_client.specs.Keeps.{KeepsOpen, LooksAhead};
 ghost use Rattle.delgunsai_c.specs.Calls.{AsksOr, Calls, ChecksOr, Done};
 ghost use Rattle.delgunsai_c.specs.Handle.{client_of};
 
@@ -40,6 +40,19 @@ pub extern "C" fn cog_client_keep_open(alloc: Global, client: &mut Handle) -> i3
         return Failure::NoClient.code();
     };
     held.keep_open();
+    client.put(held);
+    0
+}
+
+/// Looks ahead by so many blocks from here on.
+#[unsafe(no_mangle)]
+pub extern "C" fn cog_client_look_ahead(alloc: Global, client: &mut Handle, blocks: u32) -> i32
+    ensures { Calls (λ s t. Done (LooksAhead blocks s t) result) (client_of client.old) (client_of client.new) result }
+{
+    let Some(mut held) = client.take(alloc) else {
+        return Failure::NoClient.code();
+    };
+    held.look_ahead(blocks);
     client.put(held);
     0
 }

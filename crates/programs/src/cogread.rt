@@ -19,12 +19,16 @@ use std::net::{Net, TcpStream};
 use std::rt::{Clock, Files};
 use tiff_dir::Pick;
 
+/// How many blocks are asked for early where a URL names the file.
+const AHEAD_OF_A_URL: &str = "64";
+
 /// What a line asks for, by its numbers.
 #[derive(Clone, Copy)]
 struct Numbers {
     asked: Asked,
     requests: u32,
     blocks: u32,
+    ahead: u32,
 }
 
 /// The number of an option, if it is there.
@@ -73,6 +77,7 @@ fn numbers_of<R: AllocGlobal>(rt: &R, line: &ReadLine<'_>) -> Result<Numbers, Fa
         asked: asked(rt, line.asked)?,
         requests: number_or(rt, line.requests, (1, 65_536), 64)?,
         blocks: number_or(rt, line.blocks, (MIN_CAPACITY, MAX_CAPACITY), 256)?,
+        ahead: number_or(rt, line.ahead, (0, 64), 0)?,
     })
 }
 
@@ -103,6 +108,7 @@ where
     let numbers = numbers_of(rt, line)?;
     let mut client = client_of(rt, line, numbers.blocks)?;
     let net = NotedNet::new(rt);
+    client.look_ahead(numbers.ahead);
     let mut socket = Socket::new(&net, line.server);
     if line.keep {
         client.keep_open();
@@ -164,7 +170,7 @@ fn url_among<'a>(words: &[&'a str]) -> Option<&'a str> {
 }
 
 /// Runs the program on words of which one is a URL, which stands for a server and a name; without one they are missing. Its connection
-/// is kept.
+/// is kept, and it looks ahead.
 fn run_url<R>(rt: &R, words: &[&str], missing: clap::Error) -> Result<(), Fault>
 where
     R: Files + Clock + Print + Eprint + AllocGlobal + Net<Stream = TcpStream>,
@@ -180,6 +186,7 @@ where
     let named = named_words(rt.alloc(), words, url, &place)?;
     let mut line = read_line(rt.alloc(), &named)?;
     line.keep = !line.close;
+    line.ahead = line.ahead.or(Some(AHEAD_OF_A_URL));
     run_read(rt, &line)
 }
 

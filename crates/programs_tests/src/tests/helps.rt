@@ -17,6 +17,8 @@ const WINDOW_PARTS: &[&str] = &[
     "1 to 65536 (default 64)",
     "--blocks <N>",
     "Blocks of 16384 bytes that are kept, 66 to 4096 (default 256)",
+    "--ahead <N>",
+    "Blocks that a request may ask for early, behind those that are needed next, 0 to 64 (default 0; with a URL 64)",
     "--keep",
     "Keeps one connection for all requests, as long as the server does",
     "--close",
@@ -36,8 +38,8 @@ const WINDOW_PARTS: &[&str] = &[
 const HELPS: [(&str, &[&str]); 7] = [
     ("--help", &[
         "cogtools cogserve --listen HOST:PORT --epoch N --connections N [--at-once N] [--patience SECONDS] NAME=PATH..\n",
-        "cogtools cogread window SERVER NAME X Y W H [--level N] [--columns C] [--requests N] [--blocks N] [--keep]\n",
-        "cogtools cogread info SERVER NAME [--requests N] [--blocks N] [--keep]\n",
+        "cogtools cogread window SERVER NAME X Y W H [--level N] [--columns C] [--requests N] [--blocks N] [--ahead N] [--keep]\n",
+        "cogtools cogread info SERVER NAME [--requests N] [--blocks N] [--ahead N] [--keep]\n",
         "cogtools cogread window .. --whole [--level N] ..\n",
         "cogtools cogread .. http://HOST[:PORT]/NAME .. [--close] [--output FILE] [--verbose]\n",
         "cogtools cogworld [--pieces N] SCRIPT\n",
@@ -68,6 +70,7 @@ const HELPS: [(&str, &[&str]); 7] = [
         "HOST:PORT",
         "1 to 65536 (default 64)",
         "Blocks of 16384 bytes that are kept, 66 to 4096 (default 256)",
+        "Blocks that a request may ask for early, behind those that are needed next, 0 to 64 (default 0; with a URL 64)",
         "Keeps one connection for all requests, as long as the server does",
         "Example:\n  cogtools cogread info 127.0.0.1:8080 a.tif\n",
     ]),

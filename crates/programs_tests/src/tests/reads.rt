@@ -14,7 +14,7 @@ use tiff_dir::Pick;
 use transports::{InMemory, InPieces, server_of_one};
 
 #[rattlefmt::skip]
-const FAULTS: [FaultRow<'static>; 23] = [
+const FAULTS: [FaultRow<'static>; 24] = [
     // Nobody listens there.
     ("cogread info 127.0.0.1:1 a", "cogread: no report\n", 4),
     ("cogread window 127.0.0.1:1 a 4294967295 0 1 1 --requests 2", "cogread: no report\n", 4),
@@ -27,6 +27,7 @@ const FAULTS: [FaultRow<'static>; 23] = [
     ("cogread info h a --requests 65537", "cogread: not a number: 65537\n", 2),
     ("cogread info h? a --blocks 65", "cogread: not a number: 65\n", 2),
     ("cogread info h a --blocks 4097", "cogread: not a number: 4097\n", 2),
+    ("cogread info h a --ahead 65", "cogread: not a number: 65\n", 2),
     ("cogread info h?:1 a?", "cogread: refused 1\n", 2),
     ("cogread info 127.0.0.1:1 a?", "cogread: refused 2\n", 2),
     // No address has that name.

@@ -31,6 +31,7 @@ const LINE: ReadLine<'static> = ReadLine {
     asked: AskedWords::Window(WINDOW),
     requests: None,
     blocks: None,
+    ahead: None,
     keep: false,
     close: false,
     output: None,
@@ -44,13 +45,14 @@ const INFO: ReadLine<'static> = ReadLine {
 
 /// Words of `cogread`, and the line that they are.
 #[rattlefmt::skip]
-const READ: [(&str, ReadLine<'static>); 13] = [
+const READ: [(&str, ReadLine<'static>); 14] = [
     ("cogread window h:1 a 2 1 3 2", LINE),
     ("cogread window h:1 a 2 1 3 2 --level 0", ReadLine { asked: AskedWords::Window(OF_LEVEL_0), ..LINE }),
     ("cogread window --columns=4 h:1 a 2 1 3 2", ReadLine { asked: AskedWords::Window(OF_4_COLUMNS), ..LINE }),
     ("cogread info h:1 a", INFO),
     ("cogread info --blocks 66 h:1 --requests=1 a", ReadLine { requests: Some("1"), blocks: Some("66"), ..INFO }),
     ("cogread window --requests x h:1 a 2 1 3 2 --blocks ''", ReadLine { requests: Some("x"), blocks: Some(""), ..LINE }),
+    ("cogread window h:1 --ahead=64 a 2 1 3 2", ReadLine { ahead: Some("64"), ..LINE }),
     ("cogread window h:1 a --whole", ReadLine { asked: AskedWords::Whole { level: None }, ..LINE }),
     ("cogread window --level 1 h:1 --whole a", ReadLine { asked: AskedWords::Whole { level: Some("1") }, ..LINE }),
     ("cogread info --keep h:1 a", ReadLine { keep: true, ..INFO }),
