@@ -13,7 +13,7 @@ use tiff_dir::Span;
 use tiff_dir::limits::BLOCK_SIZE;
 
 /// The most blocks that one request asks for.
-const MAX_BLOCKS: u64 = 65;
+pub(crate) const MAX_BLOCKS: u64 = 65;
 
 /// Where a run of missing blocks ends that goes on in a range, before a limit.
 fn reach_in(cache: &Cache, range: Span, from: u64, limit: u64) -> u64
@@ -32,7 +32,7 @@ fn reach_in(cache: &Cache, range: Span, from: u64, limit: u64) -> u64
 }
 
 /// Where a run of missing blocks ends that goes on in the ranges that are known to be needed later, before a limit.
-fn reach(reader: &Reader, cache: &Cache, from: u64, limit: u64) -> u64
+pub(crate) fn reach(reader: &Reader, cache: &Cache, from: u64, limit: u64) -> u64
     requires low { from ≤ limit }
     requires inside { from * block_size < complete_of reader.now + block_size }
     ensures low { from ≤ result }

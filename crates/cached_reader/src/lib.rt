@@ -3,8 +3,10 @@
 #![tactic(auto)]
 
 mod ahead;
+mod early;
 mod going;
 mod laws;
 
+pub use early::early_spans;
 pub use going::fill;
 pub use laws::looks_at_one_range;

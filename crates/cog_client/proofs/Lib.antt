@@ -16,3 +16,4 @@ pub mod ArrivalLemmas
 pub mod FollowLemmas
 pub mod StopLemmas
 pub mod EndLemmas
+pub mod EarlyLemmas

@@ -15,3 +15,4 @@ pub mod Head
 pub mod Feeding
 pub mod Arrival
 pub mod FedClient
+pub mod Early

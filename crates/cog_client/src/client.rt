@@ -2,6 +2,7 @@
 ghost use Rattle.std.specs.Prelude.{◌≡◌};
 ghost use Rattle.cog_client.specs.Take.{first_span};
 
+mod early;
 mod feeds;
 
 use crate::arrival::Arrival;

@@ -32,6 +32,14 @@ pub trait Pieces {
         ensures speaks { SpeaksOn (speaks_for self.old) (speaks_for self.new) }
         ensures counted { count self.new ≡ count self.old };
 
+    /// Is told which requests are likely to be started next, the next one first. A source may send them early; each is started in its
+    /// turn all the same, or another one is.
+    fn foresee(&mut self, _requests: &[Vec<u8>])
+        ensures rest { rest self.new ≡ rest self.old }
+        ensures speaks { SpeaksOn (speaks_for self.old) (speaks_for self.new) }
+        ensures counted { count self.new ≡ count self.old }
+    {}
+
     /// How many requests there were, those that brought nothing too.
     fn starts(&self) -> u64
         ensures { result ≡ count self.now };

@@ -4,6 +4,7 @@ use std::alloc::{AllocError, Global};
 
 mod ahead;
 mod changed;
+mod early;
 mod kept;
 mod large;
 mod lying;

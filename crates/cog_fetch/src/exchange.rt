@@ -1,10 +1,10 @@
 //! One exchange: a request is sent, and what comes of its answer is taken.
 ghost use Rattle.std.specs.Prelude.{◌≡◌, ◌+◌, ◌<◌, ◌^◌, ℕ};
 ghost use Rattle.http_range.specs.Book.{Publication};
-ghost use Rattle.cog_client.specs.Transport.{KeepsReading};
+ghost use Rattle.cog_client.specs.Transport.{KeepsReading, SpeaksOn};
 
 use crate::taking::take_answer;
-use cog_client::{Client, FetchError, Lost, Pieces, Transport};
+use cog_client::{Client, FetchError, Lost, Memory, Pieces, Transport};
 
 /// How a request is sent to a source, and what comes of its answer taken.
 pub(crate) trait Exchange<S> {
@@ -14,8 +14,13 @@ pub(crate) trait Exchange<S> {
     /// The exchanges so far.
     ghost count: { S → ℕ };
 
-    /// Sends a request, and takes what comes of its answer.
-    fn exchange(client: &mut Client, source: &mut S, request: &[u8]) -> Result<(), FetchError>
+    /// Sends a request, and takes what comes of its answer. At most so many exchanges follow.
+    fn exchange(
+        client: &mut Client,
+        source: &mut S,
+        request: &[u8],
+        later: u32,
+    ) -> Result<(), FetchError>
         requires { count source.old + 1 < 2 ^ 64 }
         ensures keeps { KeepsReading (speaks_for source.old) (speaks_for source.new) client.old client.new }
         ensures counted { count source.new ≡ count source.old + 1 };
@@ -29,7 +34,12 @@ impl<T: Transport> Exchange<T> for Whole {
 
     ghost count = { T.count };
 
-    fn exchange(client: &mut Client, source: &mut T, request: &[u8]) -> Result<(), FetchError> {
+    fn exchange(
+        client: &mut Client,
+        source: &mut T,
+        request: &[u8],
+        _later: u32,
+    ) -> Result<(), FetchError> {
         match source.exchange(request) {
             Ok(answer) => {
                 client.deliver(&answer)?;
@@ -40,7 +50,21 @@ impl<T: Transport> Exchange<T> for Whole {
     }
 }
 
-/// An answer comes in pieces, as it arrives.
+/// The most requests that a source is told of at once.
+const MOST_EARLY: u32 = 8;
+
+/// Tells a source what the client is likely to ask next, in so many requests at most.
+fn foresee<P: Pieces>(client: &Client, source: &mut P, later: u32) -> Result<(), Memory>
+    ensures rest { P.rest source.new ≡ P.rest source.old }
+    ensures speaks { SpeaksOn (P.speaks_for source.old) (P.speaks_for source.new) }
+    ensures counted { P.count source.new ≡ P.count source.old }
+{
+    let early = client.early_requests(later.min(MOST_EARLY))?;
+    source.foresee(&early);
+    Ok(())
+}
+
+/// An answer comes in pieces, as it arrives. The source is told what is likely to be asked next.
 pub(crate) struct InPieces;
 
 impl<P: Pieces> Exchange<P> for InPieces {
@@ -48,9 +72,17 @@ impl<P: Pieces> Exchange<P> for InPieces {
 
     ghost count = { P.count };
 
-    fn exchange(client: &mut Client, source: &mut P, request: &[u8]) -> Result<(), FetchError> {
+    fn exchange(
+        client: &mut Client,
+        source: &mut P,
+        request: &[u8],
+        later: u32,
+    ) -> Result<(), FetchError> {
         match source.start(request) {
-            Ok(()) => Ok(take_answer(client, source)?),
+            Ok(()) => {
+                foresee(client, source, later)?;
+                Ok(take_answer(client, source)?)
+            }
             Err(Lost) => Ok(()),
         }
     }

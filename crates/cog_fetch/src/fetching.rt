@@ -12,8 +12,12 @@ ghost use Rattle.cog_client.specs.Transport.{IsInVain, IsTrueOfOne, KeepsReading
 use crate::exchange::{Exchange, InPieces, Whole};
 use cog_client::{Client, FetchError, Pieces, Report, Transport};
 
-/// One exchange, if the client has a request. Says whether it had one.
-fn exchange_once<S, E: Exchange<S>>(client: &mut Client, source: &mut S) -> Result<bool, FetchError>
+/// One exchange, if the client has a request. Says whether it had one. At most so many follow.
+fn exchange_once<S, E: Exchange<S>>(
+    client: &mut Client,
+    source: &mut S,
+    later: u32,
+) -> Result<bool, FetchError>
     requires { E.count source.old + 1 < 2 ^ 64 }
     ensures keeps { KeepsReading (E.speaks_for source.old) (E.speaks_for source.new) client.old client.new }
     ensures counted { IfOk result (λ asked. E.count source.new
@@ -28,7 +32,7 @@ fn exchange_once<S, E: Exchange<S>>(client: &mut Client, source: &mut S) -> Resu
     let Some(request) = request else {
         return Ok(false);
     };
-    E::exchange(client, source, &request)?;
+    E::exchange(client, source, &request, later)?;
     Ok(true)
 }
 
@@ -45,8 +49,8 @@ fn exchange_up_to<S, E: Exchange<S>>(
     ensures idle { IsIdle client.old → E.count source.new ≡ E.count source.old }
     ensures stands { IsSome (report_of client.old) → OnOk result (report_of client.new ≡ report_of client.old) }
 {
-    for _ in 0..tries {
-        if !exchange_once::<S, E>(client, source)? {
+    for done in 0..tries {
+        if !exchange_once::<S, E>(client, source, tries - done - 1)? {
             return Ok(());
         }
     }
@@ -120,4 +124,24 @@ pub fn fetch_pieces<'c, P: Pieces>(
 {
     exchange_up_to::<P, InPieces>(client, pieces, tries)?;
     Ok(client.report())
+}
+
+/// One exchange of `fetch_pieces`, if the client has a request. Says whether it had one. At most `later` follow: the source may be told
+/// of as many requests, which it may send early. `Memory` is the only error, and the client can go on from there.
+pub fn exchange_pieces<P: Pieces>(
+    client: &mut Client,
+    pieces: &mut P,
+    later: u32,
+) -> Result<bool, FetchError>
+    requires { P.count pieces.old + 1 < 2 ^ 64 }
+    ensures keeps { KeepsReading (P.speaks_for pieces.old) (P.speaks_for pieces.new) client.old client.new }
+    ensures counted { IfOk result (λ asked. P.count pieces.new
+        ≡ (if asked then P.count pieces.old + 1 else P.count pieces.old)) }
+    ensures few { P.count pieces.new ≤ P.count pieces.old + 1 }
+    ensures silent { IfOk result (λ asked. asked ≡ false → IsIdle client.new) }
+    ensures idle { IsIdle client.old
+        → (P.count pieces.new ≡ P.count pieces.old) × OnOk result (IsIdle client.new) }
+    ensures stands { IsSome (report_of client.old) → OnOk result (report_of client.new ≡ report_of client.old) }
+{
+    exchange_once::<P, InPieces>(client, pieces, later)
 }

@@ -8,5 +8,5 @@ mod fetching;
 mod taking;
 
 pub use answer_end::{AnswerEnd, Lacks};
-pub use fetching::{fetch, fetch_pieces};
+pub use fetching::{exchange_pieces, fetch, fetch_pieces};
 pub use taking::{ANSWER_LIMIT, PIECE_ROOM};

@@ -128,6 +128,10 @@ impl<P: Pieces> Pieces for Noted<P> {
         Ok(count)
     }
 
+    fn foresee(&mut self, requests: &[Vec<u8>]) {
+        self.source.foresee(requests);
+    }
+
     fn starts(&self) -> u64 {
         self.source.starts()
     }

@@ -7,7 +7,7 @@ use crate::line::ExchangeLine;
 use crate::network::NotedNet;
 use crate::noted::Noted;
 use cog_client::{Client, FetchError, Pieces, Tag};
-use cog_fetch::fetch_pieces;
+use cog_fetch::exchange_pieces;
 use std::rt::Clock;
 
 /// The tag that a client reads, if it has one.
@@ -18,19 +18,20 @@ fn tag_of(client: &Client) -> Option<Tag> {
     }
 }
 
-/// One exchange, which is told. Says whether the report stands.
+/// One exchange, which is told. At most so many follow. Says whether the report stands.
 fn exchange_told<R: Eprint + Clock, P: Pieces>(
     rt: &R,
     net: &NotedNet<'_, R>,
     client: &mut Client,
     noted: &mut Noted<P>,
+    later: u32,
 ) -> Result<bool, FetchError>
     requires { P.count (source_of noted.old) + 1 < 2 ^ 64 }
     ensures { P.count (source_of noted.new) ≤ P.count (source_of noted.old) + 1 }
 {
     let before = tag_of(client);
     let since = moment(rt);
-    let stands = fetch_pieces(client, noted, 1)?.is_some();
+    exchange_pieces(client, noted, later)?;
     let line = ExchangeLine {
         name: str::from_utf8(client.name()).unwrap_or_default(),
         range: str::from_utf8(noted.range()).unwrap_or_default(),
@@ -43,7 +44,7 @@ fn exchange_told<R: Eprint + Clock, P: Pieces>(
         after: tag_of(client),
     };
     let _ = rt.eprintln(line);
-    Ok(stands)
+    Ok(client.report().is_some())
 }
 
 /// Sends the client's requests to a source that is noted, until a report stands, in so many exchanges at most. Each of them is told on
@@ -58,8 +59,8 @@ pub fn exchanges_told<R: Eprint + Clock, P: Pieces>(
     requires { P.count (source_of noted.old) + requests < 2 ^ 64 }
     ensures few { P.count (source_of noted.new) ≤ P.count (source_of noted.old) + requests }
 {
-    for _ in 0..requests {
-        if exchange_told(rt, net, client, noted)? {
+    for done in 0..requests {
+        if exchange_told(rt, net, client, noted, requests - done - 1)? {
             break;
         }
     }

@@ -1,4 +1,5 @@
 //! Tests over sockets of one process.
+mod early;
 mod kept;
 mod lines;
 mod loopback;

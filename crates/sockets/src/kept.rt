@@ -1,52 +1,139 @@
 //! What is known of a connection that is kept from answer to answer.
-ghost use Rattle.std.specs.Prelude.{◌≡◌, ◌++◌, ◌⊎◌, ℕ, [], List, IsSome, true};
-ghost use Rattle.cog_fetch.specs.declared.answer_end.Lacks.TheVariants.{End};
+ghost use Rattle.std.specs.Prelude.{◌≡◌, ◌<◌, ◌≤◌, ◌++◌, ◌∷◌, ◌⊎◌, ℕ, [], List, IsSome, true};
+ghost use Rattle.cog_fetch.specs.declared.answer_end.Lacks.TheVariants.{Body, End};
 ghost use Rattle.cog_fetch.specs.AnswerEnd.{lacks_of, Came, IsWholeAnswer};
+ghost use Rattle.sockets.specs.declared.kept.Turn.TheVariants.{Anew};
+ghost use Rattle.sockets.specs.Early.{early_of, IsTurn};
 ghost use Rattle.sockets.specs.Sockets.{is_over};
 
 use cog_fetch::{AnswerEnd, Lacks};
 use std::alloc::Global;
+use std::collections::VecDeque;
 
-/// How far the answer on the connection has come, and the request that is sent once more where the connection turns out to be closed
-/// before a byte of its answer came.
+/// How many bytes are read at once of a head behind which the answers to requests that were sent early may come.
+const HEAD_PIECE: usize = 512;
+
+/// How a request comes to a connection that is kept.
+#[derive(Clone, Copy)]
+pub(crate) enum Turn {
+    /// It was sent early: its answer is the next one.
+    Sent,
+    /// It is to be sent behind the answer before.
+    Sends,
+    /// It can't come: the answer before isn't whole, another request was sent early, or there is no memory.
+    Anew,
+}
+
+/// How far the answer on the connection has come; the request that is sent once more where the connection turns out to be closed
+/// before a byte of its answer came; and the requests behind it that were sent early, the next one first.
 #[derive(Drop)]
 pub(crate) struct Kept {
     end: AnswerEnd,
     again: Option<Vec<u8>>,
+    early: VecDeque<Vec<u8>>,
 }
 
 impl Kept {
     /// Of a connection on which nothing was sent.
     pub(crate) fn new(alloc: Global) -> Kept
-        ensures { Came result.end [] }
+        ensures came { Came result.end [] }
+        ensures early { early_of result ≡ [] }
     {
         Kept {
             end: AnswerEnd::new(alloc),
             again: None,
+            early: VecDeque::new(alloc),
         }
     }
 
     /// A request is sent on a new connection.
     pub(crate) fn begin(&mut self)
-        ensures { Came self.new.end [] }
+        ensures came { Came self.new.end [] }
+        ensures early { early_of self.new ≡ [] }
     {
         self.end.begin();
         self.again = None;
+        self.early.clear();
     }
 
-    /// A request is to be sent behind the answer before. Says whether it may be: that answer is whole, and there is memory for the
-    /// request, which may have to be sent once more.
-    pub(crate) fn goes_on(&mut self, alloc: Global, request: &[u8]) -> bool
-        ensures whole { result ≡ true → (bytes : List ℕ) → Came self.old.end bytes → IsWholeAnswer bytes }
+    /// A request comes behind the answer before. Says how: where that is whole, and there is memory for the request, which may have to be
+    /// sent once more. A request that was sent early has its turn only where it is this one, byte for byte.
+    pub(crate) fn goes_on(&mut self, alloc: Global, request: &[u8]) -> Turn
+        ensures whole { ¬ (result ≡ Anew) → (bytes : List ℕ) → Came self.old.end bytes → IsWholeAnswer bytes }
         ensures begun { Came self.new.end [] }
+        ensures turn { IsTurn result (early_of self.old) request.now (early_of self.new) }
     {
         let may_go_on = self.end.may_go_on();
-        self.begin();
-        if may_go_on {
-            self.again = Vec::from_slice(alloc, request).ok();
-            return self.again.is_some();
+        self.end.begin();
+        self.again = None;
+        if !may_go_on {
+            return Turn::Anew;
         }
-        false
+        self.again = Vec::from_slice(alloc, request).ok();
+        if self.again.is_none() {
+            return Turn::Anew;
+        }
+        self.turn(request)
+    }
+
+    /// How a request comes behind a whole answer.
+    fn turn(&mut self, request: &[u8]) -> Turn
+        ensures turn { IsTurn result (early_of self.old) request.now (early_of self.new) }
+        ensures end { self.new.end ≡ self.old.end }
+    {
+        match self.early.pop_front() {
+            None => Turn::Sends,
+            Some(sent) => {
+                if sent.as_slice() == request {
+                    Turn::Sent
+                } else {
+                    Turn::Anew
+                }
+            }
+        }
+    }
+
+    /// Those of the requests that come next which weren't sent early so far. There are none before the connection went on behind an
+    /// answer, since a server that ends each connection may drop the rest of an answer with what it didn't read; nor where others were
+    /// sent.
+    pub(crate) fn unsent<'a>(&self, requests: &'a [Vec<u8>]) -> &'a [Vec<u8>] {
+        if self.again.is_none() {
+            return &[];
+        }
+        for (at, sent) in self.early.iter().enumerate() {
+            if requests.get(at) != Some(sent) {
+                return &[];
+            }
+        }
+        requests.get(self.early.len()..).unwrap_or(&[])
+    }
+
+    /// A request is sent early. Says whether there is memory to note it.
+    pub(crate) fn sends_early(&mut self, alloc: Global, request: &[u8]) -> bool
+        ensures noted { result ≡ true → early_of self.new ≡ early_of self.old ++ request.now ∷ [] }
+        ensures end { self.new.end ≡ self.old.end }
+    {
+        match Vec::from_slice(alloc, request) {
+            Ok(text) => self.early.push_back(text).is_ok(),
+            Err(_) => false,
+        }
+    }
+
+    /// How many bytes of those that there is room for are read at once: where a request was sent early, and the head of this answer is
+    /// there, none of the next answer.
+    pub(crate) fn piece(&self, room: usize) -> usize
+        ensures few { result ≤ room }
+        ensures some { 0 < room → 0 < result }
+        ensures own { (left : ℕ) → ¬ (early_of self.now ≡ []) → lacks_of self.now.end ≡ Body left → 0 < left → result ≤ left }
+    {
+        if self.early.is_empty() {
+            return room;
+        }
+        match self.end.lacks() {
+            Lacks::Head => room.min(HEAD_PIECE),
+            Lacks::Body(left) => room.min(left.max(1) as usize),
+            Lacks::End => room,
+        }
     }
 
     /// Whether nothing is waited for any more: the answer is whole, or has no length that can be trusted, and isn't used.

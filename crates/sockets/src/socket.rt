@@ -3,7 +3,7 @@ ghost use Rattle.std.specs.Prelude.{◌≡◌, ◌≤◌, ℕ, List, IfOk, IsErr
 ghost use Rattle.cog_fetch.specs.AnswerEnd.{IsWholeAnswer};
 ghost use Rattle.sockets.specs.Sockets.{exchanges_of, server_of, HasCome, IsConnected};
 
-use crate::kept::Kept;
+use crate::kept::{Kept, Turn};
 use cog_client::{Lost, Pieces};
 use std::io::{ErrorKind, Read, Write};
 use std::net::{Net, TcpStream};
@@ -65,13 +65,24 @@ impl<'r, R> Socket<'r, R> {
         read
     }
 
+    /// How many bytes of those that there is room for are read at once.
+    fn piece(&self, room: usize) -> usize
+        ensures { result ≤ room }
+    {
+        match &self.kept {
+            Some(kept) => kept.piece(room),
+            None => room,
+        }
+    }
+
     /// Reads the next bytes of the answer on a connection that is kept, and notes how far it has come.
     fn receive_noting(&mut self, out: &mut [u8]) -> Result<usize, Lost>
         ensures few { IfOk result (λ n. n ≤ length out.new) }
         ensures server { server_of self.new ≡ server_of self.old }
         ensures exchanges { exchanges_of self.new ≡ exchanges_of self.old }
     {
-        let read = self.receive(out);
+        let most = self.piece(out.len());
+        let read = self.receive(&mut out[..most]);
         if let (Some(kept), Ok(count @ 1..)) = (&mut self.kept, read) {
             kept.came(&out[..count]);
         }
@@ -125,7 +136,8 @@ impl<'r, R: Net<Stream = TcpStream> + AllocGlobal> Socket<'r, R> {
         self.connect(request)
     }
 
-    /// Writes a request on the connection that is kept, if there is one and the answer before is whole. Says whether it did.
+    /// Writes a request on the connection that is kept, if there is one and the answer before is whole; one that was sent early isn't
+    /// written again. Says whether its answer comes next.
     fn send_on(&mut self, request: &[u8]) -> bool
         ensures server { server_of self.new ≡ server_of self.old }
         ensures exchanges { exchanges_of self.new ≡ exchanges_of self.old }
@@ -135,7 +147,31 @@ impl<'r, R: Net<Stream = TcpStream> + AllocGlobal> Socket<'r, R> {
         let (Some(kept), Some(stream)) = (&mut self.kept, &mut self.stream) else {
             return false;
         };
-        kept.goes_on(self.rt.alloc(), request) && stream.write_all(request).is_ok()
+        match kept.goes_on(self.rt.alloc(), request) {
+            Turn::Sent => true,
+            Turn::Sends => stream.write_all(request).is_ok(),
+            Turn::Anew => false,
+        }
+    }
+
+    /// Writes requests early, behind the one that was sent, as far as they weren't. The connection ends with a write that fails.
+    fn send_early(&mut self, requests: &[Vec<u8>])
+        ensures server { server_of self.new ≡ server_of self.old }
+        ensures exchanges { exchanges_of self.new ≡ exchanges_of self.old }
+    {
+        let alloc = self.rt.alloc();
+        let (Some(kept), Some(stream)) = (&mut self.kept, &mut self.stream) else {
+            return;
+        };
+        for request in kept.unsent(requests) {
+            if !kept.sends_early(alloc, request) {
+                return;
+            }
+            if stream.write_all(request).is_err() {
+                self.stream = None;
+                return;
+            }
+        }
     }
 
     /// Connects, and writes a request.
@@ -191,6 +227,10 @@ impl<R: Net<Stream = TcpStream> + AllocGlobal> Pieces for Socket<'_, R> {
             return Ok(0);
         }
         self.receive_next(out)
+    }
+
+    fn foresee(&mut self, requests: &[Vec<u8>]) {
+        self.send_early(requests);
     }
 
     fn starts(&self) -> u64 {

@@ -4,9 +4,9 @@ use Rattle.cog_client.specs.Client.{report_of}
 use Rattle.cog_client.specs.Transport.{KeepsReading}
 use Rattle.cog_fetch.proofs.fetching.exchange_up_to.Given as goal
 
-abbrev pub invariant-loop : goal.invariant-loop
-invariant-loop g l = record {
-  counted : g.E.Exchange.count l.source ≡ g.E.Exchange.count l.fn.source + l.counter;
+abbrev pub invariant-loop-done : goal.invariant-loop-done
+invariant-loop-done g l = record {
+  counted : g.E.Exchange.count l.source ≡ g.E.Exchange.count l.fn.source + l.done;
   idle : IsIdle l.fn.client → (g.E.Exchange.count l.source ≡ g.E.Exchange.count l.fn.source) × IsIdle l.client;
   stands : IsSome (report_of l.fn.client) → report_of l.client ≡ report_of l.fn.client;
   keeps : KeepsReading (g.E.Exchange.speaks_for l.fn.source) (g.E.Exchange.speaks_for l.source) l.fn.client l.client;

@@ -1,0 +1,29 @@
+use Rattle.std.proofs.Common.{◌+◌, arith, inl, inr, sym, subst}
+use Rattle.std.specs.Prelude.{IsSomeAnd}
+use Rattle.std.proofs.lemmas.Bool.{cases_lt}
+use Rattle.cached_reader.specs.Going.{Touches}
+use Rattle.cached_reader.proofs.AheadLemmas.{touches_in}
+use Rattle.cached_reader.proofs.early.run_in.Goals as goal
+
+pub returns-clause-needed : goal.returns-clause-needed
+returns-clause-needed c =
+    let a = c.args in
+    let end = c.run_end-end.result in
+    let run = c.run_end-end.ensures in
+    let r = c.reach-to.ensures in
+    let begins = c.requires.begins in
+    let later = run.begins in
+    let within = run.within in
+    let other = c.if-end-from.false in
+    let low = r.low in
+    let high = r.high in
+    record {
+      some = omega (arith, later, other, low);
+      few = omega (arith, high);
+      inside = r.inside;
+      gone = λ k from_k k_to. elim (cases_lt k end) [ inl old ↦ run.gone k from_k old | inr new ↦ r.gone k new k_to ];
+      needed = λ f agrees k from_k k_to. elim (cases_lt k end) [
+        | inl old ↦ (a.index + 1, subst (λ o. IsSomeAnd o (λ e. Touches e k)) (sym (c.requires.comes f agrees)) (touches_in a.range k (omega (arith, begins, from_k)) (omega (arith, old, within))))
+        | inr new ↦ r.needed f agrees k new k_to
+      ];
+    }

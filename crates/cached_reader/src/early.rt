@@ -1,0 +1,125 @@
+//! Asking early: what is asked for next, and then next again, where the answers before come whole.
+ghost use Rattle.std.specs.Prelude.{◌≡◌, ◌+◌, ◌-◌, ◌*◌, ◌/◌, ◌<◌, ◌≤◌, ◌^◌, ℕ, List, Some, IfOk, IfSome, length, slice_get};
+ghost use Rattle.std.specs.List.{All};
+ghost use Rattle.tiff_dir.specs.Block.{block_size, end_of};
+ghost use Rattle.tiff_dir.specs.Walk.{extent_of_span};
+ghost use Rattle.cog_reader.specs.Reader.{complete_of, to_come, ReaderAgrees};
+ghost use Rattle.cached_reader.specs.Going.{work};
+ghost use Rattle.cached_reader.specs.Early.{AreNeededLater, IsEarly};
+
+use crate::ahead::{MAX_BLOCKS, reach};
+use cog_reader::Reader;
+use range_cache::Cache;
+use std::alloc::Global;
+use tiff_dir::limits::BLOCK_SIZE;
+use tiff_dir::{Memory, Span};
+
+/// The blocks that one request asks for, and the first range among the upcoming ones that they don't begin in.
+#[derive(Clone, Copy)]
+struct Run {
+    from: u64,
+    to: u64,
+    index: u32,
+}
+
+/// The run of blocks that is asked for in an upcoming range of which those before `from` are there then, and behind it: as `extend` does.
+fn run_in(
+    reader: &Reader,
+    cache: &Cache,
+    range: Span,
+    from: u64,
+    ahead: u32,
+    index: u32,
+) -> Option<Run>
+    requires within { range.last < complete_of reader.now }
+    requires begins { range.first / block_size ≤ from }
+    requires ends { from ≤ range.last / block_size }
+    requires more { index + 1 < 2 ^ 32 }
+    requires comes { (f : List ℕ) → ReaderAgrees reader.now f → slice_get (to_come reader.now f) (index + 1) ≡ Some (extent_of_span range) }
+    ensures needed { IfSome result (λ run. AreNeededLater (work reader.now cache.now) run.from run.to) }
+    ensures from { IfSome result (λ run. run.from ≡ from) }
+{
+    let to = range.last / BLOCK_SIZE + 1;
+    let there = from - range.first / BLOCK_SIZE + cache.present(from, to);
+    let room = u64::from(cache.capacity()).saturating_sub(there);
+    let limit = from + room.min(MAX_BLOCKS);
+    let end = cache.run_end(from, to.min(limit));
+    if end == from {
+        return None;
+    }
+    let to = reach(reader, cache, end, limit.min(end + u64::from(ahead)));
+    Some(Run {
+        from,
+        to,
+        index: index + 1,
+    })
+}
+
+/// The run of blocks that is asked for after another one, where its answer comes whole and the ranges stand in the order of the file.
+fn next_run(reader: &Reader, cache: &Cache, last: Run, ahead: u32) -> Option<Run>
+    requires { last.to < 2 ^ 60 }
+    ensures needed { IfSome result (λ run. AreNeededLater (work reader.now cache.now) run.from run.to) }
+    ensures behind { IfSome result (λ run. last.to ≤ run.from) }
+{
+    if cache.present(last.to, last.to + 1) > 0 {
+        return None;
+    }
+    for index in last.index..u32::MAX {
+        let Some(range) = reader.upcoming(index) else {
+            return None;
+        };
+        let first = range.first / BLOCK_SIZE;
+        let to = range.last / BLOCK_SIZE + 1;
+        let from = first.max(last.to);
+        if first < last.from {
+            return None;
+        }
+        if from < to && cache.present(from, to) < to - from {
+            return run_in(reader, cache, range, from, ahead, index);
+        }
+    }
+    None
+}
+
+/// The span of a run.
+fn span_of(run: Run, complete: u64) -> Span
+    requires some { run.from < run.to }
+    requires inside { run.to * block_size < complete + block_size }
+    ensures first { result.first ≡ run.from * block_size }
+    ensures last { result.last + 1 ≡ end_of complete (run.to - 1) }
+{
+    Span {
+        first: run.from * BLOCK_SIZE,
+        last: ((run.to - 1) * BLOCK_SIZE + (BLOCK_SIZE - 1)).min(complete - 1),
+    }
+}
+
+/// What is asked for behind `asked`, one request after another, as far as it is known: at most so many. `Memory` is the only error.
+pub fn early_spans(
+    alloc: Global,
+    reader: &Reader,
+    cache: &Cache,
+    complete: u64,
+    asked: Span,
+    ahead: u32,
+    most: u32,
+) -> Result<Vec<Span>, Memory>
+    requires { complete_of reader.now ≡ complete }
+    ensures early { IfOk result (λ spans. All (IsEarly (work reader.now cache.now) asked) spans.items) }
+    ensures few { IfOk result (λ spans. length spans.items ≤ most) }
+{
+    let mut spans = Vec::new(alloc);
+    let mut last = Run {
+        from: asked.first / BLOCK_SIZE,
+        to: asked.last / BLOCK_SIZE + 1,
+        index: 0,
+    };
+    for _ in 0..most {
+        let Some(run) = next_run(reader, cache, last, ahead) else {
+            break;
+        };
+        spans.push(span_of(run, complete))?;
+        last = run;
+    }
+    Ok(spans)
+}

@@ -1,0 +1,23 @@
+use Rattle.std.proofs.Common.{◌≡◌, Some, sym, ap, subst, ◌∙◌}
+use Rattle.std.specs.Prelude.{IfOk}
+use Rattle.std.specs.List.{All}
+use Rattle.std.proofs.lemmas.Result.{IfOk-weaker}
+use Rattle.cached_reader.specs.Going.{work}
+use Rattle.cached_reader.specs.Early as reading
+use Rattle.cog_client.specs.Early.{IsEarly}
+use Rattle.cog_client.proofs.ClientLemmas.{known}
+use Rattle.cog_client.proofs.EarlyLemmas.{early_spans}
+use Rattle.cog_client.proofs.client.Client.spans_early.Goals as goal
+
+pub returns-clause-early : goal.returns-clause-early
+returns-clause-early c =
+    let i = c.self.inside in
+    let asked = c.in-Some-Some.asked in
+    let s = c.in-Some-Some.source in
+    let made = known i.arrival i.how i.host.items i.name.items i.query (Some asked) (Some s) i.cache i.report in
+    let is : made ≡ c.args.self.now =
+    sym (ap (λ o. known i.arrival i.how i.host.items i.name.items i.query o i.source i.cache i.report) c.in-Some-Some.is-0
+    ∙ ap (λ o. known i.arrival i.how i.host.items i.name.items i.query (Some asked) o i.cache i.report) c.in-Some-Some.is-1) ∙ c.self.view_is in
+    subst (λ k. IfOk c.early_spans.result (λ spans. All (IsEarly k) spans.items)) is
+    (IfOk-weaker c.early_spans.result (λ spans. All (reading.IsEarly (work s.reader i.cache) asked) spans.items) (λ spans. All (IsEarly made) spans.items)
+    (λ spans all. early_spans i.arrival i.how i.host.items i.name.items i.query asked s i.cache i.report spans.items all) c.early_spans.ensures.early)

@@ -1,0 +1,50 @@
+//! The requests that a client makes next, as far as they are known before the answer to the present one came.
+ghost use Rattle.std.specs.Prelude.{◌≤◌, IfOk, length};
+ghost use Rattle.std.specs.List.{All};
+ghost use Rattle.cog_client.specs.Early.{IsEarly, IsEarlyRequest};
+
+use crate::client::Client;
+use cached_reader::early_spans;
+use tiff_dir::{Memory, Span};
+
+#[tactic(auto, unfolding(crate::specs::Client::asked_of, crate::specs::Client::blocks_of, crate::specs::Client::to_come, crate::specs::Client::Knows))]
+impl Client {
+    /// The requests that follow the last one where each answer comes whole, the next one first: at most `most`, and none where requests
+    /// close their connections or don't look ahead. Whoever sends them early, one behind another on a connection (RFC 9112, section
+    /// 9.3.2), takes the answers as ever: `request` makes each of them once more when its turn comes, or another one, where an answer
+    /// came otherwise. `Memory` is the only error.
+    pub fn early_requests(&self, most: u32) -> Result<Vec<Vec<u8>>, Memory>
+        ensures requests { IfOk result (λ texts. All (λ text. IsEarlyRequest self.now text.items) texts.items) }
+        ensures few { IfOk result (λ texts. length texts.items ≤ most) }
+    {
+        let spans = self.spans_early(most)?;
+        let mut texts = Vec::new(self.alloc);
+        for span in &spans {
+            texts.push(self.request_for(*span)?)?;
+        }
+        Ok(texts)
+    }
+
+    /// What those requests ask for.
+    fn spans_early(&self, most: u32) -> Result<Vec<Span>, Memory>
+        ensures early { IfOk result (λ spans. All (IsEarly self.now) spans.items) }
+        ensures few { IfOk result (λ spans. length spans.items ≤ most) }
+    {
+        let (Some(asked), Some(source)) = (self.asked, &self.source) else {
+            return Ok(Vec::new(self.alloc));
+        };
+        let ahead = self.how.ahead;
+        if self.how.closes || ahead == 0 {
+            return Ok(Vec::new(self.alloc));
+        }
+        early_spans(
+            self.alloc,
+            &source.reader,
+            &self.cache,
+            source.complete,
+            asked,
+            ahead,
+            most,
+        )
+    }
+}
