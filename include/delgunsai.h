@@ -108,6 +108,13 @@ int32_t cog_client_open_info(struct cog_client *client);
  * before an answer it gives the same text. */
 int64_t cog_client_request(struct cog_client *client, uint8_t *room, size_t length);
 
+/* cog_client_later: lays the text of the request into the room that will come `index` requests after the next one, 0 for the one right
+ * behind it, as far as it is known before their answers which bytes are needed then. It may be sent ahead of its time, on the same
+ * connection too; its answer is taken once cog_client_request gives the same text. Another one may come in its place, as where the file is
+ * replaced or an answer is cut. Gives the text's length; 0, where none is known; COG_MEMORY or COG_NO_CLIENT. It changes nothing of the
+ * client. */
+int64_t cog_client_later(struct cog_client *client, uint32_t index, uint8_t *room, size_t length);
+
 /* cog_client_begin: begins an answer to the request. An unfinished one is dropped. Gives 0 or COG_NO_CLIENT. */
 int32_t cog_client_begin(struct cog_client *client);
 

@@ -3,7 +3,8 @@ from __future__ import annotations
 
 import ctypes
 import pathlib
-from typing import Optional, Tuple
+import sys
+from typing import List, Optional, Tuple, Union
 
 import numpy
 
@@ -16,6 +17,10 @@ SAME, OTHER, UNKNOWN = 1, 2, 3
 REQUEST_ROOM, TAG_ROOM = 1024, 64
 AHEAD = 64
 MEMORY = -4
+
+Piece = Union[memoryview, bytes]
+NARROW, WIDE = numpy.dtype('u1'), numpy.dtype('u2')
+Front = ctypes.c_char * 1
 
 
 class Handle(ctypes.Structure):
@@ -34,7 +39,10 @@ class Report(ctypes.Structure):
 
 
 def _load() -> ctypes.CDLL:
-    library = ctypes.CDLL(str(pathlib.Path(__file__).parent / 'libdelgunsai.so'))
+    path = pathlib.Path(__file__).parent / 'libdelgunsai.so'
+    if not path.exists():
+        raise ImportError(f'{path} is missing: `pip install ./python` compiles it')
+    library = ctypes.CDLL(str(path))
     client, text, room, number = ctypes.POINTER(Handle), ctypes.c_char_p, ctypes.c_void_p, ctypes.c_uint32
     calls = {
         'new': (ctypes.c_int32, [text, ctypes.c_size_t, text, ctypes.c_size_t, number, client]),
@@ -46,8 +54,9 @@ def _load() -> ctypes.CDLL:
         'open_columns': (ctypes.c_int32, [client] + [number] * 5),
         'open_info': (ctypes.c_int32, [client]),
         'request': (ctypes.c_int64, [client, room, ctypes.c_size_t]),
+        'later': (ctypes.c_int64, [client, number, room, ctypes.c_size_t]),
         'begin': (ctypes.c_int32, [client]),
-        'feed': (ctypes.c_int32, [client, text, ctypes.c_size_t]),
+        'feed': (ctypes.c_int32, [client, room, ctypes.c_size_t]),
         'end': (ctypes.c_int32, [client, ctypes.POINTER(Said)]),
         'report': (ctypes.c_int64, [client, ctypes.POINTER(Report), room, ctypes.c_size_t]),
         'pixels': (ctypes.c_int64, [client, room, ctypes.c_size_t]),
@@ -81,6 +90,8 @@ class Core:
         self._handle = Handle()
         self._at = ctypes.byref(self._handle)
         self._room = ctypes.create_string_buffer(REQUEST_ROOM)
+        self._report = Report()
+        self._report_at = ctypes.byref(self._report)
         _checked(_library.cog_client_new(host, len(host), name, len(name), blocks, self._at))
         _checked(_library.cog_client_keep_open(self._at))
         _checked(_library.cog_client_look_ahead(self._at, AHEAD))
@@ -102,6 +113,16 @@ class Core:
         length = _checked(_library.cog_client_request(self._at, self._room, REQUEST_ROOM))
         return self._room.raw[:length] if length else None
 
+    def later(self, most: int) -> List[bytes]:
+        """The requests that will come after the next one, as far as they are known before its answer, and at most so many."""
+        requests: List[bytes] = []
+        while len(requests) < most:
+            length = _checked(_library.cog_client_later(self._at, len(requests), self._room, REQUEST_ROOM))
+            if length == 0:
+                break
+            requests.append(self._room.raw[:length])
+        return requests
+
     def check(self) -> Optional[bytes]:
         """The request that asks whether the file is the same; None where nothing of it is known."""
         length = _checked(_library.cog_client_check(self._at, self._room, REQUEST_ROOM))
@@ -110,8 +131,9 @@ class Core:
     def begin(self) -> None:
         _checked(_library.cog_client_begin(self._at))
 
-    def feed(self, piece: bytes) -> None:
-        _checked(_library.cog_client_feed(self._at, piece, len(piece)))
+    def feed(self, piece: Piece) -> None:
+        place = piece if isinstance(piece, bytes) else Front.from_buffer(piece)
+        _checked(_library.cog_client_feed(self._at, place, len(piece)))
 
     def end(self) -> Tuple[int, int]:
         said = Said()
@@ -123,20 +145,20 @@ class Core:
         _checked(_library.cog_client_current(self._at, answer, len(answer), ctypes.byref(said)))
         return said.kind, said.number
 
-    def report(self) -> Tuple[Report, str]:
-        """The report and the tag of its file; one of kind 0 where none stands."""
-        report = Report()
-        length = _checked(_library.cog_client_report(self._at, ctypes.byref(report), self._room, TAG_ROOM))
-        return report, self._room.raw[:length].decode('latin-1')
+    def report(self) -> Tuple[Report, bytes]:
+        """The report, which stays until the next one is asked for, and the tag of its file; one of kind 0 where none stands."""
+        self._report.kind = NO_REPORT
+        length = _checked(_library.cog_client_report(self._at, self._report_at, self._room, TAG_ROOM))
+        return self._report, self._room.raw[:length]
 
     def pixels(self, report: Report) -> numpy.ndarray:
         """The samples of the window that this report tells of, a row for each of its rows."""
         wide = report.bits == 16
         shape = (report.height, report.width) if report.samples == 1 else (report.height, report.width, report.samples)
-        array = numpy.empty(shape, '>u2' if wide else 'u1')
-        if _checked(_library.cog_client_pixels(self._at, array.ctypes.data, array.nbytes)) != array.nbytes:
+        array = numpy.empty(shape, WIDE if wide else NARROW)
+        if _checked(_library.cog_client_pixels(self._at, Front.from_buffer(array), array.nbytes)) != array.nbytes:
             raise RuntimeError('the core reports another number of samples')
-        return array.astype('u2') if wide else array
+        return array.byteswap(True) if wide and sys.byteorder == 'little' else array
 
     def info(self) -> str:
         """The text of what Info tells."""

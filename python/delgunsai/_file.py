@@ -1,16 +1,17 @@
 """A file that is read by windows."""
 from __future__ import annotations
 
+import operator
 import os
 import re
 import ssl
 import threading
-from typing import List, Optional, Tuple, Union
+from typing import List, Optional, SupportsIndex, Tuple, Union
 
 import numpy
 
 from . import _core
-from ._core import Core
+from ._core import Core, Piece
 from ._errors import Error, Lost, NotUsed, fault_of
 from ._info import Info, read_info
 from ._sources import Address, Disk, Host, Source
@@ -65,10 +66,10 @@ class File:
         >>> f.read(x=3000, y=2000, width=256, height=256).dtype                       # doctest: +SKIP
         dtype('uint8')
         """
-        _numbers(x=x, y=y, width=width, height=height, level=level)
+        window = _numbers(x=x, y=y, width=width, height=height, level=level)
         with self._lock:
             self._check_open()
-            self._core.open_window(x, y, width, height, level)
+            self._core.open_window(*window)
             return self._window()
 
     def read_columns(self, *, x: int, y: int, width: int, height: int, columns: int) -> numpy.ndarray:
@@ -77,10 +78,10 @@ class File:
         >>> f.read_columns(x=0, y=0, width=8192, height=5632, columns=512).shape      # doctest: +SKIP
         (352, 512)
         """
-        _numbers(x=x, y=y, width=width, height=height, columns=columns)
+        window = _numbers(x=x, y=y, width=width, height=height, columns=columns)
         with self._lock:
             self._check_open()
-            self._core.open_columns(x, y, width, height, columns)
+            self._core.open_columns(*window)
             return self._window()
 
     @property
@@ -118,14 +119,14 @@ class File:
             for _ in range(TRIES):
                 answer = bytearray()
                 try:
-                    self._source.exchange(request, answer.extend)
+                    self._source.exchange(request, [], answer.extend)
                 except OSError:
                     continue
                 kind, reason = self._core.current(bytes(answer))
                 if kind != _core.UNKNOWN:
                     return kind == _core.SAME
                 if reason != CUT:
-                    raise NotUsed(reason, _status_of(bytes(answer[:FRONT])))
+                    raise NotUsed(reason, _status_of(bytes(answer)))
             raise Lost(f'no answer in {TRIES} exchanges')
 
     def _check_open(self) -> None:
@@ -142,7 +143,8 @@ class File:
         for _ in range(EXCHANGES):
             request = self._core.request()
             if request is None:
-                report, self._tag = self._core.report()
+                report, tag = self._core.report()
+                self._tag = tag.decode('latin-1')
                 if report.kind == _core.FAULT:
                     raise fault_of(report.fault, report.field)
                 return report
@@ -157,21 +159,22 @@ class File:
         self._front = b''
         self._core.begin()
         lost: Optional[BaseException] = None
+        ahead = False
         try:
-            self._source.exchange(request, self._feed)
+            ahead = self._source.exchange(request, self._core.later(self._source.depth), self._feed)
         except OSError as error:
             lost = error
         kind, number = self._core.end()
         if kind == _core.IGNORED:
             refusal = NotUsed(number, _status_of(self._front))
-            if number != CUT and number < REVISION:
+            if number != CUT and number < REVISION and not ahead:
                 raise refusal
             return lost or refusal
         return lost if kind == _core.TOOK and number == 0 else None
 
-    def _feed(self, piece: bytes) -> None:
+    def _feed(self, piece: Piece) -> None:
         if len(self._front) < FRONT:
-            self._front += piece[:FRONT]
+            self._front += bytes(piece[:FRONT])
         self._core.feed(piece)
 
 
@@ -181,10 +184,13 @@ def _status_of(front: bytes) -> Optional[int]:
     return int(found[1]) if found else None
 
 
-def _numbers(**numbers: int) -> None:
-    for name, number in numbers.items():
-        if not 0 <= number <= GREATEST:
-            raise ValueError(f'{name} is {number}, and not 0 to {GREATEST}')
+def _numbers(**numbers: SupportsIndex) -> List[int]:
+    """These numbers as they cross to the core, an int, an integer of numpy or what else is one."""
+    indices = list(map(operator.index, numbers.values()))
+    if min(indices) < 0 or max(indices) > GREATEST:
+        name, number = next((name, number) for name, number in zip(numbers, indices) if not 0 <= number <= GREATEST)
+        raise ValueError(f'{name} is {number}, and not 0 to {GREATEST}')
+    return indices
 
 
 def open(url: str, *, blocks: int = 256, timeout: float = 30.0, context: Optional[ssl.SSLContext] = None) -> File:

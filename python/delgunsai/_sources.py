@@ -6,21 +6,29 @@ import os
 import re
 import select
 import ssl
-from typing import Callable, Iterator, Optional, Protocol
+from typing import Callable, Iterator, List, Optional, Protocol
 from urllib.parse import urlsplit
 
+from ._core import Piece
 from ._errors import BadUrl
 
-PIECE = 1 << 16
+PIECE = 1 << 17
 HEAD_ROOM = 4096
-Take = Callable[[bytes], None]
+DEPTH = 8
+LOSSES = 3
+Take = Callable[[Piece], None]
+"""Takes a piece, which has other bytes once the call returned."""
 
 
 class Source(Protocol):
     """What carries a request, and hands on the bytes of the answer as they arrive."""
 
-    def exchange(self, request: bytes, take: Take) -> None:
-        """Hands each piece of the answer to `take`, in order; an OSError where the rest of the answer is lost."""
+    depth: int
+    """How many requests that will come later it takes."""
+
+    def exchange(self, request: bytes, later: List[bytes], take: Take) -> bool:
+        """Hands each piece of the answer to `take`, in order; an OSError where the rest of the answer is lost. Requests that will come
+        later may be sent at once; gives whether this one was, with an earlier one."""
 
     def close(self) -> None:
         """Ends what is open."""
@@ -61,18 +69,24 @@ class Address:
 class _Head:
     """What the head of an answer says of its end (RFC 9112, section 6.3), and of the connection."""
 
+    FIELDS = re.compile(rb'\r\n(content-length|transfer-encoding|connection):[ \t]*(.*?)[ \t]*(?=\r\n)')
+
     def __init__(self, head: bytes, request: bytes) -> None:
-        lengths = re.findall(rb'(?im)^content-length:[ \t]*([0-9]+)[ \t]*\r?$', head)
-        empty = request.startswith(b'HEAD ') or head.split(b' ', 2)[1:2] in ([b'204'], [b'304'])
-        self.coded = bool(re.search(rb'(?im)^transfer-encoding:', head))
-        self.length: Optional[int] = 0 if empty else int(lengths[0]) if len(lengths) == 1 else None
+        fields = self.FIELDS.findall((head + b'\r\n').lower())
+        lengths = [value for name, value in fields if name == b'content-length']
+        empty = request.startswith(b'HEAD ') or head[8:12] in (b' 204', b' 304')
+        known = len(lengths) == 1 and lengths[0].isdigit()
+        self.coded = any(name == b'transfer-encoding' for name, _ in fields)
+        self.length: Optional[int] = 0 if empty else int(lengths[0]) if known else None
         """How many bytes follow the head; None where the end of the connection tells."""
-        self.closes = not head.startswith(b'HTTP/1.1') or bool(re.search(rb'(?im)^connection:.*\bclose\b', head + b'\r\n' + request))
+        self.closes = not head.startswith(b'HTTP/1.1') or b'\r\nConnection: close\r\n' in request or any(
+            name == b'connection' and b'close' in re.split(rb'[ \t]*,[ \t]*', value) for name, value in fields)
 
 
 class Host:
-    """A server of HTTP/1.1, with TLS or without. One connection is kept, where request and answer leave it open. Redirects aren't
-    followed: they are answers that can't be used."""
+    """A server of HTTP/1.1, with TLS or without. One connection is kept, where request and answer leave it open, and requests that will
+    come later are sent on it at once (pipelining, RFC 9112, section 9.3.2), until three times in a row such ones weren't answered.
+    Redirects aren't followed: they are answers that can't be used."""
 
     def __init__(self, address: Address, timeout: float, context: Optional[ssl.SSLContext]) -> None:
         if address.secure:
@@ -80,73 +94,123 @@ class Host:
                 address.host, address.port, timeout=timeout, context=context)
         else:
             self._connection = http.client.HTTPConnection(address.host, address.port, timeout=timeout)
+        self._room = memoryview(bytearray(PIECE))
+        self._begin = self._end = 0
+        """Where in the room the bytes are that were read and aren't taken."""
+        self._sent: List[bytes] = []
+        """What was sent on this connection and isn't answered."""
+        self._ahead = False
+        """Whether the request that is answered was sent with an earlier one."""
+        self._losses = 0
+        self.depth = DEPTH
 
-    def exchange(self, request: bytes, take: Take) -> None:
+    def exchange(self, request: bytes, later: List[bytes], take: Take) -> bool:
         goes_on = False
+        self._ahead = len(self._sent) > 0
         try:
-            goes_on = self._receive(self._first(request), request, take)
+            goes_on = self._receive(self._first(request, later), request, take)
         finally:
-            if not goes_on:
+            if goes_on:
+                self._sent.pop(0)
+            else:
                 self.close()
+        return self._ahead
 
-    def _first(self, request: bytes) -> bytes:
-        """Sends the request, and gives the first bytes of its answer: once more, where a kept connection turns out to be ended."""
-        if self._is_kept():
+    def _first(self, request: bytes, later: List[bytes]) -> memoryview:
+        """Sends the requests, and gives what comes first of the answer: once more, where a kept connection turns out to be ended."""
+        if self._is_kept(request):
             try:
-                self._connection.sock.sendall(request)
-                first = self._connection.sock.recv(PIECE)
+                self._send([request, *later])
+                first = self._more()
                 if first:
+                    self._losses = 0 if self._ahead else self._losses
                     return first
             except (ConnectionError, ssl.SSLError):
                 pass
+            except TimeoutError:
+                if not self._ahead:
+                    raise
         self.close()
         self._connection.connect()
-        self._connection.sock.sendall(request)
-        return self._connection.sock.recv(PIECE)
+        self._send([request] if self._ahead else [request, *later])
+        self._ahead = False
+        return self._more()
 
-    def _is_kept(self) -> bool:
-        """Whether a connection is open on which nothing came behind the last answer, neither its end nor bytes that weren't asked for."""
+    def _send(self, requests: List[bytes]) -> None:
+        """Sends those of the requests that weren't sent."""
+        count = len(self._sent)
+        if requests[:count] == self._sent and len(requests) > count:
+            self._sent = requests
+            self._connection.sock.sendall(b''.join(requests[count:]))
+
+    def _is_kept(self, request: bytes) -> bool:
+        """Whether a connection is open on which the request was sent already, or on which nothing came behind the last answer, neither
+        its end nor bytes that weren't asked for."""
         if self._connection.sock is None:
+            return False
+        if self._sent:
+            return self._sent[0] == request
+        if self._begin < self._end:
             return False
         poll = select.poll()
         poll.register(self._connection.sock, select.POLLIN)
         return not poll.poll(0)
 
-    def _receive(self, piece: bytes, request: bytes, take: Take) -> bool:
-        """Hands on the answer that begins with this piece, and says whether the connection can carry another request."""
-        receive, front = self._connection.sock.recv, b''
+    def _more(self, most: int = PIECE) -> memoryview:
+        """The next bytes that came, at most so many; none at the end of the connection."""
+        if self._begin == self._end:
+            self._begin, self._end = 0, self._connection.sock.recv_into(self._room)
+        begin = self._begin
+        self._begin = min(self._end, begin + most)
+        return self._room[begin:self._begin]
+
+    def _receive(self, piece: memoryview, request: bytes, take: Take) -> bool:
+        """Hands on the answer that begins with this piece, and says whether the connection can carry another one."""
+        front = b''
         while True:
             if not piece:
                 return False
-            take(piece)
-            front += piece
-            text, found, body = front.partition(b'\r\n\r\n')
-            if found or len(front) >= HEAD_ROOM:
+            before = len(front)
+            front += piece[:HEAD_ROOM]
+            end = front.find(b'\r\n\r\n')
+            if end >= 0 or len(front) >= HEAD_ROOM:
                 break
-            piece = receive(PIECE)
-        head = _Head(text, request)
-        if not found or head.coded:
+            take(piece)
+            piece = self._more()
+        head = _Head(front[:end], request)
+        if end < 0 or head.coded:
+            take(piece)
             return False
-        left = None if head.length is None else head.length - len(body)
-        while left is None or left > 0:
-            piece = receive(PIECE if left is None else min(left, PIECE))
+        left = None if head.length is None else end + 4 - before + head.length
+        while True:
+            own = piece if left is None else piece[:left]
+            self._begin -= len(piece) - len(own)
+            take(own)
+            left = None if left is None else left - len(own)
+            if left == 0:
+                return not head.closes
+            piece = self._more()
             if not piece:
                 return False
-            take(piece)
-            left = None if left is None else left - len(piece)
-        return left == 0 and not head.closes
 
     def close(self) -> None:
+        if self._sent and (self._ahead or len(self._sent) > 1):
+            self._losses += 1
+            self.depth = 0 if self._losses == LOSSES else self.depth
+        self._sent = []
+        self._begin = self._end = 0
         self._connection.close()
 
 
 class Disk:
     """A file of the disk, which answers by ranges as a server would. Its tag is of its place, its length and its last change."""
 
+    depth = 0
+
     def __init__(self, path: str) -> None:
         self._path = path
 
-    def exchange(self, request: bytes, take: Take) -> None:
+    def exchange(self, request: bytes, later: List[bytes], take: Take) -> bool:
         with open(self._path, 'rb') as file:
             state = os.fstat(file.fileno())
             size = state.st_size
@@ -156,6 +220,7 @@ class Disk:
             after = os.fstat(file.fileno())
             if (after.st_size, after.st_mtime_ns) != (size, state.st_mtime_ns):
                 raise OSError('the file changed while it was read')
+        return False
 
     def close(self) -> None:
         pass

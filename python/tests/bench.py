@@ -24,36 +24,41 @@ def written():
     return path
 
 
-def seconds(read, windows):
-    start = time.monotonic()
-    arrays = [read(*window) for window in windows]
-    return time.monotonic() - start, arrays
+def seconds(do, *words, **more):
+    """How long something takes, and what it gives."""
+    start = time.perf_counter()
+    result = do(*words, **more)
+    return time.perf_counter() - start, result
 
 
-def compare(row, urls, windows):
-    """Reads the windows of each file by both in turn, and prints how long the best of each took."""
+def both(url, windows, passes):
+    """How long both take to open a file of which nothing is kept and to read these windows, in turn, each first in every other one; and
+    how long for the same windows again, so many passes in all."""
     import rasterio
     from rasterio.windows import Window
+    opened = [seconds(delgunsai.open, url, blocks=4096), seconds(rasterio.open, '/vsicurl/' + url)]
+    took = [[0.0, 0.0] for _ in range(passes)]
+    took[0] = [second for second, _ in opened]
+    with opened[0][1] as file, opened[1][1] as other:
+        reads = [lambda x, y, w, h: file.read(x=x, y=y, width=w, height=h), lambda *window: other.read(1, window=Window(*window))]
+        for row in took:
+            for number, window in enumerate(windows):
+                arrays = [None, None]
+                for one in (0, 1) if number % 2 == 0 else (1, 0):
+                    more, arrays[one] = seconds(reads[one], *window)
+                    row[one] += more
+                if not numpy.array_equal(*arrays):
+                    sys.exit(f'python: the window {window} differs')
+    return took
 
-    def ours(url):
-        with delgunsai.open(url, blocks=4096) as file:
-            return seconds(lambda x, y, w, h: file.read(x=x, y=y, width=w, height=h), windows)
 
-    def theirs(url):
-        with rasterio.open('/vsicurl/' + url) as file:
-            return seconds(lambda *window: file.read(1, window=Window(*window)), windows)
-
-    mine, other = [], []
-    for url in urls:
-        (took, got), (took_other, wanted) = ours(url), theirs(url)
-        mine.append(took)
-        other.append(took_other)
-        for window, one, two in zip(windows, got, wanted):
-            if not numpy.array_equal(one, two):
-                sys.exit(f'python: the window {window} differs')
-    mine, other = min(mine), min(other)
-    print(f'{row}: {len(windows)} windows of {SIDE} by {SIDE}: {mine:.2f} s, {len(windows) / mine:.0f} in a second; rasterio '
-          f'{other:.2f} s, {len(windows) / other:.0f} in a second; {other / mine:.2f} times its rate', flush=True)
+def compare(rows, urls, windows):
+    """Reads the windows of each file by both, once for each row, and prints how long the best of each took."""
+    took = [both(url, windows, len(rows)) for url in urls]
+    for row, times in zip(rows, zip(*took)):
+        mine, other = (min(seconds) for seconds in zip(*times))
+        print(f'{row}: {len(windows)} windows of {SIDE} by {SIDE}: {mine:.3f} s, {len(windows) / mine:.0f} in a second; rasterio '
+              f'{other:.3f} s, {len(windows) / other:.0f} in a second; {other / mine:.2f} times its rate', flush=True)
 
 
 def main(near=1000, far=200):
@@ -65,13 +70,13 @@ def main(near=1000, far=200):
     path = written()
     names = [f'{k}.tif' for k in range(ROUNDS + 1)]       # one for each round, since GDAL keeps what it read of a URL
     with Cogserve({name: path for name in names}) as server:
-        compare('loopback', [server.url(name) for name in names[:ROUNDS]], windows[:near])
+        compare(['loopback', 'the same again'], [server.url(name) for name in names[:ROUNDS]], windows[:near])
         port = free_port()
         relay = subprocess.Popen([sys.executable, os.path.join(os.path.dirname(os.path.abspath(__file__)), 'relay.py'), str(port),
                                   f'127.0.0.1:{server.port}', str(ROUND_TRIP)], stdout=subprocess.PIPE)
         relay.stdout.readline()
         try:
-            compare(f'round trips of {ROUND_TRIP} ms', [f'http://127.0.0.1:{port}/{names[-1]}'], windows[:far])
+            compare([f'round trips of {ROUND_TRIP} ms'], [f'http://127.0.0.1:{port}/{names[-1]}'], windows[:far])
         finally:
             relay.terminate()
             relay.wait()

@@ -4,6 +4,7 @@ import socket
 import socketserver
 import ssl
 import subprocess
+import sys
 import tempfile
 import threading
 import time
@@ -76,12 +77,14 @@ http {{ access_log {self.folder}/access; {places} keepalive_requests 100000;
         self.process.wait()
 
 class Cutting(socketserver.ThreadingTCPServer):
-    """Passes connections on to a server, counts them and their requests, and cuts the first answer after so many bytes."""
+    """Passes connections on to a server, request by request, counts them, their requests and how many come at once, and cuts the first
+    answer after so many bytes. With `alone` a connection ends after an answer where its next request came before it."""
     daemon_threads = True
     allow_reuse_address = True
 
-    def __init__(self, port, cut=None):
-        self.above, self.cut, self.cuts, self.connections, self.requests = port, cut, 0, 0, 0
+    def __init__(self, port, cut=None, alone=False):
+        self.above, self.cut, self.alone = port, cut, alone
+        self.cuts = self.connections = self.requests = self.at_once = 0
         super().__init__(('127.0.0.1', 0), Passing)
         threading.Thread(target=self.serve_forever, kwargs={'poll_interval': 0.01}, daemon=True).start()
 
@@ -92,6 +95,7 @@ class Cutting(socketserver.ThreadingTCPServer):
 class Passing(socketserver.BaseRequestHandler):
     def handle(self):
         self.server.connections += 1
+        self.rest = b''
         with socket.create_connection(('127.0.0.1', self.server.above)) as above:
             while self.one(above):
                 self.server.requests += 1
@@ -99,8 +103,10 @@ class Passing(socketserver.BaseRequestHandler):
     def one(self, above):
         """One request with its answer. False where either end has ended."""
         try:
-            request, _ = self.head_of(self.request)
-            above.sendall(request)
+            text, end = self.head_of(self.request, self.rest)
+            self.server.at_once = max(self.server.at_once, text.count(b'\r\n\r\n'))
+            self.rest = text[end:]
+            above.sendall(text[:end])
             answer, end = self.head_of(above)
             length = end + int(answer[:end].lower().split(b'content-length:')[1].split(b'\r')[0])
             while len(answer) < length:
@@ -108,14 +114,13 @@ class Passing(socketserver.BaseRequestHandler):
             cut, self.server.cut = self.server.cut, None
             self.server.cuts += cut is not None
             self.request.sendall(answer[:cut])
-            return cut is None
-        except EOFError:
+            return cut is None and not (self.server.alone and self.rest)
+        except (EOFError, ConnectionError):
             return False
 
     @staticmethod
-    def head_of(at):
+    def head_of(at, text=b''):
         """What came up to the end of a head, and where that is."""
-        text = b''
         while b'\r\n\r\n' not in text:
             piece = at.recv(65536)
             if not piece:

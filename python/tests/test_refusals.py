@@ -6,6 +6,7 @@ import sys
 import unittest
 
 import delgunsai
+import numpy
 from files import TRANSLATE
 from servers import Cogserve, Nginx
 from support import EXAMPLE, FOLDER, GDAL, TLS, TOP, needs
@@ -59,6 +60,9 @@ class Refused(unittest.TestCase):
             for words in ({'x': -1, 'y': 0, 'width': 5, 'height': 1}, {'x': 0, 'y': 2 ** 32, 'width': 1, 'height': 1}):
                 with self.assertRaises(ValueError):
                     file.read(**words)
+            with self.assertRaises(TypeError):
+                file.read(x=1.5, y=0, width=1, height=1)
+            self.assertEqual(file.read(x=numpy.int64(24), y=numpy.uint8(30), width=4, height=1).tolist(), [[216, 221, 226, 231]])
         with self.assertRaises(ValueError):
             file.read(x=0, y=0, width=1, height=1)
         with self.assertRaises(ValueError):

@@ -90,14 +90,29 @@ class Equal(unittest.TestCase):
 
     @needs(RASTERIO, 'rasterio with GDAL')
     def test_kept_connections(self):
-        """A connection is kept; cogserve ends each after a hundred answers without a word, and nothing is lost by it."""
+        """A connection is kept; cogserve ends each after a hundred answers without a word, and nothing is lost by it. Where blocks leave the
+        cache that a request ahead of its time had counted on, another one begins."""
         path = ten_files()['grey']
         with Cogserve(ten_files()) as server, Cutting(server.port) as passing, delgunsai.open(passing.url('grey'), blocks=66) as file:
             for x, y, w, h in windows_of((1500, 1100), 200, 5):
                 self.assertTrue(numpy.array_equal(file.read(x=x, y=y, width=w, height=h), as_rasterio(path, 0, (x, y, w, h))))
             self.assertGreater(passing.requests, 100)
-            self.assertEqual(passing.connections, -(-passing.requests // 100))
+            self.assertLess(passing.connections, passing.requests // 20)
             passing.shutdown()
+
+    @needs(RASTERIO, 'rasterio with GDAL')
+    def test_requests_at_once(self):
+        """What a window over many tiles needs is asked for at once, where a server answers so, and else one after another."""
+        path = ten_files()['grey']
+        for alone in False, True:
+            with Cogserve(ten_files()) as server, Cutting(server.port, alone=alone) as passing, delgunsai.open(passing.url('grey')) as file:
+                for x in 0, 400, 700, 900:
+                    got = file.read(x=x, y=100, width=300, height=1000)
+                    self.assertTrue(numpy.array_equal(got, as_rasterio(path, 0, (x, 100, 300, 1000))))
+                self.assertGreater(passing.at_once, 1)
+                self.assertEqual(passing.connections == 1, not alone)
+                self.assertEqual(file._source.depth == 0, alone)
+                passing.shutdown()
 
     @needs(RASTERIO, 'rasterio with GDAL')
     def test_threads(self):

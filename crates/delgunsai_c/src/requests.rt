@@ -1,6 +1,6 @@
-//! Requests are made: for what a query needs, and to check whether the file is still the same.
+//! Requests are made: for what a query needs, ahead of their time too, and to check whether the file is still the same.
 ghost use Rattle.cog_client.specs.Keeps.{KeepsOpen, LooksAhead};
-ghost use Rattle.delgunsai_c.specs.Calls.{AsksOr, Calls, ChecksOr, Done};
+ghost use Rattle.delgunsai_c.specs.Calls.{AsksOr, Calls, ChecksOr, Done, ForetellsOr};
 ghost use Rattle.delgunsai_c.specs.Handle.{client_of};
 
 use crate::failure::Failure;
@@ -28,6 +28,19 @@ fn check(client: &Client, room: &mut [u8]) -> i64
         Ok(Some(text)) => lay(&text, room),
         Ok(None) => 0,
         Err(_) => Failure::Memory.code() as i64,
+    }
+}
+
+/// A later request of a client into a caller's room, or 0.
+fn later(client: &Client, index: u32, room: &mut [u8]) -> i64
+    ensures { ForetellsOr room.old room.new result client.now client.now }
+{
+    let Ok(texts) = client.early_requests(index.saturating_add(1)) else {
+        return Failure::Memory.code() as i64;
+    };
+    match texts.get(index as usize) {
+        Some(text) => lay(text, room),
+        None => 0,
     }
 }
 
@@ -79,6 +92,24 @@ pub extern "C" fn cog_client_check(alloc: Global, client: &mut Handle, room: &mu
         return Failure::NoClient.code() as i64;
     };
     let told = check(&held, room);
+    client.put(held);
+    told
+}
+
+/// The request that comes `index` requests after the next one, as far as it is known before their answers.
+#[unsafe(no_mangle)]
+pub extern "C" fn cog_client_later(
+    alloc: Global,
+    client: &mut Handle,
+    index: u32,
+    room: &mut [u8],
+) -> i64
+    ensures { Calls (ForetellsOr room.old room.new result) (client_of client.old) (client_of client.new) result }
+{
+    let Some(held) = client.take(alloc) else {
+        return Failure::NoClient.code() as i64;
+    };
+    let told = later(&held, index, room);
     client.put(held);
     told
 }
