@@ -28,6 +28,8 @@ pub struct ReadLine<'a> {
 #[derive(Clone, Copy, Debug, PartialEq, Eq)]
 pub enum AskedWords<'a> {
     Info,
+    /// A description, in JSON or in words.
+    Description { is_json: bool },
     Window(WindowWords<'a>),
     /// The whole of a level, if one is picked.
     Whole { level: Option<&'a str> },
@@ -55,6 +57,13 @@ const INFO_EXAMPLE: &str = "\
 Example:
   cogtools cogread info 127.0.0.1:8080 a.tif
   cogtools cogread info http://127.0.0.1:8080/a.tif
+
+http://HOST[:PORT]/NAME stands for SERVER NAME, and its connection is kept.";
+
+const DESCRIBE_EXAMPLE: &str = "\
+Example:
+  cogtools cogread describe 127.0.0.1:8080 a.tif
+  cogtools cogread describe http://127.0.0.1:8080/a.tif --json
 
 http://HOST[:PORT]/NAME stands for SERVER NAME, and its connection is kept.";
 
@@ -199,17 +208,31 @@ fn window_command<'a>(alloc: Global) -> Result<Command<'a>, AllocError> {
     add_levels(alloc, add_sides(alloc, named)?)
 }
 
+fn describe_command<'a>(alloc: Global) -> Result<Command<'a>, AllocError> {
+    let about =
+        "Tells what a file is: its levels, coordinate system, origin, size of a pixel and corners";
+    let json = flag(
+        alloc,
+        "json",
+        "Tells it in JSON, with gdalinfo's keys where they mean the same",
+    );
+    command(alloc, "describe", about, DESCRIBE_EXAMPLE)?.arg(json)
+}
+
 fn read_command<'a>(alloc: Global) -> Result<Command<'a>, AllocError> {
     let about = "Prints the levels, keys and model fields of a file";
     let info = command(alloc, "info", about, INFO_EXAMPLE)?;
     Command::new(alloc, "cogread")
-        .about("Reads a window or the info of a file over HTTP, by single byte ranges")
+        .about(
+            "Reads a window, the info or a description of a file over HTTP, by single byte ranges",
+        )
         .version(VERSION)
         .propagate_version(true)
         .after_help(READ_NOTES)
         .subcommand_required(true)
         .subcommand(window_command(alloc)?)?
-        .subcommand(info)
+        .subcommand(info)?
+        .subcommand(describe_command(alloc)?)
 }
 
 /// The value of a word that has to stand.
@@ -230,6 +253,12 @@ fn window_words<'a>(matches: &ArgMatches<'a>) -> AskedWords<'a> {
         level,
         columns: matches.get_str("columns"),
     })
+}
+
+fn description_words(matches: &ArgMatches<'_>) -> AskedWords<'static> {
+    AskedWords::Description {
+        is_json: matches.get_flag("json"),
+    }
 }
 
 /// The line of a subcommand's words.
@@ -254,6 +283,7 @@ pub fn read_line<'a, S: AsStr>(alloc: Global, words: &'a [S]) -> Result<ReadLine
     let matches = command.try_get_matches_from(words)?;
     match matches.subcommand() {
         Some(("window", window)) => Ok(line_of(window, window_words(window))),
+        Some(("describe", file)) => Ok(line_of(file, description_words(file))),
         Some((_, info)) => Ok(line_of(info, AskedWords::Info)),
         None => Ok(line_of(&matches, AskedWords::Info)),
     }

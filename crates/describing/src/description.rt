@@ -6,6 +6,15 @@ use serde::Serialize;
 use std::alloc::Global;
 use std::borrow::CowStr;
 
+/// How a description is told.
+#[derive(Clone, Copy, Debug, PartialEq, Eq)]
+pub enum Form {
+    /// In words for people, a line for each fact.
+    Words,
+    /// In JSON for programs.
+    Json,
+}
+
 /// What a file says of itself. In JSON, what gdalinfo says as well has gdalinfo's keys.
 #[derive(Debug, Drop, Serialize)]
 #[serde(rename_all = "camelCase")]
@@ -56,10 +65,18 @@ impl<'a> Description<'a> {
             corner_coordinates: placement.zip(size).map(|(it, size)| it.corners(size)),
         }))
     }
+
+    /// The text of a description, which ends with its last line.
+    pub fn text(&self, alloc: Global, form: Form) -> Result<String, Memory> {
+        match form {
+            Form::Words => Ok(format!(in alloc; "{self}")?),
+            Form::Json => Ok(format!(in alloc; "{}\n", json_text(alloc, self)?)?),
+        }
+    }
 }
 
-/// The text of a description in JSON, with lines and indents. A number that JSON doesn't have (NaN, or one without end) is `null`.
-/// `Memory` is the only error: every description can be written.
-pub fn json_text(alloc: Global, description: &Description<'_>) -> Result<String, Memory> {
+/// A description in JSON, with lines and indents. A number that JSON doesn't have (NaN, or one without end) is `null`. `Memory` is the
+/// only error: every description can be written.
+fn json_text(alloc: Global, description: &Description<'_>) -> Result<String, Memory> {
     serde_json::to_string_pretty(alloc, description).map_err(|_| Memory)
 }

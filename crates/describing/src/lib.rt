@@ -7,6 +7,6 @@ mod facts;
 mod placement;
 mod words;
 
-pub use description::{Description, json_text};
+pub use description::{Description, Form};
 pub use facts::{CoordinateSystem, LevelFacts, RasterType};
 pub use placement::{Corners, Placement};

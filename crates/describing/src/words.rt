@@ -17,6 +17,23 @@ impl fmt::Display for Pair {
     }
 }
 
+/// A text, whose characters that a terminal may take for commands are told as `\u{..}`.
+#[derive(Clone, Copy)]
+struct Shown<'a>(&'a str);
+
+impl fmt::Display for Shown<'_> {
+    fn fmt<W: fmt::Write>(&self, f: &mut fmt::Formatter<W>) -> fmt::Result {
+        for letter in self.0.chars() {
+            if letter.is_control() {
+                write!(f, "{}", letter.escape_unicode())?;
+            } else {
+                f.write_char(letter)?;
+            }
+        }
+        Ok(())
+    }
+}
+
 /// A number and the word for so many.
 #[derive(Clone, Copy)]
 struct Count(u32, &'static str);
@@ -51,7 +68,7 @@ impl fmt::Display for CoordinateSystem<'_> {
             write!(f, " {number}")?;
         }
         if let Some(name) = &self.name {
-            write!(f, " ({})", name.as_str())?;
+            write!(f, " ({})", Shown(name.as_str()))?;
         }
         Ok(())
     }
@@ -82,14 +99,15 @@ impl fmt::Display for RasterType {
     fn fmt<W: fmt::Write>(&self, f: &mut fmt::Formatter<W>) -> fmt::Result {
         f.write_str(match self {
             RasterType::Area => "a pixel is an area",
-            RasterType::Point => "a pixel is a point: its corners lie half a pixel around it",
+            RasterType::Point =>
+                "a pixel is a point: the image begins half a pixel before the first one",
         })
     }
 }
 
 impl fmt::Display for Description<'_> {
     fn fmt<W: fmt::Write>(&self, f: &mut fmt::Formatter<W>) -> fmt::Result {
-        writeln!(f, "tag {}", self.tag.as_str())?;
+        writeln!(f, "tag {}", Shown(self.tag.as_str()))?;
         writeln!(f, "{} bytes", self.length)?;
         for (number, level) in self.levels.iter().enumerate() {
             writeln!(f, "level {number}: {level}")?;

@@ -1,4 +1,4 @@
-//! Tests of descriptions: the fixtures' by what the standard says of their fields, and places by numbers that GDAL reads there.
+//! Tests of what keys and fields say: places by numbers that GDAL reads there, and coordinate systems.
 #![tactic(auto)]
 
 #[cfg(test)]

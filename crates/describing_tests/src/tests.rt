@@ -1,3 +1,3 @@
 //! Tests of the public calls.
-mod descriptions;
+mod keys;
 mod places;

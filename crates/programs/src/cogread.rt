@@ -1,4 +1,4 @@
-//! `cogread`: reads a window or the info of a file over sockets.
+//! `cogread`: reads a window, the info or a description of a file over sockets.
 use crate::fault::Fault;
 use crate::number::number;
 use crate::reading::{Asked, Exchanges};
@@ -7,6 +7,7 @@ use cog_client::{Client, ClientError, Query};
 use command_lines::{
     AskedWords, Place, PlaceError, ReadLine, WindowWords, is_url, place_of, read_line,
 };
+use describing::Form;
 use disk_files::replace_file;
 use exchange_notes::{Noted, NotedNet};
 use range_cache::{MAX_CAPACITY, MIN_CAPACITY};
@@ -65,6 +66,8 @@ fn window<R: AllocGlobal>(rt: &R, words: &WindowWords<'_>) -> Result<Query, Faul
 fn asked<R: AllocGlobal>(rt: &R, words: AskedWords<'_>) -> Result<Asked, Fault> {
     match words {
         AskedWords::Info => Ok(Asked::Query(Query::Info)),
+        AskedWords::Description { is_json: true } => Ok(Asked::Description(Form::Json)),
+        AskedWords::Description { is_json: false } => Ok(Asked::Description(Form::Words)),
         AskedWords::Window(words) => Ok(Asked::Query(window(rt, &words)?)),
         AskedWords::Whole { level } => Ok(Asked::Whole {
             level: number_or(rt, level, (0, u32::MAX), 0)?,

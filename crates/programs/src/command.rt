@@ -64,6 +64,7 @@ fn help(alloc: Global, name: &str) -> Result<String, AllocError> {
 Usage: {name} cogserve --listen HOST:PORT --epoch N --connections N [--at-once N] [--patience SECONDS] NAME=PATH..
        {name} cogread window SERVER NAME X Y W H [--level N] [--columns C] [--requests N] [--blocks N] [--ahead N] [--keep]
        {name} cogread info SERVER NAME [--requests N] [--blocks N] [--ahead N] [--keep]
+       {name} cogread describe SERVER NAME [--json] [--requests N] [--blocks N] [--ahead N] [--keep]
        {name} cogread window .. --whole [--level N] ..
        {name} cogread .. http://HOST[:PORT]/NAME .. [--close] [--output FILE] [--verbose]
        {name} cogworld [--pieces N] SCRIPT
@@ -71,7 +72,7 @@ Usage: {name} cogserve --listen HOST:PORT --epoch N --connections N [--at-once N
 
 Programs:
   cogserve  Serves files over HTTP by single byte ranges
-  cogread   Reads a window or the info of a file over HTTP by single byte ranges
+  cogread   Reads a window, the info or a description of a file over HTTP by single byte ranges
   cogworld  Runs a script of events and prints its log
 
 Without a word a stored script is run. A link to the command that has a program's name is that program. The help of

@@ -5,6 +5,7 @@ ghost use Rattle.exchange_notes.specs.Noted.{source_of};
 use crate::fault::Fault;
 use cog_client::{Client, Outcome, Pieces, Query, Report, Tag};
 use cog_fetch::fetch_pieces;
+use describing::{Description, Form};
 use exchange_notes::{Noted, NotedNet, exchanges_told};
 use report_text::{FaultSentence, info_text, picture};
 use std::rt::Clock;
@@ -16,6 +17,8 @@ pub enum Asked {
     Query(Query),
     /// The whole of a level.
     Whole { level: u32 },
+    /// What the file says of itself.
+    Description(Form),
 }
 
 /// How exchanges are made: at most so many in all, each told on standard error or not.
@@ -74,21 +77,31 @@ impl<R: Eprint + Clock + AllocGlobal> Exchanges<'_, '_, R> {
         Ok(())
     }
 
-    /// Reads what is asked over a source that is noted, and gives its text: a picture, or what Info tells. With `is_told` each exchange
-    /// is told on standard error, and so is why there is no text.
+    /// Reads what is asked over a source that is noted.
+    fn fetch_asked<P: Pieces>(
+        &self,
+        client: &mut Client,
+        noted: &mut Noted<P>,
+        asked: Asked,
+    ) -> Result<(), Fault> {
+        let query = match asked {
+            Asked::Query(query) => query,
+            Asked::Description(_) => Query::Info,
+            Asked::Whole { level } => return self.fetch_whole(client, noted, level),
+        };
+        client.open(query);
+        self.fetch(client, noted)
+    }
+
+    /// Reads what is asked over a source that is noted, and gives its text: a picture, what Info tells, or a description. With `is_told`
+    /// each exchange is told on standard error, and so is why there is no text.
     pub fn text<P: Pieces>(
         &self,
         client: &mut Client,
         noted: &mut Noted<P>,
         asked: Asked,
     ) -> Result<Vec<u8>, Fault> {
-        match asked {
-            Asked::Query(query) => {
-                client.open(query);
-                self.fetch(client, noted)?;
-            }
-            Asked::Whole { level } => self.fetch_whole(client, noted, level)?,
-        }
+        self.fetch_asked(client, noted, asked)?;
         let Some(report) = client.report() else {
             if self.is_told {
                 let requests = self.requests;
@@ -98,6 +111,11 @@ impl<R: Eprint + Clock + AllocGlobal> Exchanges<'_, '_, R> {
             }
             return Err(Fault::NoReport);
         };
+        if let Asked::Description(form) = asked
+            && let Some(description) = Description::of(self.rt.alloc(), client)?
+        {
+            return Ok(description.text(self.rt.alloc(), form)?.into_bytes());
+        }
         self.text_of(report)
     }
 

@@ -12,6 +12,7 @@
 //! | `cogserve: can't accept` | 1 | `socket_tests` |
 //! | `cogread: refused K`, `cogread: not a place: URL: ..` | 2 | `reads` |
 //! | each exchange, and why there is no window (`--verbose`) | | `told` |
+//! | what a file is, in words and in JSON (`describe`) | 0 | `describes` |
 //! | `cogread: fault K`, and with a tag | 3 | `reads`, `faults` |
 //! | `cogread: no report` | 4 | `reads` |
 //! | `line L: not an event`, `line L: can't read`, `cogworld: can't read PATH` | 2, 1, 1 | `worlds` |

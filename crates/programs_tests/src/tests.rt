@@ -1,4 +1,5 @@
 //! Tests of what the command prints and ends with.
+mod describes;
 mod disk;
 mod faults;
 mod helps;

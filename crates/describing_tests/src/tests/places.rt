@@ -16,7 +16,7 @@ fn items(alloc: Global, numbers: &[f64]) -> Result<Option<Vec<[u8; 8]>>, Fail> {
 }
 
 /// What Info says of an image with these fields; a field without numbers isn't there.
-fn info(alloc: Global, scale: &[f64], tiepoints: &[f64], matrix: &[f64]) -> Result<Info, Fail> {
+pub fn info(alloc: Global, scale: &[f64], tiepoints: &[f64], matrix: &[f64]) -> Result<Info, Fail> {
     Ok(Info {
         sides: vec![in alloc; (20, 20)]?,
         geo: Geo {

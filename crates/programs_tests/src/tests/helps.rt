@@ -35,11 +35,12 @@ const WINDOW_PARTS: &[&str] = &[
 /// A command line that asks for help, and what stands in the help: each word and option with its unit and its default, and an
 /// example.
 #[rattlefmt::skip]
-const HELPS: [(&str, &[&str]); 7] = [
+const HELPS: [(&str, &[&str]); 8] = [
     ("--help", &[
         "cogtools cogserve --listen HOST:PORT --epoch N --connections N [--at-once N] [--patience SECONDS] NAME=PATH..\n",
         "cogtools cogread window SERVER NAME X Y W H [--level N] [--columns C] [--requests N] [--blocks N] [--ahead N] [--keep]\n",
         "cogtools cogread info SERVER NAME [--requests N] [--blocks N] [--ahead N] [--keep]\n",
+        "cogtools cogread describe SERVER NAME [--json] [--requests N] [--blocks N] [--ahead N] [--keep]\n",
         "cogtools cogread window .. --whole [--level N] ..\n",
         "cogtools cogread .. http://HOST[:PORT]/NAME .. [--close] [--output FILE] [--verbose]\n",
         "cogtools cogworld [--pieces N] SCRIPT\n",
@@ -62,6 +63,7 @@ const HELPS: [(&str, &[&str]); 7] = [
     ("cogread --help", &[
         "window",
         "info",
+        "describe",
         "Example:\n  cogtools cogread info 127.0.0.1:8080 a.tif\n",
     ]),
     ("cogread window --help", WINDOW_PARTS),
@@ -73,6 +75,18 @@ const HELPS: [(&str, &[&str]); 7] = [
         "Blocks that a request may ask for early, behind those that are needed next, 0 to 64 (default 0; with a URL 64)",
         "Keeps one connection for all requests, as long as the server does",
         "Example:\n  cogtools cogread info 127.0.0.1:8080 a.tif\n",
+    ]),
+    ("cogread describe --help", &[
+        "HOST:PORT",
+        "1 to 65536 (default 64)",
+        "Blocks of 16384 bytes that are kept, 66 to 4096 (default 256)",
+        "Keeps one connection for all requests, as long as the server does",
+        "--json",
+        "Tells it in JSON, with gdalinfo's keys where they mean the same",
+        "--output <FILE>",
+        "--verbose",
+        "Example:\n  cogtools cogread describe 127.0.0.1:8080 a.tif\n",
+        "cogtools cogread describe http://127.0.0.1:8080/a.tif --json\n",
     ]),
     ("cogworld --help", &[
         "SCRIPT",

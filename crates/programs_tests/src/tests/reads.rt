@@ -14,7 +14,7 @@ use tiff_dir::Pick;
 use transports::{InMemory, InPieces, server_of_one};
 
 #[rattlefmt::skip]
-const FAULTS: [FaultRow<'static>; 24] = [
+const FAULTS: [FaultRow<'static>; 27] = [
     // Nobody listens there.
     ("cogread info 127.0.0.1:1 a", "cogread: no report\n", 4),
     ("cogread window 127.0.0.1:1 a 4294967295 0 1 1 --requests 2", "cogread: no report\n", 4),
@@ -28,6 +28,8 @@ const FAULTS: [FaultRow<'static>; 24] = [
     ("cogread info h? a --blocks 65", "cogread: not a number: 65\n", 2),
     ("cogread info h a --blocks 4097", "cogread: not a number: 4097\n", 2),
     ("cogread info h a --ahead 65", "cogread: not a number: 65\n", 2),
+    ("cogread describe h a --blocks 4097 --json", "cogread: not a number: 4097\n", 2),
+    ("cogread describe 127.0.0.1:1 a --json", "cogread: no report\n", 4),
     ("cogread info h?:1 a?", "cogread: refused 1\n", 2),
     ("cogread info 127.0.0.1:1 a?", "cogread: refused 2\n", 2),
     // No address has that name.
@@ -37,6 +39,7 @@ const FAULTS: [FaultRow<'static>; 24] = [
     ("cogread window http://127.0.0.1:1/a/b.tif 0 0 1 x", "cogread: not a number: x\n", 2),
     ("cogread info http://127.0.0.1:1/a+", "cogread: refused 2\n", 2),
     ("cogread info http://[::1]:1/a", "cogread: refused 1\n", 2),
+    ("cogread describe http://127.0.0.1:1/a", "cogread: no report\n", 4),
     ("cogread info http://h/a?b", "cogread: not a place: http://h/a?b: the path isn't /NAME as it is asked for, byte for byte\n", 2),
     ("cogread info http://h/a/../b", "cogread: not a place: http://h/a/../b: the path isn't /NAME as it is asked for, byte for byte\n", 2),
     ("cogread info http://h", "cogread: not a place: http://h: the path isn't /NAME as it is asked for, byte for byte\n", 2),
@@ -73,7 +76,11 @@ fn read<R: AllocGlobal + Clock>(
 }
 
 /// What is printed of what is asked, told and ended with.
-fn told_of<R: AllocGlobal + Clock>(capture: Capture<'_, R>, server: &Server, asked: Asked) -> Told {
+pub fn told_of<R: AllocGlobal + Clock>(
+    capture: Capture<'_, R>,
+    server: &Server,
+    asked: Asked,
+) -> Told {
     let status = match read(&capture, server, asked) {
         Ok(()) => 0,
         Err(fault) => fault.tell(&capture, "cogread"),

@@ -43,9 +43,14 @@ const INFO: ReadLine<'static> = ReadLine {
     ..LINE
 };
 
+const DESCRIPTION: ReadLine<'static> = ReadLine {
+    asked: AskedWords::Description { is_json: false },
+    ..LINE
+};
+
 /// Words of `cogread`, and the line that they are.
 #[rattlefmt::skip]
-const READ: [(&str, ReadLine<'static>); 14] = [
+const READ: [(&str, ReadLine<'static>); 17] = [
     ("cogread window h:1 a 2 1 3 2", LINE),
     ("cogread window h:1 a 2 1 3 2 --level 0", ReadLine { asked: AskedWords::Window(OF_LEVEL_0), ..LINE }),
     ("cogread window --columns=4 h:1 a 2 1 3 2", ReadLine { asked: AskedWords::Window(OF_4_COLUMNS), ..LINE }),
@@ -59,6 +64,9 @@ const READ: [(&str, ReadLine<'static>); 14] = [
     ("cogread window h:1 a 2 1 3 2 --keep", ReadLine { keep: true, ..LINE }),
     ("cogread info h:1 a --close", ReadLine { close: true, ..INFO }),
     ("cogread info h:1 --verbose a", ReadLine { verbose: true, ..INFO }),
+    ("cogread describe h:1 a", DESCRIPTION),
+    ("cogread describe --blocks 66 h:1 a --keep", ReadLine { blocks: Some("66"), keep: true, ..DESCRIPTION }),
+    ("cogread describe h:1 --json a", ReadLine { asked: AskedWords::Description { is_json: true }, ..LINE }),
     ("cogread window h:1 a 2 1 3 2 --output=w.pgm", ReadLine { output: Some("w.pgm"), ..LINE }),
 ];
 
@@ -125,7 +133,7 @@ fn reads_the_options_and_files_of_cogserve_anywhere(rt: HostRuntime) -> Result<(
 
 /// Words that are refused, or ask for help, and how clap names that.
 #[rattlefmt::skip]
-const REFUSED: [(&str, ErrorKind); 26] = [
+const REFUSED: [(&str, ErrorKind); 28] = [
     ("cogread --help", ErrorKind::DisplayHelp),
     ("cogread window --help", ErrorKind::DisplayHelp),
     ("cogread info -h", ErrorKind::DisplayHelp),
@@ -134,6 +142,8 @@ const REFUSED: [(&str, ErrorKind); 26] = [
     ("cogread info h:1", ErrorKind::MissingRequiredArgument),
     ("cogread info h:1 a 0", ErrorKind::UnknownArgument),
     ("cogread info h:1 a --level 0", ErrorKind::UnknownArgument),
+    ("cogread info h:1 a --json", ErrorKind::UnknownArgument),
+    ("cogread describe h:1", ErrorKind::MissingRequiredArgument),
     ("cogread window h:1 a", ErrorKind::MissingRequiredArgument),
     ("cogread window h:1 --whole", ErrorKind::MissingRequiredArgument),
     ("cogread window h:1 a --whole --columns 4", ErrorKind::ArgumentConflict),
