@@ -21,6 +21,6 @@ loop-span-preserved c =
     let few = c.loop-span.invariant.few in
     record {
       requests = subst (All P) (sym pushed)
-      (All-push P before text c.loop-span.invariant.requests (record { span = span; early = early; asks = c.in_ok-request_for.ensures.text; lawful = c.in_ok-request_for.ensures.lawful }));
+          (All-push P before text c.loop-span.invariant.requests (record { span = span; early = early; asks = c.in_ok-request_for.ensures.text; lawful = c.in_ok-request_for.ensures.lawful }));
       few = ap length pushed ∙ omega (arith, few, length-append before (text ∷ []));
     }
