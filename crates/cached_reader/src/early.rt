@@ -55,15 +55,13 @@ fn run_in(
     })
 }
 
-/// The run of blocks that is asked for after another one, where its answer comes whole and the ranges stand in the order of the file.
+/// The run of blocks that is asked for after another one, where its answer comes whole, nothing of the present range is missing behind it,
+/// and the ranges stand in the order of the file.
 fn next_run(reader: &Reader, cache: &Cache, last: Run, ahead: u32) -> Option<Run>
     requires { last.to < 2 ^ 60 }
     ensures needed { IfSome result (λ run. AreNeededLater (work reader.now cache.now) run.from run.to) }
     ensures behind { IfSome result (λ run. last.to ≤ run.from) }
 {
-    if cache.present(last.to, last.to + 1) > 0 {
-        return None;
-    }
     for index in last.index..u32::MAX {
         let Some(range) = reader.upcoming(index) else {
             return None;
