@@ -5,7 +5,7 @@ use Rattle.std.specs.List.{slice_index_or}
 use Rattle.std.specs.Str.{bytes_eq}
 use Rattle.std.proofs.lemmas.List.{get_or-map, length-map}
 use Rattle.clap.specs.Facts.{unwrap_or_range}
-use Rattle.clap.specs.Words.{App, IsParsedFrom, IsPlain, IsPlainArg, Row, Rule, all_of, app_of, args_of, first_of, first_value, found_of, is_simple, matched_of, raw_values, rows_of, rule_of}
+use Rattle.clap.specs.Words.{App, IsParsedFrom, IsPlain, IsPlainArg, Row, Rule, all_of, app_of, args_of, first_of, first_value, found_of, is_simple, matched_of, one_of, one_text, raw_values, rows_of, rule_of}
 use Rattle.clap.specs.Walk.{is_empty, is_free_arg, is_simple_arg}
 use Rattle.clap.specs.declared.builder.arg.Arg.{Arg}
 use Rattle.clap.specs.declared.builder.command.Command.{Command}
@@ -15,9 +15,9 @@ use Rattle.clap.specs.declared.parser.matches.ArgMatches.{ArgMatches}
 use Rattle.clap.specs.declared.parser.matches.Found.{Found}
 use Rattle.clap.proofs.SimpleLemmas.{is_false, is_nil}
 use Rattle.clap.proofs.OnLiterals.{clap_on_literals}
-use Rattle.clap.proofs.WalkLemmas.{both, first_value-rows, raw_values-rows}
+use Rattle.clap.proofs.WalkLemmas.{both, first_value-rows, one_text-rows, raw_values-rows}
 use Rattle.clap.proofs.CallerLemmas.{present_has_entry, required_has_value, required_present}
-use Rattle.command_lines.specs.ServeLine.{choice, option, serve_app, words}
+use Rattle.command_lines.specs.ServeLine.{choice, flag, option, serve_app, words}
 
 no_some : {X : Type 0} (o : Option X) → not (is_some o) ≡ true → o ≡ None
 no_some None e = refl
@@ -29,14 +29,14 @@ head (x ∷ xs) some = x
 
 abbrev rules : List Rule
 rules = option (codes "listen") ∷ option (codes "epoch") ∷ option (codes "connections") ∷ words (codes "files")
-    ∷ choice (codes "at-once") ∷ choice (codes "patience") ∷ []
+    ∷ choice (codes "at-once") ∷ choice (codes "patience") ∷ flag (codes "log") ∷ []
 
 rules_are : (c : Command) → app_of c ≡ serve_app → map rule_of (args_of c) ≡ rules
 unfolding serve_app
 rules_are c e = ap (λ (a : App). a.top.rules) e
 
-six : (c : Command) → app_of c ≡ serve_app → length (args_of c) ≡ 6
-six c e = sym (length-map (args_of c) rule_of) ∙ ap length (rules_are c e)
+seven : (c : Command) → app_of c ≡ serve_app → length (args_of c) ≡ 7
+seven c e = sym (length-map (args_of c) rule_of) ∙ ap length (rules_are c e)
 
 rule_at : (c : Command) → app_of c ≡ serve_app → (k : ℕ) (d : Arg) → k < length (args_of c)
     → rule_of (slice_index_or (args_of c) k d) ≡ slice_index_or rules k (rule_of d)
@@ -47,14 +47,15 @@ rule_at c e k d low =
 abbrev is_alone : Rule → Bool
 is_alone r = r.is_simple && r.is_free
 
-alone_at : (k : ℕ) (d : Rule) → k < 6 → is_alone (slice_index_or rules k d) ≡ true
+alone_at : (k : ℕ) (d : Rule) → k < 7 → is_alone (slice_index_or rules k d) ≡ true
 alone_at zero d low = refl
 alone_at (suc zero) d low = refl
 alone_at (suc (suc zero)) d low = refl
 alone_at (suc (suc (suc zero))) d low = refl
 alone_at (suc (suc (suc (suc zero)))) d low = refl
 alone_at (suc (suc (suc (suc (suc zero))))) d low = refl
-alone_at (suc (suc (suc (suc (suc (suc k)))))) d low = absurd (omega arith)
+alone_at (suc (suc (suc (suc (suc (suc zero)))))) d low = refl
+alone_at (suc (suc (suc (suc (suc (suc (suc k))))))) d low = absurd (omega arith)
 
 plain_arg : (a : Arg) → is_alone (rule_of a) ≡ true → IsPlainArg a
 plain_arg a e =
@@ -78,8 +79,8 @@ no_delimiter a e =
 plain : (c : Command) → app_of c ≡ serve_app → IsPlain c
 unfolding serve_app
 plain c e =
-    let low6 : (k : ℕ) → k < length (args_of c) → k < 6 = λ k low. omega (arith, six c e) in (
-      λ k d low. plain_arg (slice_index_or (args_of c) k d) (ap is_alone (rule_at c e k d low) ∙ alone_at k (rule_of d) (low6 k low)),
+    let low7 : (k : ℕ) → k < length (args_of c) → k < 7 = λ k low. omega (arith, seven c e) in (
+      λ k d low. plain_arg (slice_index_or (args_of c) k d) (ap is_alone (rule_at c e k d low) ∙ alone_at k (rule_of d) (low7 k low)),
       is_nil _ (both _ _ (ap (λ (a : App). a.top.is_plain) e)).0,
     )
 
@@ -92,22 +93,22 @@ unfolding serve_app
 negates c e = ap (λ (a : App). a.top.subcommand_negates_reqs) e
 
 -- an option has a value
-there : (c : Command) (m : ArgMatches) (name : List ℕ) (k : ℕ) → app_of c ≡ serve_app → IsParsedFrom c m → k < 6
+there : (c : Command) (m : ArgMatches) (name : List ℕ) (k : ℕ) → app_of c ≡ serve_app → IsParsedFrom c m → k < 7
     → ((d : Rule) → slice_index_or rules k d ≡ option name)
-    → ((j : ℕ) (d : Rule) → j < 6 → bytes_eq (slice_index_or rules j d).id name ≡ true → j ≡ k)
+    → ((j : ℕ) (d : Rule) → j < 7 → bytes_eq (slice_index_or rules j d).id name ≡ true → j ≡ k)
     → (name ≡ [] → ⊥) → ((name ≡ codes "help") ⊎ (name ≡ codes "version") → ⊥)
     → is_some (first_value (found_of m) name) ≡ true
 there c m name k e p low is only named own =
-    let some : 0 < length (args_of c) = omega (arith, six c e) in
+    let some : 0 < length (args_of c) = omega (arith, seven c e) in
     let d = head (args_of c) some in
-    let within : k < length (args_of c) = omega (arith, six c e) in
+    let within : k < length (args_of c) = omega (arith, seven c e) in
     let a = slice_index_or (args_of c) k d in
     let rule : rule_of a ≡ option name = rule_at c e k d within ∙ is (rule_of d) in
     let id : a.id.now ≡ name = ap (λ (r : Rule). r.id) rule in
     let least : 1 ≤ (unwrap_or_range a.num_vals).start_inclusive =
     subst (λ (o : Option ValueRange). 1 ≤ (unwrap_or_range o).start_inclusive) (sym (ap (λ (r : Rule). r.range) rule)) (omega arith) in
     let unique : (j : ℕ) (x : Arg) → j < length (args_of c) → bytes_eq (slice_index_or (args_of c) j x).id.now a.id.now ≡ true → j ≡ k =
-    λ j x at same. only j (rule_of x) (omega (arith, six c e))
+    λ j x at same. only j (rule_of x) (omega (arith, seven c e))
     (ap₂ bytes_eq (sym (ap (λ (r : Rule). r.id) (rule_at c e j x at))) (sym id) ∙ same) in
     let has : is_some (first_value (found_of m) a.id.now) ≡ true =
     required_has_value c m p (plain c e) (local c e) (negates c e) k d within (ap (λ (r : Rule). r.required) rule)
@@ -116,32 +117,35 @@ there c m name k e p low is only named own =
     (λ auto. own (elim auto [ inl h ↦ inl (sym id ∙ h) | inr h ↦ inr (sym id ∙ h) ])) in
     subst (λ (n : List ℕ). is_some (first_value (found_of m) n) ≡ true) id has
 
-only_listen : (j : ℕ) (d : Rule) → j < 6 → bytes_eq (slice_index_or rules j d).id (codes "listen") ≡ true → j ≡ 0
+only_listen : (j : ℕ) (d : Rule) → j < 7 → bytes_eq (slice_index_or rules j d).id (codes "listen") ≡ true → j ≡ 0
 only_listen zero d low same = refl
 only_listen (suc zero) d low same = absurd (true≢false (sym same))
 only_listen (suc (suc zero)) d low same = absurd (true≢false (sym same))
 only_listen (suc (suc (suc zero))) d low same = absurd (true≢false (sym same))
 only_listen (suc (suc (suc (suc zero)))) d low same = absurd (true≢false (sym same))
 only_listen (suc (suc (suc (suc (suc zero))))) d low same = absurd (true≢false (sym same))
-only_listen (suc (suc (suc (suc (suc (suc k)))))) d low same = absurd (omega arith)
+only_listen (suc (suc (suc (suc (suc (suc zero)))))) d low same = absurd (true≢false (sym same))
+only_listen (suc (suc (suc (suc (suc (suc (suc k))))))) d low same = absurd (omega arith)
 
-only_epoch : (j : ℕ) (d : Rule) → j < 6 → bytes_eq (slice_index_or rules j d).id (codes "epoch") ≡ true → j ≡ 1
+only_epoch : (j : ℕ) (d : Rule) → j < 7 → bytes_eq (slice_index_or rules j d).id (codes "epoch") ≡ true → j ≡ 1
 only_epoch zero d low same = absurd (true≢false (sym same))
 only_epoch (suc zero) d low same = refl
 only_epoch (suc (suc zero)) d low same = absurd (true≢false (sym same))
 only_epoch (suc (suc (suc zero))) d low same = absurd (true≢false (sym same))
 only_epoch (suc (suc (suc (suc zero)))) d low same = absurd (true≢false (sym same))
 only_epoch (suc (suc (suc (suc (suc zero))))) d low same = absurd (true≢false (sym same))
-only_epoch (suc (suc (suc (suc (suc (suc k)))))) d low same = absurd (omega arith)
+only_epoch (suc (suc (suc (suc (suc (suc zero)))))) d low same = absurd (true≢false (sym same))
+only_epoch (suc (suc (suc (suc (suc (suc (suc k))))))) d low same = absurd (omega arith)
 
-only_connections : (j : ℕ) (d : Rule) → j < 6 → bytes_eq (slice_index_or rules j d).id (codes "connections") ≡ true → j ≡ 2
+only_connections : (j : ℕ) (d : Rule) → j < 7 → bytes_eq (slice_index_or rules j d).id (codes "connections") ≡ true → j ≡ 2
 only_connections zero d low same = absurd (true≢false (sym same))
 only_connections (suc zero) d low same = absurd (true≢false (sym same))
 only_connections (suc (suc zero)) d low same = refl
 only_connections (suc (suc (suc zero))) d low same = absurd (true≢false (sym same))
 only_connections (suc (suc (suc (suc zero)))) d low same = absurd (true≢false (sym same))
 only_connections (suc (suc (suc (suc (suc zero))))) d low same = absurd (true≢false (sym same))
-only_connections (suc (suc (suc (suc (suc (suc k)))))) d low same = absurd (omega arith)
+only_connections (suc (suc (suc (suc (suc (suc zero)))))) d low same = absurd (true≢false (sym same))
+only_connections (suc (suc (suc (suc (suc (suc (suc k))))))) d low same = absurd (omega arith)
 
 pub listen_there : (c : Command) (m : ArgMatches) → app_of c ≡ serve_app → IsParsedFrom c m
     → is_some (first_value (found_of m) (codes "listen")) ≡ true
@@ -162,9 +166,9 @@ connections_there c m e p = there c m (codes "connections") 2 e p (omega arith) 
 pub files_there : (c : Command) (m : ArgMatches) → app_of c ≡ serve_app → IsParsedFrom c m
     → is_some (matched_of (found_of m) (codes "files")) ≡ true
 files_there c m e p =
-    let some : 0 < length (args_of c) = omega (arith, six c e) in
+    let some : 0 < length (args_of c) = omega (arith, seven c e) in
     let d = head (args_of c) some in
-    let within : 3 < length (args_of c) = omega (arith, six c e) in
+    let within : 3 < length (args_of c) = omega (arith, seven c e) in
     let rule : rule_of (slice_index_or (args_of c) 3 d) ≡ words (codes "files") = rule_at c e 3 d within in
     let present = required_present c m p (plain c e) (local c e) (negates c e) 3 d within (ap (λ (r : Rule). r.required) rule) in
     subst (λ (n : List ℕ). is_some (matched_of (found_of m) n) ≡ true) (ap (λ (r : Rule). r.id) rule)
@@ -184,6 +188,10 @@ option_value f matches name o v rows found is =
 pub choice_value : (f : Found) (matches : List Row) (name : List ℕ) (o : Option (Bor (List ℕ))) → rows_of f ≡ matches
     → option_map (λ s. s.now) o ≡ first_value f name → first_of name matches ≡ option_map (λ s. s.now) o
 choice_value f matches name o rows found = ap (first_of name) (sym rows) ∙ sym (first_value-rows f name) ∙ sym found
+
+-- the text that a flag is read from
+pub flag_text : (f : Found) (matches : List Row) (name : List ℕ) → rows_of f ≡ matches → one_text f name ≡ one_of name matches
+flag_text f matches name rows = one_text-rows f name ∙ ap (one_of name) rows
 
 -- and so are several
 pub all_values : (f : Found) (matches : List Row) (name : List ℕ) (o : Option (Bor (List (Bor (List ℕ))))) (v : Bor (List (Bor (List ℕ)))) → rows_of f ≡ matches

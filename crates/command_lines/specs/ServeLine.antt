@@ -1,7 +1,7 @@
 -- The command `cogserve`, and what its words give by clap's definition of a simple command.
-use Rattle.std.specs.Prelude.{◌≡◌, true, false, ℕ, List, Some, codes, map, option_map}
-use Rattle.clap.specs.Words.{App, Row, Rule, all_of, first_of, new_app, new_rule, with_rule}
-use Rattle.clap.specs.declared.builder.action.ArgAction.TheVariants.{Set, Append}
+use Rattle.std.specs.Prelude.{◌≡◌, true, false, ℕ, Bool, List, Option, Some, None, codes, map, option_map}
+use Rattle.clap.specs.Words.{App, Row, Rule, all_of, first_of, new_app, new_rule, one_of, with_rule}
+use Rattle.clap.specs.declared.builder.action.ArgAction.TheVariants.{Set, SetTrue, Append}
 use Rattle.command_lines.specs.declared.serve.ServeLine.{ServeLine}
 
 -- an option that has to stand, with one value
@@ -12,6 +12,10 @@ option name = record (new_rule name) { long = Some name; value_names = 1; requir
 abbrev pub choice : List ℕ → Rule
 choice name = record (option name) { required = false }
 
+-- an option without a value
+abbrev pub flag : List ℕ → Rule
+flag name = record (new_rule name) { long = Some name; action = Some SetTrue }
+
 -- words of which at least one has to stand
 abbrev pub words : List ℕ → Rule
 words name = record (new_rule name) { value_names = 1; required = true; action = Some Append }
@@ -21,9 +25,15 @@ abbrev pub versioned : App → App
 versioned a = record a { top = record a.top { has_version = true } }
 
 unfoldable pub serve_app : App
-serve_app = with_rule (with_rule (with_rule (with_rule (with_rule (with_rule (versioned (new_app (codes "cogserve")))
+serve_app = with_rule (with_rule (with_rule (with_rule (with_rule (with_rule (with_rule (versioned (new_app (codes "cogserve")))
     (option (codes "listen"))) (option (codes "epoch"))) (option (codes "connections"))) (words (codes "files")))
-    (choice (codes "at-once"))) (choice (codes "patience"))
+    (choice (codes "at-once"))) (choice (codes "patience"))) (flag (codes "log"))
+
+-- a text of a flag says whether it is there; with none it isn't
+pub record Tells (text : Option (List ℕ)) (flag : Bool) : Type 0 where
+  pub none : text ≡ None → flag ≡ false
+  pub yes : text ≡ Some (codes "true") → flag ≡ true
+  pub no : text ≡ Some (codes "false") → flag ≡ false
 
 -- the line has the values of these matches
 pub record HasValues (matches : List Row) (line : ServeLine) : Type 0 where
@@ -32,4 +42,5 @@ pub record HasValues (matches : List Row) (line : ServeLine) : Type 0 where
   pub connections : first_of (codes "connections") matches ≡ Some line.connections.now
   pub at_once : first_of (codes "at-once") matches ≡ option_map (λ word. word.now) line.at_once
   pub patience : first_of (codes "patience") matches ≡ option_map (λ word. word.now) line.patience
+  pub log : Tells (one_of (codes "log") matches) line.log
   pub files : all_of (codes "files") matches ≡ Some (map (λ file. file.now) line.files.items)

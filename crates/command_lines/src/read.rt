@@ -22,6 +22,8 @@ pub struct ReadLine<'a> {
     pub output: Option<&'a str>,
     /// Whether each exchange is told.
     pub verbose: bool,
+    /// Whether it is drawn how far the exchanges have come.
+    pub progress: bool,
 }
 
 /// What is asked of a file.
@@ -148,7 +150,15 @@ fn add_telling<'a>(alloc: Global, command: Command<'a>) -> Result<Command<'a>, A
         "verbose",
         "Tells each exchange, and why there is none, on standard error",
     );
-    command.arg(output)?.arg(verbose)
+    let progress = flag(
+        alloc,
+        "progress",
+        "Draws on standard error, as one line over itself, how many ranges and bytes came",
+    );
+    command
+        .arg(output)?
+        .arg(verbose)?
+        .arg(progress.conflicts_with("verbose")?)
 }
 
 /// A command with the words and options that both have: the server and the name first, the options last.
@@ -274,6 +284,7 @@ fn line_of<'a>(matches: &ArgMatches<'a>, asked: AskedWords<'a>) -> ReadLine<'a> 
         close: matches.get_flag("close"),
         output: matches.get_str("output"),
         verbose: matches.get_flag("verbose"),
+        progress: matches.get_flag("progress"),
     }
 }
 

@@ -1,7 +1,7 @@
 //! The command line of `cogserve`.
 ghost use Rattle.std.specs.Prelude.{◌≡◌, true, false, IfOk, IfErr, codes, map};
 ghost use Rattle.clap.specs.Words.{app_of, kind_of, matches_of, rule_of, takes};
-ghost use Rattle.command_lines.specs.ServeLine.{HasValues, choice, option, serve_app, words as some_words};
+ghost use Rattle.command_lines.specs.ServeLine.{HasValues, choice, flag, option, serve_app, words as some_words};
 
 use crate::help::{SERVE_NOTES, VERSION};
 use clap::error::ErrorKind;
@@ -10,7 +10,7 @@ use std::alloc::{AllocError, Global};
 use std::convert::AsStr;
 
 /// The words of `cogserve`'s command line: where it listens, its epoch, how many connections it serves in all and at once, how many
-/// seconds one without progress keeps its place, and its files as `NAME=PATH`.
+/// seconds one without progress keeps its place, whether there is a log, and its files as `NAME=PATH`.
 #[derive(Drop)]
 pub struct ServeLine<'a> {
     pub listen: &'a str,
@@ -18,6 +18,8 @@ pub struct ServeLine<'a> {
     pub connections: &'a str,
     pub at_once: Option<&'a str>,
     pub patience: Option<&'a str>,
+    /// Whether a log is kept on standard error.
+    pub log: bool,
     pub files: Vec<&'a str>,
 }
 
@@ -44,6 +46,17 @@ fn choice<'a>(alloc: Global, name: &'a str, value: &'a str, help: &'a str) -> Ar
         .value_name(value)
         .help(help)
         .action(ArgAction::Set)
+}
+
+/// An option without a value.
+fn flag<'a>(alloc: Global, name: &'a str, help: &'a str) -> Arg<'a>
+    ensures rule { rule_of result ≡ flag name.entry.now }
+    ensures local { result.global ≡ false }
+{
+    Arg::new(alloc, name)
+        .long(name)
+        .help(help)
+        .action(ArgAction::SetTrue)
 }
 
 fn files<'a>(alloc: Global) -> Arg<'a>
@@ -87,6 +100,11 @@ fn serve_command<'a>(alloc: Global) -> Result<Command<'a>, AllocError>
         "SECONDS",
         "How long a connection without progress keeps its place while another waits, 1 to 3600 (default 60)",
     );
+    let log = flag(
+        alloc,
+        "log",
+        "Tells each answer on standard error, why a file isn't taken anew, and where it listens",
+    );
     Ok(
         Command::new(alloc, "cogserve")
             .about("Serves files over HTTP by single byte ranges")
@@ -97,7 +115,8 @@ fn serve_command<'a>(alloc: Global) -> Result<Command<'a>, AllocError>
             .arg(connections)?
             .arg(files(alloc))?
             .arg(at_once)?
-            .arg(patience)?,
+            .arg(patience)?
+            .arg(log)?,
     )
 }
 
@@ -118,6 +137,7 @@ pub fn serve_line<'a, S: AsStr>(alloc: Global, words: &'a [S]) -> Result<ServeLi
         connections,
         at_once: matches.get_str("at-once"),
         patience: matches.get_str("patience"),
+        log: matches.get_flag("log"),
         files,
     })
 }

@@ -2,12 +2,14 @@
 #![tactic(auto)]
 
 mod clock;
+mod drawn;
 mod line;
 mod network;
 mod noted;
 mod told;
 
 pub use clock::moment;
+pub use drawn::exchanges_drawn;
 pub use network::NotedNet;
-pub use noted::{Came, Noted};
+pub use noted::{Came, Noted, Progress};
 pub use told::exchanges_told;

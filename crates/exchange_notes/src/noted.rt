@@ -22,6 +22,17 @@ pub enum Came {
     Brought(Head, u64),
 }
 
+/// How far all exchanges have come.
+#[derive(Clone, Copy, Debug, PartialEq, Eq)]
+pub struct Progress {
+    /// How many ranges brought bytes of the file.
+    pub had: u64,
+    /// How many ranges were asked for.
+    pub asked: u64,
+    /// How many bytes came, those of heads among them.
+    pub bytes: u64,
+}
+
 /// Another source, whose requests and answers are noted as they pass. It speaks for what the other one speaks for.
 #[derive(Drop)]
 pub struct Noted<P> {
@@ -30,6 +41,8 @@ pub struct Noted<P> {
     range: Vec<u8>,
     front: Vec<u8>,
     bytes: u64,
+    /// How far the exchanges before the last one had come.
+    before: Progress,
 }
 
 impl<P> Noted<P> {
@@ -43,6 +56,11 @@ impl<P> Noted<P> {
             range: Vec::new(alloc),
             front: Vec::new(alloc),
             bytes: 0,
+            before: Progress {
+                had: 0,
+                asked: 0,
+                bytes: 0,
+            },
         }
     }
 
@@ -80,10 +98,23 @@ impl<P> Noted<P> {
         }
     }
 
-    /// Notes a request, and drops what was noted before. What there is no memory for isn't noted.
+    /// How far all exchanges have come.
+    pub fn progress(&self) -> Progress {
+        let Progress { had, asked, bytes } = self.before;
+        let has_come = matches!(self.came(), Came::Brought(_, 1..));
+        Progress {
+            had: had.saturating_add(u64::from(has_come)),
+            asked,
+            bytes: bytes.saturating_add(self.bytes),
+        }
+    }
+
+    /// Notes a request, and drops what was noted before, but for how far it had come. What there is no memory for isn't noted.
     fn note_request(&mut self, request: &[u8])
         ensures { source_of self.new ≡ source_of self.old }
     {
+        self.before = self.progress();
+        self.before.asked = self.before.asked.saturating_add(1);
         self.is_sent = false;
         self.bytes = 0;
         self.front.clear();

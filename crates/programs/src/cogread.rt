@@ -1,7 +1,7 @@
 //! `cogread`: reads a window, the info or a description of a file over sockets.
 use crate::fault::Fault;
 use crate::number::number;
-use crate::reading::{Asked, Exchanges};
+use crate::reading::{Asked, Exchanges, Telling};
 use clap::error::ErrorKind;
 use cog_client::{Client, ClientError, Query};
 use command_lines::{
@@ -84,6 +84,15 @@ fn numbers_of<R: AllocGlobal>(rt: &R, line: &ReadLine<'_>) -> Result<Numbers, Fa
     })
 }
 
+/// What a line wants to be told of exchanges.
+fn telling_of(line: &ReadLine<'_>) -> Telling {
+    match (line.verbose, line.progress) {
+        (true, _) => Telling::Each,
+        (false, true) => Telling::Progress,
+        (false, false) => Telling::Nothing,
+    }
+}
+
 /// The client of a line's server and name, which keeps so many blocks.
 fn client_of<R: Eprint + AllocGlobal>(
     rt: &R,
@@ -122,7 +131,7 @@ where
         rt,
         net: &net,
         requests: numbers.requests,
-        is_told: line.verbose,
+        telling: telling_of(line),
     };
     exchanges.text(&mut client, &mut noted, numbers.asked)
 }

@@ -1,14 +1,11 @@
 //! `cogserve`: publishes files of the disk and serves them over many connections at once.
-ghost use Rattle.std.specs.Prelude.{◌<◌, length};
-
 use crate::fault::Fault;
 use crate::number::number;
 use cog_server::{PublishError, Server};
 use command_lines::{ServeLine, serve_line};
 use disk_files::{WatchError, Watched};
-use exchange_notes::moment;
-use http_range::Tag;
-use serving::{Limits, Serving};
+use served_files::{Log, NotPublished, ServeError, listen, publish_all, serve_connections};
+use serving::Limits;
 use std::alloc::AllocError;
 use std::io::ErrorKind;
 use std::net::{Net, TcpListener, TcpStream};
@@ -18,19 +15,50 @@ use std::rt::{Clock, Files};
 /// Runs the program on its words, of which the first is its own name.
 pub fn run_line<R>(rt: &R, words: &[&str]) -> Result<(), Fault>
 where
-    R: Files + Clock + Print + AllocGlobal + Net<Listener = TcpListener, Stream = TcpStream>,
+    R: Files
+        + Clock
+        + Print
+        + Eprint
+        + AllocGlobal
+        + Net<Listener = TcpListener, Stream = TcpStream>,
 {
     let line = serve_line(rt.alloc(), words)?;
     let epoch = number(rt, line.epoch, 0, u32::MAX)?;
     let limits = limits_of(rt, &line)?;
     let mut files = files_of(rt, &line.files)?;
     let mut server = Server::new(rt.alloc(), epoch);
-    publish_all(rt, &mut server, &mut files)?;
-    let Ok(listener) = TcpListener::bind(rt, line.listen) else {
-        return Err(Fault::CantListen);
+    let mut log = Log {
+        rt,
+        is_kept: line.log,
     };
-    println!(rt; "listening {}", line.listen)?;
-    serve_connections(rt, &mut server, &mut files, listener, limits)
+    match serve(&mut log, line.listen, &mut server, &mut files, limits) {
+        Ok(()) => Ok(()),
+        Err(error) => {
+            log.tell(&error);
+            Err(fault_of(rt, error)?)
+        }
+    }
+}
+
+/// Publishes the files, listens, and serves them.
+fn serve<'a, R>(
+    log: &mut Log<'_, R>,
+    place: &str,
+    server: &mut Server,
+    files: &mut [Watched<'a>],
+    limits: Limits,
+) -> Result<(), ServeError<'a>>
+where
+    R: Files
+        + Clock
+        + Print
+        + Eprint
+        + AllocGlobal
+        + Net<Listener = TcpListener, Stream = TcpStream>,
+{
+    publish_all(log, server, files)?;
+    let listener = listen(log, place)?;
+    serve_connections(log, server, files, listener, limits)
 }
 
 /// What the words say of connections: 256 at once, and a patience of 60 seconds, where they don't.
@@ -59,19 +87,9 @@ fn files_of<'a, R: AllocGlobal>(rt: &R, words: &[&'a str]) -> Result<Vec<Watched
     Ok(files)
 }
 
-/// Tells that a file is published.
-fn print_published<R: Print>(rt: &R, name: &str, tag: &Tag) -> Result<(), Fault> {
-    let tag = str::from_utf8(tag.as_bytes()).unwrap_or("");
-    Ok(println!(rt; "published {name} {tag}")?)
-}
-
 /// The fault of a file that isn't published.
-fn fault_of<R: AllocGlobal>(
-    rt: &R,
-    file: &Watched<'_>,
-    error: WatchError,
-) -> Result<Fault, AllocError> {
-    match error {
+fn fault_of_file<R: AllocGlobal>(rt: &R, file: NotPublished<'_>) -> Result<Fault, AllocError> {
+    match file.why {
         WatchError::Refused(PublishError::Memory) => Ok(Fault::Memory),
         WatchError::Refused(refusal) => {
             Ok(Fault::Refused(refusal, String::from_str(rt.alloc(), file.name)?))
@@ -83,97 +101,12 @@ fn fault_of<R: AllocGlobal>(
     }
 }
 
-/// Publishes the files in order.
-pub fn publish_all<R: Files + Clock + Print + AllocGlobal>(
-    rt: &R,
-    server: &mut Server,
-    files: &mut [Watched<'_>],
-) -> Result<(), Fault> {
-    for file in files.iter_mut() {
-        match file.publish(rt, server) {
-            Ok(tag) => print_published(rt, file.name, &tag)?,
-            Err(error) => return Err(fault_of(rt, file, error)?),
-        }
+/// The fault of what ends the program.
+fn fault_of<R: AllocGlobal>(rt: &R, error: ServeError<'_>) -> Result<Fault, AllocError> {
+    match error {
+        ServeError::NotPublished(file) => fault_of_file(rt, file),
+        ServeError::CantListen(_) => Ok(Fault::CantListen),
+        ServeError::CantAccept => Ok(Fault::CantAccept),
+        ServeError::CantWrite(error) => Ok(Fault::from(error)),
     }
-    Ok(())
-}
-
-/// Whether a later file has the name of this one.
-fn is_named_again(files: &[Watched<'_>], k: usize) -> bool
-    requires { k < length files.now }
-{
-    let name = files[k].name;
-    files[k + 1..].iter().any(|file| file.name == name)
-}
-
-/// Publishes the files whose bytes changed, of several of one name the last. A line that can't be written is lost: the next ones are
-/// tried.
-fn look_again<R: Files + Clock + Print + AllocGlobal>(
-    rt: &R,
-    server: &mut Server,
-    files: &mut [Watched<'_>],
-) {
-    for k in 0..files.len() {
-        if !is_named_again(files, k)
-            && let Ok(Some(tag)) = files[k].publish_changed(rt, server)
-        {
-            let _ = print_published(rt, files[k].name, &tag);
-        }
-    }
-}
-
-/// Tells of each connection that has ended, from the next one on, and gives how many were told. A line that can't be written is lost:
-/// the next ones are tried.
-fn print_served<R: Print>(rt: &R, told: u32, ended: u32) -> u32 {
-    for k in told..ended {
-        let _ = println!(rt; "served {}", k + 1);
-    }
-    told.max(ended)
-}
-
-/// Gives each connection that is ready its turn, accepts newcomers, and looks at the files where one came. Turns come first: a
-/// connection whose message is there isn't idle.
-fn turn<R: Files + Clock + Print + AllocGlobal>(
-    rt: &R,
-    server: &mut Server,
-    files: &mut [Watched<'_>],
-    serving: &mut Serving,
-) -> Result<(), Fault> {
-    let now = moment(rt);
-    serving.turns(server, now);
-    let Ok(newcomers) = serving.accept(now) else {
-        return Err(Fault::CantAccept);
-    };
-    if newcomers > 0 {
-        look_again(rt, server, files);
-    }
-    Ok(())
-}
-
-/// Serves so many connections until each has ended. The files are looked at when connections came, once for all that came together.
-pub fn serve_connections<R>(
-    rt: &R,
-    server: &mut Server,
-    files: &mut [Watched<'_>],
-    listener: TcpListener,
-    limits: Limits,
-) -> Result<(), Fault>
-where
-    R: Files + Clock + Print + AllocGlobal + Net,
-{
-    let Ok(mut serving) = Serving::new(rt, listener, limits) else {
-        return Err(Fault::CantListen);
-    };
-    let mut told = 0;
-    for _ in 0..u64::MAX {
-        turn(rt, server, files, &mut serving)?;
-        told = print_served(rt, told, serving.ended());
-        if serving.is_over() {
-            break;
-        }
-        if serving.wait(moment(rt)).is_err() {
-            return Err(Fault::CantAccept);
-        }
-    }
-    Ok(())
 }

@@ -11,8 +11,7 @@ mod number;
 mod reading;
 mod stored;
 
-pub use cogserve::{publish_all, serve_connections};
 pub use command::run;
 pub use disk::Disk;
 pub use fault::Fault;
-pub use reading::{Asked, Exchanges};
+pub use reading::{Asked, Exchanges, Telling};

@@ -1,4 +1,4 @@
-//! How `cogread` reads: its exchanges, which are told with `--verbose`, and what is asked of the file.
+//! How `cogread` reads: its exchanges, which are told with `--verbose` and drawn with `--progress`, and what is asked of the file.
 ghost use Rattle.std.specs.Prelude.{◌+◌, ◌<◌, ◌^◌};
 ghost use Rattle.exchange_notes.specs.Noted.{source_of};
 
@@ -6,7 +6,7 @@ use crate::fault::Fault;
 use cog_client::{Client, Outcome, Pieces, Query, Report, Tag};
 use cog_fetch::fetch_pieces;
 use describing::{Description, Form};
-use exchange_notes::{Noted, NotedNet, exchanges_told};
+use exchange_notes::{Noted, NotedNet, exchanges_drawn, exchanges_told};
 use report_text::{FaultSentence, info_text, picture};
 use std::rt::Clock;
 use tiff_dir::Pick;
@@ -21,13 +21,23 @@ pub enum Asked {
     Description(Form),
 }
 
-/// How exchanges are made: at most so many in all, each told on standard error or not.
+/// What is told of exchanges on standard error.
+#[derive(Clone, Copy, Debug, PartialEq, Eq)]
+pub enum Telling {
+    Nothing,
+    /// A line for each, and why there is no text.
+    Each,
+    /// How far they have come, as one line that is drawn over itself.
+    Progress,
+}
+
+/// How exchanges are made: at most so many in all, and what is told of them.
 #[derive(Drop)]
 pub struct Exchanges<'a, 'r, R> {
     pub rt: &'a R,
     pub net: &'a NotedNet<'r, R>,
     pub requests: u32,
-    pub is_told: bool,
+    pub telling: Telling,
 }
 
 /// How many exchanges of so many are left.
@@ -46,10 +56,12 @@ impl<R: Eprint + Clock + AllocGlobal> Exchanges<'_, '_, R> {
     /// Sends what the client asks, until a report stands or no exchange is left.
     fn fetch<P: Pieces>(&self, client: &mut Client, noted: &mut Noted<P>) -> Result<(), Fault> {
         let left = left(noted, self.requests);
-        if self.is_told {
-            exchanges_told(self.rt, self.net, client, noted, left)?;
-        } else {
-            fetch_pieces(client, noted, left)?;
+        match self.telling {
+            Telling::Nothing => {
+                fetch_pieces(client, noted, left)?;
+            }
+            Telling::Each => exchanges_told(self.rt, self.net, client, noted, left)?,
+            Telling::Progress => exchanges_drawn(self.rt, client, noted, left)?,
         }
         Ok(())
     }
@@ -77,6 +89,20 @@ impl<R: Eprint + Clock + AllocGlobal> Exchanges<'_, '_, R> {
         Ok(())
     }
 
+    /// Reads what is asked over a source that is noted. A line that is drawn is ended.
+    fn fetch_and_end<P: Pieces>(
+        &self,
+        client: &mut Client,
+        noted: &mut Noted<P>,
+        asked: Asked,
+    ) -> Result<(), Fault> {
+        let fetched = self.fetch_asked(client, noted, asked);
+        if self.telling == Telling::Progress {
+            let _ = eprintln!(self.rt; "");
+        }
+        fetched
+    }
+
     /// Reads what is asked over a source that is noted.
     fn fetch_asked<P: Pieces>(
         &self,
@@ -93,17 +119,17 @@ impl<R: Eprint + Clock + AllocGlobal> Exchanges<'_, '_, R> {
         self.fetch(client, noted)
     }
 
-    /// Reads what is asked over a source that is noted, and gives its text: a picture, what Info tells, or a description. With `is_told`
-    /// each exchange is told on standard error, and so is why there is no text.
+    /// Reads what is asked over a source that is noted, and gives its text: a picture, what Info tells, or a description. What is
+    /// told of each exchange goes to standard error, and so does why there is no text.
     pub fn text<P: Pieces>(
         &self,
         client: &mut Client,
         noted: &mut Noted<P>,
         asked: Asked,
     ) -> Result<Vec<u8>, Fault> {
-        self.fetch_asked(client, noted, asked)?;
+        self.fetch_and_end(client, noted, asked)?;
         let Some(report) = client.report() else {
-            if self.is_told {
+            if self.telling == Telling::Each {
                 let requests = self.requests;
                 let _ = eprintln!(self.rt;
                     "cogread: no report by {requests} requests, the most that --requests allows"
@@ -126,7 +152,7 @@ impl<R: Eprint + Clock + AllocGlobal> Exchanges<'_, '_, R> {
             Outcome::Window(window) => Ok(picture(alloc, window)?),
             Outcome::Info(info) => Ok(info_text(alloc, &report.tag, info)?),
             Outcome::Fault(fault) => {
-                if self.is_told {
+                if self.telling == Telling::Each {
                     let _ = eprintln!(self.rt; "cogread: {}", FaultSentence(*fault));
                 }
                 Err(Fault::OfFile(*fault))

@@ -10,8 +10,10 @@
 //! | `cogserve: not a file: WORD` | 2 | `serves` |
 //! | `cogserve: can't read PATH`, `cogserve: refused K NAME`, `cogserve: can't listen` | 1 | `serves`; 5 of the refusals in `faults` |
 //! | `cogserve: can't accept` | 1 | `socket_tests` |
+//! | why it ends, with a log (`--log`) | 1 | `serves`; the lines of the log in `socket_tests` |
 //! | `cogread: refused K`, `cogread: not a place: URL: ..` | 2 | `reads` |
 //! | each exchange, and why there is no window (`--verbose`) | | `told` |
+//! | how far the exchanges have come (`--progress`) | | `told` |
 //! | what a file is, in words and in JSON (`describe`) | 0 | `describes` |
 //! | `cogread: fault K`, and with a tag | 3 | `reads`, `faults` |
 //! | `cogread: no report` | 4 | `reads` |

@@ -2,9 +2,11 @@
 //! closed. What is answered is the table's (`cog_connections`).
 #![tactic(auto)]
 
+mod answered;
 mod open;
 mod serving;
 mod socket;
 mod turn;
 
+pub use answered::{Answer, Audience, Nobody};
 pub use serving::{AcceptError, Limits, Serving};

@@ -1,6 +1,7 @@
 //! The connections that have a place, with their sockets.
 ghost use Rattle.std.specs.Prelude.{◌↔◌, ◌<◌, IsTrue, length};
 
+use crate::answered::{Asked, Audience, Teller};
 use crate::turn::{Turn, drain_turn, serve_turn};
 use cog_connections::Connections;
 use cog_server::Server;
@@ -19,6 +20,7 @@ struct Socket {
     stream: TcpStream,
     /// Whether all its answers are written.
     is_draining: bool,
+    asked: Asked,
 }
 
 /// Whether there is a place for a connection more.
@@ -31,6 +33,7 @@ fn has_place(connections: &Connections) -> bool
 /// The connections that have a place, with their sockets, and how many have ended.
 #[derive(Drop)]
 pub struct Open {
+    alloc: Global,
     connections: Connections,
     sockets: HashMap<u64, Socket>,
     ended: u32,
@@ -40,6 +43,7 @@ impl Open {
     /// None, with so many places.
     pub fn new(alloc: Global, places: NonZeroUsize) -> Result<Self, Memory> {
         Ok(Open {
+            alloc,
             connections: Connections::new(alloc, places)?,
             sockets: HashMap::new(alloc),
             ended: 0,
@@ -95,10 +99,10 @@ impl Open {
             Token(number as usize),
             Interest::READABLE | Interest::WRITABLE,
         );
-        let is_draining = false;
         let socket = Socket {
             stream,
-            is_draining,
+            is_draining: false,
+            asked: Asked::new(self.alloc),
         };
         if added.is_err() || self.sockets.insert(number, socket).is_err() {
             self.connections.close(number);
@@ -130,14 +134,23 @@ impl Open {
         socket.stream.shutdown(Shutdown::Write).is_ok()
     }
 
-    /// A connection's turn.
-    pub fn turn(&mut self, number: u64, server: &Server, buffer: &mut [u8], now: u64) -> Turn {
-        let Some(socket) = self.sockets.get(&number) else {
+    /// A connection's turn, of whose answers the audience is told.
+    pub fn turn<A: Audience>(
+        &mut self,
+        number: u64,
+        server: &Server,
+        buffer: &mut [u8],
+        now: u64,
+        audience: &mut A,
+    ) -> Turn {
+        let Some(socket) = self.sockets.get_mut(&number) else {
             return Turn::Waits;
         };
         if socket.is_draining {
             drain_turn(&mut self.connections, number, &socket.stream, buffer)
         } else {
+            let asked = &mut socket.asked;
+            let mut teller = Teller { asked, audience };
             serve_turn(
                 &mut self.connections,
                 number,
@@ -145,6 +158,7 @@ impl Open {
                 server,
                 buffer,
                 now,
+                &mut teller,
             )
         }
     }

@@ -1,4 +1,5 @@
 //! The sockets of a server: who gets a place, whose turn it is, and how long to wait.
+use crate::answered::Audience;
 use crate::open::Open;
 use crate::turn::Turn;
 use cog_server::Server;
@@ -119,11 +120,11 @@ impl Serving {
         Ok(self.accepted.saturating_sub(before))
     }
 
-    /// Gives each connection that may go on its turn, and closes those whose drain ends.
-    pub fn turns(&mut self, server: &Server, now: u64) {
+    /// Gives each connection that may go on its turn, and closes those whose drain ends. The audience is told of each answer.
+    pub fn turns<A: Audience>(&mut self, server: &Server, now: u64, audience: &mut A) {
         for _ in 0..self.ready.len() {
             if let Some(number) = self.ready.pop_front() {
-                self.turn(number, server, now);
+                self.turn(number, server, now, audience);
             }
         }
         self.end_drains(now);
@@ -201,8 +202,9 @@ impl Serving {
     }
 
     /// A connection goes on.
-    fn turn(&mut self, number: u64, server: &Server, now: u64) {
-        match self.open.turn(number, server, &mut self.buffer, now) {
+    fn turn<A: Audience>(&mut self, number: u64, server: &Server, now: u64, audience: &mut A) {
+        let buffer = &mut self.buffer;
+        match self.open.turn(number, server, buffer, now, audience) {
             Turn::Waits => {}
             Turn::GoesOn => self.make_ready(number),
             Turn::Ended => {

@@ -1,4 +1,6 @@
 //! Bytes between a connection and its socket.
+ghost use Rattle.std.specs.Prelude.{◌≤◌, IfOk, length};
+
 use cog_connections::Connections;
 use cog_server::Server;
 use http_range::Memory;
@@ -38,15 +40,18 @@ pub fn write_some(
     Ok(n)
 }
 
-/// Takes what has come on a connection, at most what it and the buffer have room for.
+/// Takes what has come on a connection, at most what it and the buffer have room for, and tells how many bytes, which stand in the
+/// buffer's front.
 pub fn read_some(
     connections: &mut Connections,
     number: u64,
     mut stream: &TcpStream,
     buffer: &mut [u8],
-) -> io::Result<()> {
+) -> io::Result<usize>
+    ensures { IfOk result (λ n. n ≤ length buffer.new) }
+{
     let Some(timed) = connections.get(number) else {
-        return Ok(());
+        return Ok(0);
     };
     let room = timed.connection.room().min(buffer.len());
     let n = stream.read(&mut buffer[..room])?;
@@ -55,7 +60,7 @@ pub fn read_some(
     } else {
         connections.came(number, &buffer[..n]).map_err(memory)?;
     }
-    Ok(())
+    Ok(n)
 }
 
 /// Answers the next message of a connection, and says whether there was one.

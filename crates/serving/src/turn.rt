@@ -1,4 +1,5 @@
 //! A connection's turn: it goes on until its socket would block, and no longer than is fair to others.
+use crate::answered::{Audience, Teller};
 use crate::socket::{answer, read_some, write_some};
 use cog_connections::Connections;
 use cog_server::Server;
@@ -61,39 +62,44 @@ fn turn_of(error: &io::Error) -> Option<Turn> {
 
 /// Writes what waits, at most so many bytes, or answers the next message, or reads: how many bytes were written, none where all
 /// answers are.
-fn step(
+fn step<A: Audience>(
     connections: &mut Connections,
     number: u64,
     stream: &TcpStream,
     server: &Server,
     buffer: &mut [u8],
     (most, now): (usize, u64),
+    teller: &mut Teller<'_, A>,
 ) -> io::Result<Option<usize>> {
     if is_waiting(connections, number) {
         return Ok(Some(write_some(connections, number, stream, most, now)?));
     }
     if answer(connections, number, server, now)? {
+        teller.answered(connections, number);
         return Ok(Some(0));
     }
     if has_ended(connections, number) {
         return Ok(None);
     }
-    read_some(connections, number, stream, buffer)?;
+    let count = read_some(connections, number, stream, buffer)?;
+    teller.came(&buffer[..count]);
     Ok(Some(0))
 }
 
-/// Reads messages and writes their answers. It has ended where the last answer is written.
-pub fn serve_turn(
+/// Reads messages and writes their answers, of which the teller tells. It has ended where the last answer is written.
+pub fn serve_turn<A: Audience>(
     connections: &mut Connections,
     number: u64,
     stream: &TcpStream,
     server: &Server,
     buffer: &mut [u8],
     now: u64,
+    teller: &mut Teller<'_, A>,
 ) -> Turn {
     let mut most = WRITE_LIMIT;
     for _ in 0..STEP_LIMIT {
-        match step(connections, number, stream, server, buffer, (most, now)) {
+        let limits = (most, now);
+        match step(connections, number, stream, server, buffer, limits, teller) {
             Ok(Some(n)) => most = most.saturating_sub(n),
             Ok(None) => return Turn::Ended,
             Err(error) => {

@@ -2,5 +2,6 @@
 mod early;
 mod kept;
 mod lines;
+mod logs;
 mod loopback;
 mod places;

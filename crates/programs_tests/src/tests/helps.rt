@@ -28,6 +28,8 @@ const WINDOW_PARTS: &[&str] = &[
     "--output <FILE>",
     "(default: standard output)",
     "--verbose",
+    "--progress",
+    "Draws on standard error, as one line over itself, how many ranges and bytes came",
     "Example:\n  cogtools cogread window 127.0.0.1:8080 a.tif 0 0 256 256 > window.pgm\n",
     "cogtools cogread window http://127.0.0.1:8080/a.tif 0 0 256 256 --output window.pgm\n",
 ];
@@ -37,12 +39,12 @@ const WINDOW_PARTS: &[&str] = &[
 #[rattlefmt::skip]
 const HELPS: [(&str, &[&str]); 8] = [
     ("--help", &[
-        "cogtools cogserve --listen HOST:PORT --epoch N --connections N [--at-once N] [--patience SECONDS] NAME=PATH..\n",
+        "cogtools cogserve --listen HOST:PORT --epoch N --connections N [--at-once N] [--patience SECONDS] [--log] NAME=PATH..\n",
         "cogtools cogread window SERVER NAME X Y W H [--level N] [--columns C] [--requests N] [--blocks N] [--ahead N] [--keep]\n",
         "cogtools cogread info SERVER NAME [--requests N] [--blocks N] [--ahead N] [--keep]\n",
         "cogtools cogread describe SERVER NAME [--json] [--requests N] [--blocks N] [--ahead N] [--keep]\n",
         "cogtools cogread window .. --whole [--level N] ..\n",
-        "cogtools cogread .. http://HOST[:PORT]/NAME .. [--close] [--output FILE] [--verbose]\n",
+        "cogtools cogread .. http://HOST[:PORT]/NAME .. [--close] [--output FILE] [--verbose] [--progress]\n",
         "cogtools cogworld [--pieces N] SCRIPT\n",
         "cogtools --version\n",
     ]),
@@ -56,6 +58,8 @@ const HELPS: [(&str, &[&str]); 8] = [
         "1 to 10000 (default 256)",
         "--patience <SECONDS>",
         "1 to 3600 (default 60)",
+        "--log",
+        "Tells each answer on standard error, why a file isn't taken anew, and where it listens",
         "NAME=PATH",
         "files of 1 to 67108864 bytes",
         "Example:\n  cogtools cogserve --listen 127.0.0.1:8080 --epoch 1 --connections 100 a.tif=/data/a.tif\n",

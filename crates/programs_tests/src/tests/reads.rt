@@ -4,7 +4,7 @@ use cog_client::{Client, Query};
 use cog_server::Server;
 use exchange_notes::{Noted, NotedNet};
 use fixtures_support::f1;
-use programs::{Asked, Exchanges, Fault};
+use programs::{Asked, Exchanges, Fault, Telling};
 use programs_support::{Capture, Told};
 use std::io;
 use std::io::Write;
@@ -69,7 +69,7 @@ fn read<R: AllocGlobal + Clock>(
         rt: capture,
         net: &NotedNet::new(capture),
         requests: 3,
-        is_told: false,
+        telling: Telling::Nothing,
     };
     let text = exchanges.text(&mut client, &mut noted, asked)?;
     Ok(io::writer(capture).write_all(&text)?)

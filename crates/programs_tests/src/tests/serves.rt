@@ -173,3 +173,32 @@ fn refuses_the_65th_name(rt: HostRuntime) -> Result<(), Fail> {
     fs::remove_file(&rt, "programs_tests_one")?;
     Ok(())
 }
+
+/// Files, and what is told of them on standard error where a log is kept: why, and then the fault.
+#[rattlefmt::skip]
+const LOGGED: [(&str, &str, &str); 4] = [
+    (
+        "a=programs_tests_none", "",
+        "cogserve: a isn't taken: can't read programs_tests_none: No such file or directory (os error 2)\ncogserve: can't read programs_tests_none\n",
+    ),
+    ("a=.", "", "cogserve: a isn't taken: . is no file\ncogserve: can't read .\n"),
+    (
+        "a+=programs_tests_logged", "",
+        "cogserve: a+ isn't taken: refused 1: not a name of a file\ncogserve: refused 1 a+\n",
+    ),
+    (
+        "a=programs_tests_logged", "published a \"1-1\"\n",
+        "cogserve: can't listen: invalid socket address\ncogserve: can't listen\n",
+    ),
+];
+
+#[test]
+fn tells_with_a_log_why_it_ends(rt: HostRuntime) -> Result<(), Fail> {
+    fs::write(&rt, "programs_tests_logged", "some bytes")?;
+    for (file, out, err) in LOGGED {
+        let words = words_of(rt.alloc(), "1", "1", &[file, "--log"])?;
+        expect_told(&rt, file, &words, (out, err, 1))?;
+    }
+    fs::remove_file(&rt, "programs_tests_logged")?;
+    Ok(())
+}

@@ -1,9 +1,10 @@
-//! `cogread --verbose`: each exchange is told, and why there is no window. The time of an exchange is any number.
+//! `cogread --verbose`: each exchange is told, and why there is no window. The time of an exchange is any number. `cogread --progress`:
+//! how far the exchanges have come.
 use cog_client::{Client, Query, Why};
 use cog_server::Server;
 use exchange_notes::{Noted, NotedNet};
 use fixtures_support::f1;
-use programs::{Asked, Exchanges};
+use programs::{Asked, Exchanges, Telling};
 use programs_support::{Capture, tell};
 use report_text::{FaultSentence, WhySentence};
 use std::alloc::{AllocError, Global};
@@ -29,12 +30,13 @@ fn without_times(alloc: Global, text: &str) -> Result<String, AllocError> {
     Ok(told)
 }
 
-/// Asks a query of a server in memory, whose answers have these fates, in three exchanges at most, which are told.
+/// Asks a query of a server in memory, whose answers have these fates, in three exchanges at most, of which this is told.
 fn ask_and_tell<R: Print + Eprint + AllocGlobal + Clock>(
     rt: &R,
     server: &Server,
     query: Query,
     fates: &[Fate],
+    telling: Telling,
 ) -> Result<(), Fail> {
     let mut client = Client::new(rt.alloc(), b"cog.test", b"a", 66)?;
     let lossy = Scripted::new(InMemory::new(server, b"a"), fates);
@@ -47,7 +49,7 @@ fn ask_and_tell<R: Print + Eprint + AllocGlobal + Clock>(
         rt,
         net: &net,
         requests: 3,
-        is_told: true,
+        telling,
     };
     if let Err(fault) = exchanges.text(&mut client, &mut noted, Asked::Query(query)) {
         fault.tell(rt, "cogread");
@@ -61,9 +63,10 @@ fn told_of<R: AllocGlobal + Clock>(
     server: &Server,
     query: Query,
     fates: &[Fate],
+    telling: Telling,
 ) -> Result<String, Fail> {
     let alloc = capture.alloc();
-    ask_and_tell(&capture, server, query, fates)?;
+    ask_and_tell(&capture, server, query, fates, telling)?;
     let (_, err) = capture.into_texts();
     Ok(without_times(alloc, str::from_utf8(&err).unwrap_or("?"))?)
 }
@@ -104,7 +107,38 @@ const TOLD: [(&[Fate], u32, &str); 4] = [
 fn tells_each_exchange(rt: HostRuntime) -> Result<(), Fail> {
     let server = server_of_one(rt.alloc(), 1, b"a", f1(rt.alloc())?)?;
     for (fates, x, want) in TOLD {
-        let told = told_of(Capture::new(&rt), &server, pixel(x), fates)?;
+        let told = told_of(Capture::new(&rt), &server, pixel(x), fates, Telling::Each)?;
+        assert_eq!(rt; told.as_str(), want);
+    }
+    Ok(())
+}
+
+/// What becomes of the answers, and what is drawn of them.
+#[rattlefmt::skip]
+const DRAWN: [(&[Fate], u32, &str); 3] = [
+    (
+        &[Fate::Cut(173), Fate::Whole], 1,
+        "\rcogread: 1 of 1 ranges, 173 bytes\rcogread: 2 of 2 ranges, 716 bytes\n",
+    ),
+    (
+        &[Fate::Lost, Fate::Cut(3), Fate::Cut(0)], 1,
+        "\rcogread: 0 of 1 ranges, 0 bytes\rcogread: 0 of 2 ranges, 3 bytes\rcogread: 0 of 3 ranges, 3 bytes\n\
+        cogread: no report\n",
+    ),
+    (&[Fate::Whole], 16, "\rcogread: 1 of 1 ranges, 543 bytes\ncogread: fault 14\n"),
+];
+
+#[test]
+fn draws_how_far_the_exchanges_have_come(rt: HostRuntime) -> Result<(), Fail> {
+    let server = server_of_one(rt.alloc(), 1, b"a", f1(rt.alloc())?)?;
+    for (fates, x, want) in DRAWN {
+        let told = told_of(
+            Capture::new(&rt),
+            &server,
+            pixel(x),
+            fates,
+            Telling::Progress,
+        )?;
         assert_eq!(rt; told.as_str(), want);
     }
     Ok(())

@@ -36,6 +36,7 @@ const LINE: ReadLine<'static> = ReadLine {
     close: false,
     output: None,
     verbose: false,
+    progress: false,
 };
 
 const INFO: ReadLine<'static> = ReadLine {
@@ -50,7 +51,7 @@ const DESCRIPTION: ReadLine<'static> = ReadLine {
 
 /// Words of `cogread`, and the line that they are.
 #[rattlefmt::skip]
-const READ: [(&str, ReadLine<'static>); 17] = [
+const READ: [(&str, ReadLine<'static>); 18] = [
     ("cogread window h:1 a 2 1 3 2", LINE),
     ("cogread window h:1 a 2 1 3 2 --level 0", ReadLine { asked: AskedWords::Window(OF_LEVEL_0), ..LINE }),
     ("cogread window --columns=4 h:1 a 2 1 3 2", ReadLine { asked: AskedWords::Window(OF_4_COLUMNS), ..LINE }),
@@ -64,6 +65,7 @@ const READ: [(&str, ReadLine<'static>); 17] = [
     ("cogread window h:1 a 2 1 3 2 --keep", ReadLine { keep: true, ..LINE }),
     ("cogread info h:1 a --close", ReadLine { close: true, ..INFO }),
     ("cogread info h:1 --verbose a", ReadLine { verbose: true, ..INFO }),
+    ("cogread info h:1 a --progress", ReadLine { progress: true, ..INFO }),
     ("cogread describe h:1 a", DESCRIPTION),
     ("cogread describe --blocks 66 h:1 a --keep", ReadLine { blocks: Some("66"), keep: true, ..DESCRIPTION }),
     ("cogread describe h:1 --json a", ReadLine { asked: AskedWords::Description { is_json: true }, ..LINE }),
@@ -87,36 +89,40 @@ fn reads_the_options_of_cogread_anywhere(rt: HostRuntime) -> Result<(), Fail> {
     Ok(())
 }
 
-/// Words of `cogserve`: the address, the epoch, the number of connections, how many at once, the patience, and the files.
+/// Words of `cogserve`: the address, the epoch, the number of connections, how many at once, the patience, the files, and whether
+/// there is a log.
 type ServedRow = (
     &'static str,
     [&'static str; 3],
     [Option<&'static str>; 2],
     &'static [&'static str],
+    bool,
 );
 
 #[rattlefmt::skip]
-const SERVED: [ServedRow; 4] = [
-    ("cogserve --listen h:1 --epoch 1 --connections 2 a=p", ["h:1", "1", "2"], [None, None], &["a=p"]),
+const SERVED: [ServedRow; 5] = [
+    ("cogserve --listen h:1 --epoch 1 --connections 2 a=p", ["h:1", "1", "2"], [None, None], &["a=p"], false),
+    ("cogserve --log --listen h:1 --epoch 1 --connections 2 a=p", ["h:1", "1", "2"], [None, None], &["a=p"], true),
     (
         "cogserve a=p --connections=3 b=q=r --epoch x --at-once 7 --listen=[::1]:80 c",
-        ["[::1]:80", "x", "3"], [Some("7"), None], &["a=p", "b=q=r", "c"],
+        ["[::1]:80", "x", "3"], [Some("7"), None], &["a=p", "b=q=r", "c"], false,
     ),
-    ("cogserve --listen '' --epoch '' --connections '' -- --a=p", ["", "", ""], [None, None], &["--a=p"]),
+    ("cogserve --listen '' --epoch '' --connections '' -- --a=p", ["", "", ""], [None, None], &["--a=p"], false),
     (
-        "cogserve --patience=x --listen h:1 --at-once '' --epoch 1 --connections 2 a=p",
-        ["h:1", "1", "2"], [Some(""), Some("x")], &["a=p"],
+        "cogserve --patience=x --listen h:1 --at-once '' --epoch 1 --connections 2 a=p --log",
+        ["h:1", "1", "2"], [Some(""), Some("x")], &["a=p"], true,
     ),
 ];
 
 fn is_served(alloc: Global, row: ServedRow) -> Result<bool, AllocError> {
-    let (line, values, choices, files) = row;
+    let (line, values, choices, files, log) = row;
     let words = words_of(alloc, line)?;
     let is_served = match serve_line(alloc, &words) {
         Ok(found) => {
             [found.listen, found.epoch, found.connections] == values
                 && [found.at_once, found.patience] == choices
                 && found.files.as_slice() == files
+                && found.log == log
         }
         Err(_) => false,
     };
@@ -133,7 +139,7 @@ fn reads_the_options_and_files_of_cogserve_anywhere(rt: HostRuntime) -> Result<(
 
 /// Words that are refused, or ask for help, and how clap names that.
 #[rattlefmt::skip]
-const REFUSED: [(&str, ErrorKind); 28] = [
+const REFUSED: [(&str, ErrorKind); 31] = [
     ("cogread --help", ErrorKind::DisplayHelp),
     ("cogread window --help", ErrorKind::DisplayHelp),
     ("cogread info -h", ErrorKind::DisplayHelp),
@@ -150,6 +156,7 @@ const REFUSED: [(&str, ErrorKind); 28] = [
     ("cogread window h:1 a 0 0 1 1 --whole", ErrorKind::ArgumentConflict),
     ("cogread info h:1 a --keep --keep", ErrorKind::ArgumentConflict),
     ("cogread info h:1 a --keep --close", ErrorKind::ArgumentConflict),
+    ("cogread info h:1 a --verbose --progress", ErrorKind::ArgumentConflict),
     ("cogread window h:1 a 0 0 1", ErrorKind::MissingRequiredArgument),
     ("cogread window h:1 a 0 0 1 1 --level 0 --level 0", ErrorKind::ArgumentConflict),
     ("cogread window h:1 a 0 0 1 1 --level 0 --columns 4", ErrorKind::ArgumentConflict),
@@ -159,6 +166,8 @@ const REFUSED: [(&str, ErrorKind); 28] = [
     ("cogserve --listen h:1 --epoch 1 --connections 2", ErrorKind::MissingRequiredArgument),
     ("cogserve --listen h:1 --connections 2 a=p", ErrorKind::MissingRequiredArgument),
     ("cogserve --port h:1", ErrorKind::UnknownArgument),
+    ("cogserve --listen h:1 --epoch 1 --connections 2 --log --log a=p", ErrorKind::ArgumentConflict),
+    ("cogserve --listen h:1 --epoch 1 --connections 2 --log=1 a=p", ErrorKind::TooManyValues),
     ("cogserve --listen h:1 --listen h:2 a=p", ErrorKind::ArgumentConflict),
     ("cogserve a=p --epoch", ErrorKind::InvalidValue),
     ("cogserve --listen h:1 --epoch 1 --connections 2 --at-once 1 --at-once 2 a=p", ErrorKind::ArgumentConflict),

@@ -2,8 +2,9 @@
 use cog_server::Server;
 use disk_files::Watched;
 use fixtures_support::f1;
-use programs::{Fault, publish_all, serve_connections};
+use programs::Fault;
 use programs_support::Capture;
+use served_files::{Log, ServeError, publish_all, serve_connections};
 use serving::Limits;
 use std::io::{Read, Write};
 use std::net::{Net, Shutdown, SocketAddr, TcpListener, TcpStream};
@@ -16,8 +17,13 @@ use std::{fs, io};
 
 const ASK: &str = "GET /a HTTP/1.1\r\nHost: h\r\nRange: bytes=1-4\r\n\r\n";
 
+/// No log.
+fn unlogged<R>(rt: &R) -> Log<'_, R> {
+    Log { rt, is_kept: false }
+}
+
 /// So many connections in all, and as many at once as there may be.
-fn limits(connections: u32) -> Limits {
+pub fn limits(connections: u32) -> Limits {
     Limits {
         connections,
         at_once: NonZeroUsize::MAX,
@@ -26,7 +32,7 @@ fn limits(connections: u32) -> Limits {
 }
 
 /// A connection on which this is sent.
-fn connect<R: Net<Stream = TcpStream>>(
+pub fn connect<R: Net<Stream = TcpStream>>(
     rt: &R,
     address: SocketAddr,
     text: &str,
@@ -45,10 +51,16 @@ fn answer_of<R>(
     listener: &TcpListener,
 ) -> Result<String, Fail>
 where
-    R: Files + Clock + Print + AllocGlobal + Net<Listener = TcpListener, Stream = TcpStream>,
+    R: Files
+        + Clock
+        + Print
+        + Eprint
+        + AllocGlobal
+        + Net<Listener = TcpListener, Stream = TcpStream>,
 {
     let client = connect(rt, listener.local_addr()?, ASK)?;
-    if serve_connections(rt, server, files, listener.try_clone()?, limits(1)).is_err() {
+    let mut log = unlogged(rt);
+    if serve_connections(&mut log, server, files, listener.try_clone()?, limits(1)).is_err() {
         return Err(Fail::new("a fault"));
     }
     Ok(io::read_to_string(rt.alloc(), client)?)
@@ -121,7 +133,7 @@ fn is_published<R: Files + Clock + AllocGlobal>(
     lines: &str,
 ) -> bool {
     let capture = Capture::new(rt);
-    if publish_all(&capture, server, files).is_err() {
+    if publish_all(&unlogged(&capture), server, files).is_err() {
         return false;
     }
     let (out, err) = capture.into_texts();
@@ -152,7 +164,8 @@ fn counts_each_connection(rt: HostRuntime) -> Result<(), Fail> {
     let _refused = connect(&rt, address, "\r\n?\r\n\r\n")?;
     let _asking = connect(&rt, address, ASK)?;
     let capture = Capture::new(&rt);
-    assert!(rt; serve_connections(&capture, &mut server, &mut [], listener, limits(3)).is_ok());
+    let mut log = unlogged(&capture);
+    assert!(rt; serve_connections(&mut log, &mut server, &mut [], listener, limits(3)).is_ok());
     assert_eq!(rt;
         capture.into_texts().0.as_slice(),
         b"served 1\nserved 2\nserved 3\n".as_slice()
@@ -169,7 +182,8 @@ fn serves_on_where_standard_output_is_closed(rt: HostRuntime) -> Result<(), Fail
     let _first = connect(&rt, address, ASK)?;
     let _second = connect(&rt, address, ASK)?;
     let capture = Capture::closed(&rt);
-    assert!(rt; serve_connections(&capture, &mut server, &mut [], listener, limits(2)).is_ok());
+    let mut log = unlogged(&capture);
+    assert!(rt; serve_connections(&mut log, &mut server, &mut [], listener, limits(2)).is_ok());
     assert!(rt; capture.into_texts().0.is_empty());
     Ok(())
 }
@@ -217,8 +231,9 @@ fn ends_where_no_connection_is_accepted(rt: HostRuntime) -> Result<(), Fail> {
     let deaf = TcpListener::from(OwnedFd::from(stream));
     let capture = Capture::new(&rt);
     let mut server = Server::new(rt.alloc(), 1);
-    let served = serve_connections(&capture, &mut server, &mut [], deaf, limits(1));
-    assert!(rt; matches!(served, Err(Fault::CantAccept)));
+    let mut log = unlogged(&capture);
+    let served = serve_connections(&mut log, &mut server, &mut [], deaf, limits(1));
+    assert!(rt; matches!(served, Err(ServeError::CantAccept)));
     let (out, _) = capture.into_texts();
     assert!(rt; out.is_empty());
     assert_eq!(rt; Fault::CantAccept.status(), 1);

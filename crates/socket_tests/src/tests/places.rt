@@ -1,7 +1,7 @@
 //! Who has a place at a server of few places, and who gets one; each moment is handed in.
 use cog_server::Server;
 use fixtures_support::f1;
-use serving::{Limits, Serving};
+use serving::{Limits, Nobody, Serving};
 use std::io::{Read, Write};
 use std::net::{Net, SocketAddr, TcpListener, TcpStream};
 use std::num::NonZeroUsize;
@@ -56,7 +56,7 @@ fn turn(serving: &mut Serving, server: &Server, now: u64) -> Result<(u32, u32), 
     if accepted > 0 {
         serving.wait(now)?;
     }
-    serving.turns(server, now);
+    serving.turns(server, now, &mut Nobody);
     Ok((accepted, serving.ended()))
 }
 
@@ -78,7 +78,7 @@ fn expect_answer<R: Abort>(
 ) -> Result<(), Fail> {
     client.write_all(ASK.as_bytes())?;
     serving.wait(now)?;
-    serving.turns(server, now);
+    serving.turns(server, now, &mut Nobody);
     read_answer(rt, client)
 }
 
@@ -114,7 +114,7 @@ fn gives_a_newcomer_a_place(rt: HostRuntime) -> Result<(), Fail> {
     expect_answer(&rt, &mut third, &mut serving, &server, 1_010)?;
     second.write_all(&ASK.as_bytes()[1..])?;
     serving.wait(1_011)?;
-    serving.turns(&server, 1_011);
+    serving.turns(&server, 1_011, &mut Nobody);
     read_answer(&rt, &mut second)
 }
 
@@ -129,8 +129,8 @@ fn serves_one_after_another_with_one_place(rt: HostRuntime) -> Result<(), Fail> 
     assert_eq!(rt; turn(&mut serving, &server, 3_600_000)?, (0, 0));
     drop(first);
     serving.wait(3_600_001)?;
-    serving.turns(&server, 3_600_001);
-    serving.turns(&server, 3_600_001);
+    serving.turns(&server, 3_600_001, &mut Nobody);
+    serving.turns(&server, 3_600_001, &mut Nobody);
     assert_eq!(rt; turn(&mut serving, &server, 3_600_001)?, (1, 1));
     expect_answer(&rt, &mut second, &mut serving, &server, 3_600_001)?;
     Ok(())
@@ -143,12 +143,12 @@ fn drains_for_two_seconds(rt: HostRuntime) -> Result<(), Fail> {
     let mut client = connect(&rt, address, "no head\r\n\r\n")?;
     assert_eq!(rt; turn(&mut serving, &server, 5)?, (1, 1));
     client.write_all(b"more")?;
-    serving.turns(&server, 2_004);
+    serving.turns(&server, 2_004, &mut Nobody);
     let mut next = connect(&rt, address, "")?;
     assert_eq!(rt; turn(&mut serving, &server, 2_004)?, (0, 1));
     serving.wait(2_004)?;
     assert_eq!(rt; turn(&mut serving, &server, 2_004)?, (1, 1));
-    serving.turns(&server, 2_005);
+    serving.turns(&server, 2_005, &mut Nobody);
     let answer = std::io::read_to_string(rt.alloc(), client)?;
     assert!(rt; answer.as_str().starts_with("HTTP/1.1 400 Bad Request\r\n"));
     expect_answer(&rt, &mut next, &mut serving, &server, 2_005)?;

@@ -16,4 +16,5 @@ returns c =
     c.in_ok-arg-3.ensures.shape c.option-connections.ensures.local ∙ ap₂ with_rule epoch c.option-connections.ensures.rule in
     let files = c.in_ok-arg-4.ensures.shape c.files.ensures.local ∙ ap₂ with_rule connections c.files.ensures.rule in
     let at_once = c.in_ok-arg-5.ensures.shape c.choice-at_once.ensures.local ∙ ap₂ with_rule files c.choice-at_once.ensures.rule in
-    c.in_ok-arg-6.ensures.shape c.choice-patience.ensures.local ∙ ap₂ with_rule at_once c.choice-patience.ensures.rule
+    let patience = c.in_ok-arg-6.ensures.shape c.choice-patience.ensures.local ∙ ap₂ with_rule at_once c.choice-patience.ensures.rule in
+    c.in_ok-arg-7.ensures.shape c.flag-log.ensures.local ∙ ap₂ with_rule patience c.flag-log.ensures.rule

@@ -3,7 +3,7 @@ use Rattle.std.specs.Borrow.{Bor}
 use Rattle.clap.specs.Words.{App, found_of, is_simple, matches_of, raw_values, rows_of, takes}
 use Rattle.clap.proofs.CallerLemmas.{some_of_text}
 use Rattle.command_lines.specs.ServeLine.{serve_app}
-use Rattle.command_lines.proofs.LineLemmas.{all_values, choice_value, connections_there, epoch_there, files_there, listen_there, option_value, passed_on, simple, some_mapped}
+use Rattle.command_lines.proofs.LineLemmas.{all_values, choice_value, connections_there, epoch_there, files_there, flag_text, listen_there, option_value, passed_on, simple, some_mapped}
 use Rattle.command_lines.proofs.serve.serve_line.Goals as goal
 
 pub unwrap-listen-requires : goal.unwrap-listen-requires
@@ -41,6 +41,7 @@ returns-clause-ok g c =
     let matches = matches_of serve_app texts in
     let rows : rows_of found ≡ matches =
     (c.in_ok-matches.ensures.matches (ap is_simple is ∙ simple)).0 ∙ ap (λ (a : App). matches_of a texts) is in
+    let text = flag_text found matches (codes "log") rows in
     record {
       listen = option_value found matches (codes "listen") c.get_str.result c.unwrap-listen.result rows c.get_str.ensures c.unwrap-listen.ensures;
       epoch = option_value found matches (codes "epoch") c.get_str-2.result c.unwrap-epoch.result rows c.get_str-2.ensures c.unwrap-epoch.ensures;
@@ -48,6 +49,11 @@ returns-clause-ok g c =
           c.unwrap-connections.ensures;
       at_once = choice_value found matches (codes "at-once") c.get_str-4.result rows c.get_str-4.ensures;
       patience = choice_value found matches (codes "patience") c.get_str-5.result rows c.get_str-5.ensures;
+      log = record {
+        none = λ e. c.get_flag.ensures.none (text ∙ e);
+        yes = λ e. c.get_flag.ensures.value (text ∙ e);
+        no = λ e. c.get_flag.ensures.other (text ∙ e);
+      };
       files = all_values found matches (codes "files") c.get_strs.result c.unwrap.result rows c.get_strs.ensures c.unwrap.ensures
           ∙ ap (λ (l : List (Bor (List ℕ))). Some (map (λ (w : Bor (List ℕ)). w.now) l)) (sym c.in_ok-files.ensures.items);
     }

@@ -1,0 +1,39 @@
+//! Exchanges whose progress is drawn on standard error, as one line over itself.
+ghost use Rattle.std.specs.Prelude.{◌+◌, ◌<◌, ◌≤◌, ◌^◌};
+ghost use Rattle.exchange_notes.specs.Noted.{source_of};
+
+use crate::noted::{Noted, Progress};
+use cog_client::{Client, FetchError, Pieces};
+use cog_fetch::fetch_pieces;
+use std::fmt;
+
+impl fmt::Display for Progress {
+    fn fmt<W: fmt::Write>(&self, f: &mut fmt::Formatter<W>) -> fmt::Result {
+        write!(
+            f,
+            "{} of {} ranges, {} bytes",
+            self.had, self.asked, self.bytes
+        )
+    }
+}
+
+/// Sends the client's requests to a source that is noted, until a report stands, in so many exchanges at most. How far they have come
+/// is drawn on standard error after each of them; what can't be written is lost. The line is left open. Want of memory ends it.
+pub fn exchanges_drawn<R: Eprint, P: Pieces>(
+    rt: &R,
+    client: &mut Client,
+    noted: &mut Noted<P>,
+    requests: u32,
+) -> Result<(), FetchError>
+    requires { P.count (source_of noted.old) + requests < 2 ^ 64 }
+    ensures few { P.count (source_of noted.new) ≤ P.count (source_of noted.old) + requests }
+{
+    for _ in 0..requests {
+        let stands = fetch_pieces(client, noted, 1)?.is_some();
+        let _ = eprint!(rt; "\rcogread: {}", noted.progress());
+        if stands {
+            break;
+        }
+    }
+    Ok(())
+}

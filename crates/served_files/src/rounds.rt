@@ -1,0 +1,81 @@
+//! Serving: round by round, as connections come and are ready.
+use crate::error::ServeError;
+use crate::lines::Listening;
+use crate::log::Log;
+use crate::publishing::look_again;
+use cog_server::Server;
+use disk_files::Watched;
+use exchange_notes::moment;
+use serving::{Limits, Serving};
+use std::net::{Net, TcpListener, TcpStream};
+use std::rt::{Clock, Files};
+
+/// Listens at a place, as `HOST:PORT`, and tells so by these words. The log tells the address that the system gave.
+pub fn listen<R>(log: &Log<'_, R>, place: &str) -> Result<TcpListener, ServeError<'static>>
+where
+    R: Print + Eprint + Net<Listener = TcpListener, Stream = TcpStream>,
+{
+    let listener = match TcpListener::bind(log.rt, place) {
+        Ok(listener) => listener,
+        Err(error) => return Err(ServeError::CantListen(error)),
+    };
+    log.written(println!(log.rt; "listening {place}"))?;
+    if let Ok(address) = listener.local_addr() {
+        log.tell(Listening(address));
+    }
+    Ok(listener)
+}
+
+/// Tells of each connection that has ended, from the next one on, and gives how many were told. A line that can't be written is lost:
+/// the next ones are tried.
+fn print_served<R: Print>(rt: &R, told: u32, ended: u32) -> u32 {
+    for k in told..ended {
+        let _ = println!(rt; "served {}", k + 1);
+    }
+    told.max(ended)
+}
+
+/// Gives each connection that is ready its turn, accepts newcomers, and looks at the files where one came. Turns come first: a
+/// connection whose message is there isn't idle.
+fn round<R: Files + Clock + Print + Eprint + AllocGlobal>(
+    log: &mut Log<'_, R>,
+    server: &mut Server,
+    files: &mut [Watched<'_>],
+    serving: &mut Serving,
+) -> Result<(), ServeError<'static>> {
+    let now = moment(log.rt);
+    serving.turns(server, now, log);
+    if serving.accept(now)? > 0 {
+        look_again(log, server, files);
+    }
+    Ok(())
+}
+
+/// Serves so many connections until each has ended. The files are looked at when connections came, once for all that came together.
+pub fn serve_connections<R>(
+    log: &mut Log<'_, R>,
+    server: &mut Server,
+    files: &mut [Watched<'_>],
+    listener: TcpListener,
+    limits: Limits,
+) -> Result<(), ServeError<'static>>
+where
+    R: Files + Clock + Print + Eprint + AllocGlobal + Net,
+{
+    let mut serving = match Serving::new(log.rt, listener, limits) {
+        Ok(serving) => serving,
+        Err(error) => return Err(ServeError::CantListen(error)),
+    };
+    let mut told = 0;
+    for _ in 0..u64::MAX {
+        round(log, server, files, &mut serving)?;
+        told = print_served(log.rt, told, serving.ended());
+        if serving.is_over() {
+            break;
+        }
+        if serving.wait(moment(log.rt)).is_err() {
+            return Err(ServeError::CantAccept);
+        }
+    }
+    Ok(())
+}
