@@ -186,6 +186,8 @@ impl<'r, R: Net<Stream = TcpStream> + AllocGlobal> Socket<'r, R> {
             kept.begin();
         }
         let mut stream = TcpStream::connect(self.rt, self.server).map_err(|_| Lost)?;
+        // Requests that are sent early aren't held back until the one before is acknowledged. Where that can't be set, they come later.
+        let _ = stream.set_nodelay(true);
         stream.write_all(request).map_err(|_| Lost)?;
         self.stream = Some(stream);
         Ok(())
