@@ -106,9 +106,9 @@ class Equal(unittest.TestCase):
         path = ten_files()['grey']
         for alone in False, True:
             with Cogserve(ten_files()) as server, Cutting(server.port, alone=alone) as passing, delgunsai.open(passing.url('grey')) as file:
-                for x in 0, 400, 700, 900:
-                    got = file.read(x=x, y=100, width=300, height=1000)
-                    self.assertTrue(numpy.array_equal(got, as_rasterio(path, 0, (x, 100, 300, 1000))))
+                for level, (x, y, w, h) in (0, (0, 100, 256, 1000)), (0, (1024, 100, 256, 1000)), (1, (0, 0, 256, 550)):
+                    got = file.read(x=x, y=y, width=w, height=h, level=level)
+                    self.assertTrue(numpy.array_equal(got, as_rasterio(path, level, (x, y, w, h))))
                 self.assertGreater(passing.at_once, 1)
                 self.assertEqual(passing.connections == 1, not alone)
                 self.assertEqual(file._source.depth == 0, alone)
