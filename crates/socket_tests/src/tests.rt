@@ -1,5 +1,4 @@
 //! Tests over sockets of one process.
-mod early;
 mod kept;
 mod lines;
 mod logs;
