@@ -1,5 +1,5 @@
 //! Where memory is refused, that is what is told: this connection and the other are as they were, and the same call succeeds later.
-use super::driving::{ASKS_A, ASKS_B, give_at, server_of_two, take_at};
+use super::driving::{ASKS_A, ASKS_B, give_at, take_at};
 use cog_connections::Connections;
 use cog_server::Server;
 use http_range::Memory;
@@ -7,6 +7,9 @@ use std::alloc::Global;
 use std::num::NonZeroUsize;
 use std::process::Abort;
 use std::test::Fail;
+
+/// Room for the text of an answer.
+const ROOM: usize = 1024;
 
 /// Of both connections: the room for what comes, what waits in bytes, and the answers.
 fn state(connections: &Connections) -> [Option<(usize, usize, usize)>; 2] {
@@ -80,10 +83,55 @@ fn table_of_two(alloc: Global) -> Result<Connections, Fail> {
     }
 }
 
+/// A file of so many times the same byte, made a second time where memory was refused.
+fn file_of(alloc: Global, byte: u8, count: usize) -> Result<Vec<u8>, Fail> {
+    match vec![in alloc; byte; count] {
+        Ok(file) => Ok(file),
+        Err(_) => Ok(vec![in alloc; byte; count]?),
+    }
+}
+
+/// Publishes a file of so many times the same byte, a second time where memory was refused.
+fn publish(
+    rt: &(impl Abort + AllocGlobal),
+    server: &mut Server,
+    name: &[u8],
+    byte: u8,
+    count: usize,
+) -> Result<(), Fail> {
+    let file = file_of(rt.alloc(), byte, count)?;
+    if let Err(refusal) = server.publish(name, file) {
+        assert_eq!(rt; refusal.number(), 6);
+        let file = file_of(rt.alloc(), byte, count)?;
+        server.publish(name, file).map_err(|_| "refused twice")?;
+    }
+    Ok(())
+}
+
+/// The text of the answer to a message, made a second time where memory was refused.
+fn answer_to(server: &Server, message: &[u8]) -> Result<Vec<u8>, Memory> {
+    match server.answer(message) {
+        Ok(answer) => Ok(answer.text),
+        Err(Memory) => Ok(server.answer(message)?.text),
+    }
+}
+
+/// What waits on a connection, taken into room that is made a second time where memory was refused.
+fn taken(alloc: Global, connections: &mut Connections, number: u64) -> Result<Vec<u8>, Fail> {
+    let mut text = match Vec::with_capacity(alloc, ROOM) {
+        Ok(text) => text,
+        Err(_) => Vec::with_capacity(alloc, ROOM)?,
+    };
+    take_at(connections, number, usize::MAX, 0, &mut text)?;
+    Ok(text)
+}
+
 #[test]
 fn goes_on_after_refused_memory(rt: HostRuntime) -> Result<(), Fail> {
     let alloc = rt.alloc();
-    let server = server_of_two(alloc)?;
+    let mut server = Server::new(alloc, 1);
+    publish(&rt, &mut server, b"a", b'A', 5)?;
+    publish(&rt, &mut server, b"b", b'B', 7)?;
     let mut connections = table_of_two(alloc)?;
     for number in 0..2 {
         assert_eq!(rt; accept(&rt, &mut connections)?, number);
@@ -94,10 +142,9 @@ fn goes_on_after_refused_memory(rt: HostRuntime) -> Result<(), Fail> {
             message.len()
         );
         assert!(rt; go_on(&rt, &mut connections, number, &server)?);
-        let mut text = Vec::new(alloc);
-        take_at(&mut connections, number, usize::MAX, 0, &mut text)?;
-        let want = server.answer(message)?;
-        assert_eq!(rt; text.as_slice(), want.text.as_slice());
+        let text = taken(alloc, &mut connections, number)?;
+        let want = answer_to(&server, message)?;
+        assert_eq!(rt; text.as_slice(), want.as_slice());
     }
     Ok(())
 }
