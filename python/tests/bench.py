@@ -14,6 +14,7 @@ from support import EXAMPLE, FOLDER, RASTERIO, free_port
 WIDTH, HEIGHT, SIDE = 7168, 6144, 256
 ROUND_TRIP = 40
 ROUNDS = 5
+SHARES = 10
 
 
 def written():
@@ -52,13 +53,24 @@ def both(url, windows, passes):
     return took
 
 
+def tell(row, count, mine, other):
+    """Prints how long so many windows took both."""
+    print(f'{row}: {count} windows of {SIDE} by {SIDE}: {mine:.3f} s, {count / mine:.0f} in a second; rasterio {other:.3f} s, '
+          f'{count / other:.0f} in a second; {other / mine:.2f} times its rate', flush=True)
+
+
 def compare(rows, urls, windows):
-    """Reads the windows of each file by both, once for each row, and prints how long the best of each took."""
+    """Reads the windows of each file by both, once for each row, and tells how long the best of each took."""
     took = [both(url, windows, len(rows)) for url in urls]
     for row, times in zip(rows, zip(*took)):
-        mine, other = (min(seconds) for seconds in zip(*times))
-        print(f'{row}: {len(windows)} windows of {SIDE} by {SIDE}: {mine:.3f} s, {len(windows) / mine:.0f} in a second; rasterio '
-              f'{other:.3f} s, {len(windows) / other:.0f} in a second; {other / mine:.2f} times its rate', flush=True)
+        tell(row, len(windows), *(min(seconds) for seconds in zip(*times)))
+
+
+def spread(row, urls, windows):
+    """Reads the windows by both, a share of them of each file, so that most of what a window needs isn't there yet."""
+    share = len(windows) // len(urls)
+    took = [both(url, windows[k * share:][:share], 1)[0] for k, url in enumerate(urls)]
+    tell(row, share * len(urls), *map(sum, zip(*took)))
 
 
 def main(near=1000, far=200):
@@ -68,9 +80,10 @@ def main(near=1000, far=200):
     source = random.Random(1)
     windows = [(source.randint(0, WIDTH - SIDE), source.randint(0, HEIGHT - SIDE), SIDE, SIDE) for _ in range(max(near, far))]
     path = written()
-    names = [f'{k}.tif' for k in range(ROUNDS + 1)]       # one for each round, since GDAL keeps what it read of a URL
+    names = [f'{k}.tif' for k in range(ROUNDS + SHARES + 1)]      # one for each round, since GDAL keeps what it read of a URL
     with Cogserve({name: path for name in names}) as server:
         compare(['loopback', 'the same again'], [server.url(name) for name in names[:ROUNDS]], windows[:near])
+        spread(f'loopback, {SHARES} files', [server.url(name) for name in names[ROUNDS:-1]], windows[:near])
         port = free_port()
         relay = subprocess.Popen([sys.executable, os.path.join(os.path.dirname(os.path.abspath(__file__)), 'relay.py'), str(port),
                                   f'127.0.0.1:{server.port}', str(ROUND_TRIP)], stdout=subprocess.PIPE)

@@ -55,6 +55,18 @@ fn run_in(
     })
 }
 
+/// The first of the blocks from a number on, before another one, that isn't there.
+fn first_gap(cache: &Cache, from: u64, to: u64) -> Option<u64>
+    ensures { IfSome result (λ n. (from ≤ n) × (n < to)) }
+{
+    for block in from..to {
+        if cache.present(block, block + 1) == 0 {
+            return Some(block);
+        }
+    }
+    None
+}
+
 /// The run of blocks that is asked for after another one, where its answer comes whole, nothing of the present range is missing behind it,
 /// and the ranges stand in the order of the file.
 fn next_run(reader: &Reader, cache: &Cache, last: Run, ahead: u32) -> Option<Run>
@@ -72,8 +84,8 @@ fn next_run(reader: &Reader, cache: &Cache, last: Run, ahead: u32) -> Option<Run
         if first < last.from {
             return None;
         }
-        if from < to && cache.present(from, to) < to - from {
-            return run_in(reader, cache, range, from, ahead, index);
+        if let Some(gap) = first_gap(cache, from, to) {
+            return run_in(reader, cache, range, gap, ahead, index);
         }
     }
     None

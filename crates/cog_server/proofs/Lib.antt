@@ -2,6 +2,7 @@ pub mod CatalogueLemmas
 pub mod PlaceLemmas
 pub mod PublishLemmas
 pub mod ServeLemmas
+pub mod EndLemmas
 pub mod SentLemmas
 pub mod AnswerLemmas
 pub mod RunLemmas

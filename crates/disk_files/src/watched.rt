@@ -1,11 +1,12 @@
 //! A file of the disk that is published, and when it has to be read again.
-ghost use Rattle.std.specs.Prelude.{◌≡◌, ◌↔◌, IfOk, IsTrue, None, OnErr};
+ghost use Rattle.std.specs.Prelude.{◌≡◌, ◌↔◌, IfOk, IfSome, IsTrue, None, OnErr, OnOk};
 ghost use Rattle.std.specs.Duration.{as_nanos};
+ghost use Rattle.disk_files.specs.Published.{IsFileOf, IsPublished};
 ghost use Rattle.disk_files.specs.Settled.{IsSettled};
 
 use crate::reading::read_file;
 use cog_server::{PublishError, Server};
-use http_range::Tag;
+use http_range::{Tag, publications_replace};
 use std::fs::Metadata;
 use std::os::unix::fs::MetadataExt;
 use std::rt::{Clock, Files};
@@ -93,9 +94,12 @@ fn publish_other(
     name: &[u8],
     file: Vec<u8>,
 ) -> Result<Option<Tag>, PublishError>
+    ensures ok { IfOk result (λ tag. IfSome tag (IsPublished name.now server.old server.new)) }
+    ensures has { OnOk result (IsFileOf name.now file.items server.new) }
     ensures same { IfOk result (λ tag. tag ≡ None → server.new ≡ server.old) }
     ensures err { OnErr result (server.new ≡ server.old) }
 {
+    publications_replace();
     if let Some(old) = server.file(name)
         && old == file.as_slice()
     {
@@ -118,12 +122,13 @@ impl<'a> Watched<'a> {
         }
     }
 
-    /// Reads the file and publishes it. An error changes nothing of the server.
+    /// Reads the file and publishes what it read. An error changes nothing of the server.
     pub fn publish<R: Files + Clock + AllocGlobal>(
         &mut self,
         rt: &R,
         server: &mut Server,
     ) -> Result<Tag, WatchError>
+        ensures ok { IfOk result (IsPublished self.old.name.now server.old server.new) }
         ensures err { OnErr result (server.new ≡ server.old) }
     {
         let seen = stamp_of(rt, self.path);
@@ -144,6 +149,7 @@ impl<'a> Watched<'a> {
         rt: &R,
         server: &mut Server,
     ) -> Result<Option<Tag>, WatchError>
+        ensures ok { IfOk result (λ tag. IfSome tag (IsPublished self.old.name.now server.old server.new)) }
         ensures same { IfOk result (λ tag. tag ≡ None → server.new ≡ server.old) }
         ensures err { OnErr result (server.new ≡ server.old) }
     {

@@ -1,5 +1,9 @@
 //! Windows as portable graymaps and pixmaps (Netpbm, the formats P5 and P6).
+ghost use Rattle.std.specs.Prelude.{◌≡◌, IfOk};
+ghost use Rattle.report_text.specs.Netpbm.{netpbm};
+
 use cog_client::{Memory, Window};
+use itoa::Buffer;
 use std::alloc::Global;
 
 /// The window as P5, or as P6 where a pixel has three samples: a head of text, then the samples row by row. The greatest value is
@@ -10,11 +14,21 @@ use std::alloc::Global;
 ///     io::writer(&rt).write_all(&picture(rt.alloc(), window)?)?;
 /// }
 /// ```
-pub fn picture(alloc: Global, window: &Window) -> Result<Vec<u8>, Memory> {
-    let kind = if window.samples == 1 { "P5" } else { "P6" };
-    let greatest = if window.bits == 16 { "65535" } else { "255" };
-    let head = format!(in alloc; "{kind}\n{} {}\n{greatest}\n", window.w, window.h)?;
-    let mut picture = Vec::from_slice(alloc, head.as_bytes())?;
+#[tactic(auto, unfolding(crate::specs::Netpbm::netpbm))]
+pub fn picture(alloc: Global, window: &Window) -> Result<Vec<u8>, Memory>
+    ensures { IfOk result (λ text. text.items ≡ netpbm window.now.samples window.now.bits window.now.w window.now.h window.now.pixels.items) }
+{
+    let magic = if window.samples == 1 { b"P5" } else { b"P6" };
+    let maximum: &[u8] = if window.bits == 16 { b"65535" } else { b"255" };
+    let mut digits = Buffer::new();
+    let mut picture = Vec::from_slice(alloc, magic)?;
+    picture.push(b'\n')?;
+    picture.extend_from_slice(digits.format(window.w).as_bytes())?;
+    picture.push(b' ')?;
+    picture.extend_from_slice(digits.format(window.h).as_bytes())?;
+    picture.push(b'\n')?;
+    picture.extend_from_slice(maximum)?;
+    picture.push(b'\n')?;
     picture.extend_from_slice(&window.pixels)?;
     Ok(picture)
 }

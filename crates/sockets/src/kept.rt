@@ -13,6 +13,9 @@ use std::collections::VecDeque;
 /// How many bytes are read at once of a head behind which the answers to requests that were sent early may come.
 const HEAD_PIECE: usize = 512;
 
+/// How each answer begins.
+const FRONT: &[u8] = b"HTTP/";
+
 /// How a request comes to a connection that is kept.
 #[derive(Clone, Copy)]
 pub(crate) enum Turn {
@@ -25,12 +28,13 @@ pub(crate) enum Turn {
 }
 
 /// How far the answer on the connection has come; the request that is sent once more where the connection turns out to be closed
-/// before a byte of its answer came; and the requests behind it that were sent early, the next one first.
+/// before a byte of its answer came; the requests behind it that were sent early, the next one first; and whether it was one of them.
 #[derive(Drop)]
 pub(crate) struct Kept {
     end: AnswerEnd,
     again: Option<Vec<u8>>,
     early: VecDeque<Vec<u8>>,
+    was_early: bool,
 }
 
 impl Kept {
@@ -43,6 +47,7 @@ impl Kept {
             end: AnswerEnd::new(alloc),
             again: None,
             early: VecDeque::new(alloc),
+            was_early: false,
         }
     }
 
@@ -54,6 +59,7 @@ impl Kept {
         self.end.begin();
         self.again = None;
         self.early.clear();
+        self.was_early = false;
     }
 
     /// A request comes behind the answer before. Says how: where that is whole, and there is memory for the request, which may have to be
@@ -73,7 +79,9 @@ impl Kept {
         if self.again.is_none() {
             return Turn::Anew;
         }
-        self.turn(request)
+        let turn = self.turn(request);
+        self.was_early = matches!(turn, Turn::Sent);
+        turn
     }
 
     /// How a request comes behind a whole answer.
@@ -145,6 +153,13 @@ impl Kept {
             Lacks::Body(left) => left == 0,
             Lacks::End => true,
         }
+    }
+
+    /// Whether these bytes begin no answer, where the answer to a request that was sent early is to begin: something else stood behind the
+    /// answer before, of which no more was read than it announced.
+    pub(crate) fn is_astray(&self, bytes: &[u8]) -> bool {
+        let front = &bytes[..bytes.len().min(FRONT.len())];
+        self.was_early && !self.end.has_begun() && !FRONT.starts_with(front)
     }
 
     /// The next bytes of the answer came. Without memory for its head it isn't known where it ends.

@@ -75,7 +75,8 @@ impl<'r, R> Socket<'r, R> {
         }
     }
 
-    /// Reads the next bytes of the answer on a connection that is kept, and notes how far it has come.
+    /// Reads the next bytes of the answer on a connection that is kept, and notes how far it has come. The connection ends where they
+    /// aren't an answer's.
     fn receive_noting(&mut self, out: &mut [u8]) -> Result<usize, Lost>
         ensures few { IfOk result (λ n. n ≤ length out.new) }
         ensures server { server_of self.new ≡ server_of self.old }
@@ -84,6 +85,9 @@ impl<'r, R> Socket<'r, R> {
         let most = self.piece(out.len());
         let read = self.receive(&mut out[..most]);
         if let (Some(kept), Ok(count @ 1..)) = (&mut self.kept, read) {
+            if kept.is_astray(&out[..count]) {
+                self.stream = None;
+            }
             kept.came(&out[..count]);
         }
         read

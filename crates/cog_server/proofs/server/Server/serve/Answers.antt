@@ -1,7 +1,8 @@
 use Rattle.std.proofs.Common.{Bool, None, ◌++◌, length, drop, refl, sym, ap, ◌∙◌, subst, arith, length-append, length-take}
 use Rattle.cog_server.specs.Serve.{read_failed, write_failed}
 use Rattle.cog_server.specs.Status.{EndsBy, GoesOn, Status}
-use Rattle.cog_server.proofs.ServeLemmas.{begins, ends, ends_memory, ends_unread, ends_unsent, ends_with, less_to_answer, less_to_read, nothing_waits, reads, sent_whole, some_room, stands, stays, still_silent, told_by, unsent_flag, went}
+use Rattle.cog_server.proofs.EndLemmas.{ends, ends_memory, ends_unread, ends_unsent, ends_with, told_by, unsent_flag}
+use Rattle.cog_server.proofs.ServeLemmas.{begins, less_to_answer, less_to_read, nothing_waits, reads, sent_whole, some_room, stands, stays, still_silent, went}
 use Rattle.cog_server.proofs.server.Server.serve.Goals as goal
 
 pub returns-in_err-buffers-clause-served : goal.returns-in_err-buffers-clause-served

@@ -1,0 +1,19 @@
+-- What a server has after a file of the disk was published.
+use Rattle.std.specs.Prelude.{◌≡◌, ℕ, ◌+◌, List, Some}
+use Rattle.std.specs.Option.{option_map}
+use Rattle.http_range.specs.Book.{publish, published, publication_tag}
+use Rattle.cog_server.specs.Server.{ServerState}
+
+-- some bytes were published under a name with the next tag of the epoch, and nothing else changed
+abbrev pub IsPublished : (name : List ℕ) (s t : ServerState) (tag : List ℕ) → Type 0
+IsPublished name s t tag = (file : List ℕ)
+    × (tag ≡ publication_tag s.epoch (s.count + 1))
+    × (t ≡ record {
+      epoch = s.epoch;
+      count = s.count + 1;
+      catalogue = publish (record { name = name; tag = tag; file = file }) s.catalogue;
+    })
+
+-- these bytes are what was published last under a name
+abbrev pub IsFileOf : (name file : List ℕ) → ServerState → Type 0
+IsFileOf name file s = option_map (λ p. p.file) (published name s.catalogue) ≡ Some file
