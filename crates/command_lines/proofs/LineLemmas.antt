@@ -1,4 +1,4 @@
--- What a parse of the command gives: each word that has to stand is there.
+-- What a parse of a command gives: each word that has to stand is there.
 use Rattle.std.proofs.Common.{◌≡◌, ◌∙◌, ◌<◌, ◌≤◌, ◌&&◌, ◌⊎◌, ℕ, zero, suc, Bool, true, false, not, List, [], ◌∷◌, length, map, Option, Some, None, Result, Ok, Err, is_some, IfErr, IsErrAnd, codes, option_map, refl, sym, ap, ap₂, subst, inl, inr, arith, true≢false}
 use Rattle.std.specs.Borrow.{Bor}
 use Rattle.std.specs.List.{slice_index_or}
@@ -17,7 +17,9 @@ use Rattle.clap.proofs.SimpleLemmas.{is_false, is_nil}
 use Rattle.clap.proofs.OnLiterals.{clap_on_literals}
 use Rattle.clap.proofs.WalkLemmas.{both, first_value-rows, one_text-rows, raw_values-rows}
 use Rattle.clap.proofs.CallerLemmas.{present_has_entry, required_has_value, required_present}
+use Rattle.clap.specs.declared.builder.action.ArgAction.TheVariants.{Set}
 use Rattle.command_lines.specs.ServeLine.{choice, flag, option, serve_app, words}
+use Rattle.command_lines.specs.WorldLine.{word, world_app}
 
 no_some : {X : Type 0} (o : Option X) → not (is_some o) ≡ true → o ≡ None
 no_some None e = refl
@@ -27,35 +29,24 @@ head : {X : Type 0} (xs : List X) → 0 < length xs → X
 head [] some = absurd (omega arith)
 head (x ∷ xs) some = x
 
-abbrev rules : List Rule
-rules = option (codes "listen") ∷ option (codes "epoch") ∷ option (codes "connections") ∷ words (codes "files")
-    ∷ choice (codes "at-once") ∷ choice (codes "patience") ∷ flag (codes "log") ∷ []
-
-rules_are : (c : Command) → app_of c ≡ serve_app → map rule_of (args_of c) ≡ rules
-unfolding serve_app
-rules_are c e = ap (λ (a : App). a.top.rules) e
-
-seven : (c : Command) → app_of c ≡ serve_app → length (args_of c) ≡ 7
-seven c e = sym (length-map (args_of c) rule_of) ∙ ap length (rules_are c e)
-
-rule_at : (c : Command) → app_of c ≡ serve_app → (k : ℕ) (d : Arg) → k < length (args_of c)
-    → rule_of (slice_index_or (args_of c) k d) ≡ slice_index_or rules k (rule_of d)
-rule_at c e k d low =
-    sym (get_or-map rule_of (args_of c) k d (rule_of d) low) ∙ ap (λ (rs : List Rule). slice_index_or rs k (rule_of d)) (rules_are c e)
-
 -- the argument has no rule on another
 abbrev is_alone : Rule → Bool
 is_alone r = r.is_simple && r.is_free
 
-alone_at : (k : ℕ) (d : Rule) → k < 7 → is_alone (slice_index_or rules k d) ≡ true
-alone_at zero d low = refl
-alone_at (suc zero) d low = refl
-alone_at (suc (suc zero)) d low = refl
-alone_at (suc (suc (suc zero))) d low = refl
-alone_at (suc (suc (suc (suc zero)))) d low = refl
-alone_at (suc (suc (suc (suc (suc zero))))) d low = refl
-alone_at (suc (suc (suc (suc (suc (suc zero)))))) d low = refl
-alone_at (suc (suc (suc (suc (suc (suc (suc k))))))) d low = absurd (omega arith)
+-- No argument of the command has a rule on another, and no setting changes how words are read.
+record IsAlone (a : App) : Type 0 where
+  some : 0 < length a.top.rules
+  rules : (k : ℕ) (d : Rule) → k < length a.top.rules → is_alone (slice_index_or a.top.rules k d) ≡ true
+  plain : a.top.is_plain ≡ true
+  strict : a.top.subcommand_negates_reqs ≡ false
+
+-- the argument of this name has to stand, with one value
+record IsNeeded (name : List ℕ) (r : Rule) : Type 0 where
+  id : r.id ≡ name
+  required : r.required ≡ true
+  action : r.action ≡ Some Set
+  range : r.range ≡ None
+  alone : is_alone r ≡ true
 
 plain_arg : (a : Arg) → is_alone (rule_of a) ≡ true → IsPlainArg a
 plain_arg a e =
@@ -76,46 +67,77 @@ no_delimiter a e =
     let delimiter = both (not (is_some a.val_delim)) rest groups.1 in
     no_some _ delimiter.0
 
-plain : (c : Command) → app_of c ≡ serve_app → IsPlain c
-unfolding serve_app
-plain c e =
-    let low7 : (k : ℕ) → k < length (args_of c) → k < 7 = λ k low. omega (arith, seven c e) in (
-      λ k d low. plain_arg (slice_index_or (args_of c) k d) (ap is_alone (rule_at c e k d low) ∙ alone_at k (rule_of d) (low7 k low)),
-      is_nil _ (both _ _ (ap (λ (a : App). a.top.is_plain) e)).0,
-    )
+module _ (a : App) (alone : IsAlone a) (c : Command) (e : app_of c ≡ a) where
+  rules_are : map rule_of (args_of c) ≡ a.top.rules
+  rules_are = ap (λ (x : App). x.top.rules) e
 
-local : (c : Command) → app_of c ≡ serve_app → (out-Command c).has_globals ≡ false
-unfolding serve_app
-local c e = is_false _ (both _ _ (both _ _ (both _ _ (ap (λ (a : App). a.top.is_plain) e)).1).1).0
+  as_many : length (args_of c) ≡ length a.top.rules
+  as_many = sym (length-map (args_of c) rule_of) ∙ ap length rules_are
 
-negates : (c : Command) → app_of c ≡ serve_app → (out-Command c).subcommand_negates_reqs ≡ false
-unfolding serve_app
-negates c e = ap (λ (a : App). a.top.subcommand_negates_reqs) e
+  rule_at : (k : ℕ) (d : Arg) → k < length (args_of c) → rule_of (slice_index_or (args_of c) k d) ≡ slice_index_or a.top.rules k (rule_of d)
+  rule_at k d low =
+      sym (get_or-map rule_of (args_of c) k d (rule_of d) low) ∙ ap (λ (rs : List Rule). slice_index_or rs k (rule_of d)) rules_are
 
--- an option has a value
-there : (c : Command) (m : ArgMatches) (name : List ℕ) (k : ℕ) → app_of c ≡ serve_app → IsParsedFrom c m → k < 7
-    → ((d : Rule) → slice_index_or rules k d ≡ option name)
-    → ((j : ℕ) (d : Rule) → j < 7 → bytes_eq (slice_index_or rules j d).id name ≡ true → j ≡ k)
-    → (name ≡ [] → ⊥) → ((name ≡ codes "help") ⊎ (name ≡ codes "version") → ⊥)
-    → is_some (first_value (found_of m) name) ≡ true
-there c m name k e p low is only named own =
-    let some : 0 < length (args_of c) = omega (arith, seven c e) in
-    let d = head (args_of c) some in
-    let within : k < length (args_of c) = omega (arith, seven c e) in
-    let a = slice_index_or (args_of c) k d in
-    let rule : rule_of a ≡ option name = rule_at c e k d within ∙ is (rule_of d) in
-    let id : a.id.now ≡ name = ap (λ (r : Rule). r.id) rule in
-    let least : 1 ≤ (unwrap_or_range a.num_vals).start_inclusive =
-    subst (λ (o : Option ValueRange). 1 ≤ (unwrap_or_range o).start_inclusive) (sym (ap (λ (r : Rule). r.range) rule)) (omega arith) in
-    let unique : (j : ℕ) (x : Arg) → j < length (args_of c) → bytes_eq (slice_index_or (args_of c) j x).id.now a.id.now ≡ true → j ≡ k =
-    λ j x at same. only j (rule_of x) (omega (arith, seven c e))
-    (ap₂ bytes_eq (sym (ap (λ (r : Rule). r.id) (rule_at c e j x at))) (sym id) ∙ same) in
-    let has : is_some (first_value (found_of m) a.id.now) ≡ true =
-    required_has_value c m p (plain c e) (local c e) (negates c e) k d within (ap (λ (r : Rule). r.required) rule)
-    (ap (λ (r : Rule). r.action) rule) (no_delimiter a (ap is_alone rule)) least unique
-    (λ empty. named (sym id ∙ empty))
-    (λ auto. own (elim auto [ inl h ↦ inl (sym id ∙ h) | inr h ↦ inr (sym id ∙ h) ])) in
-    subst (λ (n : List ℕ). is_some (first_value (found_of m) n) ≡ true) id has
+  plain : IsPlain c
+  plain = (
+    λ k d low. plain_arg (slice_index_or (args_of c) k d) (ap is_alone (rule_at k d low) ∙ alone.rules k (rule_of d) (omega (arith, as_many))),
+    is_nil _ (both _ _ (ap (λ (x : App). x.top.is_plain) e ∙ alone.plain)).0,
+  )
+
+  local : (out-Command c).has_globals ≡ false
+  local = is_false _ (both _ _ (both _ _ (both _ _ (ap (λ (x : App). x.top.is_plain) e ∙ alone.plain)).1).1).0
+
+  strict : (out-Command c).subcommand_negates_reqs ≡ false
+  strict = ap (λ (x : App). x.top.subcommand_negates_reqs) e ∙ alone.strict
+
+  some_argument : Arg
+  some_argument = let some = alone.some in head (args_of c) (omega (arith, as_many))
+
+  -- an argument that has to stand has a value
+  there : (m : ArgMatches) (name : List ℕ) (k : ℕ) → IsParsedFrom c m → k < length a.top.rules
+      → ((d : Rule) → IsNeeded name (slice_index_or a.top.rules k d))
+      → ((j : ℕ) (d : Rule) → j < length a.top.rules → bytes_eq (slice_index_or a.top.rules j d).id name ≡ true → j ≡ k)
+      → (name ≡ [] → ⊥) → ((name ≡ codes "help") ⊎ (name ≡ codes "version") → ⊥)
+      → is_some (first_value (found_of m) name) ≡ true
+  there m name k p low is only named own =
+      let d = some_argument in
+      let within : k < length (args_of c) = omega (arith, as_many) in
+      let x = slice_index_or (args_of c) k d in
+      let rule : rule_of x ≡ slice_index_or a.top.rules k (rule_of d) = rule_at k d within in
+      let needed = is (rule_of d) in
+      let id : x.id.now ≡ name = ap (λ (r : Rule). r.id) rule ∙ needed.id in
+      let least : 1 ≤ (unwrap_or_range x.num_vals).start_inclusive =
+      subst (λ (o : Option ValueRange). 1 ≤ (unwrap_or_range o).start_inclusive) (sym (ap (λ (r : Rule). r.range) rule ∙ needed.range)) (omega arith) in
+      let unique : (j : ℕ) (y : Arg) → j < length (args_of c) → bytes_eq (slice_index_or (args_of c) j y).id.now x.id.now ≡ true → j ≡ k =
+      λ j y at same. only j (rule_of y) (omega (arith, as_many))
+      (ap₂ bytes_eq (sym (ap (λ (r : Rule). r.id) (rule_at j y at))) (sym id) ∙ same) in
+      let has : is_some (first_value (found_of m) x.id.now) ≡ true =
+      required_has_value c m p plain local strict k d within (ap (λ (r : Rule). r.required) rule ∙ needed.required)
+      (ap (λ (r : Rule). r.action) rule ∙ needed.action) (no_delimiter x (ap is_alone rule ∙ needed.alone)) least unique
+      (λ empty. named (sym id ∙ empty))
+      (λ auto. own (elim auto [ inl h ↦ inl (sym id ∙ h) | inr h ↦ inr (sym id ∙ h) ])) in
+      subst (λ (n : List ℕ). is_some (first_value (found_of m) n) ≡ true) id has
+
+abbrev rules : List Rule
+rules = option (codes "listen") ∷ option (codes "epoch") ∷ option (codes "connections") ∷ words (codes "files")
+    ∷ choice (codes "at-once") ∷ choice (codes "patience") ∷ flag (codes "log") ∷ []
+
+alone_at : (k : ℕ) (d : Rule) → k < 7 → is_alone (slice_index_or rules k d) ≡ true
+alone_at zero d low = refl
+alone_at (suc zero) d low = refl
+alone_at (suc (suc zero)) d low = refl
+alone_at (suc (suc (suc zero))) d low = refl
+alone_at (suc (suc (suc (suc zero)))) d low = refl
+alone_at (suc (suc (suc (suc (suc zero))))) d low = refl
+alone_at (suc (suc (suc (suc (suc (suc zero)))))) d low = refl
+alone_at (suc (suc (suc (suc (suc (suc (suc k))))))) d low = absurd (omega arith)
+
+serve_alone : IsAlone serve_app
+unfolding serve_app
+serve_alone = record { some = omega arith; rules = alone_at; plain = refl; strict = refl }
+
+option_needed : (name : List ℕ) → IsNeeded name (option name)
+option_needed name = record { id = refl; required = refl; action = refl; range = refl; alone = refl }
 
 only_listen : (j : ℕ) (d : Rule) → j < 7 → bytes_eq (slice_index_or rules j d).id (codes "listen") ≡ true → j ≡ 0
 only_listen zero d low same = refl
@@ -149,30 +171,63 @@ only_connections (suc (suc (suc (suc (suc (suc (suc k))))))) d low same = absurd
 
 pub listen_there : (c : Command) (m : ArgMatches) → app_of c ≡ serve_app → IsParsedFrom c m
     → is_some (first_value (found_of m) (codes "listen")) ≡ true
-listen_there c m e p = there c m (codes "listen") 0 e p (omega arith) (λ d. refl) only_listen
+unfolding serve_app
+listen_there c m e p = there serve_app serve_alone c e m (codes "listen") 0 p (omega arith) (λ d. option_needed (codes "listen")) only_listen
     (λ no. absurd (cc)) (λ no. elim no [ inl h ↦ cc | inr h ↦ cc ])
 
 pub epoch_there : (c : Command) (m : ArgMatches) → app_of c ≡ serve_app → IsParsedFrom c m
     → is_some (first_value (found_of m) (codes "epoch")) ≡ true
-epoch_there c m e p = there c m (codes "epoch") 1 e p (omega arith) (λ d. refl) only_epoch
+unfolding serve_app
+epoch_there c m e p = there serve_app serve_alone c e m (codes "epoch") 1 p (omega arith) (λ d. option_needed (codes "epoch")) only_epoch
     (λ no. absurd (cc)) (λ no. elim no [ inl h ↦ cc | inr h ↦ cc ])
 
 pub connections_there : (c : Command) (m : ArgMatches) → app_of c ≡ serve_app → IsParsedFrom c m
     → is_some (first_value (found_of m) (codes "connections")) ≡ true
-connections_there c m e p = there c m (codes "connections") 2 e p (omega arith) (λ d. refl) only_connections
+unfolding serve_app
+connections_there c m e p = there serve_app serve_alone c e m (codes "connections") 2 p (omega arith) (λ d. option_needed (codes "connections")) only_connections
     (λ no. absurd (cc)) (λ no. elim no [ inl h ↦ cc | inr h ↦ cc ])
 
 -- the files have an entry
 pub files_there : (c : Command) (m : ArgMatches) → app_of c ≡ serve_app → IsParsedFrom c m
     → is_some (matched_of (found_of m) (codes "files")) ≡ true
+unfolding serve_app
 files_there c m e p =
-    let some : 0 < length (args_of c) = omega (arith, seven c e) in
-    let d = head (args_of c) some in
-    let within : 3 < length (args_of c) = omega (arith, seven c e) in
-    let rule : rule_of (slice_index_or (args_of c) 3 d) ≡ words (codes "files") = rule_at c e 3 d within in
-    let present = required_present c m p (plain c e) (local c e) (negates c e) 3 d within (ap (λ (r : Rule). r.required) rule) in
+    let d = some_argument serve_app serve_alone c e in
+    let within : 3 < length (args_of c) = omega (arith, as_many serve_app serve_alone c e) in
+    let rule : rule_of (slice_index_or (args_of c) 3 d) ≡ words (codes "files") = rule_at serve_app serve_alone c e 3 d within in
+    let present = required_present c m p (plain serve_app serve_alone c e) (local serve_app serve_alone c e) (strict serve_app serve_alone c e) 3 d within
+    (ap (λ (r : Rule). r.required) rule) in
     subst (λ (n : List ℕ). is_some (matched_of (found_of m) n) ≡ true) (ap (λ (r : Rule). r.id) rule)
     (present_has_entry (found_of m) (slice_index_or (args_of c) 3 d).id.now present)
+
+-- the path of the script has a value
+abbrev world_rules : List Rule
+world_rules = word (codes "SCRIPT") ∷ choice (codes "pieces") ∷ []
+
+world_alone_at : (k : ℕ) (d : Rule) → k < 2 → is_alone (slice_index_or world_rules k d) ≡ true
+world_alone_at zero d low = refl
+world_alone_at (suc zero) d low = refl
+world_alone_at (suc (suc k)) d low = absurd (omega arith)
+
+world_alone : IsAlone world_app
+unfolding world_app
+world_alone = record { some = omega arith; rules = world_alone_at; plain = refl; strict = refl }
+
+only_script : (j : ℕ) (d : Rule) → j < 2 → bytes_eq (slice_index_or world_rules j d).id (codes "SCRIPT") ≡ true → j ≡ 0
+only_script zero d low same = refl
+only_script (suc zero) d low same = absurd (true≢false (sym same))
+only_script (suc (suc k)) d low same = absurd (omega arith)
+
+pub script_there : (c : Command) (m : ArgMatches) → app_of c ≡ world_app → IsParsedFrom c m
+    → is_some (first_value (found_of m) (codes "SCRIPT")) ≡ true
+unfolding world_app
+script_there c m e p = there world_app world_alone c e m (codes "SCRIPT") 0 p (omega arith)
+    (λ d. record { id = refl; required = refl; action = refl; range = refl; alone = refl }) only_script
+    (λ no. absurd (cc)) (λ no. elim no [ inl h ↦ cc | inr h ↦ cc ])
+
+pub world_simple : is_simple world_app ≡ true
+unfolding world_app clap_on_literals
+world_simple = refl
 
 pub simple : is_simple serve_app ≡ true
 unfolding serve_app clap_on_literals

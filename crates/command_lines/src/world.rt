@@ -1,6 +1,12 @@
 //! The command line of `cogworld`.
+ghost use Rattle.std.specs.Prelude.{◌≡◌, false, true, IfErr, IfOk, codes, map};
+ghost use Rattle.clap.specs.Words.{app_of, kind_of, matches_of, rule_of, takes};
+ghost use Rattle.command_lines.specs.WorldLine.{HasValues, word as some_word, world_app};
+
 use crate::help::{VERSION, WORLD_NOTES};
-use clap::{Arg, Command, Error};
+use crate::serve::choice;
+use clap::error::ErrorKind;
+use clap::{Arg, ArgAction, Command, Error};
 use std::alloc::{AllocError, Global};
 use std::convert::AsStr;
 
@@ -11,30 +17,46 @@ pub struct WorldLine<'a> {
     pub pieces: Option<&'a str>,
 }
 
-fn world_command<'a>(alloc: Global) -> Result<Command<'a>, AllocError> {
-    let script = Arg::new(alloc, "SCRIPT")
+fn script<'a>(alloc: Global) -> Arg<'a>
+    ensures rule { rule_of result ≡ some_word (codes "SCRIPT") }
+    ensures local { result.global ≡ false }
+{
+    Arg::new(alloc, "SCRIPT")
         .help(
             "The file of the script: lines of events, its paths from the current folder on (no default)",
         )
-        .required(true);
-    let pieces = Arg::new(alloc, "pieces")
-        .long("pieces")
-        .value_name("N")
-        .help("Clients get each answer in pieces of so many bytes, 1 to 1069056 (default: whole)");
-    Command::new(alloc, "cogworld")
-        .about("Runs a script of events and prints its log")
-        .version(VERSION)
-        .after_help(WORLD_NOTES)
-        .arg(script)?
-        .arg(pieces)
+        .required(true)
+        .action(ArgAction::Set)
 }
 
-/// Reads `cogworld`'s words, of which the first is its own name.
-pub fn world_line<'a, S: AsStr>(alloc: Global, words: &'a [S]) -> Result<WorldLine<'a>, Error> {
+fn world_command<'a>(alloc: Global) -> Result<Command<'a>, AllocError>
+    ensures { IfOk result (λ command. app_of command ≡ world_app) }
+{
+    let pieces = choice(
+        alloc,
+        "pieces",
+        "N",
+        "Clients get each answer in pieces of so many bytes, 1 to 1069056 (default: whole)",
+    );
+    Ok(
+        Command::new(alloc, "cogworld")
+            .about("Runs a script of events and prints its log")
+            .version(VERSION)
+            .after_help(WORLD_NOTES)
+            .arg(script(alloc))?
+            .arg(pieces)?,
+    )
+}
+
+/// Reads `cogworld`'s words, of which the first is its own name. Words that clap takes are refused only for want of memory.
+pub fn world_line<'a, S: AsStr>(alloc: Global, words: &'a [S]) -> Result<WorldLine<'a>, Error>
+    ensures ok { IfOk result (HasValues (matches_of world_app (map S.text words.entry.now))) }
+    ensures err { IfErr result (λ e. takes world_app (map S.text words.entry.now) ≡ true → kind_of e ≡ ErrorKind.OutOfMemory) }
+{
     let command = world_command(alloc)?;
     let matches = command.try_get_matches_from(words)?;
     Ok(WorldLine {
-        script: matches.get_str("SCRIPT").unwrap_or(""),
+        script: matches.get_str("SCRIPT").unwrap(),
         pieces: matches.get_str("pieces"),
     })
 }
