@@ -1,4 +1,4 @@
-//! Tests of `cog_client`: runs of a client over many answers: late, lost and cut ones, large files, refused memory.
+//! Tests of `cog_client` over many answers: kept blocks, large files, refused memory.
 #![tactic(auto)]
 
 #[cfg(test)]

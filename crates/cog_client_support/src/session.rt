@@ -344,6 +344,9 @@ pub fn otherwise_by(
     Session::new(client, files, piece).go_through(alloc, parts)
 }
 
+/// How many blocks clients look ahead.
+pub const AHEAD: [u32; 4] = [0, 1, 8, 64];
+
 /// How answers come: whole, and in pieces of so many bytes. The head of an answer has about 171, a block 16,384.
 pub const WAYS: [Option<usize>; 6] = [
     None,

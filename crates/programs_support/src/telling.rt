@@ -33,6 +33,15 @@ fn line_of<S: AsStr>(alloc: Global, words: &[S]) -> Result<Vec<String>, AllocErr
     Ok(line)
 }
 
+/// The words of a line, which spaces part. An empty word is written as two quotes.
+pub fn words_of(alloc: Global, line: &str) -> Result<Vec<&str>, AllocError> {
+    let mut words = Vec::new(alloc);
+    for word in line.split_whitespace() {
+        words.push(if word == "''" { "" } else { word })?;
+    }
+    Ok(words)
+}
+
 /// What the command prints and ends with over this runtime, for these words, of which the first is its own name.
 pub fn tell_line<R>(capture: Capture<'_, R>, line: &[String]) -> Told
 where

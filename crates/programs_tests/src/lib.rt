@@ -1,24 +1,24 @@
-//! Tests of what the command prints and ends with: each line of a fault with its status, help, the lines of `cogserve` and the
-//! text of `cogread`, byte by byte.
+//! Tests of what the command prints and ends with. Each line of a fault with its status, help, and the lines of the programs are shown
+//! here and in the crates of tests beside this one:
 //!
 //! | Line | Status | Shown in |
 //! |---|---|---|
-//! | help, on standard output | 0 | `helps` |
+//! | help, on standard output | 0 | `command_line_tests` |
 //! | `cogtools: not a program: WORD`, `cogtools: a word isn't text` | 2 | `worlds`, `faults` |
-//! | faults of the form of a line | 2 | `helps` |
-//! | `PROGRAM: not a number: WORD` | 2 | `serves`, `reads` |
+//! | faults of the form of a line | 2 | `command_line_tests` |
+//! | `PROGRAM: not a number: WORD` | 2 | `serves`, `read_faults`, `worlds` |
 //! | `cogserve: not a file: WORD` | 2 | `serves` |
 //! | `cogserve: can't read PATH`, `cogserve: refused K NAME`, `cogserve: can't listen` | 1 | `serves`; 5 of the refusals in `faults` |
-//! | `cogserve: can't accept` | 1 | `socket_tests` |
-//! | why it ends, with a log (`--log`) | 1 | `serves`; the lines of the log in `socket_tests` |
-//! | `cogread: refused K`, `cogread: not a place: URL: ..` | 2 | `reads` |
-//! | each exchange, and why there is no window (`--verbose`) | | `told` |
-//! | how far the exchanges have come (`--progress`) | | `told` |
-//! | what a file is, in words and in JSON (`describe`) | 0 | `describes` |
-//! | `cogread: fault K`, and with a tag | 3 | `reads`, `faults` |
-//! | `cogread: no report` | 4 | `reads` |
+//! | `cogserve: can't accept` | 1 | `serving_tests` |
+//! | why it ends, with a log (`--log`) | 1 | `serves`; the lines of the log in `serving_tests` |
+//! | `cogread: refused K`, `cogread: not a place: URL: ..` | 2 | `read_faults` |
+//! | each exchange, and why there is no window (`--verbose`) | | `cogread_tests` |
+//! | how far the exchanges have come (`--progress`) | | `cogread_tests` |
+//! | what a file is, in words and in JSON (`describe`) | 0 | `cogread_tests` |
+//! | `cogread: fault K`, and with a tag | 3 | `faults`, `cogread_tests` |
+//! | `cogread: no report` | 4 | `read_faults` |
 //! | `line L: not an event`, `line L: can't read`, `cogworld: can't read PATH` | 2, 1, 1 | `worlds` |
-//! | `PROGRAM: can't write`, `cogread: can't write PATH` | 1 | `worlds`, `reads`; `output` |
+//! | `PROGRAM: can't write`, `cogread: can't write PATH` | 1 | `worlds`, `cogread_tests`; `output` |
 //! | `PROGRAM: out of memory` | 1 | `faults` |
 #![tactic(auto)]
 

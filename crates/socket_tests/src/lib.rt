@@ -1,4 +1,4 @@
-//! Tests over sockets of one process: a client and a server, and connections of `cogserve` with the lines that it prints.
+//! Tests over sockets of one process: a client and a server, a connection that is kept, and requests that are sent early.
 #![tactic(auto)]
 
 #[cfg(test)]

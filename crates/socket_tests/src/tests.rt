@@ -1,6 +1,4 @@
-//! Tests over sockets of one process.
+//! Tests of a client and a server over sockets of one process.
+mod early;
 mod kept;
-mod lines;
-mod logs;
 mod loopback;
-mod places;

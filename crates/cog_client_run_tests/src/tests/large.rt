@@ -1,14 +1,13 @@
 //! Windows that need several requests, blocks that leave a full cache, and a file that is replaced meanwhile.
-use super::other_file;
 use cog_client_support::Answer::{Part, Whole};
 use cog_client_support::Step::{
     Asks, AsksNothing, Ignores, IsSilent, Opens, Reports, Restarts, Stands, Takes, TakesMore,
 };
 use cog_client_support::{
     FIRST, NEW, NotDone, OLD, Publication, Session, Step, WAYS, client_of_a, otherwise,
+    revisions_of_f5,
 };
 use cog_reader_support::Want;
-use fixtures_support::f5;
 use std::alloc::{AllocError, Global};
 use std::test::Fail;
 
@@ -248,7 +247,7 @@ const READINGS: [Reading; 6] = [LEAST, LEFT, GREATEST, EXACT, GAPS, REPLACED];
 
 #[test]
 fn reads_a_large_image_by_several_requests(rt: HostRuntime) -> Result<(), Fail> {
-    let (old, new) = (f5(rt.alloc())?, other_file(rt.alloc())?);
+    let (old, new) = revisions_of_f5(rt.alloc())?;
     let files = Publication::in_turn(OLD, &old, NEW, &new);
     let found = reading_otherwise(rt.alloc(), &files, &READINGS)?;
     assert_eq!(rt; found, None);
@@ -278,7 +277,7 @@ const TWO_REVISIONS: [Step<'static>; 17] = [
 
 #[test]
 fn reads_windows_of_two_revisions(rt: HostRuntime) -> Result<(), Fail> {
-    let (old, new) = (f5(rt.alloc())?, other_file(rt.alloc())?);
+    let (old, new) = revisions_of_f5(rt.alloc())?;
     let files = Publication::in_turn(OLD, &old, NEW, &new);
     let found = otherwise(rt.alloc(), &files, &[&TWO_REVISIONS])?;
     assert_eq!(rt; found, None);

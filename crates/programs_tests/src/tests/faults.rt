@@ -1,10 +1,40 @@
-//! Faults that no command line of a test meets, told as they are.
-use super::FILE_FAULTS;
+//! Faults that no command line of a test meets, told as they are, and the faults of the file that help names.
 use cog_server::PublishError;
 use programs::Fault;
-use programs_support::Capture;
+use programs_support::{Capture, tell};
 use scripts::ScriptError;
 use std::test::Fail;
+use tiff_dir::FileFault;
+
+/// A fault of the file, its name and its line.
+const FILE_FAULTS: [(FileFault, &str, &str); 18] = [
+    (FileFault::Header, "Header", "cogread: fault 1\n"),
+    (FileFault::PastEnd, "PastEnd", "cogread: fault 2\n"),
+    (FileFault::DirPlace, "DirPlace", "cogread: fault 3\n"),
+    (FileFault::DirCount, "DirCount", "cogread: fault 4\n"),
+    (FileFault::TagOrder, "TagOrder", "cogread: fault 5\n"),
+    (FileFault::TooManyDirs, "TooManyDirs", "cogread: fault 6\n"),
+    (FileFault::Missing(256), "Missing", "cogread: fault 7 256\n"),
+    (
+        FileFault::FieldType(325),
+        "FieldType",
+        "cogread: fault 8 325\n",
+    ),
+    (
+        FileFault::Unsupported(339),
+        "Unsupported",
+        "cogread: fault 9 339\n",
+    ),
+    (FileFault::LevelShape, "LevelShape", "cogread: fault 10\n"),
+    (FileFault::TileArray, "TileArray", "cogread: fault 11\n"),
+    (FileFault::TileSize, "TileSize", "cogread: fault 12\n"),
+    (FileFault::Packet, "Packet", "cogread: fault 13\n"),
+    (FileFault::Outside, "Outside", "cogread: fault 14\n"),
+    (FileFault::TooLarge, "TooLarge", "cogread: fault 15\n"),
+    (FileFault::KeyHead, "KeyHead", "cogread: fault 16\n"),
+    (FileFault::KeyOrder, "KeyOrder", "cogread: fault 17\n"),
+    (FileFault::KeyPlace, "KeyPlace", "cogread: fault 18\n"),
+];
 
 /// Whether the fault is told by this line on standard error, and ends with this status.
 fn is_told(
@@ -66,5 +96,17 @@ fn tells_that_an_epoch_is_exhausted(rt: HostRuntime) -> Result<(), Fail> {
             1
         )
     );
+    Ok(())
+}
+
+#[test]
+fn tells_each_fault_by_its_number_and_name(rt: HostRuntime) -> Result<(), Fail> {
+    let told = tell(&rt, &["cogread", "--help"])?;
+    let help = str::from_utf8(&told.out).unwrap_or_default();
+    for (fault, name, _) in FILE_FAULTS {
+        let number = fault.number();
+        let part = format!(in rt.alloc(); "\n  {number:>2}  {name} ")?;
+        assert!(rt; help.contains(part.as_str()), "{name}");
+    }
     Ok(())
 }

@@ -13,7 +13,7 @@ use std::net::{Net, TcpListener, TcpStream};
 use std::test::Fail;
 
 /// The request for the first bytes of the file `a`, up to a last one, which ends the connection or doesn't.
-fn request(alloc: Global, last: u64, closes: bool) -> Result<Vec<u8>, Fail> {
+pub(super) fn request(alloc: Global, last: u64, closes: bool) -> Result<Vec<u8>, Fail> {
     let span = Span { first: 0, last };
     if closes {
         Ok(write_request(alloc, b"cog.test", b"a", span, None)?)
@@ -23,7 +23,7 @@ fn request(alloc: Global, last: u64, closes: bool) -> Result<Vec<u8>, Fail> {
 }
 
 /// Reads a request on a connection and answers it. The text of the answer.
-fn answer(server: &Server, stream: &mut TcpStream) -> Result<Vec<u8>, Fail> {
+pub(super) fn answer(server: &Server, stream: &mut TcpStream) -> Result<Vec<u8>, Fail> {
     let mut room = [0u8; 1000];
     let count = stream.read(&mut room)?;
     let answer = server.answer(&room[..count])?;
@@ -32,7 +32,11 @@ fn answer(server: &Server, stream: &mut TcpStream) -> Result<Vec<u8>, Fail> {
 }
 
 /// The bytes that come of an answer, in pieces for which there is this room.
-fn arrived<P: Pieces>(alloc: Global, socket: &mut P, room: &mut [u8]) -> Result<Vec<u8>, Fail>
+pub(super) fn arrived<P: Pieces>(
+    alloc: Global,
+    socket: &mut P,
+    room: &mut [u8],
+) -> Result<Vec<u8>, Fail>
     requires { 0 < length room.old }
 {
     let mut bytes = Vec::new(alloc);
@@ -47,7 +51,7 @@ fn arrived<P: Pieces>(alloc: Global, socket: &mut P, room: &mut [u8]) -> Result<
 }
 
 /// Sends the request for the first bytes up to a last one, which doesn't end the connection.
-fn send<R>(alloc: Global, socket: &mut Socket<'_, R>, last: u64) -> Result<(), Fail>
+pub(super) fn send<R>(alloc: Global, socket: &mut Socket<'_, R>, last: u64) -> Result<(), Fail>
 where
     R: Net<Stream = TcpStream> + AllocGlobal,
 {

@@ -1,4 +1,5 @@
 //! A client and a server over sockets of one process: a request is sent, the connection is served, and the answer received.
+use super::kept::arrived;
 use cog_client::{Client, Delivered, Lost, Outcome, Pieces, Query, Report};
 use cog_server::{Server, Stream};
 use fixtures_support::{f1, f3};
@@ -29,23 +30,6 @@ pub fn server_of(alloc: Global, file: Vec<u8>) -> Result<Server, Fail> {
     Ok(server)
 }
 
-/// What comes of an answer, in pieces of at most 1,000 bytes.
-fn arrived<R>(rt: &R, socket: &mut Socket<'_, R>) -> Result<Vec<u8>, Fail>
-where
-    R: Runtime + AllocGlobal + Net<Listener = TcpListener, Stream = TcpStream>,
-{
-    let mut answer = Vec::new(rt.alloc());
-    let mut room = [0u8; 1000];
-    for _ in 0..1000 {
-        match socket.next(&mut room) {
-            Ok(0) => return Ok(answer),
-            Ok(count) => answer.extend_from_slice(&room[..count])?,
-            Err(Lost) => break,
-        }
-    }
-    Err(Fail::new("nothing came"))
-}
-
 /// Sends a request, serves the connection, and gives what comes back.
 fn carry<R>(
     rt: &R,
@@ -65,7 +49,7 @@ where
     if served.is_err() {
         return Err(Fail::new("not served"));
     }
-    arrived(rt, &mut socket)
+    arrived(rt.alloc(), &mut socket, &mut [0; 1000])
 }
 
 /// Asks a query, and exchanges until the client has no request any more. How many exchanges there were.

@@ -1,6 +1,5 @@
 //! Help, and faults of the form of a line.
-use super::{FILE_FAULTS, words_of};
-use programs_support::{Capture, Told, tell, tell_line, tell_on};
+use programs_support::{Capture, Told, tell, tell_line, tell_on, words_of};
 use std::alloc::{AllocError, Global};
 use std::test::Fail;
 
@@ -215,18 +214,6 @@ fn ends_with_one_where_help_cannot_be_written(rt: HostRuntime) -> Result<(), Fai
     for (line, err) in TOLD {
         let told = tell_on(Capture::closed(&rt), &words_of(rt.alloc(), line)?)?;
         assert!(rt; told.is("", err, 1), "{line:?}: {told:?}");
-    }
-    Ok(())
-}
-
-#[test]
-fn tells_each_fault_by_its_number_and_name(rt: HostRuntime) -> Result<(), Fail> {
-    let told = tell(&rt, &["cogread", "--help"])?;
-    let help = str::from_utf8(&told.out).unwrap_or_default();
-    for (fault, name, _) in FILE_FAULTS {
-        let number = fault.number();
-        let part = format!(in rt.alloc(); "\n  {number:>2}  {name} ")?;
-        assert!(rt; help.contains(part.as_str()), "{name}");
     }
     Ok(())
 }

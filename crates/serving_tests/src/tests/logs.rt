@@ -1,8 +1,8 @@
 //! The log of `cogserve`: a line for each answer, why a file isn't taken anew, and where it listens.
 use super::lines::{connect, limits};
+use super::server_of_f1;
 use cog_server::Server;
 use disk_files::Watched;
-use fixtures_support::f1;
 use programs_support::Capture;
 use served_files::{Log, ServeError, listen, publish_all, serve_connections};
 use std::fs;
@@ -48,16 +48,13 @@ const ANSWERS: &str = "cogserve: connection 1: GET /a bytes=1-4: 206, 4 bytes\n\
 
 #[test]
 fn tells_each_answer(rt: HostRuntime) -> Result<(), Fail> {
-    let mut server = Server::new(rt.alloc(), 1);
-    if server.publish(b"a", f1(rt.alloc())?).is_err() {
-        return Err(Fail::new("not published"));
-    }
+    let mut server = server_of_f1(rt.alloc())?;
     let told = told_of(&rt, &mut server, &mut [], MESSAGES)?;
     assert_eq!(rt; told.as_str(), ANSWERS);
     Ok(())
 }
 
-const PATH: &str = "socket_tests_logged";
+const PATH: &str = "serving_tests_logged";
 
 /// A file is emptied, and then removed. The one that was published stays.
 #[test]
@@ -77,7 +74,7 @@ fn tells_why_a_file_is_not_taken_anew(rt: HostRuntime) -> Result<(), Fail> {
     let told = told_of(&rt, &mut server, &mut files, "")?;
     assert_eq!(rt;
         told.as_str(),
-        "cogserve: a isn't taken: can't read socket_tests_logged: No such file or directory (os error 2)\n"
+        "cogserve: a isn't taken: can't read serving_tests_logged: No such file or directory (os error 2)\n"
     );
     assert!(rt; server.file(b"a") == Some(b"abcdefgh".as_slice()));
     Ok(())
@@ -100,7 +97,7 @@ fn tells_the_port_that_the_system_gave(rt: HostRuntime) -> Result<(), Fail> {
 #[test]
 fn serves_with_a_log_where_standard_output_is_closed(rt: HostRuntime) -> Result<(), Fail> {
     let capture = Capture::closed(&rt);
-    let path = "socket_tests_closed";
+    let path = "serving_tests_closed";
     fs::write(&rt, path, "abcdefgh")?;
     let mut server = Server::new(rt.alloc(), 7);
     let mut files = vec![in rt.alloc(); Watched::new("a", path)]?;

@@ -3,13 +3,11 @@
 //! answer after as many as the query costs.
 ghost use Rattle.std.specs.Prelude.{◌<◌};
 
-use super::ahead::{AHEAD, cog};
-use super::other_file;
 use super::revisions::{Revision, is_right, revision_of};
 use cog_client::{Client, Outcome};
-use cog_client_support::{NotDone, client_of_a};
+use cog_client_support::{AHEAD, NotDone, client_of_a, cog, revisions_of_f5};
 use cog_reader_support::{Plain, of_level};
-use fixtures_support::{Numbers, f2, f2b, f5};
+use fixtures_support::{Numbers, f2, f2b};
 use reference_support::cost;
 use std::alloc::{AllocError, Global};
 use std::process::Abort;
@@ -235,13 +233,26 @@ fn wrong_of_two(
     wrong_window(alloc, &mut net, sides, run)
 }
 
-/// Reads windows of f2, which is replaced by f2b and back.
-fn expect_small(rt: &(impl Abort + AllocGlobal), run: Run) -> Result<(), Fail> {
-    let old = Plain::new(rt.alloc(), f2(rt.alloc())?)?;
-    let new = Plain::new(rt.alloc(), f2b(rt.alloc())?)?;
-    let found = wrong_of_two(rt.alloc(), [&old, &new], (256, 256), run)?;
+/// Expects that windows of two files, of images of these sides, are read right.
+fn expect_right(
+    rt: &(impl Abort + AllocGlobal),
+    files: (Vec<u8>, Vec<u8>),
+    sides: (u32, u32),
+    run: Run,
+) -> Result<(), Fail>
+    requires width { 0 < sides.0 }
+    requires length { 0 < sides.1 }
+{
+    let (old, new) = files;
+    let (old, new) = (Plain::new(rt.alloc(), old)?, Plain::new(rt.alloc(), new)?);
+    let found = wrong_of_two(rt.alloc(), [&old, &new], sides, run)?;
     assert!(rt; found.is_none(), "{run:?}: {found:?}");
     Ok(())
+}
+
+/// Expects it of f2, which is replaced by f2b and back.
+fn expect_small(rt: &(impl Abort + AllocGlobal), run: Run) -> Result<(), Fail> {
+    expect_right(rt, (f2(rt.alloc())?, f2b(rt.alloc())?), (256, 256), run)
 }
 
 #[test]
@@ -256,16 +267,13 @@ fn reads_small_tiles_whatever_befalls_the_answers(rt: HostRuntime) -> Result<(),
 
 #[test]
 fn reads_large_tiles_whatever_befalls_the_answers(rt: HostRuntime) -> Result<(), Fail> {
-    let old = Plain::new(rt.alloc(), f5(rt.alloc())?)?;
-    let new = Plain::new(rt.alloc(), other_file(rt.alloc())?)?;
+    let files = revisions_of_f5(rt.alloc())?;
     let run = Run {
         seed: 1,
         windows: 60,
         is_looking: false,
     };
-    let found = wrong_of_two(rt.alloc(), [&old, &new], (1280, 1024), run)?;
-    assert!(rt; found.is_none(), "{run:?}: {found:?}");
-    Ok(())
+    expect_right(&rt, files, (1280, 1024), run)
 }
 
 #[test]
@@ -292,14 +300,11 @@ fn reports_more_small_tiles_in_time_however_far_it_looks(rt: HostRuntime) -> Res
 fn reports_tiles_that_stand_apart_in_time_however_far_it_looks(
     rt: HostRuntime,
 ) -> Result<(), Fail> {
-    let old = Plain::new(rt.alloc(), cog(rt.alloc(), 3, false)?)?;
-    let new = Plain::new(rt.alloc(), cog(rt.alloc(), 3, true)?)?;
+    let files = (cog(rt.alloc(), 3, false)?, cog(rt.alloc(), 3, true)?);
     let run = Run {
         seed: 4,
         windows: 100,
         is_looking: true,
     };
-    let found = wrong_of_two(rt.alloc(), [&old, &new], (768, 768), run)?;
-    assert!(rt; found.is_none(), "{run:?}: {found:?}");
-    Ok(())
+    expect_right(&rt, files, (768, 768), run)
 }

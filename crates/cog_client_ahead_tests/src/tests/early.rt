@@ -1,7 +1,6 @@
 //! The requests that a client tells early are those that it makes then, where answers come whole.
-use super::ahead::{AHEAD, cog};
 use cog_client::{Client, Query};
-use cog_client_support::{NotDone, OLD, Publication, client_of_a};
+use cog_client_support::{AHEAD, NotDone, OLD, Publication, client_of_a, cog};
 use cog_reader_support::{WINDOWS, of_level, window};
 use std::alloc::Global;
 use std::test::Fail;

@@ -1,6 +1,6 @@
 //! Who has a place at a server of few places, and who gets one; each moment is handed in.
+use super::server_of_f1;
 use cog_server::Server;
-use fixtures_support::f1;
 use serving::{Limits, Nobody, Serving};
 use std::io::{Read, Write};
 use std::net::{Net, SocketAddr, TcpListener, TcpStream};
@@ -30,10 +30,7 @@ fn serving<R: AllocGlobal + Net<Listener = TcpListener, Stream = TcpStream>>(
         at_once,
         patience: 1_000,
     };
-    let mut server = Server::new(rt.alloc(), 1);
-    if server.publish(b"a", f1(rt.alloc())?).is_err() {
-        return Err(Fail::new("not published"));
-    }
+    let server = server_of_f1(rt.alloc())?;
     Ok((Serving::new(rt, listener, limits)?, server, address))
 }
 

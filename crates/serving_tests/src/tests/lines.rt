@@ -70,7 +70,7 @@ where
 /// and whether the file is published anew.
 type Turn = (Option<&'static str>, &'static str, u32, &'static str, bool);
 
-const PATH: &str = "socket_tests_served";
+const PATH: &str = "serving_tests_served";
 
 #[rattlefmt::skip]
 const TURNS: [Turn; 6] = [
@@ -191,35 +191,35 @@ fn serves_on_where_standard_output_is_closed(rt: HostRuntime) -> Result<(), Fail
 /// Of two files of one name both are published, and only the last is looked at again.
 #[test]
 fn looks_again_at_the_last_file_of_a_name_alone(rt: HostRuntime) -> Result<(), Fail> {
-    fs::write(&rt, "socket_tests_first", "12345")?;
-    fs::write(&rt, "socket_tests_last", "abcde")?;
+    fs::write(&rt, "serving_tests_first", "12345")?;
+    fs::write(&rt, "serving_tests_last", "abcde")?;
     let mut files = vec![in rt.alloc();
-        Watched::new("a", "socket_tests_first"),
-        Watched::new("a", "socket_tests_last"),
+        Watched::new("a", "serving_tests_first"),
+        Watched::new("a", "serving_tests_last"),
     ]?;
     let mut server = Server::new(rt.alloc(), 7);
     let lines = "published a \"7-1\"\npublished a \"7-2\"\n";
     assert!(rt; is_published(&rt, &mut server, &mut files, lines));
-    fs::write(&rt, "socket_tests_first", "changed")?;
+    fs::write(&rt, "serving_tests_first", "changed")?;
     let listener = TcpListener::bind(&rt, "127.0.0.1:0")?;
     let capture = Capture::new(&rt);
     let answer = answer_of(&capture, &mut server, &mut files, &listener)?;
     assert!(rt; answer.as_str().ends_with("\r\n\r\nbcde"));
     assert_eq!(rt; capture.into_texts().0.as_slice(), b"served 1\n".as_slice());
-    fs::remove_file(&rt, "socket_tests_first")?;
-    fs::remove_file(&rt, "socket_tests_last")?;
+    fs::remove_file(&rt, "serving_tests_first")?;
+    fs::remove_file(&rt, "serving_tests_last")?;
     Ok(())
 }
 
 #[test]
 fn publishes_the_bytes_of_the_file(rt: HostRuntime) -> Result<(), Fail> {
     let file = f1(rt.alloc())?;
-    fs::write(&rt, "socket_tests_fixture", &file)?;
-    let mut files = vec![in rt.alloc(); Watched::new("a", "socket_tests_fixture")]?;
+    fs::write(&rt, "serving_tests_fixture", &file)?;
+    let mut files = vec![in rt.alloc(); Watched::new("a", "serving_tests_fixture")]?;
     let mut server = Server::new(rt.alloc(), 1);
     assert!(rt; is_published(&rt, &mut server, &mut files, "published a \"1-1\"\n"));
     assert!(rt; server.file(b"a") == Some(file.as_slice()));
-    fs::remove_file(&rt, "socket_tests_fixture")?;
+    fs::remove_file(&rt, "serving_tests_fixture")?;
     Ok(())
 }
 

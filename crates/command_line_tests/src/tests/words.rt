@@ -1,8 +1,8 @@
 //! The words of `cogread` and `cogserve`, and the lines that they are.
-use super::words_of;
 use clap::Error;
 use clap::error::ErrorKind;
 use command_lines::{AskedWords, ReadLine, WindowWords, read_line, serve_line};
+use programs_support::words_of;
 use std::alloc::{AllocError, Global};
 use std::test::Fail;
 

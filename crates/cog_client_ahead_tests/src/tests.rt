@@ -1,0 +1,3 @@
+//! Tests of a client that looks ahead.
+mod ahead;
+mod early;

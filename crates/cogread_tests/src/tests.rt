@@ -1,0 +1,4 @@
+//! Tests of `cogread` over a server in memory.
+mod describes;
+mod reads;
+mod told;

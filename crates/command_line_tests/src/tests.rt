@@ -1,0 +1,4 @@
+//! Tests of command lines.
+mod helps;
+mod line_numbers;
+mod words;

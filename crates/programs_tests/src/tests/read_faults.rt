@@ -1,0 +1,43 @@
+//! `cogread`: the lines of its faults, where no server is.
+use super::{FaultRow, expect_faults};
+use std::test::Fail;
+
+#[rattlefmt::skip]
+const FAULTS: [FaultRow<'static>; 27] = [
+    // Nobody listens there.
+    ("cogread info 127.0.0.1:1 a", "cogread: no report\n", 4),
+    ("cogread window 127.0.0.1:1 a 4294967295 0 1 1 --requests 2", "cogread: no report\n", 4),
+    ("cogread window 127.0.0.1:1 a 4294967296 x 1 1", "cogread: not a number: 4294967296\n", 2),
+    ("cogread window 127.0.0.1:1 a 0 '' 1 1", "cogread: not a number: \n", 2),
+    ("cogread window 127.0.0.1:1 a 0 0 1 1x --level x", "cogread: not a number: 1x\n", 2),
+    ("cogread window h? a 0 0 1 1 --level - --blocks x", "cogread: not a number: -\n", 2),
+    ("cogread window h a 0 0 1 1 --columns 00000000001", "cogread: not a number: 00000000001\n", 2),
+    ("cogread info h a --blocks 1 --requests 0", "cogread: not a number: 0\n", 2),
+    ("cogread info h a --requests 65537", "cogread: not a number: 65537\n", 2),
+    ("cogread info h? a --blocks 65", "cogread: not a number: 65\n", 2),
+    ("cogread info h a --blocks 4097", "cogread: not a number: 4097\n", 2),
+    ("cogread info h a --ahead 65", "cogread: not a number: 65\n", 2),
+    ("cogread describe h a --blocks 4097 --json", "cogread: not a number: 4097\n", 2),
+    ("cogread describe 127.0.0.1:1 a --json", "cogread: no report\n", 4),
+    ("cogread info h?:1 a?", "cogread: refused 1\n", 2),
+    ("cogread info 127.0.0.1:1 a?", "cogread: refused 2\n", 2),
+    // No address has that name.
+    ("cogread info 127.0.0.1 a --requests 1", "cogread: no report\n", 4),
+    // A URL in the place of a server and a name.
+    ("cogread info http://127.0.0.1:1/a", "cogread: no report\n", 4),
+    ("cogread window http://127.0.0.1:1/a/b.tif 0 0 1 x", "cogread: not a number: x\n", 2),
+    ("cogread info http://127.0.0.1:1/a+", "cogread: refused 2\n", 2),
+    ("cogread info http://[::1]:1/a", "cogread: refused 1\n", 2),
+    ("cogread describe http://127.0.0.1:1/a", "cogread: no report\n", 4),
+    ("cogread info http://h/a?b", "cogread: not a place: http://h/a?b: the path isn't /NAME as it is asked for, byte for byte\n", 2),
+    ("cogread info http://h/a/../b", "cogread: not a place: http://h/a/../b: the path isn't /NAME as it is asked for, byte for byte\n", 2),
+    ("cogread info http://h", "cogread: not a place: http://h: the path isn't /NAME as it is asked for, byte for byte\n", 2),
+    ("cogread info http://me@h/a", "cogread: not a place: http://me@h/a: a user's name or a password\n", 2),
+    // As it was before there were URLs: a server and a name.
+    ("cogread info http://h/a b", "cogread: refused 1\n", 2),
+];
+
+#[test]
+fn tells_why_nothing_is_read(rt: HostRuntime) -> Result<(), Fail> {
+    Ok(expect_faults(&rt, &FAULTS)?)
+}

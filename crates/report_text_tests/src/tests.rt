@@ -1,0 +1,3 @@
+//! Tests of the texts of reports.
+mod sentences;
+mod texts;
