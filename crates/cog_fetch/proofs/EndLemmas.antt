@@ -1,16 +1,17 @@
 -- How an answer's end is known as its bytes come.
-use Rattle.std.proofs.Common.{◌≡◌, ◌≢◌, ℕ, ◌-◌, ◌<◌, ◌≤◌, ◌&&◌, Bool, true, false, cond, List, ◌++◌, length, Result, Ok, Err, refl, sym, ap, ◌∙◌, inl, inr, arith, length-append}
+use Rattle.std.proofs.Common.{◌≡◌, ◌≢◌, ℕ, ◌-◌, ◌<◌, ◌≤◌, ◌&&◌, ◌||◌, Bool, true, false, cond, List, [], ◌∷◌, ◌++◌, length, Result, Ok, Err, refl, sym, ap, ◌∙◌, subst, inl, inr, arith, append_assoc, append-nil, length-append}
+use Rattle.std.specs.Prelude.{OnOk, not}
 use Rattle.std.proofs.Math.Dec.{leb, ltb}
 use Rattle.std.proofs.lemmas.Bool.{cases_lt, le-leb, le-ltb, lt-leb, lt-ltb}
 use Rattle.http_range.specs.declared.reading.Why.{Why}
 use Rattle.http_range.specs.declared.reading.Why.TheVariants.{Cut}
 use Rattle.http_range.specs.Announced.{Announced}
 use Rattle.http_range.specs.Laws.{HeadsGrow}
-use Rattle.http_range.specs.Reading.{ReadsHead}
+use Rattle.http_range.specs.Reading.{EndsConnection, ReadsHead}
 use Rattle.cog_fetch.specs.declared.answer_end.AnswerEnd.{AnswerEnd}
 use Rattle.cog_fetch.specs.declared.answer_end.Lacks.{Lacks}
 use Rattle.cog_fetch.specs.declared.answer_end.Lacks.TheVariants.{Body, End, Head}
-use Rattle.cog_fetch.specs.AnswerEnd.{Came, IsWholeAnswer, lacks_behind, has_begun, lacks_by, lacks_of, may_change}
+use Rattle.cog_fetch.specs.AnswerEnd.{Came, EndsBehind, IsLast, IsWholeAnswer, MayGoOn, closes, has_begun, is_some_of, kept_of, lacks_behind, lacks_by, lacks_of, may_change}
 
 abbrev left_in : Lacks → ℕ
 left_in (Body n) = n
@@ -47,6 +48,41 @@ unequal l m f same is isnt = let e : true ≡ false = sym is ∙ ap f same ∙ i
 true_false : true ≡ false → ⊥
 true_false e = cc
 
+pub not_true : (b : Bool) → not b ≡ true → b ≡ false
+not_true true e = absurd (true_false (sym e))
+not_true false e = refl
+
+pub not_false : (b : Bool) → not b ≡ false → b ≡ true
+not_false true e = refl
+not_false false e = absurd (true_false e)
+
+pub left_of : (m n : ℕ) → Body m ≡ Body n → m ≡ n
+left_of m n same = ap left_in same
+
+-- what follows where there is no error
+pub on_ok : {A E P Q : Type 0} (r : Result A E) → OnOk r P → (P → Q) → OnOk r Q
+on_ok (Ok x) p f = f p
+on_ok (Err e) p f = tt
+
+-- a byte stands in bytes or in those behind them
+pub begins_on : (front more : List ℕ) → (is_some_of front || is_some_of more) ≡ is_some_of (front ++ more)
+begins_on [] more = refl
+begins_on (x ∷ front) more =
+    ap (λ (t : Bool). t || is_some_of more) (lt-ltb 0 (length (x ∷ front)) (omega arith))
+    ∙ sym (lt-ltb 0 (length (x ∷ (front ++ more))) (omega arith))
+
+-- what a head says of the end stays when bytes follow
+ends_on : (front more : List ℕ) (ends : Bool) → EndsBehind front ends → EndsBehind (front ++ more) ends
+ends_on front more ends e =
+    let rest = e.is_front.0 in
+    record {
+      front = e.front;
+      is_front = (rest ++ more, sym (append_assoc e.front rest more) ∙ ap (λ (t : List ℕ). t ++ more) e.is_front.1);
+      head = e.head;
+      reads = e.reads;
+      says = e.says;
+    }
+
 -- so many are left of the body that the head announces
 record IsLeft (head : Announced) (n left : ℕ) : Type 0 where
   few : n - head.size ≤ head.length
@@ -62,6 +98,23 @@ is_left head n left is = elim (cases_lt head.length (n - head.size)) [
 no_body : (t : Bool) (left : ℕ) → Body left ≡ cond t Head End → ⊥
 no_body true left is = unequal (Body left) Head is_body is refl refl
 no_body false left is = unequal (Body left) End is_body is refl refl
+
+-- all that came was looked at
+pub looked_at : (a : AnswerEnd) (bytes : List ℕ) (r : Result Announced Why) → ReadsHead bytes r → lacks_of a ≡ lacks_by r (length bytes)
+    → kept_of a ≡ bytes → EndsConnection bytes (closes a) → has_begun a ≡ is_some_of bytes → Came a bytes
+looked_at a bytes r reads lacks kept says begun = record {
+  reading = r;
+  reads = reads;
+  lacks = lacks;
+  kept = λ e. kept;
+  ends = λ left is. by left r reads (sym is ∙ lacks);
+  begun = begun;
+}
+  where
+    by : (left : ℕ) (s : Result Announced Why) → ReadsHead bytes s → Body left ≡ lacks_by s (length bytes) → EndsBehind bytes (closes a)
+    by left (Err why) found h = absurd (no_body (may_change why && ltb (length bytes) 4096) left h)
+    by left (Ok head) found h =
+        record { front = bytes; is_front = ([], append-nil bytes); head = head; reads = found; says = says }
 
 module _ (grow : HeadsGrow) where
   body_on : (head : Announced) (front more : List ℕ) (left : ℕ) → ReadsHead front (Ok head)
@@ -83,10 +136,26 @@ module _ (grow : HeadsGrow) where
             ∙ sym (fits_behind head.length (length (front ++ more) - head.size) (omega (arith, long)))
       ]
 
+  -- nothing came so far
+  pub nothing_came : (a : AnswerEnd) (r : Result Announced Why) → ReadsHead [] r → lacks_of a ≡ lacks_by r 0 → kept_of a ≡ []
+      → has_begun a ≡ false → Came a []
+  nothing_came a r reads lacks kept begun = record {
+    reading = r;
+    reads = reads;
+    lacks = lacks;
+    kept = λ e. kept;
+    ends = λ left is. elim (grow.empty r reads) [
+      | inl cut ↦ absurd (unequal (Body left) Head is_body (sym is ∙ lacks ∙ ap (λ (x : Result Announced Why). lacks_by x 0) cut) refl refl)
+      | inr refused ↦ absurd (unequal (Body left) Head is_body (sym is ∙ lacks ∙ ap (λ (x : Result Announced Why). lacks_by x 0) refused) refl refl)
+    ];
+    begun = begun;
+  }
+
   -- bytes of the body came
   pub came_behind : (old new : AnswerEnd) (front more : List ℕ) (left : ℕ) → lacks_of old ≡ Body left
-      → lacks_of new ≡ lacks_behind left (length more) → has_begun new ≡ true → Came old front → Came new (front ++ more)
-  came_behind old new front more left was is begun c = by c.reading c.reads (sym was ∙ c.lacks)
+      → lacks_of new ≡ lacks_behind left (length more) → closes new ≡ closes old
+      → has_begun new ≡ (has_begun old || is_some_of more) → Came old front → Came new (front ++ more)
+  came_behind old new front more left was is same begun c = by c.reading c.reads (sym was ∙ c.lacks)
     where
       no_head : (left n : ℕ) → lacks_behind left n ≡ Head → ⊥
       no_head left n e = elim (cases_lt left n) [
@@ -101,11 +170,13 @@ module _ (grow : HeadsGrow) where
         reads = grow.stays front more (Ok head) (λ e. (let f : false ≡ true = ap is_cut e in cc)) reads;
         lacks = is ∙ body_on head front more left reads h;
         kept = λ e. absurd (no_head left (length more) (sym is ∙ e));
-        begun = λ e. absurd (true_false (sym begun ∙ e));
+        ends = λ next e. subst (EndsBehind (front ++ more)) (sym same) (ends_on front more (closes old) (c.ends left was));
+        begun = begun ∙ ap (λ (t : Bool). t || is_some_of more) c.begun ∙ begins_on front more;
       }
 
   -- where nothing is known of its end, nothing is known when more came
-  pub came_on : (old new : AnswerEnd) (front more : List ℕ) → lacks_of old ≡ End → lacks_of new ≡ End → has_begun new ≡ true → Came old front → Came new (front ++ more)
+  pub came_on : (old new : AnswerEnd) (front more : List ℕ) → lacks_of old ≡ End → lacks_of new ≡ End
+      → has_begun new ≡ (has_begun old || is_some_of more) → Came old front → Came new (front ++ more)
   came_on old new front more was is begun c = by c.reading c.reads (sym was ∙ c.lacks)
     where
       stays : (r : Result Announced Why) → r ≢ Err Cut → ReadsHead front r → lacks_by r (length (front ++ more)) ≡ End → Came new (front ++ more)
@@ -114,7 +185,8 @@ module _ (grow : HeadsGrow) where
         reads = grow.stays front more r sure reads;
         lacks = is ∙ sym ends;
         kept = λ e. absurd (unequal End Head is_end (sym is ∙ e) refl refl);
-        begun = λ e. absurd (true_false (sym begun ∙ e));
+        ends = λ left e. absurd (unequal End (Body left) is_end (sym is ∙ e) refl refl);
+        begun = begun ∙ ap (λ (t : Bool). t || is_some_of more) c.begun ∙ begins_on front more;
       }
 
       by_reason : (why : Why) (b : Bool) → may_change why ≡ b → ReadsHead front (Err why)
@@ -140,7 +212,7 @@ module _ (grow : HeadsGrow) where
       by (Err why) reads h = by_reason why (may_change why) refl reads h
 
   -- a whole answer lacks nothing
-  pub whole_of : (a : AnswerEnd) (bytes : List ℕ) → lacks_of a ≡ Body 0 → Came a bytes → IsWholeAnswer bytes
+  whole_of : (a : AnswerEnd) (bytes : List ℕ) → lacks_of a ≡ Body 0 → Came a bytes → IsWholeAnswer bytes
   whole_of a bytes none c = by c.reading c.reads (sym none ∙ c.lacks)
     where
       by : (r : Result Announced Why) → ReadsHead bytes r → Body 0 ≡ lacks_by r (length bytes) → IsWholeAnswer bytes
@@ -151,3 +223,23 @@ module _ (grow : HeadsGrow) where
           let few = l.few in
           let left_is = l.left_is in
           record { head = head; reads = reads; whole = omega arith }
+
+  -- where a whole answer came, nothing is lacking
+  lacks_none : (a : AnswerEnd) (bytes : List ℕ) → Came a bytes → IsWholeAnswer bytes → lacks_of a ≡ Body 0
+  lacks_none a bytes c w =
+      let n = length bytes - w.head.size in
+      let whole = w.whole in
+      c.lacks ∙ ap (λ (r : Result Announced Why). lacks_by r (length bytes)) (grow.one bytes w.head c.reading w.reads c.reads)
+      ∙ fits_behind w.head.length n (omega arith) ∙ ap Body (omega arith)
+
+  -- the answer is whole, and its head doesn't say that the connection ends
+  pub goes_on : (a : AnswerEnd) (bytes : List ℕ) → lacks_of a ≡ Body 0 → closes a ≡ false → Came a bytes → MayGoOn bytes
+  goes_on a bytes none lasting c = (whole_of a bytes none c, subst (EndsBehind bytes) lasting (c.ends 0 none))
+
+  -- the head says that the connection ends
+  pub last_closed : (a : AnswerEnd) (bytes : List ℕ) → lacks_of a ≡ Body 0 → closes a ≡ true → Came a bytes → IsLast bytes
+  last_closed a bytes none closed c = inr (subst (EndsBehind bytes) closed (c.ends 0 none))
+
+  -- the answer isn't whole
+  pub last_lacking : (a : AnswerEnd) (bytes : List ℕ) → (lacks_of a ≡ Body 0 → ⊥) → Came a bytes → IsLast bytes
+  last_lacking a bytes some c = inl (λ whole. some (lacks_none a bytes c whole))

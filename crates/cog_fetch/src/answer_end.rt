@@ -1,8 +1,8 @@
 //! Where an answer ends on a connection that may go on behind it.
-ghost use Rattle.std.specs.Prelude.{◌≡◌, ◌++◌, ℕ, [], List, OnErr, OnOk, false, true};
+ghost use Rattle.std.specs.Prelude.{◌≡◌, ◌++◌, ◌||◌, ℕ, [], List, OnErr, OnOk, false, true};
 ghost use Rattle.http_range.specs.Announced.{head_reading_seen};
 ghost use Rattle.cog_fetch.specs.declared.answer_end.Lacks.TheVariants.{Body, End};
-ghost use Rattle.cog_fetch.specs.AnswerEnd.{lacks_behind, lacks_by, lacks_of, has_begun, may_change, Came, IsWholeAnswer};
+ghost use Rattle.cog_fetch.specs.AnswerEnd.{is_some_of, lacks_behind, lacks_by, lacks_of, has_begun, kept_of, may_change, Came, IsLast, MayGoOn};
 
 use http_parts::limits::HEAD_LIMIT;
 use http_range::{HeadReading, Why, ends_connection, heads_grow, read_head};
@@ -99,17 +99,21 @@ impl AnswerEnd {
     pub fn has_begun(&self) -> bool
         ensures value { result ≡ has_begun self.now }
         ensures none { result ≡ false → (bytes : List ℕ) → Came self.now bytes → bytes ≡ [] }
+        ensures some { result ≡ true → (bytes : List ℕ) → Came self.now bytes → ¬ (bytes ≡ []) }
     {
         self.begun
     }
 
-    /// The next bytes of the answer came. Where there is no memory for them, nothing is known any more of where it ends.
+    /// The next bytes of the answer came. Where there is no memory for them, nothing is known any more of where it ends, also when more
+    /// of it comes.
     pub fn came(&mut self, bytes: &[u8]) -> Result<(), AllocError>
         ensures ok { OnOk result ((front : List ℕ) → Came self.old front → Came self.new (front ++ bytes.now)) }
         ensures err { OnErr result (lacks_of self.new ≡ End) }
+        ensures lost { lacks_of self.old ≡ End → lacks_of self.new ≡ End }
+        ensures begun { has_begun self.new ≡ (has_begun self.old || is_some_of bytes.now) }
     {
         heads_grow();
-        self.begun = true;
+        self.begun |= !bytes.is_empty();
         match self.lacks {
             Lacks::Head => self.look(bytes),
             Lacks::Body(left) => {
@@ -122,9 +126,10 @@ impl AnswerEnd {
 
     /// Keeps the next bytes, and reads the head if it is whole now.
     fn look(&mut self, bytes: &[u8]) -> Result<(), AllocError>
-        requires { has_begun self.old ≡ true }
-        ensures ok { OnOk result ((front : List ℕ) → self.old.head.items ≡ front → Came self.new (front ++ bytes.now)) }
+        ensures ok { OnOk result ((front : List ℕ) → kept_of self.old ≡ front → has_begun self.old ≡ is_some_of (front ++ bytes.now)
+            → Came self.new (front ++ bytes.now)) }
         ensures err { OnErr result (lacks_of self.new ≡ End) }
+        ensures begun { has_begun self.new ≡ has_begun self.old }
     {
         self.lacks = Lacks::End;
         self.head.extend_from_slice(bytes)?;
@@ -134,9 +139,11 @@ impl AnswerEnd {
     }
 
     /// Whether another answer may follow on the connection: this one is whole, nothing behind it came, and its head doesn't say that
-    /// the connection ends (RFC 9112, section 9.3).
+    /// the connection ends (RFC 9112, section 9.3). None may where it isn't known where this one ends.
     pub fn may_go_on(&self) -> bool
-        ensures { result ≡ true → (bytes : List ℕ) → Came self.now bytes → IsWholeAnswer bytes }
+        ensures goes { result ≡ true → (bytes : List ℕ) → Came self.now bytes → MayGoOn bytes }
+        ensures ends { result ≡ false → (bytes : List ℕ) → Came self.now bytes → IsLast bytes }
+        ensures lost { lacks_of self.now ≡ End → result ≡ false }
     {
         heads_grow();
         let Lacks::Body(left) = self.lacks else {
