@@ -1,4 +1,9 @@
 //! What the levels and the keys of a file say, by what they mean.
+ghost use Rattle.std.specs.Prelude.{◌≡◌, ◌==◌, IfOk, find, option_copied, option_map};
+ghost use Rattle.std.specs.Cow.{cow_str_bytes};
+ghost use Rattle.std.specs.Str.Lossy.{utf8_lossy};
+ghost use Rattle.describing.specs.Facts.{citation, compression_name, number_of, raster_type_by, raster_type_of, system_number, text_of, type_name, value_of, without_end, IsFactsOf, IsSystemBy};
+
 use cog_client::Info;
 use geokeys::{Key, KeyValue};
 use serde::Serialize;
@@ -46,58 +51,133 @@ pub struct CoordinateSystem<'a> {
 /// GTRasterTypeGeoKey (OGC 19-008, section 7.5.2).
 const RASTER_TYPE: u16 = 1025;
 
-/// ProjectedCRSGeoKey and GeodeticCRSGeoKey, the projected one first.
-const SYSTEMS: [u16; 2] = [3072, 2048];
+/// ProjectedCRSGeoKey.
+const PROJECTED: u16 = 3072;
 
-/// ProjectedCitationGeoKey, GeodeticCitationGeoKey and GTCitationGeoKey.
-const CITATIONS: [u16; 3] = [3073, 2049, 1026];
+/// GeodeticCRSGeoKey.
+const GEODETIC: u16 = 2048;
+
+/// ProjectedCitationGeoKey.
+const PROJECTED_CITATION: u16 = 3073;
+
+/// GeodeticCitationGeoKey.
+const GEODETIC_CITATION: u16 = 2049;
+
+/// GTCitationGeoKey.
+const CITATION: u16 = 1026;
 
 impl LevelFacts {
-    pub fn of(level: &Level) -> LevelFacts {
+    /// What a level says: its sides and those of its tiles, how many tiles there are, and its samples.
+    pub fn of(level: &Level) -> LevelFacts
+        ensures { IsFactsOf level.now result }
+    {
         LevelFacts {
             size: (level.width, level.length),
             block: (level.tile_width, level.tile_length),
             tiles: level.offsets.count,
             samples: level.samples,
             bits: level.bits,
-            kind: if level.bits == 8 { "Byte" } else { "UInt16" },
-            compression: match level.compression {
-                Compression::Plain => "none",
-                Compression::PackBits => "PackBits",
-            },
+            kind: type_name(level.bits),
+            compression: compression_name(level.compression),
         }
     }
 }
 
-/// The value of a key that is there.
-fn value_of(keys: &[Key], id: u16) -> Option<&KeyValue> {
-    let key = keys.iter().find(|key| key.id == id)?;
-    Some(&key.value)
+/// GDAL's name of the type of a sample of so many bits, 8 or 16.
+fn type_name(bits: u16) -> &'static str
+    ensures { result.now ≡ type_name bits }
+{
+    if bits == 8 { "Byte" } else { "UInt16" }
+}
+
+fn compression_name(compression: Compression) -> &'static str
+    ensures { result.now ≡ compression_name compression }
+{
+    match compression {
+        Compression::Plain => "none",
+        Compression::PackBits => "PackBits",
+    }
+}
+
+/// The first key of this number.
+fn key_of(keys: &[Key], id: u16) -> Option<&Key>
+    ensures { option_copied result ≡ find (λ key. key.id == id) keys.now }
+{
+    keys.iter().find(|key| key.id == id)
+}
+
+/// The value of the first key of this number.
+fn value_of(keys: &[Key], id: u16) -> Option<&KeyValue>
+    ensures { option_copied result ≡ value_of id keys.now }
+{
+    match key_of(keys, id) {
+        Some(key) => Some(&key.value),
+        None => None,
+    }
 }
 
 /// The number of a key that has one.
-fn number_of(keys: &[Key], id: u16) -> Option<u16> {
-    match value_of(keys, id)? {
-        KeyValue::Short(number) => Some(*number),
-        KeyValue::Doubles(_) | KeyValue::Ascii(_) => None,
+fn number_of(keys: &[Key], id: u16) -> Option<u16>
+    ensures { result ≡ number_of id keys.now }
+{
+    match value_of(keys, id) {
+        Some(KeyValue::Short(number)) => Some(*number),
+        _ => None,
     }
 }
 
-/// The bytes of the text of a key that has one, without the bar or the NUL that ends it.
-fn text_of(keys: &[Key], id: u16) -> Option<&[u8]> {
-    match value_of(keys, id)? {
-        KeyValue::Ascii(bytes) => match bytes.as_slice() {
-            [text @ .., b'|' | 0] => Some(text),
-            text => Some(text),
-        },
-        KeyValue::Short(_) | KeyValue::Doubles(_) => None,
+/// A text without the bar or the NUL that ends it.
+fn without_end(bytes: &[u8]) -> &[u8]
+    ensures { result.now ≡ without_end bytes.now }
+{
+    let count = bytes.len().saturating_sub(1);
+    match bytes.get(count) {
+        Some(b'|' | 0) => &bytes[..count],
+        _ => bytes,
     }
+}
+
+/// The bytes of the text of a key that has one, without its end.
+fn text_of(keys: &[Key], id: u16) -> Option<&[u8]>
+    ensures { option_copied result ≡ text_of id keys.now }
+{
+    match value_of(keys, id) {
+        Some(KeyValue::Ascii(bytes)) => Some(without_end(bytes)),
+        _ => None,
+    }
+}
+
+/// The number of the system, of the projected one first.
+fn system_number(keys: &[Key]) -> Option<u16>
+    ensures { result ≡ system_number keys.now }
+{
+    number_of(keys, PROJECTED).or(number_of(keys, GEODETIC))
+}
+
+/// The text of the first citation.
+fn citation(keys: &[Key]) -> Option<&[u8]>
+    ensures { option_copied result ≡ citation keys.now }
+{
+    let general = text_of(keys, CITATION);
+    text_of(keys, PROJECTED_CITATION).or(text_of(keys, GEODETIC_CITATION).or(general))
 }
 
 impl RasterType {
     /// What the file says that a pixel is; of numbers that the standard doesn't have, nothing.
-    pub fn of(info: &Info) -> Option<RasterType> {
-        match number_of(&info.geo.keys, RASTER_TYPE)? {
+    pub fn of(info: &Info) -> Option<RasterType>
+        ensures { result ≡ raster_type_by info.now.geo.keys.items }
+    {
+        match number_of(&info.geo.keys, RASTER_TYPE) {
+            Some(number) => RasterType::numbered(number),
+            None => None,
+        }
+    }
+
+    /// The one of this number.
+    fn numbered(number: u16) -> Option<RasterType>
+        ensures { result ≡ raster_type_of number }
+    {
+        match number {
             1 => Some(RasterType::Area),
             2 => Some(RasterType::Point),
             _ => None,
@@ -107,10 +187,12 @@ impl RasterType {
 
 impl<'a> CoordinateSystem<'a> {
     /// The number and the text of the first keys that have them.
-    pub fn of(alloc: Global, info: &'a Info) -> Result<Option<CoordinateSystem<'a>>, AllocError> {
+    pub fn of(alloc: Global, info: &'a Info) -> Result<Option<CoordinateSystem<'a>>, AllocError>
+        ensures { IfOk result (IsSystemBy info.now.geo.keys.items) }
+    {
         let keys = info.geo.keys.as_slice();
-        let number = SYSTEMS.iter().find_map(|id| number_of(keys, *id));
-        let name = match CITATIONS.iter().find_map(|id| text_of(keys, *id)) {
+        let number = system_number(keys);
+        let name = match citation(keys) {
             Some(bytes) => Some(readable(alloc, bytes)?),
             None => None,
         };
@@ -122,7 +204,10 @@ impl<'a> CoordinateSystem<'a> {
 }
 
 /// The text of bytes; what isn't UTF-8 in them becomes U+FFFD.
-pub fn readable(alloc: Global, bytes: &[u8]) -> Result<CowStr<'_>, AllocError> {
+#[tactic(auto, using(crate::proofs::TextLemmas::stays))]
+pub fn readable(alloc: Global, bytes: &[u8]) -> Result<CowStr<'_>, AllocError>
+    ensures { IfOk result (λ text. cow_str_bytes text ≡ utf8_lossy bytes.now) }
+{
     match str::from_utf8(bytes) {
         Ok(text) => Ok(CowStr::Borrowed(text)),
         Err(_) => Ok(CowStr::Owned(String::from_utf8_lossy(alloc, bytes)?)),
