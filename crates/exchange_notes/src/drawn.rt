@@ -1,10 +1,11 @@
 //! Exchanges whose progress is drawn on standard error, as one line over itself.
 ghost use Rattle.std.specs.Prelude.{◌+◌, ◌<◌, ◌≤◌, ◌^◌};
+ghost use Rattle.cog_client.specs.Transport.{KeepsReading};
 ghost use Rattle.exchange_notes.specs.Noted.{source_of};
 
 use crate::noted::{Noted, Progress};
 use cog_client::{Client, FetchError, Pieces};
-use cog_fetch::fetch_pieces;
+use cog_fetch::exchange_pieces;
 use std::fmt;
 
 impl fmt::Display for Progress {
@@ -26,12 +27,13 @@ pub fn exchanges_drawn<R: Eprint, P: Pieces>(
     requests: u32,
 ) -> Result<(), FetchError>
     requires { P.count (source_of noted.old) + requests < 2 ^ 64 }
+    ensures keeps { KeepsReading (P.speaks_for (source_of noted.old)) (P.speaks_for (source_of noted.new)) client.old client.new }
     ensures few { P.count (source_of noted.new) ≤ P.count (source_of noted.old) + requests }
 {
-    for _ in 0..requests {
-        let stands = fetch_pieces(client, noted, 1)?.is_some();
+    for done in 0..requests {
+        exchange_pieces(client, noted, requests - done - 1)?;
         let _ = eprint!(rt; "\rcogread: {}", noted.progress());
-        if stands {
+        if client.report().is_some() {
             break;
         }
     }

@@ -1,5 +1,6 @@
 //! Exchanges that are told on standard error, each when it is over.
 ghost use Rattle.std.specs.Prelude.{◌+◌, ◌<◌, ◌≤◌, ◌^◌};
+ghost use Rattle.cog_client.specs.Transport.{KeepsReading};
 ghost use Rattle.exchange_notes.specs.Noted.{source_of};
 
 use crate::clock::moment;
@@ -27,7 +28,8 @@ fn exchange_told<R: Eprint + Clock, P: Pieces>(
     later: u32,
 ) -> Result<bool, FetchError>
     requires { P.count (source_of noted.old) + 1 < 2 ^ 64 }
-    ensures { P.count (source_of noted.new) ≤ P.count (source_of noted.old) + 1 }
+    ensures keeps { KeepsReading (P.speaks_for (source_of noted.old)) (P.speaks_for (source_of noted.new)) client.old client.new }
+    ensures few { P.count (source_of noted.new) ≤ P.count (source_of noted.old) + 1 }
 {
     let before = tag_of(client);
     let since = moment(rt);
@@ -57,6 +59,7 @@ pub fn exchanges_told<R: Eprint + Clock, P: Pieces>(
     requests: u32,
 ) -> Result<(), FetchError>
     requires { P.count (source_of noted.old) + requests < 2 ^ 64 }
+    ensures keeps { KeepsReading (P.speaks_for (source_of noted.old)) (P.speaks_for (source_of noted.new)) client.old client.new }
     ensures few { P.count (source_of noted.new) ≤ P.count (source_of noted.old) + requests }
 {
     for done in 0..requests {

@@ -1,9 +1,14 @@
 //! How `cogread` reads: its exchanges, which are told with `--verbose` and drawn with `--progress`, and what is asked of the file.
-ghost use Rattle.std.specs.Prelude.{◌+◌, ◌<◌, ◌^◌};
+ghost use Rattle.std.specs.Prelude.{◌≡◌, ◌+◌, ◌<◌, ◌^◌, [], ◌∷◌, IfSome, OnOk, slice_get};
+ghost use Rattle.http_range.specs.Book.{Publication};
+ghost use Rattle.cog_client.specs.Client.{query_of, ClientAgrees};
+ghost use Rattle.cog_client.specs.Transport.{KeepsReading, ReadsPublication};
 ghost use Rattle.exchange_notes.specs.Noted.{source_of};
+ghost use Rattle.programs.specs.declared.reading.Asked.TheVariants.{Whole};
+ghost use Rattle.programs.specs.Text.{IsFor, IsOfWhole, IsWritten, StaysWithin, StillReads, WritesTrue};
 
 use crate::fault::Fault;
-use cog_client::{Client, Outcome, Pieces, Query, Report, Tag};
+use cog_client::{Client, FetchError, Info, Outcome, Pieces, Query, Report, Tag};
 use cog_fetch::fetch_pieces;
 use describing::{Description, Form};
 use exchange_notes::{Noted, NotedNet, exchanges_drawn, exchanges_told};
@@ -42,7 +47,8 @@ pub struct Exchanges<'a, 'r, R> {
 
 /// How many exchanges of so many are left.
 fn left<P: Pieces>(noted: &Noted<P>, requests: u32) -> u32
-    ensures { P.count (source_of noted.now) + result < 2 ^ 64 }
+    ensures counted { P.count (source_of noted.now) + result < 2 ^ 64 }
+    ensures few { StaysWithin requests (P.count (source_of noted.now)) (P.count (source_of noted.now) + result) }
 {
     let starts = noted.starts();
     if starts < u64::from(requests) {
@@ -54,7 +60,10 @@ fn left<P: Pieces>(noted: &Noted<P>, requests: u32) -> u32
 
 impl<R: Eprint + Clock + AllocGlobal> Exchanges<'_, '_, R> {
     /// Sends what the client asks, until a report stands or no exchange is left.
-    fn fetch<P: Pieces>(&self, client: &mut Client, noted: &mut Noted<P>) -> Result<(), Fault> {
+    fn fetch<P: Pieces>(&self, client: &mut Client, noted: &mut Noted<P>) -> Result<(), FetchError>
+        ensures keeps { KeepsReading (P.speaks_for (source_of noted.old)) (P.speaks_for (source_of noted.new)) client.old client.new }
+        ensures few { StaysWithin self.now.requests (P.count (source_of noted.old)) (P.count (source_of noted.new)) }
+    {
         let left = left(noted, self.requests);
         match self.telling {
             Telling::Nothing => {
@@ -72,7 +81,12 @@ impl<R: Eprint + Clock + AllocGlobal> Exchanges<'_, '_, R> {
         client: &mut Client,
         noted: &mut Noted<P>,
         level: u32,
-    ) -> Result<(), Fault> {
+    ) -> Result<(), FetchError>
+        ensures reads { StillReads (P.speaks_for (source_of noted.old)) (P.speaks_for (source_of noted.new)) client.old client.new }
+        ensures asks { (p : Publication) → ReadsPublication (P.speaks_for (source_of noted.old)) client.old p
+            → OnOk result (IfSome (query_of client.new) (IsFor p.file (Whole level))) }
+        ensures few { StaysWithin self.now.requests (P.count (source_of noted.old)) (P.count (source_of noted.new)) }
+    {
         for _ in 0..self.requests {
             client.open(Query::Info);
             self.fetch(client, noted)?;
@@ -95,7 +109,12 @@ impl<R: Eprint + Clock + AllocGlobal> Exchanges<'_, '_, R> {
         client: &mut Client,
         noted: &mut Noted<P>,
         asked: Asked,
-    ) -> Result<(), Fault> {
+    ) -> Result<(), FetchError>
+        ensures reads { StillReads (P.speaks_for (source_of noted.old)) (P.speaks_for (source_of noted.new)) client.old client.new }
+        ensures asks { (p : Publication) → ReadsPublication (P.speaks_for (source_of noted.old)) client.old p
+            → OnOk result (IfSome (query_of client.new) (IsFor p.file asked)) }
+        ensures few { StaysWithin self.now.requests (P.count (source_of noted.old)) (P.count (source_of noted.new)) }
+    {
         let fetched = self.fetch_asked(client, noted, asked);
         if self.telling == Telling::Progress {
             let _ = eprintln!(self.rt; "");
@@ -109,7 +128,12 @@ impl<R: Eprint + Clock + AllocGlobal> Exchanges<'_, '_, R> {
         client: &mut Client,
         noted: &mut Noted<P>,
         asked: Asked,
-    ) -> Result<(), Fault> {
+    ) -> Result<(), FetchError>
+        ensures reads { StillReads (P.speaks_for (source_of noted.old)) (P.speaks_for (source_of noted.new)) client.old client.new }
+        ensures asks { (p : Publication) → ReadsPublication (P.speaks_for (source_of noted.old)) client.old p
+            → OnOk result (IfSome (query_of client.new) (IsFor p.file asked)) }
+        ensures few { StaysWithin self.now.requests (P.count (source_of noted.old)) (P.count (source_of noted.new)) }
+    {
         let query = match asked {
             Asked::Query(query) => query,
             Asked::Description(_) => Query::Info,
@@ -126,31 +150,46 @@ impl<R: Eprint + Clock + AllocGlobal> Exchanges<'_, '_, R> {
         client: &mut Client,
         noted: &mut Noted<P>,
         asked: Asked,
-    ) -> Result<Vec<u8>, Fault> {
+    ) -> Result<Vec<u8>, Fault>
+        // What is written is true of the publication that the client reads, if the source speaks for it.
+        ensures truth { (p : Publication)
+            → ReadsPublication (P.speaks_for (source_of noted.old)) client.old p → WritesTrue p asked result }
+        // So many exchanges are made at most.
+        ensures few { StaysWithin self.now.requests (P.count (source_of noted.old)) (P.count (source_of noted.new)) }
+    {
         self.fetch_and_end(client, noted, asked)?;
         let Some(report) = client.report() else {
-            if self.telling == Telling::Each {
-                let requests = self.requests;
-                let _ = eprintln!(self.rt;
-                    "cogread: no report by {requests} requests, the most that --requests allows"
-                );
-            }
+            self.tell_no_report();
             return Err(Fault::NoReport);
         };
-        if let Asked::Description(form) = asked
-            && let Some(description) = Description::of(self.rt.alloc(), client)?
-        {
-            return Ok(description.text(self.rt.alloc(), form)?.into_bytes());
-        }
-        self.text_of(report)
+        self.text_of(client, report, asked)
     }
 
-    /// The text of a report. A fault of the file is told as one.
-    fn text_of(&self, report: &Report) -> Result<Vec<u8>, Fault> {
+    /// Tells that no report stands.
+    fn tell_no_report(&self) {
+        if self.telling == Telling::Each {
+            let requests = self.requests;
+            let _ = eprintln!(self.rt;
+                "cogread: no report by {requests} requests, the most that --requests allows"
+            );
+        }
+    }
+
+    /// The text of a client's report. A fault of the file is told as one.
+    fn text_of(&self, client: &Client, report: &Report, asked: Asked) -> Result<Vec<u8>, Fault>
+        ensures { IsWritten asked report.now.outcome result }
+    {
         let alloc = self.rt.alloc();
         match &report.outcome {
             Outcome::Window(window) => Ok(picture(alloc, window)?),
-            Outcome::Info(info) => Ok(info_text(alloc, &report.tag, info)?),
+            Outcome::Info(info) => match asked {
+                Asked::Query(_) => Ok(info_text(alloc, &report.tag, info)?),
+                Asked::Description(form) => match Description::of(alloc, client)? {
+                    Some(description) => Ok(description.text(alloc, form)?.into_bytes()),
+                    None => Err(Fault::NoReport),
+                },
+                Asked::Whole { .. } => Err(Fault::NoReport),
+            },
             Outcome::Fault(fault) => {
                 if self.telling == Telling::Each {
                     let _ = eprintln!(self.rt; "cogread: {}", FaultSentence(*fault));
@@ -161,14 +200,24 @@ impl<R: Eprint + Clock + AllocGlobal> Exchanges<'_, '_, R> {
     }
 }
 
+/// The sides of a level; of one that isn't there, those of one pixel.
+fn level_sides(info: &Info, level: u32) -> (u32, u32)
+    ensures { IfSome (slice_get info.now.sides.items level) (λ sides. sides ≡ result) }
+{
+    info.sides.get(level as usize).copied().unwrap_or((1, 1))
+}
+
 /// The tag that a client has told the sides of a file under, and the window that is the whole of a level. A level that isn't there has
 /// a window that isn't, either.
-fn whole_of(client: &Client, level: u32) -> Option<(Tag, Query)> {
+#[tactic(auto, using(crate::proofs::WholeLemmas::whole_told))]
+fn whole_of(client: &Client, level: u32) -> Option<(Tag, Query)>
+    ensures { (p : Publication) → ClientAgrees client.now (p ∷ []) → IfSome result (λ whole. IsOfWhole p.file level whole.1) }
+{
     let report = client.report()?;
     let Outcome::Info(info) = &report.outcome else {
         return None;
     };
-    let (w, h) = info.sides.get(level as usize).copied().unwrap_or((1, 1));
+    let (w, h) = level_sides(info, level);
     let (x, y, pick) = (0, 0, Pick::Level(level));
     Some((report.tag.copy(), Query::Window { x, y, w, h, pick }))
 }

@@ -22,8 +22,13 @@ const EVENTS: usize = 1024;
 /// So many milliseconds a connection whose answers are written waits for its peer's end.
 const DRAIN: u64 = 2_000;
 
-/// What the system says where the process, or itself, has no descriptor left (`EMFILE`, `ENFILE`).
-const NO_DESCRIPTOR: [i32; 2] = [24, 23];
+/// What the system says where there is no room for a newcomer: no descriptor left to the process or to itself (`EMFILE`, `ENFILE`), or no
+/// memory (`ENOMEM`, `ENOBUFS`).
+const NO_ROOM: [i32; 4] = [24, 23, 12, 105];
+
+/// What it says where a newcomer is lost before it is accepted, and where a signal came (accept(2), "Error handling"): `ECONNABORTED`,
+/// `EPERM`, `EPROTO`, `ENOPROTOOPT`, `EOPNOTSUPP`, `ENONET`, `ENETDOWN`, `ENETUNREACH`, `EHOSTDOWN`, `EHOSTUNREACH`, `ETIMEDOUT`; `EINTR`.
+const LOST: [i32; 12] = [103, 1, 71, 92, 95, 64, 100, 101, 112, 113, 110, 4];
 
 /// How many connections there may be, and how long one keeps its place.
 #[derive(Clone, Copy, Debug, PartialEq, Eq)]
@@ -55,7 +60,7 @@ pub struct Serving {
     buffer: Vec<u8>,
     /// Whether a newcomer may wait.
     knocks: bool,
-    /// Whether there was no descriptor for one.
+    /// Whether there was no room for one.
     is_starved: bool,
     accepted: u32,
 }
@@ -180,8 +185,8 @@ impl Serving {
         Ok(())
     }
 
-    /// Whether to try again at once: where there is no descriptor for a newcomer and one was displaced for it. Else no newcomer
-    /// waits, or it waits until a connection ends or can be displaced.
+    /// Whether to try again at once: where a newcomer is lost, or there is no room for one and another connection was displaced for it.
+    /// Else no newcomer waits, or it waits until a connection ends or can be displaced.
     fn may_try_again(&mut self, error: &io::Error, now: u64) -> Result<bool, AcceptError> {
         match error.raw_os_error() {
             _ if error.kind() == ErrorKind::WouldBlock => {
@@ -189,10 +194,9 @@ impl Serving {
                 self.is_starved = false;
                 Ok(false)
             }
-            Some(number) if NO_DESCRIPTOR.contains(&number) && self.is_starved => {
-                Ok(self.displace(now))
-            }
-            Some(number) if NO_DESCRIPTOR.contains(&number) => {
+            Some(number) if LOST.contains(&number) => Ok(true),
+            Some(number) if NO_ROOM.contains(&number) && self.is_starved => Ok(self.displace(now)),
+            Some(number) if NO_ROOM.contains(&number) => {
                 self.is_starved = true;
                 self.ask()?;
                 Ok(false)

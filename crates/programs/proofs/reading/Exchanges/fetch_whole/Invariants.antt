@@ -1,0 +1,9 @@
+use Rattle.exchange_notes.specs.Noted.{source_of}
+use Rattle.programs.specs.Text.{StaysWithin, StillReads}
+use Rattle.programs.proofs.reading.Exchanges.fetch_whole.Given as goal
+
+abbrev pub invariant-loop : goal.invariant-loop
+invariant-loop g l = record {
+  reads : StillReads (g.P.Pieces.speaks_for (source_of l.fn.noted)) (g.P.Pieces.speaks_for (source_of l.noted)) l.fn.client l.client;
+  few : StaysWithin l.fn.self.requests (g.P.Pieces.count (source_of l.fn.noted)) (g.P.Pieces.count (source_of l.noted));
+}

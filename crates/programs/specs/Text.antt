@@ -1,0 +1,67 @@
+-- What `cogread` writes of a file, and when it is true.
+use Rattle.std.specs.Prelude.{◌≡◌, ◌≤◌, ℕ, ◌⊎◌, List, Option, Some, IfSome, [], ◌∷◌, Result, Ok, Err, ⊤}
+use Rattle.std.specs.Global.{Vec}
+use Rattle.tiff_dir.specs.declared.query.Query.{Query}
+use Rattle.tiff_dir.specs.declared.query.Query.TheVariants.{Window, Info}
+use Rattle.tiff_dir.specs.declared.query.Pick.TheVariants.{Level}
+use Rattle.tiff_dir.specs.Fault.{sides}
+use Rattle.tiff_dir.specs.File.{◌>>=◌}
+use Rattle.tiff_dir.specs.Level.{level_directory}
+use Rattle.http_range.specs.Book.{Publication}
+use Rattle.cog_reader.specs.declared.outcome.Outcome.{Outcome}
+use Rattle.cog_reader.specs.declared.outcome.Outcome.TheVariants as outcome
+use Rattle.cog_client.specs.declared.report.Report.{Report}
+use Rattle.cog_client.specs.Report.{IsTrueReport}
+use Rattle.cog_client.specs.Client.{ClientState}
+use Rattle.cog_client.specs.Transport.{ReadsPublication}
+use Rattle.report_text.specs.Netpbm.{netpbm}
+use Rattle.programs.specs.declared.fault.Fault.{Fault}
+use Rattle.programs.specs.declared.fault.Fault.TheVariants.{NotText, NotAProgram, CommandLine, NotANumber, NotAFile, Script}
+use Rattle.programs.specs.declared.fault.Fault.TheVariants.{RefusedClient, NotAPlace, OfFile, NoReport, CantRead, Refused, CantListen, CantAccept, CantWrite, CantWriteFile, Memory}
+use Rattle.programs.specs.declared.reading.Asked.{Asked}
+use Rattle.programs.specs.declared.reading.Asked.TheVariants as asked
+
+-- the width and the length of a level, if the file has it
+unfoldable pub sides_of_level : List ℕ → ℕ → Option (ℕ × ℕ)
+sides_of_level f level = level_directory f level >>= sides f
+
+-- The query is for the whole of a level, if the file has that.
+abbrev pub IsOfWhole : List ℕ → ℕ → Query → Type 0
+IsOfWhole f level q = IfSome (sides_of_level f level) (λ s. q ≡ Window 0 0 s.0 s.1 (Level level))
+
+-- The query is one for what is asked of the file: of a whole level also Info, which tells its sides.
+abbrev pub IsFor : List ℕ → Asked → Query → Type 0
+IsFor f (asked.Query query) q = q ≡ query
+IsFor f (asked.Whole level) q = (q ≡ Info) ⊎ IsOfWhole f level q
+IsFor f (asked.Description form) q = q ≡ Info
+
+-- A text, or a fault of the file, is what an outcome says: a window is written as a graymap or a pixmap, and of a whole level nothing
+-- else. Of the texts of Info and of descriptions nothing is said here.
+abbrev pub IsWritten : Asked → Outcome → Result (Vec ℕ) Fault → Type 0
+IsWritten a (outcome.Window v) (Ok text) = text.items ≡ netpbm v.samples v.bits v.w v.h v.pixels.items
+IsWritten (asked.Whole level) (outcome.Info i) (Ok text) = ⊥
+IsWritten a (outcome.Info i) (Ok text) = ⊤
+IsWritten a (outcome.Fault fault) (Ok text) = ⊥
+IsWritten a o (Err (OfFile fault)) = o ≡ outcome.Fault fault
+IsWritten a o (Err fault) = ⊤
+
+-- A report that answers what is asked is true of the publication, and is what is written.
+pub record IsTrueOfPublication (p : Publication) (a : Asked) (written : Result (Vec ℕ) Fault) : Type 0 where
+  pub report : Report
+  pub asked : IsFor p.file a report.query
+  pub holds : IsTrueReport report p.name (Some report.query) (p ∷ [])
+  pub says : IsWritten a report.outcome written
+
+-- What is written of a publication is true of it: a text, and a fault of its file.
+abbrev pub WritesTrue : Publication → Asked → Result (Vec ℕ) Fault → Type 0
+WritesTrue p a (Ok text) = IsTrueOfPublication p a (Ok text)
+WritesTrue p a (Err (OfFile fault)) = IsTrueOfPublication p a (Err (OfFile fault))
+WritesTrue p a (Err fault) = ⊤
+
+-- the client still reads each publication that it read and that the source spoke for
+abbrev pub StillReads : (Publication → Type 0) → (Publication → Type 0) → ClientState → ClientState → Type 0
+StillReads before after old new = (p : Publication) → ReadsPublication before old p → ReadsPublication after new p
+
+-- a number that isn't above the most isn't afterwards
+abbrev pub StaysWithin : (most before after : ℕ) → Type 0
+StaysWithin most before after = before ≤ most → after ≤ most
