@@ -1,5 +1,6 @@
 //! Exchanges whose progress is drawn on standard error, as one line over itself.
-ghost use Rattle.std.specs.Prelude.{◌+◌, ◌<◌, ◌≤◌, ◌^◌};
+ghost use Rattle.std.specs.Prelude.{◌≡◌, ◌+◌, ◌<◌, ◌≤◌, ◌^◌, ◌⊎◌, OnOk};
+ghost use Rattle.cog_client.specs.Calls.{IsIdle};
 ghost use Rattle.cog_client.specs.Transport.{KeepsReading};
 ghost use Rattle.exchange_notes.specs.Noted.{source_of};
 
@@ -28,14 +29,14 @@ pub fn exchanges_drawn<R: Eprint, P: Pieces>(
 ) -> Result<(), FetchError>
     requires { P.count (source_of noted.old) + requests < 2 ^ 64 }
     ensures keeps { KeepsReading (P.speaks_for (source_of noted.old)) (P.speaks_for (source_of noted.new)) client.old client.new }
+    ensures ends { OnOk result ((P.count (source_of noted.new) ≡ P.count (source_of noted.old) + requests) ⊎ IsIdle client.new) }
     ensures few { P.count (source_of noted.new) ≤ P.count (source_of noted.old) + requests }
 {
     for done in 0..requests {
-        exchange_pieces(client, noted, requests - done - 1)?;
-        let _ = eprint!(rt; "\rcogread: {}", noted.progress());
-        if client.report().is_some() {
+        if !exchange_pieces(client, noted, requests - done - 1)? {
             break;
         }
+        let _ = eprint!(rt; "\rcogread: {}", noted.progress());
     }
     Ok(())
 }

@@ -1,5 +1,6 @@
 //! Exchanges that are told on standard error, each when it is over.
-ghost use Rattle.std.specs.Prelude.{◌+◌, ◌<◌, ◌≤◌, ◌^◌};
+ghost use Rattle.std.specs.Prelude.{◌≡◌, ◌+◌, ◌<◌, ◌≤◌, ◌^◌, ◌⊎◌, IfOk, OnOk, false, if◌then◌else◌};
+ghost use Rattle.cog_client.specs.Calls.{IsIdle};
 ghost use Rattle.cog_client.specs.Transport.{KeepsReading};
 ghost use Rattle.exchange_notes.specs.Noted.{source_of};
 
@@ -19,7 +20,7 @@ fn tag_of(client: &Client) -> Option<Tag> {
     }
 }
 
-/// One exchange, which is told. At most so many follow. Says whether the report stands.
+/// One exchange, which is told, if the client has a request. Says whether it had one. At most so many follow.
 fn exchange_told<R: Eprint + Clock, P: Pieces>(
     rt: &R,
     net: &NotedNet<'_, R>,
@@ -29,11 +30,16 @@ fn exchange_told<R: Eprint + Clock, P: Pieces>(
 ) -> Result<bool, FetchError>
     requires { P.count (source_of noted.old) + 1 < 2 ^ 64 }
     ensures keeps { KeepsReading (P.speaks_for (source_of noted.old)) (P.speaks_for (source_of noted.new)) client.old client.new }
+    ensures counted { IfOk result (λ asked. P.count (source_of noted.new)
+        ≡ (if asked then P.count (source_of noted.old) + 1 else P.count (source_of noted.old))) }
     ensures few { P.count (source_of noted.new) ≤ P.count (source_of noted.old) + 1 }
+    ensures silent { IfOk result (λ asked. asked ≡ false → IsIdle client.new) }
 {
     let before = tag_of(client);
     let since = moment(rt);
-    exchange_pieces(client, noted, later)?;
+    if !exchange_pieces(client, noted, later)? {
+        return Ok(false);
+    }
     let line = ExchangeLine {
         name: str::from_utf8(client.name()).unwrap_or_default(),
         range: str::from_utf8(noted.range()).unwrap_or_default(),
@@ -46,7 +52,7 @@ fn exchange_told<R: Eprint + Clock, P: Pieces>(
         after: tag_of(client),
     };
     let _ = rt.eprintln(line);
-    Ok(client.report().is_some())
+    Ok(true)
 }
 
 /// Sends the client's requests to a source that is noted, until a report stands, in so many exchanges at most. Each of them is told on
@@ -60,10 +66,11 @@ pub fn exchanges_told<R: Eprint + Clock, P: Pieces>(
 ) -> Result<(), FetchError>
     requires { P.count (source_of noted.old) + requests < 2 ^ 64 }
     ensures keeps { KeepsReading (P.speaks_for (source_of noted.old)) (P.speaks_for (source_of noted.new)) client.old client.new }
+    ensures ends { OnOk result ((P.count (source_of noted.new) ≡ P.count (source_of noted.old) + requests) ⊎ IsIdle client.new) }
     ensures few { P.count (source_of noted.new) ≤ P.count (source_of noted.old) + requests }
 {
     for done in 0..requests {
-        if exchange_told(rt, net, client, noted, requests - done - 1)? {
+        if !exchange_told(rt, net, client, noted, requests - done - 1)? {
             break;
         }
     }

@@ -1,5 +1,5 @@
 -- What `cogread` writes of a file, and when it is true.
-use Rattle.std.specs.Prelude.{◌≡◌, ◌≤◌, ℕ, ◌⊎◌, List, Option, Some, IfSome, [], ◌∷◌, Result, Ok, Err, ⊤}
+use Rattle.std.specs.Prelude.{◌≡◌, ◌≤◌, ℕ, ◌⊎◌, List, Option, Some, IfSome, IsSome, [], ◌∷◌, Result, Ok, Err, ⊤}
 use Rattle.std.specs.Global.{Vec}
 use Rattle.tiff_dir.specs.declared.query.Query.{Query}
 use Rattle.tiff_dir.specs.declared.query.Query.TheVariants.{Window, Info}
@@ -12,7 +12,7 @@ use Rattle.cog_reader.specs.declared.outcome.Outcome.{Outcome}
 use Rattle.cog_reader.specs.declared.outcome.Outcome.TheVariants as outcome
 use Rattle.cog_client.specs.declared.report.Report.{Report}
 use Rattle.cog_client.specs.Report.{IsTrueReport}
-use Rattle.cog_client.specs.Client.{ClientState}
+use Rattle.cog_client.specs.Client.{ClientState, report_of}
 use Rattle.cog_client.specs.Transport.{ReadsPublication}
 use Rattle.report_text.specs.Netpbm.{netpbm}
 use Rattle.programs.specs.declared.fault.Fault.{Fault}
@@ -42,6 +42,7 @@ IsWritten a (outcome.Window v) (Ok text) = text.items ≡ netpbm v.samples v.bit
 IsWritten (asked.Whole level) (outcome.Info i) (Ok text) = ⊥
 IsWritten a (outcome.Info i) (Ok text) = ⊤
 IsWritten a (outcome.Fault fault) (Ok text) = ⊥
+IsWritten (asked.Query query) o (Err NoReport) = ⊥
 IsWritten a o (Err (OfFile fault)) = o ≡ outcome.Fault fault
 IsWritten a o (Err fault) = ⊤
 
@@ -61,6 +62,11 @@ WritesTrue p a (Err fault) = ⊤
 -- the client still reads each publication that it read and that the source spoke for
 abbrev pub StillReads : (Publication → Type 0) → (Publication → Type 0) → ClientState → ClientState → Type 0
 StillReads before after old new = (p : Publication) → ReadsPublication before old p → ReadsPublication after new p
+
+-- the exchanges for a query end where its report stands, or all are used up
+abbrev pub Ends : Asked → (most count : ℕ) → ClientState → Type 0
+Ends (asked.Query query) most count c = (most ≤ count) ⊎ IsSome (report_of c)
+Ends a most count c = ⊤
 
 -- a number that isn't above the most isn't afterwards
 abbrev pub StaysWithin : (most before after : ℕ) → Type 0

@@ -1,11 +1,14 @@
 //! How `cogread` reads: its exchanges, which are told with `--verbose` and drawn with `--progress`, and what is asked of the file.
-ghost use Rattle.std.specs.Prelude.{◌≡◌, ◌+◌, ◌<◌, ◌^◌, [], ◌∷◌, IfSome, OnOk, slice_get};
+ghost use Rattle.std.specs.Prelude.{◌≡◌, ◌+◌, ◌<◌, ◌≤◌, ◌^◌, ◌⊎◌, [], ◌∷◌, Err, IfSome, OnOk, slice_get};
 ghost use Rattle.http_range.specs.Book.{Publication};
+ghost use Rattle.tiff_dir.specs.declared.query.Query.{Query};
+ghost use Rattle.cog_client.specs.Calls.{IsIdle};
 ghost use Rattle.cog_client.specs.Client.{query_of, ClientAgrees};
 ghost use Rattle.cog_client.specs.Transport.{KeepsReading, ReadsPublication};
 ghost use Rattle.exchange_notes.specs.Noted.{source_of};
-ghost use Rattle.programs.specs.declared.reading.Asked.TheVariants.{Whole};
-ghost use Rattle.programs.specs.Text.{IsFor, IsOfWhole, IsWritten, StaysWithin, StillReads, WritesTrue};
+ghost use Rattle.programs.specs.declared.fault.Fault.TheVariants.{NoReport};
+ghost use Rattle.programs.specs.declared.reading.Asked.TheVariants.{Query as AQuery, Whole};
+ghost use Rattle.programs.specs.Text.{Ends, IsFor, IsOfWhole, IsWritten, StaysWithin, StillReads, WritesTrue};
 
 use crate::fault::Fault;
 use cog_client::{Client, FetchError, Info, Outcome, Pieces, Query, Report, Tag};
@@ -49,6 +52,7 @@ pub struct Exchanges<'a, 'r, R> {
 fn left<P: Pieces>(noted: &Noted<P>, requests: u32) -> u32
     ensures counted { P.count (source_of noted.now) + result < 2 ^ 64 }
     ensures few { StaysWithin requests (P.count (source_of noted.now)) (P.count (source_of noted.now) + result) }
+    ensures all { requests ≤ P.count (source_of noted.now) + result }
 {
     let starts = noted.starts();
     if starts < u64::from(requests) {
@@ -63,6 +67,7 @@ impl<R: Eprint + Clock + AllocGlobal> Exchanges<'_, '_, R> {
     fn fetch<P: Pieces>(&self, client: &mut Client, noted: &mut Noted<P>) -> Result<(), FetchError>
         ensures keeps { KeepsReading (P.speaks_for (source_of noted.old)) (P.speaks_for (source_of noted.new)) client.old client.new }
         ensures few { StaysWithin self.now.requests (P.count (source_of noted.old)) (P.count (source_of noted.new)) }
+        ensures ends { OnOk result ((self.now.requests ≤ P.count (source_of noted.new)) ⊎ IsIdle client.new) }
     {
         let left = left(noted, self.requests);
         match self.telling {
@@ -114,6 +119,7 @@ impl<R: Eprint + Clock + AllocGlobal> Exchanges<'_, '_, R> {
         ensures asks { (p : Publication) → ReadsPublication (P.speaks_for (source_of noted.old)) client.old p
             → OnOk result (IfSome (query_of client.new) (IsFor p.file asked)) }
         ensures few { StaysWithin self.now.requests (P.count (source_of noted.old)) (P.count (source_of noted.new)) }
+        ensures ends { OnOk result (Ends asked self.now.requests (P.count (source_of noted.new)) client.new) }
     {
         let fetched = self.fetch_asked(client, noted, asked);
         if self.telling == Telling::Progress {
@@ -133,6 +139,7 @@ impl<R: Eprint + Clock + AllocGlobal> Exchanges<'_, '_, R> {
         ensures asks { (p : Publication) → ReadsPublication (P.speaks_for (source_of noted.old)) client.old p
             → OnOk result (IfSome (query_of client.new) (IsFor p.file asked)) }
         ensures few { StaysWithin self.now.requests (P.count (source_of noted.old)) (P.count (source_of noted.new)) }
+        ensures ends { OnOk result (Ends asked self.now.requests (P.count (source_of noted.new)) client.new) }
     {
         let query = match asked {
             Asked::Query(query) => query,
@@ -154,8 +161,10 @@ impl<R: Eprint + Clock + AllocGlobal> Exchanges<'_, '_, R> {
         // What is written is true of the publication that the client reads, if the source speaks for it.
         ensures truth { (p : Publication)
             → ReadsPublication (P.speaks_for (source_of noted.old)) client.old p → WritesTrue p asked result }
-        // So many exchanges are made at most.
+        // So many exchanges are made at most, and that no report stands is told of a query only after them all.
         ensures few { StaysWithin self.now.requests (P.count (source_of noted.old)) (P.count (source_of noted.new)) }
+        ensures none { (query : Query) → asked ≡ AQuery query → result ≡ Err NoReport
+            → self.now.requests ≤ P.count (source_of noted.new) }
     {
         self.fetch_and_end(client, noted, asked)?;
         let Some(report) = client.report() else {

@@ -1,4 +1,4 @@
-use Rattle.std.proofs.Common.{◌≤◌, ◌+◌}
+use Rattle.std.proofs.Common.{◌≡◌, ◌+◌}
 use Rattle.cog_client.specs.Transport.{KeepsReading}
 use Rattle.exchange_notes.specs.Noted.{source_of}
 use Rattle.exchange_notes.proofs.drawn.exchanges_drawn.Given as goal
@@ -6,5 +6,5 @@ use Rattle.exchange_notes.proofs.drawn.exchanges_drawn.Given as goal
 abbrev pub invariant-loop-done : goal.invariant-loop-done
 invariant-loop-done g l = record {
   keeps : KeepsReading (g.P.Pieces.speaks_for (source_of l.fn.noted)) (g.P.Pieces.speaks_for (source_of l.noted)) l.fn.client l.client;
-  few : g.P.Pieces.count (source_of l.noted) ≤ g.P.Pieces.count (source_of l.fn.noted) + l.done;
+  counted : g.P.Pieces.count (source_of l.noted) ≡ g.P.Pieces.count (source_of l.fn.noted) + l.done;
 }
