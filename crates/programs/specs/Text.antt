@@ -1,5 +1,5 @@
 -- What `cogread` writes of a file, and when it is true.
-use Rattle.std.specs.Prelude.{◌≡◌, ◌≤◌, ℕ, ◌⊎◌, List, Option, Some, IfSome, IsSome, [], ◌∷◌, Result, Ok, Err, ⊤}
+use Rattle.std.specs.Prelude.{◌≡◌, ◌≤◌, ℕ, ◌⊎◌, List, Option, Some, IfSome, [], ◌∷◌, Result, Ok, Err, ⊤}
 use Rattle.std.specs.Global.{Vec}
 use Rattle.tiff_dir.specs.declared.query.Query.{Query}
 use Rattle.tiff_dir.specs.declared.query.Query.TheVariants.{Window, Info}
@@ -12,8 +12,6 @@ use Rattle.cog_reader.specs.declared.outcome.Outcome.{Outcome}
 use Rattle.cog_reader.specs.declared.outcome.Outcome.TheVariants as outcome
 use Rattle.cog_client.specs.declared.report.Report.{Report}
 use Rattle.cog_client.specs.Report.{IsTrueReport}
-use Rattle.cog_client.specs.Client.{ClientState, report_of}
-use Rattle.cog_client.specs.Transport.{ReadsPublication}
 use Rattle.report_text.specs.Netpbm.{netpbm}
 use Rattle.programs.specs.declared.fault.Fault.{Fault}
 use Rattle.programs.specs.declared.fault.Fault.TheVariants.{NotText, NotAProgram, CommandLine, NotANumber, NotAFile, Script}
@@ -36,7 +34,7 @@ IsFor f (asked.Whole level) q = (q ≡ Info) ⊎ IsOfWhole f level q
 IsFor f (asked.Description form) q = q ≡ Info
 
 -- A text, or a fault of the file, is what an outcome says: a window is written as a graymap or a pixmap, and of a whole level nothing
--- else. Of the texts of Info and of descriptions nothing is said here.
+-- else. Of the texts of Info and of descriptions nothing is said here. That there is no report isn't said of one to a query.
 abbrev pub IsWritten : Asked → Outcome → Result (Vec ℕ) Fault → Type 0
 IsWritten a (outcome.Window v) (Ok text) = text.items ≡ netpbm v.samples v.bits v.w v.h v.pixels.items
 IsWritten (asked.Whole level) (outcome.Info i) (Ok text) = ⊥
@@ -58,15 +56,6 @@ abbrev pub WritesTrue : Publication → Asked → Result (Vec ℕ) Fault → Typ
 WritesTrue p a (Ok text) = IsTrueOfPublication p a (Ok text)
 WritesTrue p a (Err (OfFile fault)) = IsTrueOfPublication p a (Err (OfFile fault))
 WritesTrue p a (Err fault) = ⊤
-
--- the client still reads each publication that it read and that the source spoke for
-abbrev pub StillReads : (Publication → Type 0) → (Publication → Type 0) → ClientState → ClientState → Type 0
-StillReads before after old new = (p : Publication) → ReadsPublication before old p → ReadsPublication after new p
-
--- the exchanges for a query end where its report stands, or all are used up
-abbrev pub Ends : Asked → (most count : ℕ) → ClientState → Type 0
-Ends (asked.Query query) most count c = (most ≤ count) ⊎ IsSome (report_of c)
-Ends a most count c = ⊤
 
 -- a number that isn't above the most isn't afterwards
 abbrev pub StaysWithin : (most before after : ℕ) → Type 0

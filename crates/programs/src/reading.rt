@@ -8,7 +8,8 @@ ghost use Rattle.cog_client.specs.Transport.{KeepsReading, ReadsPublication};
 ghost use Rattle.exchange_notes.specs.Noted.{source_of};
 ghost use Rattle.programs.specs.declared.fault.Fault.TheVariants.{NoReport};
 ghost use Rattle.programs.specs.declared.reading.Asked.TheVariants.{Query as AQuery, Whole};
-ghost use Rattle.programs.specs.Text.{Ends, IsFor, IsOfWhole, IsWritten, StaysWithin, StillReads, WritesTrue};
+ghost use Rattle.programs.specs.Exchanges.{Ends, StillReads};
+ghost use Rattle.programs.specs.Text.{IsFor, IsOfWhole, IsWritten, StaysWithin, WritesTrue};
 
 use crate::fault::Fault;
 use cog_client::{Client, FetchError, Info, Outcome, Pieces, Query, Report, Tag};

@@ -1,5 +1,6 @@
 use Rattle.exchange_notes.specs.Noted.{source_of}
-use Rattle.programs.specs.Text.{StaysWithin, StillReads}
+use Rattle.programs.specs.Exchanges.{StillReads}
+use Rattle.programs.specs.Text.{StaysWithin}
 use Rattle.programs.proofs.reading.Exchanges.fetch_whole.Given as goal
 
 abbrev pub invariant-loop : goal.invariant-loop
