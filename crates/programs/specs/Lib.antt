@@ -1,3 +1,4 @@
 pub mod Exchanges
+pub mod Number
 pub mod Status
 pub mod Text
