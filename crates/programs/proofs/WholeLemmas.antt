@@ -28,13 +28,13 @@ sides_told : (f : List ℕ) (i : Info) (level : ℕ) → IsInfoOf f i → sides_
 unfolding level_directory sides_of_level
 sides_told f i level is =
     told (sides f) (slice_get i.sides.items level) (slice_get (level_directories f) level)
-      (sym (slice_get-map Some i.sides.items level) ∙ ap (λ l. slice_get l level) is.sides_are ∙ slice_get-map (sides f) (level_directories f) level)
+    (sym (slice_get-map Some i.sides.items level) ∙ ap (λ l. slice_get l level) is.sides_are ∙ slice_get-map (sides f) (level_directories f) level)
 
 whole_is : (f : List ℕ) (i : Info) (level : ℕ) (s : ℕ × ℕ) → IsInfoOf f i → IfSome (slice_get i.sides.items level) (λ t. t ≡ s)
     → IsOfWhole f level (Window 0 0 s.0 s.1 (Level level))
 whole_is f i level s is same =
     subst (λ o. IfSome o (λ t. Window 0 0 s.0 s.1 (Level level) ≡ Window 0 0 t.0 t.1 (Level level)))
-      (sym (sides_told f i level is)) (at (slice_get i.sides.items level) same)
+    (sym (sides_told f i level is)) (at (slice_get i.sides.items level) same)
   where
     at : (o : Option (ℕ × ℕ)) → IfSome o (λ t. t ≡ s) → IfSome o (λ t. Window 0 0 s.0 s.1 (Level level) ≡ Window 0 0 t.0 t.1 (Level level))
     at None same = tt
