@@ -1,4 +1,7 @@
 //! The description of a file.
+ghost use Rattle.std.specs.Prelude.{◌≡◌, IfOk, IfSome, None, Ok};
+ghost use Rattle.describing.specs.Description.{Describes, HasNoInfo};
+
 use crate::facts::{CoordinateSystem, LevelFacts, RasterType, readable};
 use crate::placement::{Corners, Placement};
 use cog_client::{Client, Memory, Outcome};
@@ -42,7 +45,10 @@ pub struct Description<'a> {
 
 impl<'a> Description<'a> {
     /// What a client's report of Info says of the file, with what the client knows of its levels; none without such a report.
-    pub fn of(alloc: Global, client: &'a Client) -> Result<Option<Description<'a>>, Memory> {
+    pub fn of(alloc: Global, client: &'a Client) -> Result<Option<Description<'a>>, Memory>
+        ensures described { IfOk result (λ made. IfSome made (Describes client.now)) }
+        ensures none { result ≡ Ok None → HasNoInfo client.now }
+    {
         let (Some(report), Some(length)) = (client.report(), client.complete()) else {
             return Ok(None);
         };

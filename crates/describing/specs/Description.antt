@@ -1,0 +1,43 @@
+-- What a description says of a file.
+use Rattle.std.specs.Prelude.{◌≡◌, ◌⊎◌, ℕ, List, slice_get, Option, Some, None, IsSomeAnd, option_map, ⊤}
+use Rattle.std.specs.Cow.{cow_str_bytes}
+use Rattle.std.specs.Str.Lossy.{utf8_lossy}
+use Rattle.cog_reader.specs.declared.outcome.Info.{Info}
+use Rattle.cog_reader.specs.declared.outcome.Outcome.{Outcome}
+use Rattle.cog_reader.specs.declared.outcome.Outcome.TheVariants as outcome
+use Rattle.cog_client.specs.declared.report.Report.{Report}
+use Rattle.cog_client.specs.Client.{ClientState, report_of, revision_of}
+use Rattle.describing.specs.declared.description.Description.{Description}
+use Rattle.describing.specs.Facts.{raster_type_by, IsSystemBy}
+
+-- the length of the file that the client reads
+abbrev pub length_of : ClientState → Option ℕ
+length_of c = option_map (λ v. v.complete) (revision_of c)
+
+-- The description has this tag and length, the sides of the first level, and what the keys say.
+pub record Says (tag : List ℕ) (length : Option ℕ) (info : Info) (d : Description) : Type 0 where
+  pub tag_is : cow_str_bytes d.tag ≡ utf8_lossy tag
+  pub length_is : length ≡ Some d.length
+  pub size_is : d.size ≡ slice_get info.sides.items 0
+  pub system_is : IsSystemBy info.geo.keys.items d.coordinate_system
+  pub raster_type_is : d.raster_type ≡ raster_type_by info.geo.keys.items
+
+-- it is a description of what Info tells
+abbrev pub SaysOf : List ℕ → Option ℕ → Outcome → Description → Type 0
+SaysOf tag length (outcome.Info info) d = Says tag length info d
+SaysOf tag length (outcome.Window window) d = ⊥
+SaysOf tag length (outcome.Fault fault) d = ⊥
+
+-- the description is of what the client's report of Info tells
+abbrev pub Describes : ClientState → Description → Type 0
+Describes c d = IsSomeAnd (report_of c) (λ report. SaysOf report.tag (length_of c) report.outcome d)
+
+-- no report of Info
+abbrev pub IsNoInfo : Outcome → Type 0
+IsNoInfo (outcome.Info info) = ⊥
+IsNoInfo (outcome.Window window) = ⊤
+IsNoInfo (outcome.Fault fault) = ⊤
+
+-- no report of Info stands, or no file is read
+abbrev pub HasNoInfo : ClientState → Type 0
+HasNoInfo c = (length_of c ≡ None) ⊎ ((report : Report) → report_of c ≡ Some report → IsNoInfo report.outcome)
