@@ -14,8 +14,7 @@ use Rattle.cog_client.specs.declared.report.Report.{Report}
 use Rattle.cog_client.specs.Report.{IsTrueReport}
 use Rattle.report_text.specs.Netpbm.{netpbm}
 use Rattle.programs.specs.declared.fault.Fault.{Fault}
-use Rattle.programs.specs.declared.fault.Fault.TheVariants.{NotText, NotAProgram, CommandLine, NotANumber, NotAFile, Script}
-use Rattle.programs.specs.declared.fault.Fault.TheVariants.{RefusedClient, NotAPlace, OfFile, NoReport, CantRead, Refused, CantListen, CantAccept, CantWrite, CantWriteFile, Memory}
+use Rattle.programs.specs.declared.fault.Fault.TheVariants.{NoReport, OfFile}
 use Rattle.programs.specs.declared.reading.Asked.{Asked}
 use Rattle.programs.specs.declared.reading.Asked.TheVariants as asked
 
