@@ -1,3 +1,4 @@
 pub mod Number
+pub mod Place
 pub mod ServeLine
 pub mod WorldLine

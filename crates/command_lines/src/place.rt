@@ -1,7 +1,8 @@
 //! A server and a name as one word: `http://HOST[:PORT]/NAME`.
-ghost use Rattle.std.specs.Prelude.{◌≡◌, IfOk, IfSome, None, Ok, OnOk, codes, drop};
+ghost use Rattle.std.specs.Prelude.{◌≡◌, IfErr, IfOk, IfSome, None, Ok, OnOk, codes, drop};
 ghost use Rattle.url.specs.Parser.{parse_url};
 ghost use Rattle.url.specs.Parts.{Parts};
+ghost use Rattle.command_lines.specs.Place.{IsFrontError, IsPlaceError};
 
 use std::alloc::{AllocError, Global};
 use thiserror::Error;
@@ -34,16 +35,12 @@ pub enum PlaceError {
     Memory,
 }
 
-impl From<ParseError> for PlaceError {
-    fn from(error: ParseError) -> PlaceError {
-        match error {
-            ParseError::OutOfMemory => PlaceError::Memory,
-            other => PlaceError::NotAUrl(other),
-        }
-    }
-}
-
 impl From<AllocError> for PlaceError {
+    ghost use Rattle.std.specs.Prelude.{◌≡◌};
+    ghost use Rattle.command_lines.specs.declared.place.PlaceError.TheVariants.{Memory};
+
+    ghost from_gives = { λ _ told. told ≡ Memory };
+
     fn from(_refused: AllocError) -> PlaceError {
         PlaceError::Memory
     }
@@ -52,6 +49,18 @@ impl From<AllocError> for PlaceError {
 /// Whether a word is a URL of the web, and no server's `HOST:PORT`.
 pub fn is_url(word: &str) -> bool {
     word.starts_with("http://") || word.starts_with("https://")
+}
+
+/// The URL that a word is.
+fn parse(alloc: Global, word: &str) -> Result<Url, PlaceError>
+    ensures ok { IfOk result (λ url. parse_url None word.now ≡ Ok url) }
+    ensures err { IfErr result (IsPlaceError word.now) }
+{
+    match Url::parse(alloc, word) {
+        Ok(url) => Ok(url),
+        Err(ParseError::OutOfMemory) => Err(PlaceError::Memory),
+        Err(error) => Err(PlaceError::NotAUrl(error)),
+    }
 }
 
 /// The name in a URL's path, where the URL as it was typed ends in that path.
@@ -69,7 +78,8 @@ fn name_in<'a>(word: &'a str, path: &str) -> Option<&'a str>
 
 /// What is wrong with the parts of a URL in front of its path.
 fn check_front(url: &Url) -> Result<(), PlaceError>
-    ensures { OnOk result (url.now.scheme ≡ codes "http") }
+    ensures ok { OnOk result (url.now.scheme ≡ codes "http") }
+    ensures err { IfErr result (IsFrontError url.now) }
 {
     match url.scheme() {
         "http" => {}
@@ -85,10 +95,11 @@ fn check_front(url: &Url) -> Result<(), PlaceError>
 /// The file that a URL names. Without a port it is 80. A path that would be asked for otherwise than it was typed, as one with `..`
 /// or a query, is refused.
 pub fn place_of(alloc: Global, word: &str) -> Result<Place<'_>, PlaceError>
-    ensures { IfOk result (λ place. (url : Parts) × (parse_url None word.now ≡ Ok url) × (url.scheme ≡ codes "http")
+    ensures ok { IfOk result (λ place. (url : Parts) × (parse_url None word.now ≡ Ok url) × (url.scheme ≡ codes "http")
         × (place.name.now ≡ drop 1 url.path)) }
+    ensures err { IfErr result (IsPlaceError word.now) }
 {
-    let url = Url::parse(alloc, word)?;
+    let url = parse(alloc, word)?;
     check_front(&url)?;
     let host = url.host_str().unwrap_or_default();
     let port = url.port().unwrap_or(HTTP_PORT);
