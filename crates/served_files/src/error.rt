@@ -53,6 +53,11 @@ pub enum ServeError<'a> {
 }
 
 impl From<AcceptError> for ServeError<'_> {
+    ghost use Rattle.std.specs.Prelude.{◌≡◌};
+    ghost use Rattle.served_files.specs.declared.error.ServeError.TheVariants.{CantAccept};
+
+    ghost from_gives = { λ _ error. error ≡ CantAccept };
+
     fn from(_error: AcceptError) -> Self {
         ServeError::CantAccept
     }
