@@ -4,7 +4,7 @@ ghost use Rattle.std.specs.Duration.{as_nanos};
 ghost use Rattle.disk_files.specs.Published.{IsFileOf, IsPublished};
 ghost use Rattle.disk_files.specs.Settled.{IsSettled};
 
-use crate::reading::read_file;
+use crate::reading::{has_bytes, read_file};
 use cog_server::{PublishError, Server};
 use http_range::{Tag, publications_replace};
 use std::fs::Metadata;
@@ -155,6 +155,12 @@ impl<'a> Watched<'a> {
     {
         let seen = stamp_of(rt, self.path);
         if seen.is_some() && seen == self.seen {
+            return Ok(None);
+        }
+        if let Some(old) = server.file(self.name.as_bytes())
+            && has_bytes(rt, self.path, old)
+        {
+            self.seen = seen;
             return Ok(None);
         }
         let bytes = bytes_of(rt, self.path)?;
