@@ -74,21 +74,35 @@ fn word<'a>(alloc: Global, name: &'a str, help: &'a str) -> Arg<'a> {
     Arg::new(alloc, name).help(help).required(true)
 }
 
-/// A word that has to stand where the whole of a level isn't asked for.
-fn side<'a>(alloc: Global, name: &'a str, help: &'a str) -> Result<Arg<'a>, AllocError> {
-    Arg::new(alloc, name)
-        .help(help)
-        .required_unless_present("whole")?
-        .conflicts_with("whole")
+/// Adds a word that has to stand where the whole of a level isn't asked for.
+fn add_side<'a>(
+    alloc: Global,
+    command: Command<'a>,
+    name: &'a str,
+    help: &'a str,
+) -> Result<Command<'a>, AllocError> {
+    let side = Arg::new(alloc, name).help(help);
+    command.arg(
+        side.required_unless_present("whole")?
+            .conflicts_with("whole")?,
+    )
 }
 
-/// An option with one value.
-fn option<'a>(alloc: Global, name: &'a str, value: &'a str, help: &'a str) -> Arg<'a> {
-    Arg::new(alloc, name)
-        .long(name)
-        .value_name(value)
-        .help(help)
-        .action(ArgAction::Set)
+/// Adds an option with one value.
+fn add_option<'a>(
+    alloc: Global,
+    command: Command<'a>,
+    name: &'a str,
+    value: &'a str,
+    help: &'a str,
+) -> Result<Command<'a>, AllocError> {
+    command.arg(
+        Arg::new(alloc, name)
+            .long(name)
+            .value_name(value)
+            .help(help)
+            .action(ArgAction::Set),
+    )
 }
 
 /// An option without a value.
@@ -99,66 +113,63 @@ fn flag<'a>(alloc: Global, name: &'a str, help: &'a str) -> Arg<'a> {
         .action(ArgAction::SetTrue)
 }
 
-/// Adds the options of how the file is asked for.
-fn add_asking<'a>(alloc: Global, command: Command<'a>) -> Result<Command<'a>, AllocError> {
-    let requests = option(
-        alloc,
-        "requests",
-        "N",
-        "At most so many requests, 1 to 65536 (default 64)",
-    );
-    let blocks = option(
-        alloc,
-        "blocks",
-        "N",
-        "Blocks of 16384 bytes that are kept, 66 to 4096 (default 256)",
-    );
-    let ahead = option(
-        alloc,
-        "ahead",
-        "N",
-        "Blocks that a request may ask for early, behind those that are needed next, 0 to 64 (default 0; with a URL 64)",
-    );
-    let keep = flag(
-        alloc,
-        "keep",
-        "Keeps one connection for all requests, as long as the server does",
-    );
-    let close = flag(
-        alloc,
-        "close",
-        "Connects anew for each request (the default for SERVER NAME; a URL's connection is kept)",
-    );
-    command
-        .arg(requests)?
-        .arg(blocks)?
-        .arg(ahead)?
-        .arg(keep.conflicts_with("close")?)?
-        .arg(close)
+/// Adds an option without a value.
+fn add_flag<'a>(
+    alloc: Global,
+    command: Command<'a>,
+    name: &'a str,
+    help: &'a str,
+) -> Result<Command<'a>, AllocError> {
+    command.arg(flag(alloc, name, help))
+}
+
+/// Adds an option without a value, which doesn't stand beside another option.
+fn add_flag_without<'a>(
+    alloc: Global,
+    command: Command<'a>,
+    name: &'a str,
+    other: &'a str,
+    help: &'a str,
+) -> Result<Command<'a>, AllocError> {
+    command.arg(flag(alloc, name, help).conflicts_with(other)?)
+}
+
+/// Adds the options of how much is asked for.
+fn add_amounts<'a>(alloc: Global, command: Command<'a>) -> Result<Command<'a>, AllocError> {
+    let help = "At most so many requests, 1 to 65536 (default 64)";
+    let command = add_option(alloc, command, "requests", "N", help)?;
+    let help = "Blocks of 16384 bytes that are kept, 66 to 4096 (default 256)";
+    let command = add_option(alloc, command, "blocks", "N", help)?;
+    let help =
+        "Blocks that a request may ask for early, behind those that are needed next, 0 to 64 (default 0; with a URL 64)";
+    add_option(alloc, command, "ahead", "N", help)
+}
+
+/// Adds the options of whether a connection is kept.
+fn add_connections<'a>(alloc: Global, command: Command<'a>) -> Result<Command<'a>, AllocError> {
+    let help = "Keeps one connection for all requests, as long as the server does";
+    let command = add_flag_without(alloc, command, "keep", "close", help)?;
+    let help =
+        "Connects anew for each request (the default for SERVER NAME; a URL's connection is kept)";
+    add_flag(alloc, command, "close", help)
 }
 
 /// Adds the options of what is written.
 fn add_telling<'a>(alloc: Global, command: Command<'a>) -> Result<Command<'a>, AllocError> {
-    let output = option(
-        alloc,
-        "output",
-        "FILE",
-        "Writes to this file, which is replaced once all is there (default: standard output)",
-    );
-    let verbose = flag(
-        alloc,
-        "verbose",
-        "Tells each exchange, and why there is none, on standard error",
-    );
-    let progress = flag(
-        alloc,
-        "progress",
-        "Draws on standard error, as one line over itself, how many ranges and bytes came",
-    );
-    command
-        .arg(output)?
-        .arg(verbose)?
-        .arg(progress.conflicts_with("verbose")?)
+    let help =
+        "Writes to this file, which is replaced once all is there (default: standard output)";
+    let command = add_option(alloc, command, "output", "FILE", help)?;
+    let help = "Tells each exchange, and why there is none, on standard error";
+    let command = add_flag(alloc, command, "verbose", help)?;
+    let help = "Draws on standard error, as one line over itself, how many ranges and bytes came";
+    add_flag_without(alloc, command, "progress", "verbose", help)
+}
+
+/// Adds the options that all have.
+fn add_common<'a>(alloc: Global, command: Command<'a>) -> Result<Command<'a>, AllocError> {
+    let command = add_amounts(alloc, command)?;
+    let command = add_connections(alloc, command)?;
+    add_telling(alloc, command)
 }
 
 /// A command with the words and options that both have: the server and the name first, the options last.
@@ -168,81 +179,73 @@ fn command<'a>(
     about: &'a str,
     example: &'a str,
 ) -> Result<Command<'a>, AllocError> {
-    let server = word(alloc, "SERVER", "The server, as HOST:PORT");
-    let file = word(alloc, "NAME", "The name of the file at the server");
-    let named = Command::new(alloc, name)
-        .about(about)
-        .after_help(example)
-        .arg(server)?
-        .arg(file)?;
-    add_telling(alloc, add_asking(alloc, named)?)
+    let command = Command::new(alloc, name).about(about).after_help(example);
+    let command = command.arg(word(alloc, "SERVER", "The server, as HOST:PORT"))?;
+    let command = command.arg(word(alloc, "NAME", "The name of the file at the server"))?;
+    add_common(alloc, command)
 }
 
 /// Adds the sides of a window.
 fn add_sides<'a>(alloc: Global, command: Command<'a>) -> Result<Command<'a>, AllocError> {
-    let x = side(alloc, "X", "The left column, in pixels from 0")?;
-    let y = side(alloc, "Y", "The top row, in pixels from 0")?;
-    let w = side(alloc, "W", "The width, in pixels")?;
-    let h = side(alloc, "H", "The height, in pixels")?;
-    command.arg(x)?.arg(y)?.arg(w)?.arg(h)
+    let command = add_side(alloc, command, "X", "The left column, in pixels from 0")?;
+    let command = add_side(alloc, command, "Y", "The top row, in pixels from 0")?;
+    let command = add_side(alloc, command, "W", "The width, in pixels")?;
+    add_side(alloc, command, "H", "The height, in pixels")
 }
 
 /// Adds the options of which level is read, and how much of it.
 fn add_levels<'a>(alloc: Global, command: Command<'a>) -> Result<Command<'a>, AllocError> {
-    let level = option(
-        alloc,
-        "level",
-        "N",
-        "The level, 0 for the largest (default 0)",
-    );
-    let columns = option(
-        alloc,
-        "columns",
-        "C",
-        "The smallest level in which the window is at least C columns wide; X Y W H are then of level 0 (no default)",
-    );
-    let whole = flag(
-        alloc,
-        "whole",
-        "The whole of the level, in the place of X Y W H",
-    );
-    command
-        .arg(level.conflicts_with("columns")?)?
-        .arg(columns)?
-        .arg(whole.conflicts_with("columns")?)
+    let level = Arg::new(alloc, "level").long("level").value_name("N");
+    let level = level.help("The level, 0 for the largest (default 0)");
+    let level = level.action(ArgAction::Set);
+    let command = command.arg(level.conflicts_with("columns")?)?;
+    let help =
+        "The smallest level in which the window is at least C columns wide; X Y W H are then of level 0 (no default)";
+    let command = add_option(alloc, command, "columns", "C", help)?;
+    let help = "The whole of the level, in the place of X Y W H";
+    add_flag_without(alloc, command, "whole", "columns", help)
+}
+
+fn info_command<'a>(alloc: Global) -> Result<Command<'a>, AllocError> {
+    let about = "Prints the levels, keys and model fields of a file";
+    command(alloc, "info", about, INFO_EXAMPLE)
 }
 
 fn window_command<'a>(alloc: Global) -> Result<Command<'a>, AllocError> {
     let about = "Writes a window of a file to standard output, as P5 or P6 (PGM, PPM)";
-    let named = command(alloc, "window", about, WINDOW_EXAMPLE)?;
-    add_levels(alloc, add_sides(alloc, named)?)
+    let command = command(alloc, "window", about, WINDOW_EXAMPLE)?;
+    let command = add_sides(alloc, command)?;
+    add_levels(alloc, command)
 }
 
 fn describe_command<'a>(alloc: Global) -> Result<Command<'a>, AllocError> {
     let about =
         "Tells what a file is: its levels, coordinate system, origin, size of a pixel and corners";
-    let json = flag(
-        alloc,
-        "json",
-        "Tells it in JSON, with gdalinfo's keys where they mean the same",
-    );
-    command(alloc, "describe", about, DESCRIBE_EXAMPLE)?.arg(json)
+    let command = command(alloc, "describe", about, DESCRIBE_EXAMPLE)?;
+    let help = "Tells it in JSON, with gdalinfo's keys where they mean the same";
+    add_flag(alloc, command, "json", help)
+}
+
+/// Adds a command, if there is one.
+fn add_command<'a>(
+    command: Command<'a>,
+    added: Result<Command<'a>, AllocError>,
+) -> Result<Command<'a>, AllocError> {
+    command.subcommand(added?)
 }
 
 fn read_command<'a>(alloc: Global) -> Result<Command<'a>, AllocError> {
-    let about = "Prints the levels, keys and model fields of a file";
-    let info = command(alloc, "info", about, INFO_EXAMPLE)?;
-    Command::new(alloc, "cogread")
+    let command = Command::new(alloc, "cogread")
         .about(
             "Reads a window, the info or a description of a file over HTTP, by single byte ranges",
         )
         .version(VERSION)
         .propagate_version(true)
         .after_help(READ_NOTES)
-        .subcommand_required(true)
-        .subcommand(window_command(alloc)?)?
-        .subcommand(info)?
-        .subcommand(describe_command(alloc)?)
+        .subcommand_required(true);
+    let command = add_command(command, window_command(alloc))?;
+    let command = add_command(command, info_command(alloc))?;
+    add_command(command, describe_command(alloc))
 }
 
 /// The value of a word that has to stand.

@@ -1,5 +1,5 @@
 -- What a description says of a file.
-use Rattle.std.specs.Prelude.{◌≡◌, ◌⊎◌, ℕ, List, slice_get, Option, Some, None, IsSomeAnd, option_map, ⊤}
+use Rattle.std.specs.Prelude.{◌≡◌, ◌⊎◌, ℕ, Bool, true, false, List, slice_get, Option, Some, None, IsSomeAnd, option_map, ⊤}
 use Rattle.std.specs.Cow.{cow_str_bytes}
 use Rattle.std.specs.Str.Lossy.{utf8_lossy}
 use Rattle.cog_reader.specs.declared.outcome.Info.{Info}
@@ -8,19 +8,28 @@ use Rattle.cog_reader.specs.declared.outcome.Outcome.TheVariants as outcome
 use Rattle.cog_client.specs.declared.report.Report.{Report}
 use Rattle.cog_client.specs.Client.{ClientState, report_of, revision_of}
 use Rattle.describing.specs.declared.description.Description.{Description}
+use Rattle.describing.specs.declared.facts.RasterType.{RasterType}
+use Rattle.describing.specs.declared.facts.RasterType.TheVariants.{Point}
 use Rattle.describing.specs.Facts.{raster_type_by, IsSystemBy}
+use Rattle.describing.specs.Placement.{geo_transform_of, placement_of}
 
 -- the length of the file that the client reads
 abbrev pub length_of : ClientState → Option ℕ
 length_of c = option_map (λ v. v.complete) (revision_of c)
 
--- The description has this tag and length, the sides of the first level, and what the keys say.
+abbrev pub is_point : Option RasterType → Bool
+is_point (Some Point) = true
+is_point _ = false
+
+-- The description has this tag and length, the sides of the first level, what the keys say, and where columns and rows lie.
 pub record Says (tag : List ℕ) (length : Option ℕ) (info : Info) (d : Description) : Type 0 where
   pub tag_is : cow_str_bytes d.tag ≡ utf8_lossy tag
   pub length_is : length ≡ Some d.length
   pub size_is : d.size ≡ slice_get info.sides.items 0
   pub system_is : IsSystemBy info.geo.keys.items d.coordinate_system
   pub raster_type_is : d.raster_type ≡ raster_type_by info.geo.keys.items
+  pub placement_is : d.placement ≡ placement_of info (is_point d.raster_type)
+  pub transform_is : d.geo_transform ≡ option_map geo_transform_of d.placement
 
 -- it is a description of what Info tells
 abbrev pub SaysOf : List ℕ → Option ℕ → Outcome → Description → Type 0

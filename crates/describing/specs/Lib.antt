@@ -1,2 +1,3 @@
 pub mod Description
 pub mod Facts
+pub mod Placement

@@ -1,6 +1,8 @@
 //! The description of a file.
 ghost use Rattle.std.specs.Prelude.{◌≡◌, IfOk, IfSome, None, Ok};
-ghost use Rattle.describing.specs.Description.{Describes, HasNoInfo};
+ghost use Rattle.std.specs.Option.{option_map};
+ghost use Rattle.describing.specs.Description.{Describes, HasNoInfo, is_point};
+ghost use Rattle.describing.specs.Placement.{geo_transform_of};
 
 use crate::facts::{CoordinateSystem, LevelFacts, RasterType, readable};
 use crate::placement::{Corners, Placement};
@@ -56,7 +58,7 @@ impl<'a> Description<'a> {
             return Ok(None);
         };
         let raster_type = RasterType::of(info);
-        let placement = Placement::of(info, raster_type == Some(RasterType::Point));
+        let placement = Placement::of(info, is_point(raster_type));
         let size = info.sides.first().copied();
         let levels = client.levels().unwrap_or_default();
         Ok(Some(Description {
@@ -67,7 +69,7 @@ impl<'a> Description<'a> {
             coordinate_system: CoordinateSystem::of(alloc, info)?,
             raster_type,
             placement,
-            geo_transform: placement.map(|it| it.numbers()),
+            geo_transform: geo_transform_of(placement),
             corner_coordinates: placement.zip(size).map(|(it, size)| it.corners(size)),
         }))
     }
@@ -79,6 +81,21 @@ impl<'a> Description<'a> {
             Form::Json => Ok(format!(in alloc; "{}\n", json_text(alloc, self)?)?),
         }
     }
+}
+
+/// Whether a pixel is a point.
+fn is_point(raster_type: Option<RasterType>) -> bool
+    ensures { result ≡ is_point raster_type }
+{
+    matches!(raster_type, Some(RasterType::Point))
+}
+
+/// The numbers of a placement, as GDAL's GetGeoTransform has them.
+fn geo_transform_of(placement: Option<Placement>) -> Option<[f64; 6]>
+    ensures { result ≡ option_map geo_transform_of placement }
+{
+    let placement = placement?;
+    Some(placement.numbers())
 }
 
 /// A description in JSON, with lines and indents. A number that JSON doesn't have (NaN, or one without end) is `null`. `Memory` is the

@@ -1,7 +1,18 @@
 //! Where the columns and rows of an image lie (GeoTIFF 1.1, OGC 19-008, section 7.3).
+ghost use Rattle.std.specs.Prelude.{◌≡◌, from_bits};
+ghost use Rattle.std.specs.Int.{w64, from_be_bytes};
+ghost use Rattle.std.specs.Float.Ieee.{binary64};
+ghost use Rattle.describing.specs.Placement.{double_at, said_of, scaled, transformed};
+
 use cog_client::Info;
 use serde::Serialize;
 use std::num::f64_from_bits_with_nan;
+
+/// What a step adds that goes along the other axis.
+const NOTHING: f64 = 0.0;
+
+/// Half a column or a row before the first one.
+const HALF_BEFORE: f64 = -0.5;
 
 /// The place of a column and a row, which may have fractions: `left + across.0 * column + down.0 * row` to the right, and
 /// `top + across.1 * column + down.1 * row` upwards, in the units of the coordinate system.
@@ -27,17 +38,23 @@ pub struct Corners {
 }
 
 /// The number of an item: a double, its most significant byte first.
-fn number_of(item: &[u8; 8]) -> f64 {
+fn number_of(item: &[u8; 8]) -> f64
+    ensures { result ≡ from_bits binary64 (from_be_bytes w64 item.now) }
+{
     f64_from_bits_with_nan(u64::from_be_bytes(*item))
 }
 
 /// The number at a place of a field, where it has one there.
-fn number_at(items: &[[u8; 8]], place: usize) -> Option<f64> {
+fn number_at(items: &[[u8; 8]], place: usize) -> Option<f64>
+    ensures { result ≡ double_at items.now place }
+{
     items.get(place).map(number_of)
 }
 
 /// By the transformation's numbers, of which four stand in a row.
-fn by_transformation(items: &[[u8; 8]]) -> Option<Placement> {
+fn by_transformation(items: &[[u8; 8]]) -> Option<Placement>
+    ensures { result ≡ transformed items.now }
+{
     Some(Placement {
         left: number_at(items, 3)?,
         top: number_at(items, 7)?,
@@ -47,7 +64,9 @@ fn by_transformation(items: &[[u8; 8]]) -> Option<Placement> {
 }
 
 /// By the sizes of a pixel and one tiepoint: a column, a row, a height, and the place of that. Of several tiepoints there is none.
-fn by_scale(scale: &[[u8; 8]], tiepoint: &[[u8; 8]]) -> Option<Placement> {
+fn by_scale(scale: &[[u8; 8]], tiepoint: &[[u8; 8]]) -> Option<Placement>
+    ensures { result ≡ scaled scale.now tiepoint.now }
+{
     if tiepoint.len() != 6 {
         return None;
     }
@@ -57,13 +76,15 @@ fn by_scale(scale: &[[u8; 8]], tiepoint: &[[u8; 8]]) -> Option<Placement> {
     Some(Placement {
         left: x - column * width,
         top: y + row * height,
-        across: (width, 0.0),
-        down: (0.0, -height),
+        across: (width, NOTHING),
+        down: (NOTHING, -height),
     })
 }
 
 /// As the fields say it of columns and rows: by the scale and a tiepoint, or else by the transformation.
-fn as_said(info: &Info) -> Option<Placement> {
+fn as_said(info: &Info) -> Option<Placement>
+    ensures { result ≡ said_of info.now }
+{
     match (&info.scale, &info.tiepoints, &info.transformation) {
         (Some(scale), Some(tiepoints), _) => by_scale(scale, tiepoints),
         (_, _, Some(items)) => by_transformation(items),
@@ -72,19 +93,26 @@ fn as_said(info: &Info) -> Option<Placement> {
 }
 
 impl Placement {
+    ghost use Rattle.std.specs.Prelude.{◌≡◌};
+    ghost use Rattle.describing.specs.Placement.{geo_transform_of, placement_of, right_of, up_of};
+
     /// Where the corners of the columns and rows lie, where the file says it. Where a pixel is a point, what the file says is the
     /// middle of its first pixel, and the corner lies half a pixel before it.
-    pub fn of(info: &Info, is_point: bool) -> Option<Placement> {
+    pub fn of(info: &Info, is_point: bool) -> Option<Placement>
+        ensures { result ≡ placement_of info.now is_point }
+    {
         let said = as_said(info)?;
         if !is_point {
             return Some(said);
         }
-        let (left, top) = said.at(-0.5, -0.5);
+        let (left, top) = said.at(HALF_BEFORE, HALF_BEFORE);
         Some(Placement { left, top, ..said })
     }
 
     /// The place of a column and a row.
-    pub fn at(&self, column: f64, row: f64) -> (f64, f64) {
+    pub fn at(&self, column: f64, row: f64) -> (f64, f64)
+        ensures { result ≡ (right_of self.now column row, up_of self.now column row) }
+    {
         (
             self.left + self.across.0 * column + self.down.0 * row,
             self.top + self.across.1 * column + self.down.1 * row,
@@ -92,7 +120,9 @@ impl Placement {
     }
 
     /// The six numbers of GDAL's GetGeoTransform, in its order.
-    pub fn numbers(&self) -> [f64; 6] {
+    pub fn numbers(&self) -> [f64; 6]
+        ensures { result ≡ geo_transform_of self.now }
+    {
         [
             self.left,
             self.across.0,

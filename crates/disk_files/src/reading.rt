@@ -1,9 +1,9 @@
 //! The bytes of a file of the disk.
 use http_range::FILE_LIMIT;
 use std::fs::File;
+use std::io;
 use std::io::Read;
 use std::rt::Files;
-use std::{fs, io};
 
 /// One byte more than a published file may have: what comes after it isn't read.
 const ENOUGH: u64 = FILE_LIMIT as u64 + 1;
@@ -18,21 +18,8 @@ pub fn read_file<R: Files + AllocGlobal>(rt: &R, path: &str) -> io::Result<Vec<u
     Ok(bytes)
 }
 
-/// Whether a path is a file's that has just these bytes, as far as it can be read. Of the file no more is held than a piece.
-pub fn has_bytes<R: Files + AllocGlobal>(rt: &R, path: &str, bytes: &[u8]) -> bool {
-    is_file(rt, path) && are_read(rt, path, bytes).unwrap_or(false)
-}
-
-/// Whether a path is a file's, and not a folder's or a pipe's: to open a pipe might wait for its writer.
-fn is_file<R: Files>(rt: &R, path: &str) -> bool {
-    match fs::metadata(rt, path) {
-        Ok(metadata) => metadata.is_file(),
-        Err(_) => false,
-    }
-}
-
-/// Whether a file has just these bytes.
-fn are_read<R: Files + AllocGlobal>(rt: &R, path: &str, bytes: &[u8]) -> io::Result<bool> {
+/// Whether the file at a path has just these bytes. No more of it is held than a piece.
+pub fn has_bytes<R: Files + AllocGlobal>(rt: &R, path: &str, bytes: &[u8]) -> io::Result<bool> {
     let mut file = File::open(rt, path)?;
     let mut piece = vec![in rt.alloc(); 0u8; PIECE]?;
     let mut rest = bytes;

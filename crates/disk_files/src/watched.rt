@@ -63,11 +63,9 @@ fn changed(metadata: &Metadata) -> Option<Duration> {
     Duration::from_secs(seconds).checked_add(Duration::from_nanos(nanos))
 }
 
-/// What the disk says of a file, where each later change of its bytes shows in it.
-fn stamp_of<R: Files + Clock>(rt: &R, path: &str) -> Option<Stamp> {
-    let now = rt.since_1970().ok()?;
-    let metadata = fs::metadata(rt, path).ok()?;
-    if !is_settled(changed(&metadata)?, now) {
+/// What the disk says of a file that was looked at then or later, where each later change of its bytes shows in it.
+fn stamp_of(metadata: &Metadata, now: Duration) -> Option<Stamp> {
+    if !is_settled(changed(metadata)?, now) {
         return None;
     }
     Some(Stamp {
@@ -79,13 +77,17 @@ fn stamp_of<R: Files + Clock>(rt: &R, path: &str) -> Option<Stamp> {
     })
 }
 
-/// The bytes of a file of the disk, and of nothing else there: to open a pipe might wait for its writer.
-fn bytes_of<R: Files + AllocGlobal>(rt: &R, path: &str) -> Result<Vec<u8>, WatchError> {
+/// Looks at a path, which is to be a file's: to open a pipe might wait for its writer.
+fn look<R: Files + Clock>(rt: &R, path: &str) -> Result<Option<Stamp>, WatchError> {
+    let now = rt.since_1970();
     let metadata = fs::metadata(rt, path).map_err(WatchError::CantRead)?;
     if !metadata.is_file() {
         return Err(WatchError::NotAFile);
     }
-    read_file(rt, path).map_err(WatchError::CantRead)
+    match now {
+        Ok(now) => Ok(stamp_of(&metadata, now)),
+        Err(_) => Ok(None),
+    }
 }
 
 /// Publishes a file, unless the one under its name has the same bytes.
@@ -131,8 +133,8 @@ impl<'a> Watched<'a> {
         ensures ok { IfOk result (IsPublished self.old.name.now server.old server.new) }
         ensures err { OnErr result (server.new ≡ server.old) }
     {
-        let seen = stamp_of(rt, self.path);
-        let bytes = bytes_of(rt, self.path)?;
+        let seen = look(rt, self.path)?;
+        let bytes = read_file(rt, self.path).map_err(WatchError::CantRead)?;
         match server.publish(self.name.as_bytes(), bytes) {
             Ok(tag) => {
                 self.seen = seen;
@@ -153,17 +155,17 @@ impl<'a> Watched<'a> {
         ensures same { IfOk result (λ tag. tag ≡ None → server.new ≡ server.old) }
         ensures err { OnErr result (server.new ≡ server.old) }
     {
-        let seen = stamp_of(rt, self.path);
+        let seen = look(rt, self.path)?;
         if seen.is_some() && seen == self.seen {
             return Ok(None);
         }
         if let Some(old) = server.file(self.name.as_bytes())
-            && has_bytes(rt, self.path, old)
+            && has_bytes(rt, self.path, old).map_err(WatchError::CantRead)?
         {
             self.seen = seen;
             return Ok(None);
         }
-        let bytes = bytes_of(rt, self.path)?;
+        let bytes = read_file(rt, self.path).map_err(WatchError::CantRead)?;
         match publish_other(server, self.name.as_bytes(), bytes) {
             Ok(tag) => {
                 self.seen = seen;

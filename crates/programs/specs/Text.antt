@@ -1,6 +1,5 @@
 -- What `cogread` writes of a file, and when it is true.
-use Rattle.std.specs.Prelude.{◌≡◌, ◌≤◌, ℕ, ◌⊎◌, List, Option, Some, IfSome, [], ◌∷◌, Result, Ok, Err, ⊤}
-use Rattle.std.specs.Global.{Vec}
+use Rattle.std.specs.Prelude.{◌≡◌, ◌≤◌, ℕ, ◌⊎◌, List, ◌++◌, Option, Some, IfSome, [], ◌∷◌, Result, Ok, Err, ⊤}
 use Rattle.tiff_dir.specs.declared.query.Query.{Query}
 use Rattle.tiff_dir.specs.declared.query.Query.TheVariants.{Window, Info}
 use Rattle.tiff_dir.specs.declared.query.Pick.TheVariants.{Level}
@@ -17,6 +16,7 @@ use Rattle.programs.specs.declared.fault.Fault.{Fault}
 use Rattle.programs.specs.declared.fault.Fault.TheVariants.{NoReport, OfFile}
 use Rattle.programs.specs.declared.reading.Asked.{Asked}
 use Rattle.programs.specs.declared.reading.Asked.TheVariants as asked
+use Rattle.programs.specs.declared.text.Text.{Text}
 
 -- the width and the length of a level, if the file has it
 unfoldable pub sides_of_level : List ℕ → ℕ → Option (ℕ × ℕ)
@@ -34,8 +34,8 @@ IsFor f (asked.Description form) q = q ≡ Info
 
 -- A text, or a fault of the file, is what an outcome says: a window is written as a graymap or a pixmap, and of a whole level nothing
 -- else. Of the texts of Info and of descriptions nothing is said here. That there is no report isn't said of one to a query.
-abbrev pub IsWritten : Asked → Outcome → Result (Vec ℕ) Fault → Type 0
-IsWritten a (outcome.Window v) (Ok text) = text.items ≡ netpbm v.samples v.bits v.w v.h v.pixels.items
+abbrev pub IsWritten : Asked → Outcome → Result Text Fault → Type 0
+IsWritten a (outcome.Window v) (Ok text) = text.head.items ++ text.samples.now ≡ netpbm v.samples v.bits v.w v.h v.pixels.items
 IsWritten (asked.Whole level) (outcome.Info i) (Ok text) = ⊥
 IsWritten a (outcome.Info i) (Ok text) = ⊤
 IsWritten a (outcome.Fault fault) (Ok text) = ⊥
@@ -44,14 +44,14 @@ IsWritten a o (Err (OfFile fault)) = o ≡ outcome.Fault fault
 IsWritten a o (Err fault) = ⊤
 
 -- A report that answers what is asked is true of the publication, and is what is written.
-pub record IsTrueOfPublication (p : Publication) (a : Asked) (written : Result (Vec ℕ) Fault) : Type 0 where
+pub record IsTrueOfPublication (p : Publication) (a : Asked) (written : Result Text Fault) : Type 0 where
   pub report : Report
   pub asked : IsFor p.file a report.query
   pub holds : IsTrueReport report p.name (Some report.query) (p ∷ [])
   pub says : IsWritten a report.outcome written
 
 -- What is written of a publication is true of it: a text, and a fault of its file.
-abbrev pub WritesTrue : Publication → Asked → Result (Vec ℕ) Fault → Type 0
+abbrev pub WritesTrue : Publication → Asked → Result Text Fault → Type 0
 WritesTrue p a (Ok text) = IsTrueOfPublication p a (Ok text)
 WritesTrue p a (Err (OfFile fault)) = IsTrueOfPublication p a (Err (OfFile fault))
 WritesTrue p a (Err fault) = ⊤

@@ -2,6 +2,7 @@
 use crate::fault::Fault;
 use crate::number::number;
 use crate::reading::{Asked, Exchanges, Telling};
+use crate::text::Text;
 use clap::error::ErrorKind;
 use cog_client::{Client, ClientError, Query};
 use command_lines::{
@@ -112,13 +113,16 @@ fn client_of<R: Eprint + AllocGlobal>(
     }
 }
 
-/// What a line asks for, over sockets. Here is the place of blocks that are read ahead.
-fn text_of_line<R>(rt: &R, line: &ReadLine<'_>) -> Result<Vec<u8>, Fault>
+/// What a line asks for, over sockets, which are closed then. Here is the place of blocks that are read ahead.
+fn text_of_line<'c, R>(
+    rt: &R,
+    line: &ReadLine<'_>,
+    numbers: Numbers,
+    client: &'c mut Client,
+) -> Result<Text<'c>, Fault>
 where
     R: Clock + Eprint + AllocGlobal + Net<Stream = TcpStream>,
 {
-    let numbers = numbers_of(rt, line)?;
-    let mut client = client_of(rt, line, numbers.blocks)?;
     let net = NotedNet::new(rt);
     client.look_ahead(numbers.ahead);
     let mut socket = Socket::new(&net, line.server);
@@ -133,7 +137,24 @@ where
         requests: numbers.requests,
         telling: telling_of(line),
     };
-    exchanges.text(&mut client, &mut noted, numbers.asked)
+    exchanges.text(client, &mut noted, numbers.asked)
+}
+
+/// Writes a text to the file at a path, or to standard output.
+fn write_text<R>(rt: &R, path: Option<&str>, text: &Text<'_>) -> Result<(), Fault>
+where
+    R: Files + Print + AllocGlobal,
+{
+    let Some(path) = path else {
+        let mut out = io::writer(rt);
+        out.write_all(&text.head)?;
+        return Ok(out.write_all(text.samples)?);
+    };
+    match replace_file(rt, path, &text.parts()) {
+        Ok(()) => Ok(()),
+        Err(error) if error.kind() == io::ErrorKind::OutOfMemory => Err(Fault::Memory),
+        Err(_) => Err(Fault::CantWriteFile(String::from_str(rt.alloc(), path)?)),
+    }
 }
 
 /// Reads what a line asks for, and writes it.
@@ -141,15 +162,10 @@ fn run_read<R>(rt: &R, line: &ReadLine<'_>) -> Result<(), Fault>
 where
     R: Files + Clock + Print + Eprint + AllocGlobal + Net<Stream = TcpStream>,
 {
-    let text = text_of_line(rt, line)?;
-    let Some(path) = line.output else {
-        return Ok(io::writer(rt).write_all(&text)?);
-    };
-    match replace_file(rt, path, &text) {
-        Ok(()) => Ok(()),
-        Err(error) if error.kind() == io::ErrorKind::OutOfMemory => Err(Fault::Memory),
-        Err(_) => Err(Fault::CantWriteFile(String::from_str(rt.alloc(), path)?)),
-    }
+    let numbers = numbers_of(rt, line)?;
+    let mut client = client_of(rt, line, numbers.blocks)?;
+    let text = text_of_line(rt, line, numbers, &mut client)?;
+    write_text(rt, line.output, &text)
 }
 
 /// The words with a server and a name in the place of their URL.

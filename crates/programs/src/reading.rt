@@ -12,11 +12,12 @@ ghost use Rattle.programs.specs.Exchanges.{Ends, StillReads};
 ghost use Rattle.programs.specs.Text.{IsFor, IsOfWhole, IsWritten, StaysWithin, WritesTrue};
 
 use crate::fault::Fault;
+use crate::text::Text;
 use cog_client::{Client, FetchError, Info, Outcome, Pieces, Query, Report, Tag};
 use cog_fetch::fetch_pieces;
 use describing::{Description, Form};
 use exchange_notes::{Noted, NotedNet, exchanges_drawn, exchanges_told};
-use report_text::{FaultSentence, info_text, picture};
+use report_text::{FaultSentence, info_text, picture_head};
 use std::rt::Clock;
 use tiff_dir::Pick;
 
@@ -109,24 +110,11 @@ impl<R: Eprint + Clock + AllocGlobal> Exchanges<'_, '_, R> {
         Ok(())
     }
 
-    /// Reads what is asked over a source that is noted. A line that is drawn is ended.
-    fn fetch_and_end<P: Pieces>(
-        &self,
-        client: &mut Client,
-        noted: &mut Noted<P>,
-        asked: Asked,
-    ) -> Result<(), FetchError>
-        ensures reads { StillReads (P.speaks_for (source_of noted.old)) (P.speaks_for (source_of noted.new)) client.old client.new }
-        ensures asks { (p : Publication) → ReadsPublication (P.speaks_for (source_of noted.old)) client.old p
-            → OnOk result (IfSome (query_of client.new) (IsFor p.file asked)) }
-        ensures few { StaysWithin self.now.requests (P.count (source_of noted.old)) (P.count (source_of noted.new)) }
-        ensures ends { OnOk result (Ends asked self.now.requests (P.count (source_of noted.new)) client.new) }
-    {
-        let fetched = self.fetch_asked(client, noted, asked);
+    /// Ends the line that is drawn.
+    fn end_line(&self) {
         if self.telling == Telling::Progress {
             let _ = eprintln!(self.rt; "");
         }
-        fetched
     }
 
     /// Reads what is asked over a source that is noted.
@@ -151,14 +139,14 @@ impl<R: Eprint + Clock + AllocGlobal> Exchanges<'_, '_, R> {
         self.fetch(client, noted)
     }
 
-    /// Reads what is asked over a source that is noted, and gives its text: a picture, what Info tells, or a description. What is
-    /// told of each exchange goes to standard error, and so does why there is no text.
-    pub fn text<P: Pieces>(
+    /// Reads what is asked over a source that is noted, and gives its text: a picture, whose samples the client lends, what Info tells,
+    /// or a description. What is told of each exchange goes to standard error, and so does why there is no text.
+    pub fn text<'c, P: Pieces>(
         &self,
-        client: &mut Client,
+        client: &'c mut Client,
         noted: &mut Noted<P>,
         asked: Asked,
-    ) -> Result<Vec<u8>, Fault>
+    ) -> Result<Text<'c>, Fault>
         // What is written is true of the publication that the client reads, if the source speaks for it.
         ensures truth { (p : Publication)
             → ReadsPublication (P.speaks_for (source_of noted.old)) client.old p → WritesTrue p asked result }
@@ -167,7 +155,10 @@ impl<R: Eprint + Clock + AllocGlobal> Exchanges<'_, '_, R> {
         ensures none { (query : Query) → asked ≡ AQuery query → result ≡ Err NoReport
             → self.now.requests ≤ P.count (source_of noted.new) }
     {
-        self.fetch_and_end(client, noted, asked)?;
+        let fetched = self.fetch_asked(client, noted, asked);
+        self.end_line();
+        fetched?;
+        let client: &'c Client = client;
         let Some(report) = client.report() else {
             self.tell_no_report();
             return Err(Fault::NoReport);
@@ -186,16 +177,26 @@ impl<R: Eprint + Clock + AllocGlobal> Exchanges<'_, '_, R> {
     }
 
     /// The text of a client's report. A fault of the file is told as one.
-    fn text_of(&self, client: &Client, report: &Report, asked: Asked) -> Result<Vec<u8>, Fault>
+    fn text_of<'c>(
+        &self,
+        client: &Client,
+        report: &'c Report,
+        asked: Asked,
+    ) -> Result<Text<'c>, Fault>
         ensures { IsWritten asked report.now.outcome result }
     {
         let alloc = self.rt.alloc();
         match &report.outcome {
-            Outcome::Window(window) => Ok(picture(alloc, window)?),
+            Outcome::Window(window) => Ok(Text {
+                head: picture_head(alloc, window)?,
+                samples: &window.pixels,
+            }),
             Outcome::Info(info) => match asked {
-                Asked::Query(_) => Ok(info_text(alloc, &report.tag, info)?),
+                Asked::Query(_) => Ok(Text::plain(info_text(alloc, &report.tag, info)?)),
                 Asked::Description(form) => match Description::of(alloc, client)? {
-                    Some(description) => Ok(description.text(alloc, form)?.into_bytes()),
+                    Some(description) => {
+                        Ok(Text::plain(description.text(alloc, form)?.into_bytes()))
+                    }
                     None => Err(Fault::NoReport),
                 },
                 Asked::Whole { .. } => Err(Fault::NoReport),

@@ -6,5 +6,5 @@ mod netpbm;
 mod sentences;
 
 pub use info::info_text;
-pub use netpbm::picture;
+pub use netpbm::{picture, picture_head};
 pub use sentences::{FaultSentence, RefusalSentence, WhySentence};

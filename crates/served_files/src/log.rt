@@ -14,6 +14,9 @@ pub struct Log<'r, R> {
 }
 
 impl<R: Eprint> Log<'_, R> {
+    ghost use Rattle.std.specs.Prelude.{◌≡◌, IfErr, IsOk, IsTrue, false, Err};
+    ghost use Rattle.served_files.specs.declared.error.ServeError.TheVariants.{CantWrite};
+
     /// Tells what happened, where a log is kept.
     pub fn tell<D: Display + Drop>(&self, what: D) {
         if self.is_kept {
@@ -23,7 +26,11 @@ impl<R: Eprint> Log<'_, R> {
 
     /// What comes of a line that was written to standard output before the server listens: where a log is kept, one that can't be
     /// written is lost.
-    pub fn written(&self, line: io::Result<()>) -> Result<(), ServeError<'static>> {
+    pub fn written(&self, line: io::Result<()>) -> Result<(), ServeError<'static>>
+        ensures kept { IsTrue self.now.is_kept → IsOk result }
+        ensures told { IsOk line → IsOk result }
+        ensures lost { IfErr line (λ error. self.now.is_kept ≡ false → result ≡ Err (CantWrite error)) }
+    {
         match line {
             Err(error) if !self.is_kept => Err(ServeError::CantWrite(error)),
             _ => Ok(()),

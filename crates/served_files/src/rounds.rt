@@ -1,4 +1,6 @@
 //! Serving: round by round, as connections come and are ready.
+ghost use Rattle.std.specs.Prelude.{◌≡◌, max};
+
 use crate::error::ServeError;
 use crate::lines::Listening;
 use crate::log::Log;
@@ -28,7 +30,9 @@ where
 
 /// Tells of each connection that has ended, from the next one on, and gives how many were told. A line that can't be written is lost:
 /// the next ones are tried.
-fn print_served<R: Print>(rt: &R, told: u32, ended: u32) -> u32 {
+fn print_served<R: Print>(rt: &R, told: u32, ended: u32) -> u32
+    ensures { result ≡ max told ended }
+{
     for k in told..ended {
         let _ = println!(rt; "served {}", k + 1);
     }

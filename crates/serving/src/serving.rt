@@ -185,8 +185,9 @@ impl Serving {
         Ok(())
     }
 
-    /// Whether to try again at once: where a newcomer is lost, or there is no room for one and another connection was displaced for it.
-    /// Else no newcomer waits, or it waits until a connection ends or can be displaced.
+    /// Whether to try again at once: where there is no room for a newcomer and another connection was displaced for it. Else no newcomer
+    /// waits, or it waits until the system says so again: behind one that is lost at once, without room once a connection ends or can be
+    /// displaced.
     fn may_try_again(&mut self, error: &io::Error, now: u64) -> Result<bool, AcceptError> {
         match error.raw_os_error() {
             _ if error.kind() == ErrorKind::WouldBlock => {
@@ -194,7 +195,10 @@ impl Serving {
                 self.is_starved = false;
                 Ok(false)
             }
-            Some(number) if LOST.contains(&number) => Ok(true),
+            Some(number) if LOST.contains(&number) => {
+                self.ask()?;
+                Ok(false)
+            }
             Some(number) if NO_ROOM.contains(&number) && self.is_starved => Ok(self.displace(now)),
             Some(number) if NO_ROOM.contains(&number) => {
                 self.is_starved = true;

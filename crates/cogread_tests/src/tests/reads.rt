@@ -31,7 +31,10 @@ fn read<R: AllocGlobal + Clock>(
         telling: Telling::Nothing,
     };
     let text = exchanges.text(&mut client, &mut noted, asked)?;
-    Ok(io::writer(capture).write_all(&text)?)
+    for part in text.parts() {
+        io::writer(capture).write_all(part)?;
+    }
+    Ok(())
 }
 
 /// What is printed of what is asked, told and ended with.
