@@ -4,18 +4,22 @@ use std::io::Write;
 use std::rt::Files;
 use std::{fs, io};
 
-/// Writes parts one behind the other, and nothing else, to what is at a path.
-fn write_parts<R: Files>(rt: &R, path: &str, parts: &[&[u8]]) -> io::Result<()> {
+/// Writes a head and what comes behind it, and nothing else, to what is at a path.
+fn write_both<R: Files>(rt: &R, path: &str, head: &[u8], rest: &[u8]) -> io::Result<()> {
     let mut file = File::create(rt, path)?;
-    for part in parts {
-        file.write_all(part)?;
-    }
-    Ok(())
+    file.write_all(head)?;
+    file.write_all(rest)
 }
 
 /// Writes a file beside another, and renames it to that one.
-fn write_beside<R: Files>(rt: &R, path: &str, beside: &str, parts: &[&[u8]]) -> io::Result<()> {
-    write_parts(rt, beside, parts)?;
+fn write_beside<R: Files>(
+    rt: &R,
+    path: &str,
+    beside: &str,
+    head: &[u8],
+    rest: &[u8],
+) -> io::Result<()> {
+    write_both(rt, beside, head, rest)?;
     fs::rename(rt, beside, path)
 }
 
@@ -27,14 +31,19 @@ fn is_special<R: Files>(rt: &R, path: &str) -> bool {
     }
 }
 
-/// Writes parts, one behind the other, to the file at a path, which is replaced once all of them stand in `PATH.part`: after an error it
-/// is as it was. What is no plain file is written as it stands.
-pub fn replace_file<R: Files + AllocGlobal>(rt: &R, path: &str, parts: &[&[u8]]) -> io::Result<()> {
+/// Writes a head and what comes behind it to the file at a path, which is replaced once all of it stands in `PATH.part`: after an error
+/// it is as it was. What is no plain file is written as it stands.
+pub fn replace_file<R: Files + AllocGlobal>(
+    rt: &R,
+    path: &str,
+    head: &[u8],
+    rest: &[u8],
+) -> io::Result<()> {
     if is_special(rt, path) {
-        return write_parts(rt, path, parts);
+        return write_both(rt, path, head, rest);
     }
     let beside = format!(in rt.alloc(); "{path}.part")?;
-    let written = write_beside(rt, path, beside.as_str(), parts);
+    let written = write_beside(rt, path, beside.as_str(), head, rest);
     if written.is_err() {
         let _ = fs::remove_file(rt, beside.as_str());
     }

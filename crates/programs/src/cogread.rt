@@ -150,7 +150,7 @@ where
         out.write_all(&text.head)?;
         return Ok(out.write_all(text.samples)?);
     };
-    match replace_file(rt, path, &text.parts()) {
+    match replace_file(rt, path, &text.head, text.samples) {
         Ok(()) => Ok(()),
         Err(error) if error.kind() == io::ErrorKind::OutOfMemory => Err(Fault::Memory),
         Err(_) => Err(Fault::CantWriteFile(String::from_str(rt.alloc(), path)?)),

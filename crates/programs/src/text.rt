@@ -20,9 +20,4 @@ impl Text<'_> {
             samples: &[],
         }
     }
-
-    /// Its bytes, one part behind the other.
-    pub fn parts(&self) -> [&[u8]; 2] {
-        [&self.head, self.samples]
-    }
 }

@@ -2,3 +2,4 @@
 mod early;
 mod kept;
 mod loopback;
+mod peer;

@@ -31,10 +31,8 @@ fn read<R: AllocGlobal + Clock>(
         telling: Telling::Nothing,
     };
     let text = exchanges.text(&mut client, &mut noted, asked)?;
-    for part in text.parts() {
-        io::writer(capture).write_all(part)?;
-    }
-    Ok(())
+    io::writer(capture).write_all(&text.head)?;
+    Ok(io::writer(capture).write_all(text.samples)?)
 }
 
 /// What is printed of what is asked, told and ended with.

@@ -11,7 +11,7 @@ const BESIDE: &str = "programs_tests_output.part";
 #[test]
 fn replaces_the_file(rt: HostRuntime) -> Result<(), Fail> {
     fs::write(&rt, PATH, "before")?;
-    replace_file(&rt, PATH, &[b"af", b"", b"ter"])?;
+    replace_file(&rt, PATH, b"af", b"ter")?;
     assert_eq!(rt; fs::read(&rt, PATH)?.as_slice(), b"after".as_slice());
     assert!(rt; fs::metadata(&rt, BESIDE).is_err());
     fs::remove_file(&rt, PATH)?;
@@ -21,8 +21,8 @@ fn replaces_the_file(rt: HostRuntime) -> Result<(), Fail> {
 /// A folder takes no file's place.
 #[test]
 fn leaves_nothing_of_a_file_that_is_not_written(rt: HostRuntime) -> Result<(), Fail> {
-    assert!(rt; replace_file(&rt, "programs_tests_nowhere/a", &[b"text"]).is_err());
-    assert!(rt; replace_file(&rt, "programs_tests_a/", &[b"text"]).is_err());
+    assert!(rt; replace_file(&rt, "programs_tests_nowhere/a", b"text", b"").is_err());
+    assert!(rt; replace_file(&rt, "programs_tests_a/", b"text", b"").is_err());
     assert!(rt; fs::metadata(&rt, "programs_tests_a").is_err());
     Ok(())
 }
@@ -30,7 +30,7 @@ fn leaves_nothing_of_a_file_that_is_not_written(rt: HostRuntime) -> Result<(), F
 /// What goes to a device goes there; this one is always full.
 #[test]
 fn replaces_no_device(rt: HostRuntime) {
-    assert!(rt; replace_file(&rt, "/dev/full", &[b"text"]).is_err());
+    assert!(rt; replace_file(&rt, "/dev/full", b"", b"text").is_err());
 }
 
 /// Where nothing is read, no file is made.

@@ -1,13 +1,11 @@
 //! Requests that are sent early on a connection that is kept: each has its turn once, and behind anything else the connection is made
 //! anew.
-use super::kept::{answer, arrived, request, send};
-use super::loopback::server_of;
+use super::peer::{Peer, expect, request, send, send_text};
 use cog_client::Pieces;
-use cog_server::Server;
 use fixtures_support::f5;
 use sockets::Socket;
 use std::alloc::Global;
-use std::io::{Read, Write};
+use std::io::Read;
 use std::net::{Net, TcpListener, TcpStream};
 use std::test::Fail;
 
@@ -24,149 +22,123 @@ fn requests(alloc: Global) -> Result<[Vec<u8>; 3], Fail> {
 }
 
 /// One exchange on a new connection, whose server's end is given.
-fn open<R>(
-    rt: &R,
-    server: &Server,
-    listener: &TcpListener,
-    socket: &mut Socket<'_, R>,
-) -> Result<TcpStream, Fail>
+fn open<R>(alloc: Global, peer: &Peer, socket: &mut Socket<'_, R>) -> Result<TcpStream, Fail>
 where
     R: Net<Listener = TcpListener, Stream = TcpStream> + AllocGlobal,
 {
-    let alloc = rt.alloc();
+    socket.keep_open();
     send(alloc, socket, 999)?;
-    let (mut stream, _) = listener.accept()?;
-    let text = answer(server, &mut stream)?;
-    if arrived(alloc, socket, &mut [0; 1000])? == text {
-        Ok(stream)
-    } else {
-        Err(Fail::new("another answer came"))
-    }
+    let mut stream = peer.accept()?;
+    peer.exchange(alloc, &mut stream, socket, &mut [0; 1000])?;
+    Ok(stream)
 }
 
-/// Whether these requests come on a connection, one behind another.
-fn come(alloc: Global, stream: &mut TcpStream, requests: &[Vec<u8>]) -> Result<bool, Fail> {
+/// These requests come on a connection, one behind another.
+fn come(alloc: Global, stream: &mut TcpStream, requests: &[Vec<u8>]) -> Result<(), Fail> {
     for request in requests {
         let mut room = vec![in alloc; 0u8; request.len()]?;
         stream.read_exact(&mut room)?;
         if room != *request {
-            return Ok(false);
+            return Err(Fail::new("another request came"));
         }
     }
-    Ok(true)
-}
-
-/// Answers a request on a connection. The text of the answer.
-fn answer_to(server: &Server, stream: &mut TcpStream, request: &[u8]) -> Result<Vec<u8>, Fail> {
-    let answer = server.answer(request)?;
-    stream.write_all(&answer.text)?;
-    Ok(answer.text)
+    Ok(())
 }
 
 /// Answers requests one behind another. The texts of the answers.
 fn answer_each(
-    server: &Server,
+    peer: &Peer,
     stream: &mut TcpStream,
     requests: &[Vec<u8>; 3],
 ) -> Result<[Vec<u8>; 3], Fail> {
     Ok([
-        answer_to(server, stream, &requests[0])?,
-        answer_to(server, stream, &requests[1])?,
-        answer_to(server, stream, &requests[2])?,
+        peer.answer_to(stream, &requests[0])?,
+        peer.answer_to(stream, &requests[1])?,
+        peer.answer_to(stream, &requests[2])?,
     ])
+}
+
+/// The requests behind the first one are started one after the other, and their answers are taken in pieces of 100 bytes and of any size.
+fn take_rest<R>(alloc: Global, socket: &mut Socket<'_, R>, texts: &[Vec<u8>; 3]) -> Result<(), Fail>
+where
+    R: Net<Listener = TcpListener, Stream = TcpStream> + AllocGlobal,
+{
+    expect(alloc, socket, &mut [0; 16384], &texts[0])?;
+    send(alloc, socket, LAST[1])?;
+    expect(alloc, socket, &mut [0; 100], &texts[1])?;
+    send(alloc, socket, LAST[2])?;
+    expect(alloc, socket, &mut [0; 16384], &texts[2])
 }
 
 /// Two requests are sent early, and then started: no byte more is sent, and their answers are read in pieces of any size.
 #[test]
 fn starts_what_was_sent_early_without_sending_it(rt: HostRuntime) -> Result<(), Fail> {
     let alloc = rt.alloc();
-    let server = server_of(alloc, f5(alloc)?)?;
-    let listener = TcpListener::bind(&rt, "127.0.0.1:0")?;
-    let address = format!(in alloc; "{}", listener.local_addr()?)?;
+    let peer = Peer::new(&rt, f5(alloc)?)?;
     let requests = requests(alloc)?;
-    let all = &requests[..];
-    let mut socket = Socket::new(&rt, address.as_str());
-    socket.keep_open();
-    let mut stream = open(&rt, &server, &listener, &mut socket)?;
+    let mut socket = Socket::new(&rt, peer.address.as_str());
+    let mut stream = open(alloc, &peer, &mut socket)?;
     send(alloc, &mut socket, LAST[0])?;
-    socket.foresee(&all[1..2]);
-    socket.foresee(&all[1..]);
-    assert!(rt; come(alloc, &mut stream, all)?);
-    let texts = answer_each(&server, &mut stream, &requests)?;
-    assert_eq!(rt; arrived(alloc, &mut socket, &mut [0; 16384])?, texts[0]);
-    send(alloc, &mut socket, LAST[1])?;
-    assert_eq!(rt; arrived(alloc, &mut socket, &mut [0; 100])?, texts[1]);
-    send(alloc, &mut socket, LAST[2])?;
-    assert_eq!(rt; arrived(alloc, &mut socket, &mut [0; 16384])?, texts[2]);
+    socket.foresee(&requests[1..2]);
+    socket.foresee(&requests[1..]);
+    come(alloc, &mut stream, &requests)?;
+    take_rest(
+        alloc,
+        &mut socket,
+        &answer_each(&peer, &mut stream, &requests)?,
+    )?;
     send(alloc, &mut socket, LAST[0])?;
-    assert!(rt; come(alloc, &mut stream, &all[..1])?);
-    Ok(())
+    come(alloc, &mut stream, &requests[..1])
 }
 
 /// Another request follows than the one that was sent early: the connection is made anew, and the answer is the other one's.
 #[test]
 fn never_takes_the_answer_to_another_request(rt: HostRuntime) -> Result<(), Fail> {
     let alloc = rt.alloc();
-    let server = server_of(alloc, f5(alloc)?)?;
-    let listener = TcpListener::bind(&rt, "127.0.0.1:0")?;
-    let address = format!(in alloc; "{}", listener.local_addr()?)?;
+    let peer = Peer::new(&rt, f5(alloc)?)?;
     let requests = requests(alloc)?;
-    let all = &requests[..];
-    let mut socket = Socket::new(&rt, address.as_str());
-    socket.keep_open();
-    let mut stream = open(&rt, &server, &listener, &mut socket)?;
+    let mut socket = Socket::new(&rt, peer.address.as_str());
+    let mut stream = open(alloc, &peer, &mut socket)?;
     send(alloc, &mut socket, LAST[0])?;
-    socket.foresee(&all[1..]);
-    let texts = answer_each(&server, &mut stream, &requests)?;
-    assert_eq!(rt; arrived(alloc, &mut socket, &mut [0; 16384])?, texts[0]);
+    socket.foresee(&requests[1..]);
+    let texts = answer_each(&peer, &mut stream, &requests)?;
+    expect(alloc, &mut socket, &mut [0; 16384], &texts[0])?;
     send(alloc, &mut socket, LAST[2])?;
-    let (mut stream, _) = listener.accept()?;
-    assert_eq!(rt; answer(&server, &mut stream)?, texts[2]);
-    assert_eq!(rt; arrived(alloc, &mut socket, &mut [0; 16384])?, texts[2]);
-    Ok(())
+    let mut stream = peer.accept()?;
+    assert_eq!(rt; peer.answer(&mut stream)?, texts[2]);
+    expect(alloc, &mut socket, &mut [0; 16384], &texts[2])
 }
 
 /// The answer says that the connection ends: what was sent early on it is sent again on a new one.
 #[test]
 fn sends_again_what_was_sent_early_where_the_connection_ends(rt: HostRuntime) -> Result<(), Fail> {
     let alloc = rt.alloc();
-    let server = server_of(alloc, f5(alloc)?)?;
-    let listener = TcpListener::bind(&rt, "127.0.0.1:0")?;
-    let address = format!(in alloc; "{}", listener.local_addr()?)?;
+    let peer = Peer::new(&rt, f5(alloc)?)?;
     let requests = requests(alloc)?;
-    let all = &requests[..];
-    let mut socket = Socket::new(&rt, address.as_str());
-    socket.keep_open();
-    let mut stream = open(&rt, &server, &listener, &mut socket)?;
+    let mut socket = Socket::new(&rt, peer.address.as_str());
+    let mut stream = open(alloc, &peer, &mut socket)?;
     let closing = request(alloc, LAST[0], true)?;
-    socket.send(&closing).map_err(|_| Fail::new("not sent"))?;
-    socket.foresee(&all[1..]);
-    let closed = answer_to(&server, &mut stream, &closing)?;
-    assert_eq!(rt; arrived(alloc, &mut socket, &mut [0; 16384])?, closed);
+    send_text(&mut socket, &closing)?;
+    socket.foresee(&requests[1..]);
+    let closed = peer.answer_to(&mut stream, &closing)?;
+    expect(alloc, &mut socket, &mut [0; 16384], &closed)?;
     send(alloc, &mut socket, LAST[1])?;
-    let (mut stream, _) = listener.accept()?;
-    let text = answer(&server, &mut stream)?;
-    assert_eq!(rt; arrived(alloc, &mut socket, &mut [0; 16384])?, text);
-    Ok(())
+    let mut stream = peer.accept()?;
+    peer.exchange(alloc, &mut stream, &mut socket, &mut [0; 16384])
 }
 
 /// Nothing is sent early on a connection that hasn't gone on behind an answer.
 #[test]
 fn sends_nothing_early_on_a_new_connection(rt: HostRuntime) -> Result<(), Fail> {
     let alloc = rt.alloc();
-    let server = server_of(alloc, f5(alloc)?)?;
-    let listener = TcpListener::bind(&rt, "127.0.0.1:0")?;
-    let address = format!(in alloc; "{}", listener.local_addr()?)?;
+    let peer = Peer::new(&rt, f5(alloc)?)?;
     let requests = requests(alloc)?;
-    let all = &requests[..];
-    let mut socket = Socket::new(&rt, address.as_str());
+    let mut socket = Socket::new(&rt, peer.address.as_str());
     socket.keep_open();
     send(alloc, &mut socket, LAST[0])?;
-    socket.foresee(&all[1..]);
-    let (mut stream, _) = listener.accept()?;
-    let text = answer(&server, &mut stream)?;
-    assert_eq!(rt; arrived(alloc, &mut socket, &mut [0; 16384])?, text);
+    socket.foresee(&requests[1..]);
+    let mut stream = peer.accept()?;
+    peer.exchange(alloc, &mut stream, &mut socket, &mut [0; 16384])?;
     send(alloc, &mut socket, LAST[2])?;
-    assert!(rt; come(alloc, &mut stream, &all[2..])?);
-    Ok(())
+    come(alloc, &mut stream, &requests[2..])
 }

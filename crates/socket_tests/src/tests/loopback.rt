@@ -1,7 +1,7 @@
 //! A client and a server over sockets of one process: a request is sent, the connection is served, and the answer received.
-use super::kept::arrived;
+use super::peer::{Peer, arrived, send_text};
 use cog_client::{Client, Delivered, Lost, Outcome, Pieces, Query, Report};
-use cog_server::{Server, Stream};
+use cog_server::Stream;
 use fixtures_support::{f1, f3};
 use http_range::publication_tag;
 use report_text::{info_text, picture};
@@ -23,28 +23,17 @@ fn window(x: u32, y: u32, w: u32, h: u32) -> Query {
     }
 }
 
-/// A server that has a file as `a` in epoch 1.
-pub fn server_of(alloc: Global, file: Vec<u8>) -> Result<Server, Fail> {
-    let mut server = Server::new(alloc, 1);
-    server.publish(b"a", file)?;
-    Ok(server)
-}
-
 /// Sends a request, serves the connection, and gives what comes back.
-fn carry<R>(
-    rt: &R,
-    server: &Server,
-    listener: &TcpListener,
-    request: &[u8],
-) -> Result<Vec<u8>, Fail>
+fn carry<R>(rt: &R, peer: &Peer, request: &[u8]) -> Result<Vec<u8>, Fail>
 where
     R: Runtime + AllocGlobal + Net<Listener = TcpListener, Stream = TcpStream>,
 {
-    let address = format!(in rt.alloc(); "{}", listener.local_addr()?)?;
-    let mut socket = Socket::new(rt, address.as_str());
-    socket.send(request).map_err(|_| Fail::new("not sent"))?;
-    let (stream, _) = listener.accept()?;
-    let served = server.serve(&mut Stream::new(&stream), &mut Stream::new(&stream));
+    let mut socket = Socket::new(rt, peer.address.as_str());
+    send_text(&mut socket, request)?;
+    let stream = peer.accept()?;
+    let served = peer
+        .server
+        .serve(&mut Stream::new(&stream), &mut Stream::new(&stream));
     drop(stream);
     if served.is_err() {
         return Err(Fail::new("not served"));
@@ -53,13 +42,7 @@ where
 }
 
 /// Asks a query, and exchanges until the client has no request any more. How many exchanges there were.
-fn read<R>(
-    rt: &R,
-    server: &Server,
-    listener: &TcpListener,
-    client: &mut Client,
-    query: Query,
-) -> Result<usize, Fail>
+fn read<R>(rt: &R, peer: &Peer, client: &mut Client, query: Query) -> Result<usize, Fail>
 where
     R: Runtime + AllocGlobal + Net<Listener = TcpListener, Stream = TcpStream>,
 {
@@ -68,7 +51,7 @@ where
         let Some(request) = client.request()? else {
             return Ok(count);
         };
-        let answer = carry(rt, server, listener, &request)?;
+        let answer = carry(rt, peer, &request)?;
         if answer.len() > 16_384 {
             return Err(Fail::new("a long answer"));
         }
@@ -92,17 +75,16 @@ fn text_of(alloc: Global, report: Option<&Report>) -> Result<Vec<u8>, Fail> {
 #[test]
 fn reads_windows_over_a_socket(rt: HostRuntime) -> Result<(), Fail> {
     let alloc = rt.alloc();
-    let server = server_of(alloc, f1(alloc)?)?;
-    let listener = TcpListener::bind(&rt, "127.0.0.1:0")?;
+    let peer = Peer::new(&rt, f1(alloc)?)?;
     let mut client = Client::new(alloc, b"cog.test", b"a", 66)?;
-    let count = read(&rt, &server, &listener, &mut client, window(2, 1, 3, 2))?;
+    let count = read(&rt, &peer, &mut client, window(2, 1, 3, 2))?;
     assert_eq!(rt; count, 1);
     let text = text_of(alloc, client.report())?;
     assert_eq!(rt;
         text.as_slice(),
         b"P5\n3 2\n255\n\x12\x13\x14\x22\x23\x24".as_slice()
     );
-    let count = read(&rt, &server, &listener, &mut client, window(15, 15, 1, 1))?;
+    let count = read(&rt, &peer, &mut client, window(15, 15, 1, 1))?;
     assert_eq!(rt; count, 0);
     let text = text_of(alloc, client.report())?;
     assert_eq!(rt; text.as_slice(), b"P5\n1 1\n255\n\xff".as_slice());
@@ -112,10 +94,9 @@ fn reads_windows_over_a_socket(rt: HostRuntime) -> Result<(), Fail> {
 #[test]
 fn reads_info_over_a_socket(rt: HostRuntime) -> Result<(), Fail> {
     let alloc = rt.alloc();
-    let server = server_of(alloc, f3(alloc)?)?;
-    let listener = TcpListener::bind(&rt, "127.0.0.1:0")?;
+    let peer = Peer::new(&rt, f3(alloc)?)?;
     let mut client = Client::new(alloc, b"cog.test", b"a", 66)?;
-    let count = read(&rt, &server, &listener, &mut client, Query::Info)?;
+    let count = read(&rt, &peer, &mut client, Query::Info)?;
     assert_eq!(rt; count, 1);
     assert!(rt; client.tag() == Some(&publication_tag(1, 1)));
     let text = text_of(alloc, client.report())?;
