@@ -76,19 +76,20 @@ fn starts_what_was_sent_early_without_sending_it(rt: HostRuntime) -> Result<(), 
     let alloc = rt.alloc();
     let peer = Peer::new(&rt, f5(alloc)?)?;
     let requests = requests(alloc)?;
+    let all = &requests[..];
     let mut socket = Socket::new(&rt, peer.address.as_str());
     let mut stream = open(alloc, &peer, &mut socket)?;
     send(alloc, &mut socket, LAST[0])?;
-    socket.foresee(&requests[1..2]);
-    socket.foresee(&requests[1..]);
-    come(alloc, &mut stream, &requests)?;
+    socket.foresee(&all[1..2]);
+    socket.foresee(&all[1..]);
+    come(alloc, &mut stream, all)?;
     take_rest(
         alloc,
         &mut socket,
         &answer_each(&peer, &mut stream, &requests)?,
     )?;
     send(alloc, &mut socket, LAST[0])?;
-    come(alloc, &mut stream, &requests[..1])
+    come(alloc, &mut stream, &all[..1])
 }
 
 /// Another request follows than the one that was sent early: the connection is made anew, and the answer is the other one's.
@@ -97,10 +98,11 @@ fn never_takes_the_answer_to_another_request(rt: HostRuntime) -> Result<(), Fail
     let alloc = rt.alloc();
     let peer = Peer::new(&rt, f5(alloc)?)?;
     let requests = requests(alloc)?;
+    let all = &requests[..];
     let mut socket = Socket::new(&rt, peer.address.as_str());
     let mut stream = open(alloc, &peer, &mut socket)?;
     send(alloc, &mut socket, LAST[0])?;
-    socket.foresee(&requests[1..]);
+    socket.foresee(&all[1..]);
     let texts = answer_each(&peer, &mut stream, &requests)?;
     expect(alloc, &mut socket, &mut [0; 16384], &texts[0])?;
     send(alloc, &mut socket, LAST[2])?;
@@ -115,11 +117,12 @@ fn sends_again_what_was_sent_early_where_the_connection_ends(rt: HostRuntime) ->
     let alloc = rt.alloc();
     let peer = Peer::new(&rt, f5(alloc)?)?;
     let requests = requests(alloc)?;
+    let all = &requests[..];
     let mut socket = Socket::new(&rt, peer.address.as_str());
     let mut stream = open(alloc, &peer, &mut socket)?;
     let closing = request(alloc, LAST[0], true)?;
     send_text(&mut socket, &closing)?;
-    socket.foresee(&requests[1..]);
+    socket.foresee(&all[1..]);
     let closed = peer.answer_to(&mut stream, &closing)?;
     expect(alloc, &mut socket, &mut [0; 16384], &closed)?;
     send(alloc, &mut socket, LAST[1])?;
@@ -133,12 +136,13 @@ fn sends_nothing_early_on_a_new_connection(rt: HostRuntime) -> Result<(), Fail> 
     let alloc = rt.alloc();
     let peer = Peer::new(&rt, f5(alloc)?)?;
     let requests = requests(alloc)?;
+    let all = &requests[..];
     let mut socket = Socket::new(&rt, peer.address.as_str());
     socket.keep_open();
     send(alloc, &mut socket, LAST[0])?;
-    socket.foresee(&requests[1..]);
+    socket.foresee(&all[1..]);
     let mut stream = peer.accept()?;
     peer.exchange(alloc, &mut stream, &mut socket, &mut [0; 16384])?;
     send(alloc, &mut socket, LAST[2])?;
-    come(alloc, &mut stream, &requests[2..])
+    come(alloc, &mut stream, &all[2..])
 }
