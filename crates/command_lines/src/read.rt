@@ -88,6 +88,15 @@ fn add_side<'a>(
     )
 }
 
+/// An option with one value.
+fn option<'a>(alloc: Global, name: &'a str, value: &'a str, help: &'a str) -> Arg<'a> {
+    Arg::new(alloc, name)
+        .long(name)
+        .value_name(value)
+        .help(help)
+        .action(ArgAction::Set)
+}
+
 /// Adds an option with one value.
 fn add_option<'a>(
     alloc: Global,
@@ -96,13 +105,7 @@ fn add_option<'a>(
     value: &'a str,
     help: &'a str,
 ) -> Result<Command<'a>, AllocError> {
-    command.arg(
-        Arg::new(alloc, name)
-            .long(name)
-            .value_name(value)
-            .help(help)
-            .action(ArgAction::Set),
-    )
+    command.arg(option(alloc, name, value, help))
 }
 
 /// An option without a value.
@@ -165,14 +168,14 @@ fn add_telling<'a>(alloc: Global, command: Command<'a>) -> Result<Command<'a>, A
     add_flag_without(alloc, command, "progress", "verbose", help)
 }
 
-/// Adds the options that all have.
+/// Adds the options that each command has.
 fn add_common<'a>(alloc: Global, command: Command<'a>) -> Result<Command<'a>, AllocError> {
     let command = add_amounts(alloc, command)?;
     let command = add_connections(alloc, command)?;
     add_telling(alloc, command)
 }
 
-/// A command with the words and options that both have: the server and the name first, the options last.
+/// A command with the words and options that each has: the server and the name first, the options last.
 fn command<'a>(
     alloc: Global,
     name: &'a str,
@@ -195,9 +198,8 @@ fn add_sides<'a>(alloc: Global, command: Command<'a>) -> Result<Command<'a>, All
 
 /// Adds the options of which level is read, and how much of it.
 fn add_levels<'a>(alloc: Global, command: Command<'a>) -> Result<Command<'a>, AllocError> {
-    let level = Arg::new(alloc, "level").long("level").value_name("N");
-    let level = level.help("The level, 0 for the largest (default 0)");
-    let level = level.action(ArgAction::Set);
+    let help = "The level, 0 for the largest (default 0)";
+    let level = option(alloc, "level", "N", help);
     let command = command.arg(level.conflicts_with("columns")?)?;
     let help =
         "The smallest level in which the window is at least C columns wide; X Y W H are then of level 0 (no default)";

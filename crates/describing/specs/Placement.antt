@@ -2,10 +2,11 @@
 use Rattle.std.specs.Prelude.{ℕ, ◌==◌, Bool, true, false, if◌then◌else◌, List, [], ◌∷◌, length, slice_get, Option, Some, None, from_bits}
 use Rattle.std.specs.Option.{option_map}
 use Rattle.std.specs.Int.{w64, from_be_bytes}
-use Rattle.std.specs.Float.Ieee.{Float, binary64, add, sub, mul, neg}
+use Rattle.std.specs.Float.Ieee.{Float, binary64, add, sub, mul, div, neg}
 use Rattle.cog_reader.specs.declared.outcome.Info.{Info}
 use Rattle.describing.specs.declared.placement.Placement.{Placement}
-use Rattle.describing.specs.declared.placement.TheConstants.{NOTHING, HALF_BEFORE}
+use Rattle.describing.specs.declared.placement.Corners.{Corners}
+use Rattle.describing.specs.declared.placement.TheConstants.{NOTHING, HALF_BEFORE, TWO}
 
 -- ---- a place
 
@@ -16,6 +17,19 @@ right_of p column row = add binary64 (add binary64 p.left (mul binary64 p.across
 -- upwards: top + across * column + down * row
 abbrev pub up_of : Placement → (column row : Float) → Float
 up_of p column row = add binary64 (add binary64 p.top (mul binary64 p.across.1 column)) (mul binary64 p.down.1 row)
+
+abbrev pub place_of : Placement → (column row : Float) → Float × Float
+place_of p column row = (right_of p column row, up_of p column row)
+
+-- the corners of so many columns and rows, and their middle
+abbrev pub corners_of : Placement → (columns rows : Float) → Corners
+corners_of p columns rows = record {
+  upper_left = place_of p NOTHING NOTHING;
+  lower_left = place_of p NOTHING rows;
+  lower_right = place_of p columns rows;
+  upper_right = place_of p columns NOTHING;
+  center = place_of p (div binary64 columns TWO) (div binary64 rows TWO);
+}
 
 -- GDAL's GetGeoTransform
 abbrev pub geo_transform_of : Placement → List Float
@@ -32,7 +46,7 @@ abbrev pub of_six : (Float → Float → Float → Float → Float → Float →
 of_six make (Some a) (Some b) (Some c) (Some d) (Some e) (Some f) = Some (make a b c d e f)
 of_six make a b c d e f = None
 
--- ModelTransformation (section 7.3.4): the steps from a column and from a row, and the place of the first corner
+-- ModelTransformation (section 7.3): the steps from a column and from a row, and the place of the first corner
 abbrev pub by_steps : (left top right_across up_across right_down up_down : Float) → Placement
 by_steps left top right_across up_across right_down up_down = record {
   left = left;
@@ -41,7 +55,7 @@ by_steps left top right_across up_across right_down up_down = record {
   down = (right_down, up_down);
 }
 
--- ModelPixelScale and one tiepoint (section 7.3.3): the sides of a pixel, and a column and a row with their place
+-- ModelPixelScale and one tiepoint (section 7.3): the sides of a pixel, and a column and a row with their place
 abbrev pub by_sides : (width height column row x y : Float) → Placement
 by_sides width height column row x y = record {
   left = sub binary64 x (mul binary64 column width);

@@ -8,11 +8,14 @@ use cog_client::Info;
 use serde::Serialize;
 use std::num::f64_from_bits_with_nan;
 
-/// What a step adds that goes along the other axis.
+/// The first column and row, and what a step adds that goes along the other axis.
 const NOTHING: f64 = 0.0;
 
 /// Half a column or a row before the first one.
 const HALF_BEFORE: f64 = -0.5;
+
+/// A side has two halves.
+const TWO: f64 = 2.0;
 
 /// The place of a column and a row, which may have fractions: `left + across.0 * column + down.0 * row` to the right, and
 /// `top + across.1 * column + down.1 * row` upwards, in the units of the coordinate system.
@@ -93,8 +96,9 @@ fn as_said(info: &Info) -> Option<Placement>
 }
 
 impl Placement {
-    ghost use Rattle.std.specs.Prelude.{◌≡◌};
-    ghost use Rattle.describing.specs.Placement.{geo_transform_of, placement_of, right_of, up_of};
+    ghost use Rattle.std.specs.Prelude.{◌≡◌, pos};
+    ghost use Rattle.std.specs.Float.Ieee.{binary64, of_int};
+    ghost use Rattle.describing.specs.Placement.{corners_of, geo_transform_of, place_of, placement_of};
 
     /// Where the corners of the columns and rows lie, where the file says it. Where a pixel is a point, what the file says is the
     /// middle of its first pixel, and the corner lies half a pixel before it.
@@ -111,7 +115,7 @@ impl Placement {
 
     /// The place of a column and a row.
     pub fn at(&self, column: f64, row: f64) -> (f64, f64)
-        ensures { result ≡ (right_of self.now column row, up_of self.now column row) }
+        ensures { result ≡ place_of self.now column row }
     {
         (
             self.left + self.across.0 * column + self.down.0 * row,
@@ -134,14 +138,16 @@ impl Placement {
     }
 
     /// The corners of an image of so many columns and rows.
-    pub fn corners(&self, (width, length): (u32, u32)) -> Corners {
-        let (width, length) = (f64::from(width), f64::from(length));
+    pub fn corners(&self, sides: (u32, u32)) -> Corners
+        ensures { result ≡ corners_of self.now (of_int binary64 (pos sides.0)) (of_int binary64 (pos sides.1)) }
+    {
+        let (columns, rows) = (f64::from(sides.0), f64::from(sides.1));
         Corners {
-            upper_left: self.at(0.0, 0.0),
-            lower_left: self.at(0.0, length),
-            lower_right: self.at(width, length),
-            upper_right: self.at(width, 0.0),
-            center: self.at(width / 2.0, length / 2.0),
+            upper_left: self.at(NOTHING, NOTHING),
+            lower_left: self.at(NOTHING, rows),
+            lower_right: self.at(columns, rows),
+            upper_right: self.at(columns, NOTHING),
+            center: self.at(columns / TWO, rows / TWO),
         }
     }
 }

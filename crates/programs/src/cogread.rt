@@ -16,7 +16,6 @@ use report_text::RefusalSentence;
 use sockets::Socket;
 use std::alloc::{AllocError, Global};
 use std::io;
-use std::io::Write;
 use std::net::{Net, TcpStream};
 use std::rt::{Clock, Files};
 use tiff_dir::Pick;
@@ -146,9 +145,7 @@ where
     R: Files + Print + AllocGlobal,
 {
     let Some(path) = path else {
-        let mut out = io::writer(rt);
-        out.write_all(&text.head)?;
-        return Ok(out.write_all(text.samples)?);
+        return Ok(text.write_to(&mut io::writer(rt))?);
     };
     match replace_file(rt, path, &text.head, text.samples) {
         Ok(()) => Ok(()),

@@ -192,10 +192,10 @@ impl<R: Eprint + Clock + AllocGlobal> Exchanges<'_, '_, R> {
                 samples: &window.pixels,
             }),
             Outcome::Info(info) => match asked {
-                Asked::Query(_) => Ok(Text::plain(info_text(alloc, &report.tag, info)?)),
+                Asked::Query(_) => Ok(Text::from(info_text(alloc, &report.tag, info)?)),
                 Asked::Description(form) => match Description::of(alloc, client)? {
                     Some(description) => {
-                        Ok(Text::plain(description.text(alloc, form)?.into_bytes()))
+                        Ok(Text::from(description.text(alloc, form)?.into_bytes()))
                     }
                     None => Err(Fault::NoReport),
                 },

@@ -1,17 +1,31 @@
 //! What `cogread` writes.
-ghost use Rattle.std.specs.Prelude.{◌≡◌, []};
+ghost use Rattle.std.specs.Prelude.{◌≡◌, ◌++◌, [], OnOk};
+ghost use Rattle.std.specs.Io.KnownBytes.{Appends};
+
+use std::io;
+use std::io::Write;
 
 /// What `cogread` writes: a text, and behind it the samples of the window, where the text is the head of its picture. They are the
 /// client's.
-#[derive(Clone, Debug, Drop, PartialEq, Eq)]
+#[derive(Drop)]
 pub struct Text<'c> {
     pub head: Vec<u8>,
     pub samples: &'c [u8],
 }
 
 impl Text<'_> {
+    /// Writes the head, and behind it the samples.
+    pub fn write_to<W: Write>(&self, out: &mut W) -> io::Result<()>
+        ensures { OnOk result (Appends (W.contents out.old) (W.contents out.new) (self.now.head.items ++ self.now.samples.now)) }
+    {
+        out.write_all(&self.head)?;
+        out.write_all(self.samples)
+    }
+}
+
+impl From<Vec<u8>> for Text<'_> {
     /// A text that is no picture.
-    pub fn plain(text: Vec<u8>) -> Self
+    fn from(text: Vec<u8>) -> Self
         ensures head { result.head ≡ text }
         ensures samples { result.samples.now ≡ [] }
     {

@@ -6,7 +6,6 @@ use fixtures_support::f1;
 use programs::{Asked, Exchanges, Fault, Telling};
 use programs_support::{Capture, Told};
 use std::io;
-use std::io::Write;
 use std::rt::Clock;
 use std::test::Fail;
 use tiff_dir::Pick;
@@ -31,8 +30,7 @@ fn read<R: AllocGlobal + Clock>(
         telling: Telling::Nothing,
     };
     let text = exchanges.text(&mut client, &mut noted, asked)?;
-    io::writer(capture).write_all(&text.head)?;
-    Ok(io::writer(capture).write_all(text.samples)?)
+    Ok(text.write_to(&mut io::writer(capture))?)
 }
 
 /// What is printed of what is asked, told and ended with.

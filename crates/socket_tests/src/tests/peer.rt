@@ -11,7 +11,7 @@ use std::net::{Net, TcpListener, TcpStream};
 use std::test::Fail;
 
 /// A server that has a file as `a` in epoch 1.
-pub fn server_of(alloc: Global, file: Vec<u8>) -> Result<Server, Fail> {
+fn server_of(alloc: Global, file: Vec<u8>) -> Result<Server, Fail> {
     let mut server = Server::new(alloc, 1);
     server.publish(b"a", file)?;
     Ok(server)
@@ -21,7 +21,7 @@ pub fn server_of(alloc: Global, file: Vec<u8>) -> Result<Server, Fail> {
 #[derive(Drop)]
 pub struct Peer {
     pub server: Server,
-    pub listener: TcpListener,
+    listener: TcpListener,
     pub address: String,
 }
 
