@@ -5,8 +5,8 @@ ghost use Rattle.tiff_dir.specs.Level.{plain_size, tile_total};
 ghost use Rattle.tile_plan.specs.Levels.{IsSmall};
 ghost use Rattle.tile_plan.specs.Canvas.{Picture, IsBlit, picture_size};
 
-use crate::{Bytes, Rectangle};
 use crate::rows::{Rows, copy_rows};
+use crate::{Bytes, Rectangle};
 use std::alloc::Global;
 use std::marker::Model;
 use std::ops::Range;

@@ -1,5 +1,4 @@
-use Rattle.std.proofs.Common.{◌≡◌, ◌+◌, ◌≤◌, length, arith, ◌∙◌, ap, sym}
-use Rattle.std.specs.List.{slice_range}
+use Rattle.std.proofs.Common.{length, arith, ◌∙◌, sym}
 use Rattle.tile_plan.proofs.PartLemmas.{part_of, length_of}
 use Rattle.tile_plan.proofs.bytes.PartBytes.copy_to.Goals as goal
 
