@@ -1,2 +1,3 @@
 pub mod GoingLemmas
+pub mod HeldLemmas
 pub mod AheadLemmas

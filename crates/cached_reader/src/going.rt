@@ -1,11 +1,13 @@
 //! Going on: the reader is given what the cache has.
-ghost use Rattle.std.specs.Prelude.{◌≡◌, ◌+◌, ◌-◌, ◌<◌, ◌≤◌, Some, IfOk, length};
+ghost use Rattle.std.specs.Prelude.{◌≡◌, ◌+◌, ◌<◌, ◌≤◌, ◌^◌, Some, IfOk, OnErr, OnOk, length};
 ghost use Rattle.tiff_dir.specs.Needs.{max_range_bytes};
 ghost use Rattle.tiff_dir.specs.Walk.{extent_of_span};
-ghost use Rattle.cog_reader.specs.Reader.{complete_of, steps_of, wanted};
-ghost use Rattle.cached_reader.specs.Going.{work, ReaderGoesOn, IsFilled, IsGiven};
+ghost use Rattle.cog_reader.specs.Reader.{complete_of, steps_of, wanted, IsWanted};
+ghost use Rattle.range_cache.specs.Cache.{bytes_at};
+ghost use Rattle.cached_reader.specs.Going.{work, ReaderGoesOn, IsFilled, IsGiven, Takes};
 
 use crate::ahead::extend;
+use crate::held::HeldRange;
 use cog_reader::{Reader, lengths_are_known, nothing_comes};
 use range_cache::{Cache, Missing, missing_is_exact};
 use tiff_dir::{Memory, Span};
@@ -20,34 +22,42 @@ fn span_of(missing: Missing) -> Span
     }
 }
 
-/// Gives the reader the range that it wants, where the cache has it, and else says what is missing of it.
-fn give_from(
-    reader: &mut Reader,
-    cache: &mut Cache,
-    complete: u64,
-    span: Span,
-    out: &mut [u8],
-) -> Result<Option<Span>, Memory>
-    requires wanted { wanted reader.old ≡ Some (extent_of_span span) }
-    requires inside { span.last < complete }
-    requires small { span.last + 1 ≤ span.first + max_range_bytes }
-    requires complete { complete_of reader.old ≡ complete }
-    requires room { length out.old ≡ span.last + 1 - span.first }
-    ensures goes { ReaderGoesOn (work reader.old cache.old) (work reader.new cache.new) }
-    ensures given { IfOk result (IsGiven (extent_of_span span) (work reader.old cache.old) (work reader.new cache.new)) }
+/// Gives the reader the range that it wants by a copy of it, for which there is room.
+fn give_copy(reader: &mut Reader, cache: &Cache, first: u64, out: &mut [u8]) -> Result<(), Memory>
+    requires wanted { IsWanted reader.old (length out.old) }
+    requires fits { first + length out.old < 2 ^ 64 }
+    ensures takes { OnOk result (Takes (bytes_at cache.now first (length out.old)) reader.old reader.new) }
+    ensures err { OnErr result (reader.new ≡ reader.old) }
 {
-    lengths_are_known();
-    missing_is_exact();
-    match cache.read_into(complete, span.first, out) {
-        Ok(()) => {
-            reader.give(out)?;
-            Ok(None)
-        }
-        Err(missing) => Ok(Some(span_of(missing))),
-    }
+    cache.copy_at(first, out);
+    reader.give(out)
 }
 
-/// The same, by a buffer that is kept from one range to the next.
+/// Gives the reader the range that it wants, of so many bytes, all of which the cache has. Of tiles that aren't packed what the window
+/// has is copied alone, and else all of it by a buffer that is kept from one range to the next.
+fn give_held(
+    reader: &mut Reader,
+    cache: &Cache,
+    buffer: &mut Vec<u8>,
+    first: u64,
+    len: usize,
+) -> Result<(), Memory>
+    requires wanted { IsWanted reader.old len }
+    requires fits { first + len < 2 ^ 64 }
+    ensures takes { OnOk result (Takes (bytes_at cache.now first len) reader.old reader.new) }
+    ensures err { OnErr result (reader.new ≡ reader.old) }
+{
+    if reader.wants_plain_tiles() {
+        reader.paint(&HeldRange::new(cache, first, len));
+        return Ok(());
+    }
+    if buffer.len() < len {
+        buffer.resize(len, 0)?;
+    }
+    give_copy(reader, cache, first, &mut buffer[..len])
+}
+
+/// Gives the reader the range that it wants, where the cache has it, and else says what is missing of it.
 fn give_next(
     reader: &mut Reader,
     cache: &mut Cache,
@@ -62,11 +72,16 @@ fn give_next(
     ensures goes { ReaderGoesOn (work reader.old cache.old) (work reader.new cache.new) }
     ensures given { IfOk result (IsGiven (extent_of_span span) (work reader.old cache.old) (work reader.new cache.new)) }
 {
+    lengths_are_known();
+    missing_is_exact();
     let len = (span.last - span.first) as usize + 1;
-    if buffer.len() < len {
-        buffer.resize(len, 0)?;
+    match cache.touch(complete, span.first, len) {
+        Ok(()) => {
+            give_held(reader, cache, buffer, span.first, len)?;
+            Ok(None)
+        }
+        Err(missing) => Ok(Some(span_of(missing))),
     }
-    give_from(reader, cache, complete, span, &mut buffer[..len])
 }
 
 /// Gives the reader one range after another, as far as the cache has them, and says what is missing then: of the next range, and

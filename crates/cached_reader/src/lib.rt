@@ -5,6 +5,7 @@
 mod ahead;
 mod early;
 mod going;
+mod held;
 mod laws;
 
 pub use early::early_spans;

@@ -1,19 +1,23 @@
 -- Tiles on a picture.
-use Rattle.std.proofs.Common.{◌≡◌, ◌≢◌, ℕ, ◌+◌, ◌-◌, ◌<◌, ◌≤◌, inl, inr, List, [], ◌∷◌, ◌++◌, length, take, drop, get_or, Some, refl, sym, subst, ap, ◌∙◌, arith}
+use Rattle.std.proofs.Common.{◌≡◌, ◌≢◌, ℕ, ◌+◌, ◌-◌, ◌<◌, ◌≤◌, inl, inr, List, [], ◌∷◌, ◌++◌, length, take, drop, get_or, Some, refl, sym, subst, ap, ◌∙◌, arith, length-drop}
 use Rattle.std.specs.Prelude.{Result, Ok, Err, IfErr, IsErrAnd}
 use Rattle.std.specs.List.{All, slice_range}
 use Rattle.std.proofs.lemmas.Bool.{cases_eq, le-ltb}
-use Rattle.std.proofs.lemmas.List.{drop-take, drop-drop, take-take, drop_more}
+use Rattle.std.proofs.lemmas.List.{drop-take, drop-drop, take-take, drop_more, length-take-le}
 use Rattle.std.proofs.lemmas.Grind.{get_or_default_zero}
 use Rattle.std.proofs.lemmas.List.Elements.{All-push}
 use Rattle.tiff_dir.specs.declared.level.Level.{Level}
-use Rattle.tiff_dir.specs.Level.{level_value}
+use Rattle.tiff_dir.specs.declared.level.Compression.TheVariants.{Plain}
+use Rattle.tiff_dir.specs.Described.{layout_of}
+use Rattle.tiff_dir.specs.Level.{level_value, plain_row, plain_size}
 use Rattle.tiff_dir.specs.Query.{segment, tile_range}
 use Rattle.tiff_dir.specs.Needs.{Extent}
+use Rattle.tiff_dir.specs.Window.{IsUnpackedBy}
 use Rattle.tile_plan.specs.declared.asked.Rectangle.{Rectangle}
 use Rattle.tile_plan.specs.Plan.{Adjoin}
 use Rattle.tile_plan.specs.Canvas.{Picture, IsBlit, byte_at, place}
-use Rattle.cog_reader.specs.Mosaic.{IsPainted}
+use Rattle.cog_reader.specs.declared.arrays.Arrays.{Arrays}
+use Rattle.cog_reader.specs.Mosaic.{tile_extent, IsPainted}
 use Rattle.cog_reader.specs.Paint.{IsPaint}
 
 -- ---- the bytes of a tile in those of its group
@@ -113,3 +117,35 @@ painted_more f n t bytes done old new paint is all =
       | inr other ↦ at_new f n (get_or done k d) old new paint.blit.level paint.blit.rectangle (kept f n t (get_or done k d) paint.plain old new paint.blit other (all k d less))
     ])
     here
+
+-- ---- plain tiles
+
+-- a plain tile that is copied by its bytes is painted
+pub painted_plain : (t : ℕ) (bytes : List ℕ) (old new : Picture) → old.level.compression ≡ Plain → length bytes ≡ plain_size (layout_of old.level) → IsBlit t bytes old new → IsPaint t bytes old new
+painted_plain t bytes old new plain size blit = record {
+  plain = bytes;
+  unpacked = subst (λ k. IsUnpackedBy k (plain_row (layout_of old.level)) (plain_size (layout_of old.level)) bytes bytes) (sym plain) refl;
+  size = size;
+  blit = blit;
+}
+
+-- the bytes of a plain tile in those of its group are as long as its samples
+pub part_size : (a : Arrays) (at t len : ℕ) (bytes : List ℕ) (l : Level) → at + (tile_extent a t).len ≤ length bytes → len ≡ (tile_extent a t).len → (tile_extent a t).len ≡ plain_size (layout_of a.level) → a.level ≡ l
+    → length (take (at + len - at) (drop at bytes)) ≡ plain_size (layout_of l)
+part_size a at t len bytes l within same size is =
+    let n : at + len - at ≡ (tile_extent a t).len = omega (arith, same) in
+    length-take-le (at + len - at) (drop at bytes) (omega (arith, within, n, length-drop at bytes)) ∙ n ∙ size ∙ ap (λ (k : Level). plain_size (layout_of k)) is
+
+-- what is copied out of the bytes of a group is copied out of those of the tile
+pub blit_part : (t at len first count : ℕ) (bytes of : List ℕ) (old new : Picture) → of ≡ bytes → first ≡ at → count ≡ len → IsBlit t (slice_range of first (first + count)) old new
+    → IsBlit t (take (at + len - at) (drop at bytes)) old new
+blit_part t at len first count bytes of old new same place size blit =
+    subst (λ l. IsBlit t (take (at + len - at) (drop at l)) old new) same
+    (subst (λ n. IsBlit t (take (at + n - at) (drop at of)) old new) size
+    (subst (λ k. IsBlit t (take (k + count - k) (drop k of)) old new) place blit))
+
+pub size_of_part : (at len first count : ℕ) (bytes of : List ℕ) (size : ℕ) → of ≡ bytes → first ≡ at → count ≡ len → length (take (at + len - at) (drop at bytes)) ≡ size
+    → length (slice_range of first (first + count)) ≡ size
+size_of_part at len first count bytes of size same place some is =
+    subst (λ k. length (take (k + count - k) (drop k of)) ≡ size) (sym place)
+    (subst (λ n. length (take (at + n - at) (drop at of)) ≡ size) (sym some) (subst (λ l. length (take (at + len - at) (drop at l)) ≡ size) (sym same) is))

@@ -1,6 +1,7 @@
 -- What is known of a reader, which answers one query of one file, given range by range.
 use Rattle.std.specs.Prelude.{◌≡◌, ℕ, ◌+◌, ◌-◌, ◌<◌, ◌≤◌, ⊤, ◌⊎◌, false, ◌==◌, if◌then◌else◌, List, [], ◌∷◌, ◌++◌, length, drop, slice_get, Option, Some, None, IfSome, IsSome, IsSomeAnd}
 use Rattle.std.specs.Option.{option_map, option_map_or}
+use Rattle.tiff_dir.specs.declared.level.Compression.TheVariants.{Plain}
 use Rattle.tiff_dir.specs.declared.query.Query.{Query}
 use Rattle.tiff_dir.specs.declared.query.Query.TheVariants as query
 use Rattle.tiff_dir.specs.declared.span.Span.{Span}
@@ -21,7 +22,7 @@ use Rattle.cog_reader.specs.declared.state.State.{State}
 use Rattle.cog_reader.specs.declared.state.State.TheVariants.{Directories, Arrays as Reads, Tiles, Fields, Answered}
 use Rattle.cog_reader.specs.Fields.{present_in, IsReadOf}
 use Rattle.cog_reader.specs.Kept.{array_after, arrays_held, next_array, HasBoth, IsKeptOf, KeptAgrees}
-use Rattle.cog_reader.specs.Mosaic.{IsPlan, IsUnderway}
+use Rattle.cog_reader.specs.Mosaic.{HasPlan, IsGroupLen, IsPlan, IsUnderway}
 use Rattle.cog_reader.specs.Outcome.{IsTrueOf}
 
 -- the length of the file, the walk over its directories, the arrays that are kept, and the query with what is done for it
@@ -40,6 +41,20 @@ wanted_by w k (Reads r) = slice_get (levels_of w) r.level >>= λ l. option_map e
 wanted_by w k (Tiles m) = option_map (λ (g : Group). extent_of_span g.span) (slice_get m.groups m.given)
 wanted_by w k (Fields x) = option_map extent_of_place (slice_get (present_in x.places) x.given)
 wanted_by w k (Answered o) = None
+
+-- a state wants tiles that aren't packed
+abbrev pub ArePlainTiles : Kept → State → Type 0
+ArePlainTiles k (Tiles m) = HasBoth k (λ a. a.level.compression ≡ Plain)
+ArePlainTiles k _ = ⊥
+
+-- What the reader wants next are tiles that aren't packed.
+unfoldable pub WantsPlainTiles : ReaderState → Type 0
+WantsPlainTiles r = IsSomeAnd r.pending (λ a. ArePlainTiles r.kept a.state)
+
+-- they have so many bytes
+abbrev pub ArePaintable : Kept → State → ℕ → Type 0
+ArePaintable k (Tiles m) len = HasBoth k (λ a. (a.level.compression ≡ Plain) × HasPlan a m) × IsGroupLen m len
+ArePaintable k _ len = ⊥
 
 -- The range that the reader wants next, none without a query or with an outcome.
 unfoldable pub wanted : ReaderState → Option Extent

@@ -18,3 +18,5 @@ pub use file::read_file;
 pub use laws::{end_is_wanted, lengths_are_known, nothing_comes};
 pub use outcome::{Info, Outcome, Window};
 pub use reader::Reader;
+/// The bytes of a range, in one piece or in several.
+pub use tile_plan::Bytes;

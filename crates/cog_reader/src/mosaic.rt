@@ -1,7 +1,7 @@
 //! A window, put together from its tiles as their groups come.
 ghost use Rattle.std.specs.Prelude.{◌≡◌, ◌+◌, ◌++◌, ℕ, List, IfErr, OnOk, length};
 ghost use Rattle.std.specs.List.{All};
-ghost use Rattle.tiff_dir.specs.declared.level.Compression.TheVariants.{PackBits};
+ghost use Rattle.tiff_dir.specs.declared.level.Compression.TheVariants.{PackBits, Plain};
 ghost use Rattle.tiff_dir.specs.Described.{layout_of};
 ghost use Rattle.tiff_dir.specs.Level.{plain_size};
 ghost use Rattle.tile_plan.specs.Plan.{Adjoin};
@@ -14,7 +14,7 @@ use crate::samples::big_first;
 use std::alloc::Global;
 use std::marker::Model;
 use tiff_dir::{Compression, FileFault, Span};
-use tile_plan::{Canvas, Group, PlanError, Rectangle, groups, tiles_cover};
+use tile_plan::{Bytes, Canvas, Group, Part, PlanError, Rectangle, groups, tiles_cover};
 
 /// Copies tiles that stand one after the other onto the canvas, by their bytes. `plain` is room for a tile where they are
 /// packed.
@@ -47,6 +47,28 @@ fn paint_tiles(
     Ok(())
 }
 
+/// Copies plain tiles that stand one after the other onto the canvas, out of their bytes.
+fn paint_parts<B: Bytes>(canvas: &mut Canvas, arrays: &Arrays, tiles: &[u32], bytes: &B)
+    requires level { canvas.old.level ≡ arrays.now.level }
+    requires plain { arrays.now.level.compression ≡ Plain }
+    requires whole { IsWhole arrays.now tiles.now (length (B.bytes bytes.now)) }
+    ensures level { canvas.new.level ≡ canvas.old.level }
+    ensures rectangle { canvas.new.rectangle ≡ canvas.old.rectangle }
+    ensures size { length canvas.new.bytes ≡ length canvas.old.bytes }
+    ensures painted { (f : List ℕ) (n first : ℕ) (done : List ℕ) → AreArraysOf f n arrays.now → AreBytesOf f first (B.bytes bytes.now)
+        → Adjoin (tile_extent arrays.now) first tiles.now (first + length (B.bytes bytes.now)) → All (IsPainted f n canvas.old) done
+        → All (IsPainted f n canvas.new) (done ++ tiles.now) }
+{
+    // The length is read for its bound alone.
+    let _len = bytes.len();
+    let mut at = 0;
+    for tile in tiles {
+        let len = arrays.len_of(*tile);
+        canvas.blit(*tile, &Part::new(bytes, at, len));
+        at += len;
+    }
+}
+
 /// A window of a level, put together from its tiles as their groups come.
 #[derive(Drop)]
 pub struct Mosaic {
@@ -74,6 +96,7 @@ impl Model for Mosaic {
 
 impl Mosaic {
     ghost use Rattle.std.specs.Prelude.{◌≡◌, ◌+◌, ℕ, List, IfOk, IfErr, OnOk, MatchOption, None, Some, slice_get, IsSomeAnd, length};
+    ghost use Rattle.tiff_dir.specs.declared.level.Compression.TheVariants.{Plain};
     ghost use Rattle.tiff_dir.specs.declared.query.Query.{Query};
     ghost use Rattle.tiff_dir.specs.Faulty.{IsFaultOfWindow, IsWindow};
     ghost use Rattle.tiff_dir.specs.declared.fault.FileFault.{FileFault as Fault};
@@ -170,6 +193,23 @@ impl Mosaic {
         )?;
         self.given += 1;
         Ok(())
+    }
+
+    /// Takes the next group of plain tiles, out of its bytes.
+    pub fn paint<B: Bytes>(&mut self, arrays: &Arrays, bytes: &B)
+        requires plan { HasPlan arrays.now self.old }
+        requires plain { arrays.now.level.compression ≡ Plain }
+        requires wanted { IsGroupLen self.old (length (B.bytes bytes.now)) }
+        ensures plan { (complete : ℕ) → IsPlan complete arrays.now self.old → IsPlan complete arrays.now self.new }
+        ensures given { (self.new.groups ≡ self.old.groups) × (self.new.given ≡ self.old.given + 1) }
+        ensures underway { (f : List ℕ) (q : Query) → IsUnderway f q arrays.now self.old → IsWantedGroup f self.old (B.bytes bytes.now)
+            → IsUnderway f q arrays.now self.new }
+    {
+        let Some(group) = self.groups.get(self.given) else {
+            unreachable!()
+        };
+        paint_parts(&mut self.canvas, arrays, &group.tiles, bytes);
+        self.given += 1;
     }
 
     /// The bytes of the window's samples, row by row, each sample with its most significant byte first.

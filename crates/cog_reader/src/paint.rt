@@ -7,7 +7,7 @@ ghost use Rattle.cog_reader.specs.Paint.{IsPaint, IsBad};
 
 use packbits::unpack;
 use tiff_dir::{Compression, FileFault, Level};
-use tile_plan::Canvas;
+use tile_plan::{Canvas, Slice};
 
 /// Copies the tile that the bytes of a file stand for onto the canvas. `plain` is room for the tile where it is packed.
 pub fn paint(
@@ -28,10 +28,10 @@ pub fn paint(
     ensures size { length canvas.new.bytes ≡ length canvas.old.bytes }
 {
     match level.compression {
-        Compression::Plain => canvas.blit(tile, bytes),
+        Compression::Plain => canvas.blit(tile, &Slice(bytes)),
         Compression::PackBits => {
             unpack(bytes, level.plain_row(), plain)?;
-            canvas.blit(tile, plain);
+            canvas.blit(tile, &Slice(plain));
         }
     }
     Ok(())

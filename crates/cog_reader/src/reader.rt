@@ -5,6 +5,7 @@ use crate::state::{PendingQuery, State};
 use std::alloc::Global;
 use std::marker::Model;
 use tiff_dir::{Level, Memory, Query, Span, Walk};
+use tile_plan::Bytes;
 
 /// A reader of one TIFF file of a known length, which answers one query after another. It says which bytes it needs next, and is
 /// given them, until the query is answered. The directories, and the tile arrays of the level last read, are kept from one
@@ -28,14 +29,14 @@ impl Model for Reader {
     ghost invariant = { λ r. IsReader r.complete r.walk r.kept r.pending };
 }
 
-#[tactic(auto, unfolding(crate::specs::Reader::wanted, crate::specs::Reader::outcome_of, crate::specs::Reader::query_of, crate::specs::Reader::complete_of, crate::specs::Reader::to_come, crate::specs::Reader::unread, crate::specs::Reader::upcoming, crate::specs::Reader::steps_of, crate::specs::Reader::AreDirectoriesRead, crate::specs::Reader::ReaderAgrees))]
+#[tactic(auto, unfolding(crate::specs::Reader::wanted, crate::specs::Reader::WantsPlainTiles, crate::specs::Reader::outcome_of, crate::specs::Reader::query_of, crate::specs::Reader::complete_of, crate::specs::Reader::to_come, crate::specs::Reader::unread, crate::specs::Reader::upcoming, crate::specs::Reader::steps_of, crate::specs::Reader::AreDirectoriesRead, crate::specs::Reader::ReaderAgrees))]
 impl Reader {
-    ghost use Rattle.std.specs.Prelude.{◌≡◌, ◌+◌, ◌<◌, ◌≤◌, ℕ, List, [], ◌∷◌, None, Some, IfOk, IfSome, IsSome, IsSomeAnd, MatchOption, OnErr, OnOk, length, slice_get};
+    ghost use Rattle.std.specs.Prelude.{◌≡◌, ◌+◌, ◌<◌, ◌≤◌, ◌↔◌, ℕ, List, [], ◌∷◌, None, Some, IfOk, IfSome, IsSome, IsSomeAnd, IsTrue, MatchOption, OnErr, OnOk, length, slice_get};
     ghost use Rattle.tiff_dir.specs.Described.{AreLevels};
     ghost use Rattle.tiff_dir.specs.Walk.{extent_of_span};
     ghost use Rattle.tiff_dir.specs.declared.query.Query.{Query};
     ghost use Rattle.cog_reader.specs.Outcome.{IsTrueOf};
-    ghost use Rattle.cog_reader.specs.Reader.{complete_of, outcome_of, query_of, steps_of, to_come, unread, wanted, AreDirectoriesRead, ReaderAgrees, IsUpcoming, IsWanted, IsWantedOf, AcceptsFirstRange, KeepsHeld, Wants};
+    ghost use Rattle.cog_reader.specs.Reader.{complete_of, outcome_of, query_of, steps_of, to_come, unread, wanted, AreDirectoriesRead, ReaderAgrees, IsUpcoming, IsWanted, IsWantedOf, AcceptsFirstRange, KeepsHeld, Wants, WantsPlainTiles};
 
     /// A reader of a file of `complete` bytes, of which nothing is known yet, and nothing asked. It takes no memory.
     ///
@@ -131,6 +132,34 @@ impl Reader {
         };
         pending.give(self.alloc, &mut self.walk, &mut self.kept, bytes)?;
         Ok(())
+    }
+
+    /// Whether tiles are wanted next that aren't packed, which `paint` can take. It takes no memory.
+    pub fn wants_plain_tiles(&self) -> bool
+        ensures { IsTrue result ↔ WantsPlainTiles self.now }
+    {
+        match &self.pending {
+            Some(pending) => pending.wants_plain_tiles(&self.kept),
+            None => false,
+        }
+    }
+
+    /// Takes the range that is wanted, of tiles that aren't packed: as `give` does, and copies no more of its bytes than the window
+    /// has. It takes no memory.
+    pub fn paint<B: Bytes>(&mut self, bytes: &B)
+        requires plain { WantsPlainTiles self.old }
+        requires wanted { IsWanted self.old (length (B.bytes bytes.now)) }
+        ensures agrees { (f : List ℕ) → ReaderAgrees self.old f → IsWantedOf f self.old (B.bytes bytes.now) → ReaderAgrees self.new f }
+        ensures come { (f : List ℕ) → ReaderAgrees self.old f → IsWantedOf f self.old (B.bytes bytes.now) → AcceptsFirstRange f self.old self.new }
+        ensures held { (f : List ℕ) → ReaderAgrees self.old f → KeepsHeld f self.old self.new }
+        ensures steps { steps_of self.new < steps_of self.old }
+        ensures complete { complete_of self.new ≡ complete_of self.old }
+        ensures query { query_of self.new ≡ query_of self.old }
+    {
+        let Some(pending) = &mut self.pending else {
+            unreachable!()
+        };
+        pending.paint(&self.kept, bytes);
     }
 
     /// What answers the query, where it is answered: a window, what Info says, or a fault.

@@ -4,7 +4,7 @@ ghost use Rattle.std.specs.Prelude.{◌≡◌, ◌+◌, ◌<◌, ◌≤◌, ℕ,
 ghost use Rattle.tiff_dir.specs.Needs.{extent_of_place};
 ghost use Rattle.tiff_dir.specs.Walk.{extent_of_span};
 ghost use Rattle.cog_reader.specs.Kept.{IsKeptOf};
-ghost use Rattle.cog_reader.specs.Reader.{outcome_in, wanted_by, IsState};
+ghost use Rattle.cog_reader.specs.Reader.{outcome_in, wanted_by, ArePaintable, ArePlainTiles, IsState};
 ghost use Rattle.cog_reader.specs.Give.{AcceptsRange, Gives};
 ghost use Rattle.cog_reader.specs.Step.{Becomes, ComesLater, IsStep, IsWantedBy};
 
@@ -19,8 +19,8 @@ use crate::kept::Kept;
 use crate::mosaic::Mosaic;
 use std::alloc::Global;
 use std::mem;
-use tiff_dir::{FileFault, Memory, Place, Query, Span, Walk};
-use tile_plan::Rectangle;
+use tiff_dir::{Compression, FileFault, Memory, Place, Query, Span, Walk};
+use tile_plan::{Bytes, Rectangle};
 
 /// How far a query has come. The directories come first, then for a window the arrays and the tiles, for Info the fields.
 #[derive(Drop)]
@@ -186,6 +186,37 @@ impl PendingQuery {
             None => {}
         }
         Ok(())
+    }
+}
+
+impl PendingQuery {
+    ghost use Rattle.std.specs.Prelude.{◌↔◌, IsTrue};
+    ghost use Rattle.tiff_dir.specs.WalkState.{WalkState};
+
+    /// Whether tiles are wanted that aren't packed.
+    pub fn wants_plain_tiles(&self, kept: &Kept) -> bool
+        ensures { IsTrue result ↔ ArePlainTiles kept.now self.now.state }
+    {
+        match (&self.state, kept) {
+            (State::Tiles(_), Kept::Both(_, arrays)) => {
+                matches!(arrays.level.compression, Compression::Plain)
+            }
+            _ => false,
+        }
+    }
+
+    /// Takes the bytes of tiles that are wanted and aren't packed.
+    pub fn paint<B: Bytes>(&mut self, kept: &Kept, bytes: &B)
+        requires { ArePaintable kept.now self.old.state (length (B.bytes bytes.now)) }
+        ensures query { self.new.query ≡ self.old.query }
+        ensures gives { (complete : ℕ) (w : WalkState) → IsKeptOf w kept.now → IsState complete w kept.now self.old.state
+            → Gives complete (B.bytes bytes.now) self.old.query (record { walk = w; kept = kept.now; state = self.old.state })
+            (record { walk = w; kept = kept.now; state = self.new.state }) }
+    {
+        let State::Tiles(mosaic) = &mut self.state else {
+            unreachable!()
+        };
+        tiles::paint(kept, mosaic, bytes);
     }
 }
 

@@ -299,7 +299,8 @@ All-reverse P [] all = all
 All-reverse P (b ∷ bs) all =
     All-same P (reverse (b ∷ bs)) (reverse bs ++ b ∷ []) (reverse-append (b ∷ []) bs) (All-push P (reverse bs) b (All-reverse P bs (All-tail P b bs all)) (All-head P b bs all))
 
-All-found : (P : Block → Type 0) (n : ℕ) (bs : List Block) (b : Block) → All P bs → lookup_entry (nat_eq n) bs ≡ Some b → P b
+-- what holds of each block holds of one that is found
+pub All-found : (P : Block → Type 0) (n : ℕ) (bs : List Block) (b : Block) → All P bs → lookup_entry (nat_eq n) bs ≡ Some b → P b
 All-found P n [] b all is = cc
 All-found P n (c ∷ bs) b all is =
     (elim (nat_eq n c.0) as (λ t. cond t (Some c) (lookup_entry (nat_eq n) bs) ≡ Some b → P b) [

@@ -1,10 +1,11 @@
 -- What a contract sees of a cache: its blocks, the most recently used first, and how many it may have.
-use Rattle.std.specs.Prelude.{◌≡◌, ℕ, ◌+◌, ◌-◌, ◌≤◌, not, ◌==◌, nat_eq, if◌then◌else◌, List, [], ◌∷◌, ◌++◌, length, take, map, reverse, Option}
-use Rattle.std.specs.List.{All, filter, filter_map, fold, IsDistinct}
+use Rattle.std.specs.Prelude.{◌≡◌, ℕ, ◌+◌, ◌-◌, ◌/◌, ◌%◌, ◌≤◌, not, ◌==◌, nat_eq, if◌then◌else◌, List, [], ◌∷◌, ◌++◌, length, take, map, reverse, slice_index, Option}
+use Rattle.std.specs.List.{All, filter, filter_map, fold, range_with_len, IsDistinct}
 use Rattle.std.specs.Map.{lookup_entry}
+use Rattle.std.specs.Option.{option_map_or}
 use Rattle.std.specs.Global.{Vec}
 use Rattle.lru.specs.LruCache.{LruCache}
-use Rattle.tiff_dir.specs.Block.{block_of}
+use Rattle.tiff_dir.specs.Block.{block_size, block_of}
 use Rattle.range_cache.specs.Numbers.{has}
 
 -- a block's number and its bytes
@@ -46,6 +47,14 @@ Holds f c = All (λ b. b.1 ≡ block_of f b.0) c.entries
 -- block n, where it is there
 abbrev pub block_at : ℕ → List Block → Option Block
 block_at n bs = lookup_entry (nat_eq n) bs
+
+-- byte k of the file, as the blocks have it: 0 where they don't
+abbrev pub byte_at : List Block → ℕ → ℕ
+byte_at bs k = option_map_or (λ b. slice_index b.1 (k % block_size)) (block_at (k / block_size) bs) 0
+
+-- len bytes from first on, as the blocks have them
+unfoldable pub bytes_at : Blocks → ℕ → ℕ → List ℕ
+bytes_at c first len = map (byte_at c.entries) (range_with_len first len)
 
 -- those of the blocks ns that are there, in their order
 abbrev pub present : List ℕ → List Block → List Block

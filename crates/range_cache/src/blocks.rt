@@ -1,10 +1,9 @@
 //! Work on the blocks of a cache, by their numbers.
-ghost use Rattle.std.specs.Prelude.{nat_eq, ◌≡◌, true, false, ℕ, List, ◌+◌, ◌-◌, ◌*◌, ◌<◌, ◌≤◌, ◌^◌, ◌==◌, IfOk, OnErr, MatchOption, length, take, map, if◌then◌else◌};
-ghost use Rattle.std.specs.List.{All, IsDistinct, filter, range_with_len, slice_range};
-ghost use Rattle.tiff_dir.specs.Block.{block_size, block_of, first_block, blocks as touched, block_count, end_of};
+ghost use Rattle.std.specs.Prelude.{◌≡◌, false, ℕ, List, ◌+◌, ◌-◌, ◌*◌, ◌<◌, ◌≤◌, ◌^◌, ◌==◌, EachIndex, IfOk, OnErr, MatchOption, length, map, slice_index, if◌then◌else◌};
+ghost use Rattle.std.specs.List.{IsDistinct, filter, range_with_len};
+ghost use Rattle.tiff_dir.specs.Block.{block_size, block_count, end_of};
 ghost use Rattle.range_cache.specs.Numbers.{has, missing, AreThere, IsRunEnd};
-ghost use Rattle.range_cache.specs.Cache.{blocks_in, numbers, brought, put_one, stored, stores};
-ghost use Rattle.lru.specs.LruCache.{promoted};
+ghost use Rattle.range_cache.specs.Cache.{blocks_in, byte_at, numbers, brought, put_one, stored, stores};
 ghost use Rattle.range_cache.specs.Piece.{block_in, is_brought};
 
 use lru::LruCache;
@@ -46,61 +45,71 @@ pub fn count_present(blocks: &LruCache<u64, Vec<u8>>, from: u64, to: u64) -> u64
     count
 }
 
-/// Copies a part of a block, from a place in it on, and brings the block to the front. Whether it is there.
-fn take_part(blocks: &mut LruCache<u64, Vec<u8>>, number: u64, skip: usize, out: &mut [u8]) -> bool
-    requires { skip + length out.old < 2 ^ 64 }
-    ensures there { result ≡ has number (numbers (blocks_in blocks.old.entries)) }
-    ensures entries { blocks.new.entries ≡ promoted (nat_eq number) blocks.old.entries }
-    ensures capacity { blocks.new.cap ≡ blocks.old.cap }
-    ensures copied { (f : List ℕ) → All (λ b. b.1 ≡ block_of f b.0) (blocks_in blocks.old.entries) →
-        has number (numbers (blocks_in blocks.old.entries)) ≡ true →
-        skip + length out.old ≤ block_size → number * block_size + skip + length out.old ≤ length f →
-        out.new ≡ slice_range f (number * block_size + skip) (number * block_size + skip + length out.old) }
-{
-    let Some(block) = blocks.get(&number) else {
-        return false;
-    };
-    if let Some(part) = block.get(skip..skip + out.len()) {
-        out.copy_from_slice(part);
-    }
-    true
-}
-
-/// Copies a range out of its blocks, a part of each, and brings those that are there to the front, in ascending order. The
-/// first one that isn't there.
-pub fn copy(blocks: &mut LruCache<u64, Vec<u8>>, first: u64, out: &mut [u8]) -> Option<u64>
-    requires some { 0 < length out.old }
-    requires within { first + length out.old < 2 ^ 64 }
+/// Brings the blocks from one number up to another that are there to the front, in ascending order. The first one that
+/// isn't there.
+pub fn bring(blocks: &mut LruCache<u64, Vec<u8>>, from: u64, to: u64) -> Option<u64>
+    requires ascending { from ≤ to }
     requires distinct { IsDistinct ◌==◌ (numbers (blocks_in blocks.old.entries)) }
     ensures entries { blocks_in blocks.new.entries
-        ≡ brought (range_with_len (first_block first) (touched first (length out.old))) (blocks_in blocks.old.entries) }
+        ≡ brought (range_with_len from (to - from)) (blocks_in blocks.old.entries) }
     ensures capacity { blocks.new.cap ≡ blocks.old.cap }
     ensures missing { MatchOption result
-        (AreThere (numbers (blocks_in blocks.old.entries)) (first_block first) (touched first (length out.old)))
-        (λ n. (first_block first ≤ n) × (n < first_block first + touched first (length out.old))
-        × AreThere (numbers (blocks_in blocks.old.entries)) (first_block first) (n - first_block first)
+        (AreThere (numbers (blocks_in blocks.old.entries)) from (to - from))
+        (λ n. (from ≤ n) × (n < to)
+        × AreThere (numbers (blocks_in blocks.old.entries)) from (n - from)
         × (has n (numbers (blocks_in blocks.old.entries)) ≡ false)) }
-    ensures copied { (f : List ℕ) → first + length out.old ≤ length f →
-        All (λ b. b.1 ≡ block_of f b.0) (blocks_in blocks.old.entries) →
-        AreThere (numbers (blocks_in blocks.old.entries)) (first_block first) (touched first (length out.old)) →
-        out.new ≡ slice_range f first (first + length out.old) }
+{
+    let mut missing = None;
+    for number in from..to {
+        if !blocks.promote(&number) {
+            missing = missing.or(Some(number));
+        }
+    }
+    missing
+}
+
+/// Copies the bytes of a block from a place in it on, and zeros past its end.
+fn copy_part(block: &[u8], skip: usize, out: &mut [u8])
+    requires { skip + length out.old < 2 ^ 64 }
+    ensures { EachIndex out.new (λ k. slice_index out.new k ≡ slice_index block.now (skip + k)) }
+{
+    if let Some(part) = block.get(skip..skip + out.len()) {
+        out.copy_from_slice(part);
+        return;
+    }
+    for (i, byte) in out.iter_mut().enumerate() {
+        *byte = block.get(skip + i).copied().unwrap_or(0);
+    }
+}
+
+/// Copies the bytes from a place in a block on, as the blocks have them.
+fn copy_block(blocks: &LruCache<u64, Vec<u8>>, number: u64, skip: usize, out: &mut [u8])
+    requires { skip + length out.old ≤ block_size }
+    ensures { out.new
+        ≡ map (byte_at (blocks_in blocks.now.entries)) (range_with_len (number * block_size + skip) (length out.old)) }
+{
+    match blocks.peek(&number) {
+        Some(block) => copy_part(block, skip, out),
+        None => out.fill(0),
+    }
+}
+
+/// Copies the bytes from a place in the file on, as the blocks have them.
+pub fn copy(blocks: &LruCache<u64, Vec<u8>>, first: u64, out: &mut [u8])
+    requires { first + length out.old < 2 ^ 64 }
+    ensures { out.new ≡ map (byte_at (blocks_in blocks.now.entries)) (range_with_len first (length out.old)) }
 {
     let end = first + out.len() as u64;
-    let mut missing = None;
-    for number in first / BLOCK_SIZE..(end - 1) / BLOCK_SIZE + 1 {
+    for number in first / BLOCK_SIZE..end.div_ceil(BLOCK_SIZE) {
         let start = first.max(number * BLOCK_SIZE);
         let stop = last_of(number, end) + 1;
-        let is_there = take_part(
+        copy_block(
             blocks,
             number,
             (start - number * BLOCK_SIZE) as usize,
             &mut out[(start - first) as usize..(stop - first) as usize],
         );
-        if !is_there {
-            missing = missing.or(Some(number));
-        }
     }
-    missing
 }
 
 /// Stores a block where it isn't there, and says how many were stored.

@@ -3,11 +3,11 @@ ghost use Rattle.std.specs.Prelude.{◌≡◌, ◌+◌, ◌-◌, ◌*◌, ◌<�
 ghost use Rattle.std.specs.List.{range_with_len, slice_range};
 ghost use Rattle.tiff_dir.specs.Block.{block_size, first_block, blocks};
 ghost use Rattle.range_cache.specs.Numbers.{has, missing, AreGone, AreThere, IsLed, IsRunEnd, Stays};
-ghost use Rattle.range_cache.specs.Cache.{Blocks, block_at, max_capacity, min_capacity, numbers, Holds, IsSound, brought, stored, stores};
+ghost use Rattle.range_cache.specs.Cache.{Blocks, block_at, bytes_at, max_capacity, min_capacity, numbers, Holds, IsSound, brought, stored, stores};
 ghost use Rattle.range_cache.specs.Piece.{whole_blocks, IsPieceOf, is_wanted};
 ghost use Rattle.range_cache.specs.Missing.{IsFirstGap};
 
-use crate::blocks::{copy, count_present, end_of_run, last_of, store, whole_run};
+use crate::blocks::{bring, copy, count_present, end_of_run, last_of, store, whole_run};
 use crate::missing::Missing;
 use lru::LruCache;
 use std::alloc::Global;
@@ -101,9 +101,38 @@ impl Cache {
         ensures holds { (f : List ℕ) → Holds f self.old → Holds f self.new }
         ensures led { IsLed (numbers self.new.entries) (first_block first) (blocks first (length out.old)) }
     {
+        self.touch(complete, first, out.len())?;
+        self.copy_at(first, out);
+        Ok(())
+    }
+
+    /// Says whether all the blocks of a range of so many bytes from `first` on are there, and else what is missing. In both
+    /// cases those that are there come to the front, in ascending order.
+    ///
+    /// `complete` is the length of the file, and the range lies in it.
+    pub fn touch(&mut self, complete: u64, first: u64, len: usize) -> Result<(), Missing>
+        requires some { 0 < len }
+        requires within { first + len ≤ complete }
+        ensures sound { IsSound self.old }
+        ensures entries { self.new ≡ record self.old {
+          entries = brought (range_with_len (first_block first) (blocks first len)) self.old.entries;
+        } }
+        ensures exact { MatchResult result
+            (λ _. AreThere (numbers self.old.entries) (first_block first) (blocks first len))
+            (λ m. IsFirstGap self.old complete first len m) }
+        ensures bytes { OnOk result ((f : List ℕ) → first + len ≤ length f → Holds f self.old →
+            bytes_at self.new first len ≡ slice_range f first (first + len)) }
+
+        // What follows of the entries: only their order changes, so the same blocks are there, each still the file's, and
+        // those of the range lead.
+        ensures kept { (k : ℕ) → block_at k self.new.entries ≡ block_at k self.old.entries }
+        ensures same { (k : ℕ) → has k (numbers self.new.entries) ≡ has k (numbers self.old.entries) }
+        ensures holds { (f : List ℕ) → Holds f self.old → Holds f self.new }
+        ensures led { IsLed (numbers self.new.entries) (first_block first) (blocks first len) }
+    {
         self.law();
-        let to = (first + out.len() as u64 - 1) / BLOCK_SIZE + 1;
-        match copy(&mut self.blocks, first, out) {
+        let to = (first + len as u64 - 1) / BLOCK_SIZE + 1;
+        match bring(&mut self.blocks, first / BLOCK_SIZE, to) {
             None => Ok(()),
             Some(start) => {
                 let end = end_of_run(&self.blocks, start + 1, to);
@@ -113,6 +142,16 @@ impl Cache {
                 })
             }
         }
+    }
+
+    /// Copies the bytes from `first` on, as the blocks have them: zeros where a block isn't there. The order of the blocks
+    /// stays.
+    #[tactic(auto, unfolding(crate::specs::Cache::bytes_at))]
+    pub fn copy_at(&self, first: u64, out: &mut [u8])
+        requires { first + length out.old < 2 ^ 64 }
+        ensures { out.new ≡ bytes_at self.now first (length out.old) }
+    {
+        copy(&self.blocks, first, out);
     }
 
     /// Stores the blocks that lie wholly in a piece of the file and wholly in what is wanted and that aren't there, in

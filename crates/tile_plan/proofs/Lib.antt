@@ -5,5 +5,6 @@ pub mod DrawnLemmas
 pub mod BlockLemmas
 pub mod GroupLemmas
 pub mod PlanLemmas
+pub mod PartLemmas
 pub mod RowLemmas
 pub mod BlitLemmas

@@ -5,8 +5,8 @@ ghost use Rattle.tiff_dir.specs.Level.{plain_size, tile_total};
 ghost use Rattle.tile_plan.specs.Levels.{IsSmall};
 ghost use Rattle.tile_plan.specs.Canvas.{Picture, IsBlit, picture_size};
 
-use crate::Rectangle;
 use crate::rows::{Rows, copy_rows};
+use crate::{Bytes, Rectangle};
 use std::alloc::Global;
 use std::marker::Model;
 use std::ops::Range;
@@ -59,10 +59,10 @@ impl Canvas {
     }
 
     /// Copies what of the tile of this number lies in the rectangle. `bytes` are the tile's, unpacked.
-    pub fn blit(&mut self, tile: u32, bytes: &[u8])
+    pub fn blit<B: Bytes>(&mut self, tile: u32, bytes: &B)
         requires tile { tile < tile_total (grid_of self.old.level) }
-        requires size { length bytes.now ≡ plain_size (layout_of self.old.level) }
-        ensures { IsBlit tile bytes.now self.old self.new }
+        requires size { length (B.bytes bytes.now) ≡ plain_size (layout_of self.old.level) }
+        ensures { IsBlit tile (B.bytes bytes.now) self.old self.new }
     {
         let Level {
             tile_width,

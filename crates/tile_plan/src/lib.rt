@@ -3,6 +3,7 @@
 
 mod asked;
 mod block;
+mod bytes;
 mod canvas;
 mod laws;
 mod plan;
@@ -10,6 +11,7 @@ mod rows;
 mod swap;
 
 pub use asked::{Rectangle, rect};
+pub use bytes::{Bytes, Part, Slice};
 pub use canvas::Canvas;
 pub use laws::tiles_cover;
 pub use plan::{Group, groups};

@@ -1,6 +1,8 @@
 //! Rows of bytes, and their copies.
 ghost use Rattle.std.specs.Prelude.{◌≡◌, ◌+◌, ◌*◌, ◌<◌, ◌≤◌, ◌^◌, length};
 
+use crate::Bytes;
+
 /// Rows of bytes: where the first one begins, and how far each is from the one before.
 #[derive(Clone, Copy)]
 pub struct Rows {
@@ -26,15 +28,24 @@ impl Rows {
 ghost use Rattle.tile_plan.specs.Rows.{AreIn, AreCopied};
 
 /// Copies `count` rows of `len` bytes, which don't overlap where they are written.
-pub fn copy_rows(count: usize, len: usize, from: &[u8], read: Rows, to: &mut [u8], write: Rows)
+pub fn copy_rows<B: Bytes>(
+    count: usize,
+    len: usize,
+    from: &B,
+    read: Rows,
+    to: &mut [u8],
+    write: Rows,
+)
     requires apart { len ≤ write.step }
-    requires read { AreIn read count len (length from.now) }
+    requires read { AreIn read count len (length (B.bytes from.now)) }
     requires write { AreIn write count len (length to.old) }
-    ensures { AreCopied count len from.now read to.old to.new write }
+    ensures { AreCopied count len (B.bytes from.now) read to.old to.new write }
 {
+    // The length is read for its bound alone.
+    let _len = from.len();
     for n in 0..count {
         let at = write.first + n * write.step;
         let start = read.first + n * read.step;
-        to[at..at + len].copy_from_slice(&from[start..start + len]);
+        from.copy_to(start, &mut to[at..at + len]);
     }
 }

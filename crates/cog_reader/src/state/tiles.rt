@@ -1,12 +1,13 @@
 //! The groups of a window's tiles are read.
 ghost use Rattle.std.specs.Prelude.{◌≡◌, ℕ, length};
+ghost use Rattle.tiff_dir.specs.declared.level.Compression.TheVariants.{Plain};
 ghost use Rattle.tiff_dir.specs.declared.query.Query.{Query as Asks};
 ghost use Rattle.tiff_dir.specs.Walk.{HasEnded};
 ghost use Rattle.tiff_dir.specs.WalkState.{WalkState};
 ghost use Rattle.cog_reader.specs.declared.kept.Kept.{Kept as Keeps};
 ghost use Rattle.cog_reader.specs.declared.kept.Kept.TheVariants as kept;
 ghost use Rattle.cog_reader.specs.declared.state.State.TheVariants as state;
-ghost use Rattle.cog_reader.specs.Give.{AcceptsRange};
+ghost use Rattle.cog_reader.specs.Give.{AcceptsRange, Advances};
 ghost use Rattle.cog_reader.specs.Kept.{HasBoth, IsKeptOf};
 ghost use Rattle.cog_reader.specs.Mosaic.{HasPlan, IsGroupLen, IsPlan};
 ghost use Rattle.cog_reader.specs.Step.{ComesLater, IsStep};
@@ -17,6 +18,7 @@ use crate::kept::Kept;
 use crate::mosaic::Mosaic;
 use crate::state::{State, Step};
 use tiff_dir::{FileFault, Span};
+use tile_plan::Bytes;
 
 /// What comes next: a group, or, where all were given, the window.
 pub fn next(arrays: &Arrays, mosaic: Mosaic) -> Step
@@ -49,4 +51,15 @@ pub fn accept(kept: &Kept, mosaic: &mut Mosaic, bytes: &[u8]) -> Option<FileFaul
         Ok(()) => None,
         Err(fault) => Some(fault),
     }
+}
+
+/// Gives the window a group of tiles that aren't packed.
+pub fn paint<B: Bytes>(kept: &Kept, mosaic: &mut Mosaic, bytes: &B)
+    requires plan { HasBoth kept.now (λ a. (a.level.compression ≡ Plain) × HasPlan a mosaic.old) }
+    requires wanted { IsGroupLen mosaic.old (length (B.bytes bytes.now)) }
+    ensures { (complete : ℕ) (w : WalkState) → HasEnded w → HasBoth kept.now (λ a. IsPlan complete a mosaic.old) → IsKeptOf w kept.now
+        → Advances complete (B.bytes bytes.now) (record { walk = w; kept = kept.now; state = state.Tiles mosaic.old })
+        (record { walk = w; kept = kept.now; state = state.Tiles mosaic.new }) }
+{
+    mosaic.paint(kept.both(), bytes);
 }

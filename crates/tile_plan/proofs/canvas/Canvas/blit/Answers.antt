@@ -9,20 +9,20 @@ use Rattle.tile_plan.proofs.canvas.Canvas.blit.Goals as goal
 use Rattle.tile_plan.proofs.canvas.Canvas.blit.Goals.{then-columns-via-then-columns, then-columns-via-else-columns+then-rows}
 
 pub returns-then-columns : goal.returns-then-columns
-returns-then-columns c =
+returns-then-columns g c =
     let l = c.self.inside.level in
     let r = c.self.inside.rect in
     let columns = c.common-columns.ensures in
     let rows = c.common-rows.ensures in
     let cut = cut_of r.w r.h r.x r.y l.tile_width l.tile_length columns.first columns.end rows.first rows.end in
-    let same = blit_none l r c.args.bytes.now c.self.inside.bytes.items (record { across_is = c.tiles_across-across.ensures.count; x_is = refl; y_is = refl }) (sides_of l r c.self.invariant.0.inside) cut in
+    let same = blit_none l r (g.B.Bytes.bytes c.args.bytes.now) c.self.inside.bytes.items (record { across_is = c.tiles_across-across.ensures.count; x_is = refl; y_is = refl }) (sides_of l r c.self.invariant.0.inside) cut in
     elim c.then-columns.branch [
-      | then-columns-via-then-columns w ↦ subst (λ p. IsBlit c.args.tile c.args.bytes.now p p) c.self.view_is (same (λ some more. absurd (omega (arith, some, w.if-columns.true))))
-      | then-columns-via-else-columns+then-rows w ↦ subst (λ p. IsBlit c.args.tile c.args.bytes.now p p) c.self.view_is (same (λ some more. absurd (omega (arith, more, w.if-rows.true))))
+      | then-columns-via-then-columns w ↦ subst (λ p. IsBlit c.args.tile (g.B.Bytes.bytes c.args.bytes.now) p p) c.self.view_is (same (λ some more. absurd (omega (arith, some, w.if-columns.true))))
+      | then-columns-via-else-columns+then-rows w ↦ subst (λ p. IsBlit c.args.tile (g.B.Bytes.bytes c.args.bytes.now) p p) c.self.view_is (same (λ some more. absurd (omega (arith, more, w.if-rows.true))))
     ]
 
 pub from_pixel-read-requires-clause-fits : goal.from_pixel-read-requires-clause-fits
-from_pixel-read-requires-clause-fits c =
+from_pixel-read-requires-clause-fits g c =
     let l = c.self.inside.level in
     let r = c.self.inside.rect in
     let columns = c.common-columns.ensures in
@@ -32,7 +32,7 @@ from_pixel-read-requires-clause-fits c =
     omega (arith, tile_size l pixel c.pixel_size-pixel.ensures.size, l.plain, read_fits pixel cut c.if-rows.false)
 
 pub from_pixel-write-requires-clause-fits : goal.from_pixel-write-requires-clause-fits
-from_pixel-write-requires-clause-fits c =
+from_pixel-write-requires-clause-fits g c =
     let l = c.self.inside.level in
     let r = c.self.inside.rect in
     let columns = c.common-columns.ensures in
@@ -43,20 +43,20 @@ from_pixel-write-requires-clause-fits c =
     omega (arith, size, c.self.inside.bytes.ok.0, c.self.inside.bytes.ok.1, c.self.inside.bytes.small, written_fits pixel cut c.if-rows.false)
 
 pub copy_rows-requires-clause-read : goal.copy_rows-requires-clause-read
-copy_rows-requires-clause-read c n less =
+copy_rows-requires-clause-read g c n less =
     let l = c.self.inside.level in
     let r = c.self.inside.rect in
     let columns = c.common-columns.ensures in
     let rows = c.common-rows.ensures in
     let cut = cut_of r.w r.h r.x r.y l.tile_width l.tile_length columns.first columns.end rows.first rows.end in
     let pixel = c.pixel_size-pixel.result in
-    let size : length c.args.bytes.now ≡ l.tile_width * l.tile_length * pixel =
+    let size : length (g.B.Bytes.bytes c.args.bytes.now) ≡ l.tile_width * l.tile_length * pixel =
     c.requires.size ∙ ap (λ p. plain_size (layout_of p.level)) (sym c.self.view_is) ∙ sym (tile_size l pixel c.pixel_size-pixel.ensures.size) in
-    subst (λ rows. at rows n ((c.common-columns.result.end - c.common-columns.result.start) * pixel) ≤ length c.args.bytes.now) (sym c.from_pixel-read.ensures)
+    subst (λ rows. at rows n ((c.common-columns.result.end - c.common-columns.result.start) * pixel) ≤ length (g.B.Bytes.bytes c.args.bytes.now)) (sym c.from_pixel-read.ensures)
     (omega (arith, size, rows_read pixel n cut c.if-columns.false less))
 
 pub copy_rows-requires-clause-write : goal.copy_rows-requires-clause-write
-copy_rows-requires-clause-write c n less =
+copy_rows-requires-clause-write g c n less =
     let l = c.self.inside.level in
     let r = c.self.inside.rect in
     let columns = c.common-columns.ensures in
@@ -68,7 +68,7 @@ copy_rows-requires-clause-write c n less =
     (omega (arith, size, rows_written pixel n cut c.if-columns.false less))
 
 pub returns : goal.returns
-returns c =
+returns g c =
     let l = c.self.inside.level in
     let r = c.self.inside.rect in
     let columns = c.common-columns.ensures in
@@ -79,7 +79,7 @@ returns c =
     let len = (c.common-columns.result.end - c.common-columns.result.start) * pixel in
     let left = c.common-columns.result.start in
     let top = c.common-rows.result.start in
-    let bytes = c.args.bytes.now in
+    let bytes = g.B.Bytes.bytes c.args.bytes.now in
     let old = c.deref_mut.result.now in
     let new = c.copy_rows.new.to in
     let A = c.tiles_across-across.result in

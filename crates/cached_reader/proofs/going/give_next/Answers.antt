@@ -1,0 +1,40 @@
+use Rattle.std.proofs.Common.{◌≡◌, ℕ, ◌+◌, ◌-◌, length, arith, refl, sym, ap, subst, ◌∙◌}
+use Rattle.std.specs.Prelude.{slice_range}
+use Rattle.tiff_dir.specs.Walk.{extent_of_span}
+use Rattle.range_cache.specs.Cache.{Blocks, bytes_at}
+use Rattle.cached_reader.specs.Going.{IsMissing}
+use Rattle.cached_reader.proofs.GoingLemmas.{given, lacking, read}
+use Rattle.cached_reader.proofs.going.give_next.Goals as goal
+
+pub returns-in_ok-give_held-in-Ok-clause-goes : goal.returns-in_ok-give_held-in-Ok-clause-goes
+returns-in_ok-give_held-in-Ok-clause-goes c =
+    let a = c.args in
+    let e = c.in-Ok.ensures in
+    let t = c.in_ok-give_held-in-Ok.ensures.takes in
+    let old = a.reader.now in
+    let len : ℕ = a.span.last - a.span.first + 1 in
+    let some = a.span.ascending in
+    let size : len ≡ a.span.last + 1 - a.span.first = omega arith in
+    given old c.give_held.new.reader a.cache.now c.touch.new.self (extent_of_span a.span) (bytes_at c.touch.new.self a.span.first len) c.requires.wanted
+    (λ f agrees holds.
+    let known : length f ≡ a.complete = c.lengths_are_known.ensures old f agrees ∙ c.requires.complete in
+    let inside = c.requires.inside in
+    e.bytes f (omega arith) holds ∙ ap (λ n. slice_range f a.span.first (a.span.first + n)) size)
+    (t.complete, t.query)
+    (read old a.cache.now c.touch.new.self (ap (λ (b : Blocks). b.capacity) e.entries) e.kept e.holds)
+    t.agrees t.come
+
+pub returns-in-Err-clause-given : goal.returns-in-Err-clause-given
+returns-in-Err-clause-given c =
+    let a = c.args in
+    let e = c.in-Err.ensures in
+    let some = a.span.ascending in
+    let inside = c.requires.inside in
+    let small = c.requires.small in
+    let complete = c.requires.complete in
+    let len : ℕ = a.span.last - a.span.first + 1 in (
+      refl,
+      subst (λ n. IsMissing c.touch.new.self n (extent_of_span a.span) 0 c.span_of.result) (sym complete)
+          (lacking c.missing_is_exact.ensures.run c.missing_is_exact.ensures.few a.cache.now c.touch.new.self a.complete len (extent_of_span a.span) c.in-Err.missing c.span_of.result
+          (omega arith) (omega arith) (omega arith) (omega arith) (omega (arith, e.sound.least, ap (λ (b : Blocks). b.capacity) e.entries)) e.same e.exact e.led c.span_of.ensures.first c.span_of.ensures.last),
+    )

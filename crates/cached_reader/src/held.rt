@@ -1,0 +1,38 @@
+//! The bytes of a range that a cache has.
+ghost use Rattle.std.specs.Prelude.{◌≡◌, ◌+◌, ◌<◌, ◌^◌};
+ghost use Rattle.range_cache.specs.Cache.{bytes_at};
+
+use cog_reader::Bytes;
+use range_cache::Cache;
+
+/// So many bytes of a file, from a position on, as the blocks of a cache have them.
+#[derive(Drop)]
+pub struct HeldRange<'a> {
+    cache: &'a Cache,
+    first: u64,
+    len: usize,
+    ghost fits: { first + len < 2 ^ 64 },
+}
+
+impl<'a> HeldRange<'a> {
+    /// Those `len` bytes from `first` on.
+    pub fn new(cache: &'a Cache, first: u64, len: usize) -> HeldRange<'a>
+        requires { first + len < 2 ^ 64 }
+        ensures cache { result.cache.now ≡ cache.now }
+        ensures place { (result.first ≡ first) × (result.len ≡ len) }
+    {
+        HeldRange { cache, first, len }
+    }
+}
+
+impl Bytes for HeldRange<'_> {
+    ghost bytes = { λ r. bytes_at r.cache.now r.first r.len };
+
+    fn len(&self) -> usize {
+        self.len
+    }
+
+    fn copy_to(&self, at: usize, out: &mut [u8]) {
+        self.cache.copy_at(self.first + at as u64, out);
+    }
+}

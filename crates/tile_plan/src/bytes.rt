@@ -1,0 +1,68 @@
+//! Bytes that are copied out part by part, wherever they stand.
+ghost use Rattle.std.specs.Prelude.{◌≡◌, ◌+◌, ◌≤◌, ℕ, List, length};
+ghost use Rattle.std.specs.List.{slice_range};
+
+/// Bytes that stand somewhere, in one piece or in several.
+pub trait Bytes {
+    /// The bytes.
+    ghost bytes: { Self → List ℕ };
+
+    /// How many there are.
+    fn len(&self) -> usize
+        ensures { result ≡ length (bytes self.now) };
+
+    /// Copies those from a place on.
+    fn copy_to(&self, at: usize, out: &mut [u8])
+        requires { at + length out.old ≤ length (bytes self.now) }
+        ensures { out.new ≡ slice_range (bytes self.now) at (at + length out.old) };
+}
+
+/// Bytes in one piece.
+#[derive(Clone, Copy)]
+pub struct Slice<'a>(pub &'a [u8]);
+
+impl Bytes for Slice<'_> {
+    ghost bytes = { λ s. s.0.now };
+
+    fn len(&self) -> usize {
+        self.0.len()
+    }
+
+    fn copy_to(&self, at: usize, out: &mut [u8]) {
+        out.copy_from_slice(&self.0[at..at + out.len()]);
+    }
+}
+
+/// So many of other bytes, from a place on.
+#[derive(Drop)]
+pub struct Part<'a, B: Bytes> {
+    of: &'a B,
+    first: usize,
+    len: usize,
+    ghost within: { first + len ≤ length (B.bytes of.now) },
+}
+
+impl<'a, B: Bytes> Part<'a, B> {
+    /// Those `len` bytes of other ones, which end in them.
+    pub fn new(of: &'a B, first: usize, len: usize) -> Part<'a, B>
+        requires { first + len ≤ length (B.bytes of.now) }
+        ensures of { result.of.now ≡ of.now }
+        ensures place { (result.first ≡ first) × (result.len ≡ len) }
+    {
+        Part { of, first, len }
+    }
+}
+
+impl<B: Bytes> Bytes for Part<'_, B> {
+    ghost bytes = { λ s. slice_range (B.bytes s.of.now) s.first (s.first + s.len) };
+
+    fn len(&self) -> usize {
+        self.len
+    }
+
+    fn copy_to(&self, at: usize, out: &mut [u8]) {
+        // The length is read for its bound alone.
+        let _len = self.of.len();
+        self.of.copy_to(self.first + at, out);
+    }
+}
