@@ -7,7 +7,7 @@ ghost use Rattle.tile_plan.specs.Levels.{IsSmall};
 use crate::tiles::TILE;
 use std::alloc::Global;
 use tiff_dir::{Compression, Kind, Level, Place};
-use tile_plan::{Canvas, Rectangle};
+use tile_plan::{Canvas, Rectangle, Slice};
 
 /// Four values of a type.
 fn array(first: u64, len: u64, kind: Kind) -> Place
@@ -67,7 +67,7 @@ impl Picture {
     /// Copies a tile of 65,536 bytes, of number 0 to 3.
     pub fn blit(&mut self, tile: u32, bytes: &[u8]) {
         if tile < 4 && bytes.len() == TILE {
-            self.canvas.blit(tile, bytes);
+            self.canvas.blit(tile, &Slice(bytes));
         }
     }
 

@@ -19,4 +19,4 @@ pub use laws::{end_is_wanted, lengths_are_known, nothing_comes};
 pub use outcome::{Info, Outcome, Window};
 pub use reader::Reader;
 /// The bytes of a range, in one piece or in several.
-pub use tile_plan::Bytes;
+pub use tile_plan::{Bytes, Slice};

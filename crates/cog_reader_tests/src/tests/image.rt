@@ -2,7 +2,7 @@
 ghost use Rattle.std.specs.Prelude.{◌≡◌, IfSome, length};
 ghost use Rattle.tiff_dir.specs.Walk.{extent_of_span};
 
-use cog_reader::{Outcome, Reader};
+use cog_reader::{Outcome, Reader, Slice};
 use std::alloc::Global;
 use tiff_dir::{Memory, Query, Span};
 
@@ -28,7 +28,7 @@ pub fn part(file: &[u8], span: Span) -> Option<&[u8]>
     file.get(span.first as usize..end as usize)
 }
 
-/// Gives the reader what it wants until there is an outcome, and lists it.
+/// Gives the reader what it wants until there is an outcome, and lists it. Plain tiles are painted.
 fn read(alloc: Global, reader: &mut Reader, file: &[u8]) -> Result<Vec<Span>, Memory> {
     let mut wanted = Vec::new(alloc);
     while let Some(span) = reader.need()? {
@@ -36,7 +36,11 @@ fn read(alloc: Global, reader: &mut Reader, file: &[u8]) -> Result<Vec<Span>, Me
         let Some(bytes) = part(file, span) else {
             return Ok(wanted);
         };
-        reader.give(bytes)?;
+        if reader.wants_plain_tiles() {
+            reader.paint(&Slice(bytes));
+        } else {
+            reader.give(bytes)?;
+        }
     }
     Ok(wanted)
 }

@@ -133,6 +133,38 @@ fn reads_until_it_is_cleared(rt: HostRuntime) -> Result<(), Fail> {
 }
 
 #[test]
+fn copies_what_the_blocks_have(rt: HostRuntime) -> Result<(), Fail> {
+    let alloc = rt.alloc();
+    let mut cache = Cache::new(alloc, 66).ok().ok_or("no cache")?;
+    let bytes = piece(alloc, 0, 67706)?;
+    let wanted = Span {
+        first: 16384,
+        last: 67705,
+    };
+    assert_eq!(rt; bytes.len(), 67706);
+    assert_eq!(rt; put(&mut cache, COMPLETE, 0, &bytes, wanted).ok(), Some(4));
+    assert!(rt; cache.touch(COMPLETE, 16384, 51322).is_ok());
+    let mut out = [1u8; 300];
+    cache.copy_at(32600, &mut out);
+    assert_eq!(rt; out.as_slice(), &bytes[32600..32900]);
+    cache.copy_at(16300, &mut out);
+    assert_eq!(rt; &out[..84], [0u8; 84].as_slice());
+    assert_eq!(rt; &out[84..], &bytes[16384..16600]);
+    cache.copy_at(67600, &mut out);
+    assert_eq!(rt; &out[..106], &bytes[67600..]);
+    assert_eq!(rt; &out[106..], [0u8; 194].as_slice());
+    let gap = cache.touch(COMPLETE, 16383, 2).err();
+    assert_eq!(rt;
+        gap,
+        Some(Missing {
+            first: 0,
+            last: 16383
+        })
+    );
+    Ok(())
+}
+
+#[test]
 fn wants_no_block_at_the_end(rt: HostRuntime) -> Result<(), Fail> {
     let mut cache = Cache::new(rt.alloc(), 66).ok().ok_or("no cache")?;
     let wanted = Span {
