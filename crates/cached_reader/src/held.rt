@@ -35,4 +35,8 @@ impl Bytes for HeldRange<'_> {
     fn copy_to(&self, at: usize, out: &mut [u8]) {
         self.cache.copy_at(self.first + at as u64, out);
     }
+
+    fn piece_at(&self, at: usize) -> &[u8] {
+        self.cache.piece_at(self.first + at as u64, self.len - at)
+    }
 }

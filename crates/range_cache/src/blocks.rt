@@ -112,6 +112,22 @@ pub fn copy(blocks: &LruCache<u64, Vec<u8>>, first: u64, out: &mut [u8])
     }
 }
 
+/// The bytes from a place in the file on that stand in one block, at most `len`.
+pub fn piece(blocks: &LruCache<u64, Vec<u8>>, first: u64, len: usize) -> &[u8]
+    requires { first + len < 2 ^ 64 }
+    ensures few { length result.now ≤ len }
+    ensures piece { result.now
+        ≡ map (byte_at (blocks_in blocks.now.entries)) (range_with_len first (length result.now)) }
+{
+    let number = first / BLOCK_SIZE;
+    let Some(block) = blocks.peek(&number) else {
+        return &[];
+    };
+    let skip = (first % BLOCK_SIZE) as usize;
+    let end = block.len().min(BLOCK_SIZE as usize).min(skip + len);
+    block.get(skip..end).unwrap_or(&[])
+}
+
 /// Stores a block where it isn't there, and says how many were stored.
 fn store_one(blocks: &mut LruCache<u64, Vec<u8>>, number: u64, bytes: &[u8]) -> Result<u32, Memory>
     ensures capacity { blocks.new.cap ≡ blocks.old.cap }

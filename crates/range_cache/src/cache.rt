@@ -7,7 +7,7 @@ ghost use Rattle.range_cache.specs.Cache.{Blocks, block_at, bytes_at, max_capaci
 ghost use Rattle.range_cache.specs.Piece.{whole_blocks, IsPieceOf, is_wanted};
 ghost use Rattle.range_cache.specs.Missing.{IsFirstGap};
 
-use crate::blocks::{bring, copy, count_present, end_of_run, last_of, store, whole_run};
+use crate::blocks::{bring, copy, count_present, end_of_run, last_of, piece, store, whole_run};
 use crate::missing::Missing;
 use lru::LruCache;
 use std::alloc::Global;
@@ -152,6 +152,16 @@ impl Cache {
         ensures { out.new ≡ bytes_at self.now first (length out.old) }
     {
         copy(&self.blocks, first, out);
+    }
+
+    /// The bytes from `first` on that stand in one block, at most `len`: none where that block isn't there.
+    #[tactic(auto, unfolding(crate::specs::Cache::bytes_at))]
+    pub fn piece_at(&self, first: u64, len: usize) -> &[u8]
+        requires { first + len < 2 ^ 64 }
+        ensures few { length result.now ≤ len }
+        ensures piece { result.now ≡ bytes_at self.now first (length result.now) }
+    {
+        piece(&self.blocks, first, len)
     }
 
     /// Stores the blocks that lie wholly in a piece of the file and wholly in what is wanted and that aren't there, in

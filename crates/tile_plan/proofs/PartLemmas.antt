@@ -23,3 +23,10 @@ pub length_of : (l : List ℕ) (first len : ℕ) → first + len ≤ length l �
 length_of l first len within =
     let same : first + len - first ≡ len = omega arith in
     length-take-le (first + len - first) (drop first l) (omega (arith, within, length-drop first l)) ∙ same
+
+-- the first ones of the bytes from one place on
+pub front_of : (l piece : List ℕ) (at count : ℕ) → piece ≡ slice_range l at (at + length piece) → count ≤ length piece → take count piece ≡ slice_range l at (at + count)
+front_of l piece at count is few =
+    let whole : at + length piece - at ≡ length piece = omega arith in
+    let some : at + count - at ≡ count = omega arith in
+    ap (take count) is ∙ ap (λ k. take count (take k (drop at l))) whole ∙ take-take count (length piece) (drop at l) few ∙ ap (λ k. take k (drop at l)) (sym some)

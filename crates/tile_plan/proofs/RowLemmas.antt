@@ -1,12 +1,12 @@
 -- One row after another.
-use Rattle.std.proofs.Common.{◌≡◌, ℕ, ◌+◌, ◌-◌, ◌*◌, ◌<◌, ◌≤◌, ◌⊎◌, inl, inr, List, ◌++◌, length, get_or, take, drop, sym, subst, ap, ◌∙◌, arith, length-append, length-drop}
+use Rattle.std.proofs.Common.{◌≡◌, ℕ, ◌+◌, ◌-◌, ◌*◌, ◌<◌, ◌≤◌, ◌⊎◌, inl, inr, List, ◌++◌, length, get_or, take, drop, sym, subst, ap, ◌∙◌, arith, refl, length-append, length-drop}
 use Rattle.std.proofs.Math.Nat.{mul-le-mul_right}
 use Rattle.std.proofs.lemmas.Bool.{cases_lt}
 use Rattle.std.proofs.lemmas.List.{get_or-take, get_or-drop, length-take-le}
 use Rattle.std.proofs.lemmas.List.{get_or_append_left, get_or-append-add}
 use borrow.Rule.Slice.PartMut.{put_mid}
 use Rattle.tile_plan.specs.declared.rows.Rows.{Rows}
-use Rattle.tile_plan.specs.Rows.{at, AreCopied}
+use Rattle.tile_plan.specs.Rows.{at, from_row, AreCopied}
 
 append_right : (xs ys : List ℕ) (n i : ℕ) → length xs ≡ n → get_or (xs ++ ys) (n + i) 0 ≡ get_or ys i 0
 append_right xs ys n i size = ap (λ m. get_or (xs ++ ys) (m + i) 0) (sym size) ∙ get_or-append-add xs ys i 0
@@ -61,3 +61,48 @@ copied_more n len from read old now write k ys same size fits apart here before 
           ]
           );
     }
+
+-- no row
+pub copied_none : (len : ℕ) (from : List ℕ) (read : Rows) (now : List ℕ) (write : Rows) → AreCopied 0 len from read now now write
+copied_none len from read now write = record {
+  size = refl;
+  copied = λ n s less inside. absurd (omega (arith, less));
+  others = λ i apart. refl;
+}
+
+-- one row
+pub copied_one : (len : ℕ) (from : List ℕ) (read : Rows) (now : List ℕ) (write : Rows) (k : ℕ) (ys : List ℕ) → k ≡ len → length ys ≡ len → write.first + len ≤ length now → len ≤ write.step
+    → ((s : ℕ) → s < len → get_or ys s 0 ≡ get_or from (read.first + s) 0) → AreCopied 1 len from read now (put_mid write.first k now ys) write
+copied_one len from read now write k ys same size fits apart here =
+    let place : write.first + 0 * write.step ≡ write.first = omega arith in
+    subst (λ a. AreCopied 1 len from read now (put_mid a k now ys) write) place
+    (subst (λ n. AreCopied n len from read now (put_mid (write.first + 0 * write.step) k now ys) write) (let one : 0 + 1 ≡ 1 = omega arith in one)
+    (copied_more 0 len from read now now write k ys same size (omega (arith, fits)) apart
+    (λ s inside. here s inside ∙ ap (λ i. get_or from i 0) (let is : read.first + s ≡ at read 0 s = omega arith in is)) (copied_none len from read now write)))
+
+-- a row behind others
+pub behind : (r : Rows) (n j s : ℕ) → at r (n + j) s ≡ at (from_row r n) j s
+behind r n j s = omega arith
+
+-- some rows, and those behind them
+pub copied_join : (n k len : ℕ) (from : List ℕ) (read : Rows) (old mid new : List ℕ) (write : Rows) → len ≤ write.step → AreCopied n len from read old mid write
+    → AreCopied k len from (from_row read n) mid new (from_row write n) → AreCopied (n + k) len from read old new write
+copied_join n k len from read old mid new write apart first next = record {
+  size = next.size ∙ first.size;
+  copied = λ m s less inside. elim (cases_lt m n) [
+    | inl below ↦ (
+        let up : (m + 1) * write.step ≤ n * write.step = mul-le-mul_right write.step (omega (arith, below)) in
+        next.others (at write m s) (λ j t more within same. absurd (omega (arith, same, up, inside, apart))) ∙ first.copied m s below inside
+        )
+    | inr above ↦ (
+        let j = m - n in
+        let is : m ≡ n + j = omega (arith, above) in
+        let to : at write m s ≡ at (from_row write n) j s = ap (λ i. at write i s) is ∙ behind write n j s in
+        let of : at read m s ≡ at (from_row read n) j s = ap (λ i. at read i s) is ∙ behind read n j s in
+        ap (λ i. get_or new i 0) to ∙ next.copied j s (omega (arith, less, above)) inside ∙ ap (λ i. get_or from i 0) (sym of)
+        )
+  ];
+  others = λ i apart_of.
+      next.others i (λ j t less inside same. apart_of (n + j) t (omega (arith, less)) inside (same ∙ sym (behind write n j t)))
+      ∙ first.others i (λ m s less inside same. apart_of m s (omega (arith, less)) inside same);
+}

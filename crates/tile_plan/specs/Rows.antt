@@ -15,3 +15,7 @@ pub record AreCopied (count len : ℕ) (from : List ℕ) (read : Rows) (old new 
   pub size : length new ≡ length old
   pub copied : (n s : ℕ) → n < count → s < len → slice_index new (at write n s) ≡ slice_index from (at read n s)
   pub others : (k : ℕ) → ((n s : ℕ) → n < count → s < len → k ≢ at write n s) → slice_index new k ≡ slice_index old k
+
+-- the rows from one on
+abbrev pub from_row : Rows → ℕ → Rows
+from_row r n = record { first = r.first + n * r.step; step = r.step }

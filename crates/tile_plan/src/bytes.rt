@@ -15,6 +15,12 @@ pub trait Bytes {
     fn copy_to(&self, at: usize, out: &mut [u8])
         requires { at + length out.old ≤ length (bytes self.now) }
         ensures { out.new ≡ slice_range (bytes self.now) at (at + length out.old) };
+
+    /// Those from a place on, as many as stand in one piece there. There may be none.
+    fn piece_at(&self, at: usize) -> &[u8]
+        requires { at ≤ length (bytes self.now) }
+        ensures within { at + length result.now ≤ length (bytes self.now) }
+        ensures piece { result.now ≡ slice_range (bytes self.now) at (at + length result.now) };
 }
 
 /// Bytes in one piece.
@@ -30,6 +36,10 @@ impl Bytes for Slice<'_> {
 
     fn copy_to(&self, at: usize, out: &mut [u8]) {
         out.copy_from_slice(&self.0[at..at + out.len()]);
+    }
+
+    fn piece_at(&self, at: usize) -> &[u8] {
+        &self.0[at..]
     }
 }
 
@@ -64,5 +74,12 @@ impl<B: Bytes> Bytes for Part<'_, B> {
         // The length is read for its bound alone.
         let _len = self.of.len();
         self.of.copy_to(self.first + at, out);
+    }
+
+    fn piece_at(&self, at: usize) -> &[u8] {
+        // The length is read for its bound alone.
+        let _len = self.of.len();
+        let piece = self.of.piece_at(self.first + at);
+        &piece[..piece.len().min(self.len - at)]
     }
 }

@@ -1,5 +1,6 @@
 //! Rows of bytes, and their copies.
-ghost use Rattle.std.specs.Prelude.{◌≡◌, ◌+◌, ◌*◌, ◌<◌, ◌≤◌, ◌^◌, length};
+ghost use Rattle.std.specs.Prelude.{◌≡◌, ◌+◌, ◌*◌, ◌<◌, ◌≤◌, ◌^◌, ℕ, length};
+ghost use Rattle.tile_plan.specs.Rows.{AreIn, AreCopied, from_row};
 
 use crate::Bytes;
 
@@ -23,9 +24,86 @@ impl Rows {
             step: columns * pixel,
         }
     }
+
+    /// Those from a row on.
+    fn from_row(self, row: usize) -> Rows
+        requires { self.first + row * self.step < 2 ^ 64 }
+        ensures { result ≡ from_row self row }
+    {
+        Rows {
+            first: self.first + row * self.step,
+            step: self.step,
+        }
+    }
 }
 
-ghost use Rattle.tile_plan.specs.Rows.{AreIn, AreCopied};
+/// How many rows of `len` bytes, each so far from the one before, lie in the first so many bytes.
+fn rows_in(size: usize, len: usize, step: usize) -> usize
+    requires some { 0 < step }
+    requires apart { len ≤ step }
+    ensures { (n : ℕ) → n < result → n * step + len ≤ size }
+{
+    if size < len {
+        return 0;
+    }
+    ((size - len) / step).saturating_add(1)
+}
+
+/// Copies `count` rows of `len` bytes out of a slice, which don't overlap where they are written.
+fn copy_slice_rows(count: usize, len: usize, from: &[u8], read: Rows, to: &mut [u8], write: Rows)
+    requires apart { len ≤ write.step }
+    requires read { AreIn read count len (length from.now) }
+    requires write { AreIn write count len (length to.old) }
+    ensures { AreCopied count len from.now read to.old to.new write }
+{
+    for n in 0..count {
+        let at = write.first + n * write.step;
+        let start = read.first + n * read.step;
+        to[at..at + len].copy_from_slice(&from[start..start + len]);
+    }
+}
+
+/// Copies the first one of rows.
+fn copy_row<B: Bytes>(len: usize, from: &B, read: Rows, to: &mut [u8], write: Rows)
+    requires apart { len ≤ write.step }
+    requires read { read.first + len ≤ length (B.bytes from.now) }
+    requires write { write.first + len ≤ length to.old }
+    ensures { AreCopied 1 len (B.bytes from.now) read to.old to.new write }
+{
+    from.copy_to(read.first, &mut to[write.first..write.first + len]);
+}
+
+/// Copies the first ones of `count` rows, as many as stand in one piece, or one, and says how many.
+fn copy_some<B: Bytes>(
+    count: usize,
+    len: usize,
+    from: &B,
+    read: Rows,
+    to: &mut [u8],
+    write: Rows,
+) -> usize
+    requires some { 0 < count }
+    requires far { (0 < read.step) × (len ≤ read.step) }
+    requires apart { len ≤ write.step }
+    requires read { AreIn read count len (length (B.bytes from.now)) }
+    requires write { AreIn write count len (length to.old) }
+    ensures some { 0 < result }
+    ensures few { result ≤ count }
+    ensures copied { AreCopied result len (B.bytes from.now) read to.old to.new write }
+{
+    let piece = from.piece_at(read.first);
+    let whole = rows_in(piece.len(), len, read.step).min(count);
+    if whole == 0 {
+        copy_row(len, from, read, to, write);
+        return 1;
+    }
+    let rows = Rows {
+        first: 0,
+        step: read.step,
+    };
+    copy_slice_rows(whole, len, piece, rows, to, write);
+    whole
+}
 
 /// Copies `count` rows of `len` bytes, which don't overlap where they are written.
 pub fn copy_rows<B: Bytes>(
@@ -36,6 +114,7 @@ pub fn copy_rows<B: Bytes>(
     to: &mut [u8],
     write: Rows,
 )
+    requires far { (0 < read.step) × (len ≤ read.step) }
     requires apart { len ≤ write.step }
     requires read { AreIn read count len (length (B.bytes from.now)) }
     requires write { AreIn write count len (length to.old) }
@@ -43,9 +122,15 @@ pub fn copy_rows<B: Bytes>(
 {
     // The length is read for its bound alone.
     let _len = from.len();
-    for n in 0..count {
-        let at = write.first + n * write.step;
-        let start = read.first + n * read.step;
-        from.copy_to(start, &mut to[at..at + len]);
+    let mut n = 0;
+    while n < count {
+        n += copy_some(
+            count - n,
+            len,
+            from,
+            read.from_row(n),
+            to,
+            write.from_row(n),
+        );
     }
 }

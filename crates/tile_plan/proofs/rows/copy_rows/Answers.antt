@@ -1,42 +1,33 @@
-use Rattle.std.proofs.Common.{◌≡◌, ◌+◌, ◌-◌, ◌*◌, ◌<◌, ◌≤◌, ℕ, length, get_or, take, drop, ap, subst, ◌∙◌, arith, length-drop}
-use Rattle.std.proofs.lemmas.List.{get_or-take, get_or-drop, length-take, length-take-le}
-use Rattle.tile_plan.specs.Rows.{at, AreCopied}
-use Rattle.tile_plan.proofs.RowLemmas.{copied_more}
+use Rattle.std.proofs.Common.{◌+◌, ◌≤◌, length, sym, subst, arith}
+use Rattle.tile_plan.specs.Rows.{at, from_row, AreCopied}
+use Rattle.tile_plan.proofs.RowLemmas.{behind, copied_join}
 use Rattle.tile_plan.proofs.rows.copy_rows.Goals as goal
 
-pub copy_to-requires : goal.copy_to-requires
-copy_to-requires g c =
+pub copy_some-n-requires-clause-read : goal.copy_some-n-requires-clause-read
+copy_some-n-requires-clause-read g c m less =
     let n = c.loop-n.n in
-    let len = c.args.len in
-    let write = c.args.write in
-    let start : ℕ = write.first + n * write.step in
-    let less : n < c.args.count = omega (arith, c.loop-n-test.true, c.loop-n.auto.n-end) in
-    let there : at c.args.read n len ≤ length (g.B.Bytes.bytes c.args.from.now) = c.requires.read n less in
-    let few = length-take (start + len - start) (drop start c.loop-n.to) in
-    omega (arith, there, few)
+    let there = c.requires.read (n + m) (omega (arith, less)) in
+    subst (λ r. at r m c.args.len ≤ length (g.B.Bytes.bytes c.args.from.now)) (sym c.from_row.ensures) (omega (arith, there, behind c.args.read n m c.args.len))
+
+pub copy_some-n-requires-clause-write : goal.copy_some-n-requires-clause-write
+copy_some-n-requires-clause-write g c m less =
+    let n = c.loop-n.n in
+    let there = c.requires.write (n + m) (omega (arith, less)) in
+    subst (λ r. at r m c.args.len ≤ length c.loop-n.to) (sym c.from_row-in-loop-n.ensures) (omega (arith, there, behind c.args.write n m c.args.len, c.loop-n.invariant.copied.size))
 
 pub loop-n-preserved : goal.loop-n-preserved
 loop-n-preserved g c =
     let n = c.loop-n.n in
-    let len = c.args.len in
-    let read = c.args.read in
-    let write = c.args.write in
-    let from = g.B.Bytes.bytes c.args.from.now in
-    let to : ℕ = write.first + n * write.step in
-    let k : ℕ = to + len - to in
-    let same : k ≡ len = omega arith in
-    let ys = c.copy_to.new.out in
-    let start : ℕ = read.first + n * read.step in
-    let less : n < c.args.count = omega (arith, c.loop-n-test.true, c.loop-n.auto.n-end) in
-    let there : at read n len ≤ length from = c.requires.read n less in
-    let room : at write n len ≤ length c.args.to.now = c.requires.write n less in
-    let part : length (take k (drop to c.loop-n.to)) ≡ len =
-    length-take-le k (drop to c.loop-n.to) (omega (arith, room, same, c.loop-n.invariant.size, length-drop to c.loop-n.to)) ∙ same in
-    let j : ℕ = start + length (take k (drop to c.loop-n.to)) - start in
-    let as_long : j ≡ len = omega (arith, part) in
-    let size : length ys ≡ len = ap length c.copy_to.ensures ∙ length-take-le j (drop start from) (omega (arith, there, as_long, length-drop start from)) ∙ as_long in
-    copied_more n len from read c.args.to.now c.loop-n.to write k ys same size (omega (arith, room, c.loop-n.invariant.size)) c.requires.apart
-    (λ s inside. ap (λ l. get_or l s 0) c.copy_to.ensures ∙ get_or-take j (drop start from) s 0 (omega (arith, inside, as_long)) ∙ get_or-drop start from s 0) c.loop-n.invariant
+    let k = c.copy_some-n.result in
+    let bytes = g.B.Bytes.bytes c.args.from.now in
+    let new = c.copy_some-n.new.to in
+    let here = subst (λ r. AreCopied k c.args.len bytes r c.loop-n.to new (from_row c.args.write n)) c.from_row.ensures
+    (subst (λ r. AreCopied k c.args.len bytes c.from_row.result c.loop-n.to new r) c.from_row-in-loop-n.ensures c.copy_some-n.ensures.copied) in
+    record {
+      few = omega (arith, c.copy_some-n.ensures.few, c.loop-n.invariant.few);
+      copied = copied_join n k c.args.len bytes c.args.read c.args.to.now c.loop-n.to new c.args.write c.requires.apart c.loop-n.invariant.copied here;
+    }
 
 pub returns : goal.returns
-returns g c = subst (λ n. AreCopied n c.args.len (g.B.Bytes.bytes c.args.from.now) c.args.read c.args.to.now c.loop-n.to c.args.write) (omega (arith, c.loop-n-test.false, c.loop-n.auto.n-end)) c.loop-n.invariant
+returns g c =
+    subst (λ n. AreCopied n c.args.len (g.B.Bytes.bytes c.args.from.now) c.args.read c.args.to.now c.loop-n.to c.args.write) (omega (arith, c.loop-n-test.false, c.loop-n.invariant.few)) c.loop-n.invariant.copied
