@@ -8,9 +8,9 @@ use range_cache::Cache;
 /// So many bytes of a file, from a position on, as the blocks of a cache have them.
 #[derive(Drop)]
 pub struct HeldRange<'a> {
-    cache: &'a Cache,
-    first: u64,
-    len: usize,
+    pub cache: &'a Cache,
+    pub first: u64,
+    pub len: usize,
     ghost fits: { first + len < 2 ^ 64 },
 }
 

@@ -46,9 +46,9 @@ impl Bytes for Slice<'_> {
 /// So many of other bytes, from a place on.
 #[derive(Drop)]
 pub struct Part<'a, B: Bytes> {
-    of: &'a B,
-    first: usize,
-    len: usize,
+    pub of: &'a B,
+    pub first: usize,
+    pub len: usize,
     ghost within: { first + len ≤ length (B.bytes of.now) },
 }
 
