@@ -11,7 +11,7 @@ use Rattle.range_cache.specs.Laws.{MissingIsFew, RunsAreMissing}
 use Rattle.range_cache.specs.Missing.{IsFirstGap}
 use Rattle.range_cache.specs.declared.missing.Missing.{Missing}
 use Rattle.cog_reader.specs.Reader as reader
-use Rattle.cog_reader.specs.Reader.{ReaderState, ReaderAgrees, IsWantedOf, complete_of, outcome_of, query_of, to_come, wanted}
+use Rattle.cog_reader.specs.Reader.{ReaderState, ReaderAgrees, IsWantedOf, Takes, complete_of, outcome_of, query_of, to_come, wanted}
 use Rattle.cog_reader.specs.declared.outcome.Outcome.{Outcome}
 use Rattle.cached_reader.specs.Going.{CachedReader, work, AreSame, ReaderGoesOn, IsMissing}
 
@@ -110,21 +110,17 @@ given_end f old new (Some r) is (inr next) =
 
 pub given : (old new : ReaderState) (before after : Blocks) (r : Extent) (bytes : List ℕ) → wanted old ≡ Some r
     → ((f : List ℕ) → ReaderAgrees old f → Holds f before → bytes ≡ bytes_in f r)
-    → (complete_of new ≡ complete_of old) × (query_of new ≡ query_of old)
-    → ReaderGoesOn (work old before) (work old after)
-    → ((f : List ℕ) → ReaderAgrees old f → IsWantedOf f old bytes → ReaderAgrees new f)
-    → ((f : List ℕ) → ReaderAgrees old f → IsWantedOf f old bytes → reader.AcceptsFirstRange f old new)
-    → ReaderGoesOn (work old before) (work new after)
-given old new before after r bytes is of same goes agrees come = record {
-  complete = same.0;
-  query = same.1;
+    → Takes bytes old new → ReaderGoesOn (work old before) (work old after) → ReaderGoesOn (work old before) (work new after)
+given old new before after r bytes is of takes goes = record {
+  complete = takes.complete;
+  query = takes.query;
   blocks = goes.blocks;
   file = λ f held holds.
       let is_wanted : IsWantedOf f old bytes = subst (λ w. IsSomeAnd w (λ r. bytes ≡ bytes_in f r)) (sym is) (of f held holds) in
       record {
-        reader = agrees f held is_wanted;
+        reader = takes.agrees f held is_wanted;
         cache = (goes.file f held holds).cache;
-        come = given_end f old new (Some r) is (come f held is_wanted);
+        come = given_end f old new (Some r) is (takes.come f held is_wanted);
       };
 }
 

@@ -7,7 +7,7 @@ use Rattle.range_cache.specs.Cache.{Blocks, Holds, block_at, numbers}
 use Rattle.range_cache.specs.Numbers.{has, missing as absent, IsLed}
 use Rattle.range_cache.specs.Missing.{IsFirstGap}
 use Rattle.range_cache.specs.declared.missing.Missing.{Missing}
-use Rattle.cog_reader.specs.Reader.{ReaderState, ReaderAgrees, AcceptsFirstRange, IsWantedOf, complete_of, outcome_of, query_of, steps_of, to_come}
+use Rattle.cog_reader.specs.Reader.{ReaderState, ReaderAgrees, complete_of, outcome_of, query_of, steps_of, to_come}
 
 -- a reader, and the blocks that it reads from
 pub record CachedReader : Type 0 where
@@ -27,14 +27,6 @@ pub record ReaderStaysOf (f : List ℕ) (old new : CachedReader) : Type 0 where
   pub reader : ReaderAgrees new.reader f
   pub cache : Holds f new.cache
   pub come : IsEndOf (to_come new.reader f) (to_come old.reader f)
-
--- The reader took bytes, which are those of the range that it wanted, where they are the file's.
-pub record Takes (bytes : List ℕ) (old new : ReaderState) : Type 0 where
-  pub agrees : (f : List ℕ) → ReaderAgrees old f → IsWantedOf f old bytes → ReaderAgrees new f
-  pub come : (f : List ℕ) → ReaderAgrees old f → IsWantedOf f old bytes → AcceptsFirstRange f old new
-  pub steps : steps_of new < steps_of old
-  pub complete : complete_of new ≡ complete_of old
-  pub query : query_of new ≡ query_of old
 
 -- What the reader is given changes no block, no length and no query.
 pub record ReaderGoesOn (old new : CachedReader) : Type 0 where

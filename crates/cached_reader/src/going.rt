@@ -2,9 +2,9 @@
 ghost use Rattle.std.specs.Prelude.{◌≡◌, ◌+◌, ◌<◌, ◌≤◌, ◌^◌, Some, IfOk, OnErr, OnOk, length};
 ghost use Rattle.tiff_dir.specs.Needs.{max_range_bytes};
 ghost use Rattle.tiff_dir.specs.Walk.{extent_of_span};
-ghost use Rattle.cog_reader.specs.Reader.{complete_of, steps_of, wanted, IsWanted};
+ghost use Rattle.cog_reader.specs.Reader.{complete_of, wanted, IsWanted, Takes};
 ghost use Rattle.range_cache.specs.Cache.{bytes_at};
-ghost use Rattle.cached_reader.specs.Going.{work, ReaderGoesOn, IsFilled, IsGiven, Takes};
+ghost use Rattle.cached_reader.specs.Going.{work, ReaderGoesOn, IsFilled, IsGiven};
 
 use crate::ahead::extend;
 use crate::held::HeldRange;

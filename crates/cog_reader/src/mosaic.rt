@@ -9,16 +9,15 @@ ghost use Rattle.cog_reader.specs.Mosaic.{tile_extent, IsPainted, AreArraysOf, I
 
 use crate::Window;
 use crate::arrays::Arrays;
-use crate::paint::paint;
+use crate::paint::paint_packed;
 use crate::samples::big_first;
 use std::alloc::Global;
 use std::marker::Model;
 use tiff_dir::{Compression, FileFault, Span};
-use tile_plan::{Bytes, Canvas, Group, Part, PlanError, Rectangle, groups, tiles_cover};
+use tile_plan::{Bytes, Canvas, Group, Part, PlanError, Rectangle, Slice, groups, tiles_cover};
 
-/// Copies tiles that stand one after the other onto the canvas, by their bytes. `plain` is room for a tile where they are
-/// packed.
-fn paint_tiles(
+/// Copies packed tiles that stand one after the other onto the canvas, by their bytes. `plain` is room for a tile.
+fn unpack_tiles(
     canvas: &mut Canvas,
     arrays: &Arrays,
     tiles: &[u32],
@@ -26,8 +25,9 @@ fn paint_tiles(
     plain: &mut [u8],
 ) -> Result<(), FileFault>
     requires level { canvas.old.level ≡ arrays.now.level }
+    requires packed { arrays.now.level.compression ≡ PackBits }
     requires whole { IsWhole arrays.now tiles.now (length bytes.now) }
-    requires room { arrays.now.level.compression ≡ PackBits → length plain.old ≡ plain_size (layout_of arrays.now.level) }
+    requires room { length plain.old ≡ plain_size (layout_of arrays.now.level) }
     ensures level { canvas.new.level ≡ canvas.old.level }
     ensures rectangle { canvas.new.rectangle ≡ canvas.old.rectangle }
     ensures size { length canvas.new.bytes ≡ length canvas.old.bytes }
@@ -41,7 +41,7 @@ fn paint_tiles(
     let mut at = 0;
     for tile in tiles {
         let end = at + arrays.len_of(*tile);
-        paint(canvas, &arrays.level, *tile, &bytes[at..end], plain)?;
+        paint_packed(canvas, &arrays.level, *tile, &bytes[at..end], plain)?;
         at = end;
     }
     Ok(())
@@ -96,7 +96,7 @@ impl Model for Mosaic {
 
 impl Mosaic {
     ghost use Rattle.std.specs.Prelude.{◌≡◌, ◌+◌, ℕ, List, IfOk, IfErr, OnOk, MatchOption, None, Some, slice_get, IsSomeAnd, length};
-    ghost use Rattle.tiff_dir.specs.declared.level.Compression.TheVariants.{Plain};
+    ghost use Rattle.tiff_dir.specs.declared.level.Compression.TheVariants.{PackBits, Plain};
     ghost use Rattle.tiff_dir.specs.declared.query.Query.{Query};
     ghost use Rattle.tiff_dir.specs.Faulty.{IsFaultOfWindow, IsWindow};
     ghost use Rattle.tiff_dir.specs.declared.fault.FileFault.{FileFault as Fault};
@@ -181,10 +181,31 @@ impl Mosaic {
         ensures damaged { (f : List ℕ) (q : Query) → IsUnderway f q arrays.now self.old → IsWantedGroup f self.old bytes.now
             → IfErr result (IsFaultOfWindow f q) }
     {
+        match arrays.level.compression {
+            Compression::Plain => {
+                self.paint(arrays, &Slice(bytes));
+                Ok(())
+            }
+            Compression::PackBits => self.unpack(arrays, bytes),
+        }
+    }
+
+    /// Takes the bytes of the next group, whose tiles are packed.
+    fn unpack(&mut self, arrays: &Arrays, bytes: &[u8]) -> Result<(), FileFault>
+        requires plan { HasPlan arrays.now self.old }
+        requires packed { arrays.now.level.compression ≡ PackBits }
+        requires wanted { IsGroupLen self.old (length bytes.now) }
+        ensures plan { (complete : ℕ) → IsPlan complete arrays.now self.old → IsPlan complete arrays.now self.new }
+        ensures given { OnOk result ((self.new.groups ≡ self.old.groups) × (self.new.given ≡ self.old.given + 1)) }
+        ensures underway { (f : List ℕ) (q : Query) → IsUnderway f q arrays.now self.old → IsWantedGroup f self.old bytes.now
+            → OnOk result (IsUnderway f q arrays.now self.new) }
+        ensures damaged { (f : List ℕ) (q : Query) → IsUnderway f q arrays.now self.old → IsWantedGroup f self.old bytes.now
+            → IfErr result (IsFaultOfWindow f q) }
+    {
         let Some(group) = self.groups.get(self.given) else {
             unreachable!()
         };
-        paint_tiles(
+        unpack_tiles(
             &mut self.canvas,
             arrays,
             &group.tiles,

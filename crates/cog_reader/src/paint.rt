@@ -1,16 +1,16 @@
-//! A tile, unpacked and copied onto a canvas.
-ghost use Rattle.std.specs.Prelude.{◌≡◌, ◌<◌, ◌≤◌, IfErr, OnOk, length};
-ghost use Rattle.tiff_dir.specs.declared.level.Compression.TheVariants as compression;
+//! A packed tile, unpacked and copied onto a canvas.
+ghost use Rattle.std.specs.Prelude.{◌≡◌, ◌<◌, IfErr, OnOk, length};
+ghost use Rattle.tiff_dir.specs.declared.level.Compression.TheVariants.{PackBits};
 ghost use Rattle.tiff_dir.specs.Described.{grid_of, layout_of};
 ghost use Rattle.tiff_dir.specs.Level.{plain_size, tile_total};
 ghost use Rattle.cog_reader.specs.Paint.{IsPaint, IsBad};
 
 use packbits::unpack;
-use tiff_dir::{Compression, FileFault, Level};
+use tiff_dir::{FileFault, Level};
 use tile_plan::{Canvas, Slice};
 
-/// Copies the tile that the bytes of a file stand for onto the canvas. `plain` is room for the tile where it is packed.
-pub fn paint(
+/// Copies the tile that the packed bytes of a file stand for onto the canvas. `plain` is room for the tile.
+pub fn paint_packed(
     canvas: &mut Canvas,
     level: &Level,
     tile: u32,
@@ -18,21 +18,16 @@ pub fn paint(
     plain: &mut [u8],
 ) -> Result<(), FileFault>
     requires level { canvas.old.level ≡ level.now }
+    requires packed { level.now.compression ≡ PackBits }
     requires tile { tile < tile_total (grid_of level.now) }
-    requires size { level.now.compression ≡ compression.Plain → length bytes.now ≡ plain_size (layout_of level.now) }
-    requires room { level.now.compression ≡ compression.PackBits → length plain.old ≡ plain_size (layout_of level.now) }
+    requires room { length plain.old ≡ plain_size (layout_of level.now) }
     ensures paint { OnOk result (IsPaint tile bytes.now canvas.old canvas.new) }
     ensures bad { IfErr result (IsBad bytes.now canvas.old) }
     ensures level { canvas.new.level ≡ level.now }
     ensures rectangle { canvas.new.rectangle ≡ canvas.old.rectangle }
     ensures size { length canvas.new.bytes ≡ length canvas.old.bytes }
 {
-    match level.compression {
-        Compression::Plain => canvas.blit(tile, &Slice(bytes)),
-        Compression::PackBits => {
-            unpack(bytes, level.plain_row(), plain)?;
-            canvas.blit(tile, &Slice(plain));
-        }
-    }
+    unpack(bytes, level.plain_row(), plain)?;
+    canvas.blit(tile, &Slice(plain));
     Ok(())
 }

@@ -36,7 +36,7 @@ impl Reader {
     ghost use Rattle.tiff_dir.specs.Walk.{extent_of_span};
     ghost use Rattle.tiff_dir.specs.declared.query.Query.{Query};
     ghost use Rattle.cog_reader.specs.Outcome.{IsTrueOf};
-    ghost use Rattle.cog_reader.specs.Reader.{complete_of, outcome_of, query_of, steps_of, to_come, unread, wanted, AreDirectoriesRead, ReaderAgrees, IsUpcoming, IsWanted, IsWantedOf, AcceptsFirstRange, KeepsHeld, Wants, WantsPlainTiles};
+    ghost use Rattle.cog_reader.specs.Reader.{complete_of, outcome_of, query_of, steps_of, to_come, unread, wanted, AreDirectoriesRead, ReaderAgrees, IsUpcoming, IsWanted, Takes, Wants, WantsPlainTiles};
 
     /// A reader of a file of `complete` bytes, of which nothing is known yet, and nothing asked. It takes no memory.
     ///
@@ -117,14 +117,7 @@ impl Reader {
     /// Takes all bytes of the range that is wanted. A refusal (`Memory`, the only error) leaves the reader as it was.
     pub fn give(&mut self, bytes: &[u8]) -> Result<(), Memory>
         requires { IsWanted self.old (length bytes.now) }
-        ensures agrees { OnOk result ((f : List ℕ) → ReaderAgrees self.old f → IsWantedOf f self.old bytes.now → ReaderAgrees self.new f) }
-        // One range less is to come, or none, where the bytes tell a fault.
-        ensures come { OnOk result ((f : List ℕ) → ReaderAgrees self.old f → IsWantedOf f self.old bytes.now → AcceptsFirstRange f self.old self.new) }
-        // What is held of the file stays, but for the arrays of another level than the query's.
-        ensures held { OnOk result ((f : List ℕ) → ReaderAgrees self.old f → KeepsHeld f self.old self.new) }
-        ensures steps { OnOk result (steps_of self.new < steps_of self.old) }
-        ensures complete { complete_of self.new ≡ complete_of self.old }
-        ensures query { query_of self.new ≡ query_of self.old }
+        ensures takes { OnOk result (Takes bytes.now self.old self.new) }
         ensures err { OnErr result (self.new ≡ self.old) }
     {
         let Some(pending) = &mut self.pending else {
@@ -149,12 +142,7 @@ impl Reader {
     pub fn paint<B: Bytes>(&mut self, bytes: &B)
         requires plain { WantsPlainTiles self.old }
         requires wanted { IsWanted self.old (length (B.bytes bytes.now)) }
-        ensures agrees { (f : List ℕ) → ReaderAgrees self.old f → IsWantedOf f self.old (B.bytes bytes.now) → ReaderAgrees self.new f }
-        ensures come { (f : List ℕ) → ReaderAgrees self.old f → IsWantedOf f self.old (B.bytes bytes.now) → AcceptsFirstRange f self.old self.new }
-        ensures held { (f : List ℕ) → ReaderAgrees self.old f → KeepsHeld f self.old self.new }
-        ensures steps { steps_of self.new < steps_of self.old }
-        ensures complete { complete_of self.new ≡ complete_of self.old }
-        ensures query { query_of self.new ≡ query_of self.old }
+        ensures { Takes (B.bytes bytes.now) self.old self.new }
     {
         let Some(pending) = &mut self.pending else {
             unreachable!()

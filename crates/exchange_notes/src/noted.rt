@@ -65,18 +65,18 @@ impl<P> Noted<P> {
     }
 
     /// The Range field of the last request, as `bytes=0-65535`.
-    pub fn range(&self) -> &[u8] {
+    pub(crate) fn range(&self) -> &[u8] {
         &self.range
     }
 
     /// The status of the last answer, by its three digits.
-    pub fn status(&self) -> Option<&str> {
+    pub(crate) fn status(&self) -> Option<&str> {
         let line = self.front.strip_prefix(b"HTTP/1.1 ".as_slice())?;
         str::from_utf8(line.get(..3)?).ok()
     }
 
     /// How many bytes came of the last answer, its head among them.
-    pub fn bytes(&self) -> u64 {
+    pub(crate) fn bytes(&self) -> u64 {
         self.bytes
     }
 

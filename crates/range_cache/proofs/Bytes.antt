@@ -11,7 +11,7 @@ use Rattle.std.specs.Map.{lookup, lookup_entry}
 use Rattle.std.specs.Option.{option_map_or}
 use Rattle.tiff_dir.specs.Block.{block_size, block_of, first_block, blocks}
 use Rattle.range_cache.specs.Numbers.{has, AreThere}
-use Rattle.range_cache.specs.Cache.{Block, block_at, blocks_in, byte_at, numbers}
+use Rattle.range_cache.specs.Cache.{Block, block_at, blocks_in, byte_at, left_in, numbers}
 use Rattle.range_cache.proofs.Entries.{block, is_some-lookup_entry, number_of_entry}
 use Rattle.range_cache.proofs.Fronts.{All-found}
 
@@ -97,6 +97,12 @@ byte_found n j k es o is less k_is =
     ap (λ m. option_map_or (λ (b : Block). get_or b.1 (k % 16384) 0) (lookup_entry (nat_eq m) (blocks_in es)) 0) number
     ∙ ap (λ i. option_map_or (λ (b : Block). get_or b.1 i 0) (lookup_entry (nat_eq n) (blocks_in es)) 0) place
     ∙ found_byte n (λ l. get_or l j 0) es ∙ ap (λ p. option_map_or (λ (v : Vec ℕ). get_or v.items j 0) p 0) (sym is)
+
+pub left_found : (n at len : ℕ) (es : List (ℕ × Vec ℕ)) (o : Option (Vec ℕ)) → o ≡ lookup (nat_eq n) es →
+    left_in (block_at n (blocks_in es)) at len ≡ option_map_or (λ (v : Vec ℕ). min len (min block_size (length v.items) - at)) o 0
+left_found n at len es o is =
+    found_byte n (λ l. min len (min block_size (length l) - at)) es
+    ∙ ap (λ p. option_map_or (λ (v : Vec ℕ). min len (min block_size (length v.items) - at)) p 0) (sym is)
 
 -- a byte of a file, in a block that is there
 

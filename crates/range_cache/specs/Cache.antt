@@ -1,5 +1,5 @@
 -- What a contract sees of a cache: its blocks, the most recently used first, and how many it may have.
-use Rattle.std.specs.Prelude.{◌≡◌, ℕ, ◌+◌, ◌-◌, ◌/◌, ◌%◌, ◌≤◌, not, ◌==◌, nat_eq, if◌then◌else◌, List, [], ◌∷◌, ◌++◌, length, take, map, reverse, slice_index, Option}
+use Rattle.std.specs.Prelude.{◌≡◌, ℕ, ◌+◌, ◌-◌, ◌/◌, ◌%◌, ◌≤◌, min, not, ◌==◌, nat_eq, if◌then◌else◌, List, [], ◌∷◌, ◌++◌, length, take, map, reverse, slice_index, Option}
 use Rattle.std.specs.List.{All, filter, filter_map, fold, range_with_len, IsDistinct}
 use Rattle.std.specs.Map.{lookup_entry}
 use Rattle.std.specs.Option.{option_map_or}
@@ -55,6 +55,10 @@ byte_at bs k = option_map_or (λ b. slice_index b.1 (k % block_size)) (block_at 
 -- len bytes from first on, as the blocks have them
 unfoldable pub bytes_at : Blocks → ℕ → ℕ → List ℕ
 bytes_at c first len = map (byte_at c.entries) (range_with_len first len)
+
+-- how many of len bytes a block has from a place in it on: none where it isn't there
+abbrev pub left_in : Option Block → ℕ → ℕ → ℕ
+left_in b at len = option_map_or (λ b. min len (min block_size (length b.1) - at)) b 0
 
 -- those of the blocks ns that are there, in their order
 abbrev pub present : List ℕ → List Block → List Block

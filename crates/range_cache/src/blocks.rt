@@ -1,9 +1,9 @@
 //! Work on the blocks of a cache, by their numbers.
-ghost use Rattle.std.specs.Prelude.{◌≡◌, false, ℕ, List, ◌+◌, ◌-◌, ◌*◌, ◌<◌, ◌≤◌, ◌^◌, ◌==◌, EachIndex, IfOk, OnErr, MatchOption, length, map, slice_index, if◌then◌else◌};
+ghost use Rattle.std.specs.Prelude.{◌≡◌, false, ℕ, List, ◌+◌, ◌-◌, ◌*◌, ◌/◌, ◌%◌, ◌<◌, ◌≤◌, ◌^◌, ◌==◌, EachIndex, IfOk, OnErr, MatchOption, length, map, slice_index, if◌then◌else◌};
 ghost use Rattle.std.specs.List.{IsDistinct, filter, range_with_len};
 ghost use Rattle.tiff_dir.specs.Block.{block_size, block_count, end_of};
 ghost use Rattle.range_cache.specs.Numbers.{has, missing, AreThere, IsRunEnd};
-ghost use Rattle.range_cache.specs.Cache.{blocks_in, byte_at, numbers, brought, put_one, stored, stores};
+ghost use Rattle.range_cache.specs.Cache.{block_at, blocks_in, byte_at, left_in, numbers, brought, put_one, stored, stores};
 ghost use Rattle.range_cache.specs.Piece.{block_in, is_brought};
 
 use lru::LruCache;
@@ -116,6 +116,7 @@ pub fn copy(blocks: &LruCache<u64, Vec<u8>>, first: u64, out: &mut [u8])
 pub fn piece(blocks: &LruCache<u64, Vec<u8>>, first: u64, len: usize) -> &[u8]
     requires { first + len < 2 ^ 64 }
     ensures few { length result.now ≤ len }
+    ensures long { length result.now ≡ left_in (block_at (first / block_size) (blocks_in blocks.now.entries)) (first % block_size) len }
     ensures piece { result.now
         ≡ map (byte_at (blocks_in blocks.now.entries)) (range_with_len first (length result.now)) }
 {

@@ -1,9 +1,9 @@
 //! The cache and its calls.
-ghost use Rattle.std.specs.Prelude.{◌≡◌, ◌+◌, ◌-◌, ◌*◌, ◌<◌, ◌≤◌, ◌^◌, ℕ, List, [], IfOk, OnOk, OnErr, IsErrOf, MatchResult, length, take};
+ghost use Rattle.std.specs.Prelude.{◌≡◌, ◌+◌, ◌-◌, ◌*◌, ◌/◌, ◌%◌, ◌<◌, ◌≤◌, ◌^◌, ℕ, List, [], IfOk, OnOk, OnErr, IsErrOf, MatchResult, length, take};
 ghost use Rattle.std.specs.List.{range_with_len, slice_range};
 ghost use Rattle.tiff_dir.specs.Block.{block_size, first_block, blocks};
 ghost use Rattle.range_cache.specs.Numbers.{has, missing, AreGone, AreThere, IsLed, IsRunEnd, Stays};
-ghost use Rattle.range_cache.specs.Cache.{Blocks, block_at, bytes_at, max_capacity, min_capacity, numbers, Holds, IsSound, brought, stored, stores};
+ghost use Rattle.range_cache.specs.Cache.{Blocks, block_at, bytes_at, left_in, max_capacity, min_capacity, numbers, Holds, IsSound, brought, stored, stores};
 ghost use Rattle.range_cache.specs.Piece.{whole_blocks, IsPieceOf, is_wanted};
 ghost use Rattle.range_cache.specs.Missing.{IsFirstGap};
 
@@ -54,10 +54,11 @@ impl Cache {
     ///
     /// ```
     /// let mut cache = Cache::new(alloc, 66)?;
-    /// let mut out = [0; 10];
-    /// assert_eq!(cache.read_into(378, 0, &mut out), Err(Missing { first: 0, last: 377 }));
+    /// assert_eq!(cache.touch(378, 0, 10), Err(Missing { first: 0, last: 377 }));
     /// cache.put(378, 0, &file, Span { first: 0, last: 377 })?;
-    /// assert_eq!(cache.read_into(378, 0, &mut out), Ok(()));
+    /// assert_eq!(cache.touch(378, 0, 10), Ok(()));
+    /// let mut out = [0; 10];
+    /// cache.copy_at(0, &mut out);
     /// ```
     pub fn new(alloc: Global, blocks: u32) -> Result<Cache, CacheError>
         ensures made { IfOk result (λ c. c ≡ record { entries = []; capacity = blocks }) }
@@ -75,35 +76,6 @@ impl Cache {
             Ok(blocks) => Ok(Cache { blocks }),
             Err(_) => Err(CacheError::Memory),
         }
-    }
-
-    /// Reads the bytes from `first` on where all their blocks are there, and else says what is missing; `out` may then
-    /// hold anything. In both cases the blocks of the range that are there come to the front, in ascending order.
-    ///
-    /// `complete` is the length of the file, and the range lies in it.
-    pub fn read_into(&mut self, complete: u64, first: u64, out: &mut [u8]) -> Result<(), Missing>
-        requires some { 0 < length out.old }
-        requires within { first + length out.old ≤ complete }
-        ensures sound { IsSound self.old }
-        ensures entries { self.new ≡ record self.old {
-          entries = brought (range_with_len (first_block first) (blocks first (length out.old))) self.old.entries;
-        } }
-        ensures exact { MatchResult result
-            (λ _. AreThere (numbers self.old.entries) (first_block first) (blocks first (length out.old)))
-            (λ m. IsFirstGap self.old complete first (length out.old) m) }
-        ensures slice { OnOk result ((f : List ℕ) → first + length out.old ≤ length f → Holds f self.old →
-            out.new ≡ slice_range f first (first + length out.old)) }
-
-        // What follows of the entries: only their order changes, so the same blocks are there, each still the file's, and
-        // those of the range lead.
-        ensures kept { (k : ℕ) → block_at k self.new.entries ≡ block_at k self.old.entries }
-        ensures same { (k : ℕ) → has k (numbers self.new.entries) ≡ has k (numbers self.old.entries) }
-        ensures holds { (f : List ℕ) → Holds f self.old → Holds f self.new }
-        ensures led { IsLed (numbers self.new.entries) (first_block first) (blocks first (length out.old)) }
-    {
-        self.touch(complete, first, out.len())?;
-        self.copy_at(first, out);
-        Ok(())
     }
 
     /// Says whether all the blocks of a range of so many bytes from `first` on are there, and else what is missing. In both
@@ -159,6 +131,7 @@ impl Cache {
     pub fn piece_at(&self, first: u64, len: usize) -> &[u8]
         requires { first + len < 2 ^ 64 }
         ensures few { length result.now ≤ len }
+        ensures long { length result.now ≡ left_in (block_at (first / block_size) self.now.entries) (first % block_size) len }
         ensures piece { result.now ≡ bytes_at self.now first (length result.now) }
     {
         piece(&self.blocks, first, len)

@@ -2,7 +2,7 @@
 //! memory, and wherever one allocation is refused.
 ghost use Rattle.std.specs.Prelude.{◌≡◌, IfOk, vec_len};
 
-use super::piece::{piece, put};
+use super::piece::{piece, put, read};
 use range_cache::{Cache, CacheError};
 use std::alloc::{AllocError, Global};
 use std::process::Abort;
@@ -50,10 +50,7 @@ fn blocks_there<R: Abort>(rt: &R, cache: &mut Cache, file: &[u8]) -> usize {
     let mut room = [0u8; 16384];
     for (number, (first, len)) in BLOCKS.iter().copied().enumerate() {
         assert!(rt; first <= 65536 && 0 < len && len <= 16384 && first + len <= 67706);
-        if cache
-            .read_into(COMPLETE, first as u64, &mut room[..len])
-            .is_ok()
-        {
+        if read(cache, COMPLETE, first as u64, &mut room[..len]).is_ok() {
             assert_eq!(rt; count, number);
             assert_eq!(rt;
                 room.get(..len),

@@ -1,7 +1,7 @@
 //! A file of which each byte is known, and pieces of it.
 ghost use Rattle.std.specs.Prelude.{◌≡◌, ◌+◌, ◌<◌, ◌≤◌, ◌^◌, IfOk, vec_len, length};
 
-use range_cache::{Cache, pieces_bring_blocks, stores_are_counted};
+use range_cache::{Cache, Missing, pieces_bring_blocks, stores_are_counted};
 use std::alloc::{AllocError, Global};
 use tiff_dir::{Memory, Span};
 
@@ -36,4 +36,14 @@ pub fn put(
     stores_are_counted();
     pieces_bring_blocks();
     cache.put(complete, first, bytes, wanted)
+}
+
+/// Reads the bytes from a place on where the cache has them all, and else says what is missing.
+pub fn read(cache: &mut Cache, complete: u64, first: u64, out: &mut [u8]) -> Result<(), Missing>
+    requires some { 0 < length out.old }
+    requires within { first + length out.old ≤ complete }
+{
+    cache.touch(complete, first, out.len())?;
+    cache.copy_at(first, out);
+    Ok(())
 }

@@ -2,7 +2,7 @@
 ghost use Rattle.std.specs.Prelude.{◌<◌, ◌≤◌, ◌+◌, ◌^◌};
 
 use super::model::{BLOCK, Model};
-use super::piece::{piece, put};
+use super::piece::{piece, put, read};
 use fixtures_support::Numbers;
 use range_cache::Cache;
 use std::process::Abort;
@@ -54,7 +54,7 @@ impl Trial {
         let len = 1 + below(&mut self.numbers, (complete - first).min(1048576));
         let bytes = piece(rt.alloc(), first, len as usize)?;
         let mut out = vec![in rt.alloc(); 0u8; len as usize]?;
-        let gap = self.cache.read_into(complete, first, &mut out).err();
+        let gap = read(&mut self.cache, complete, first, &mut out).err();
         let want = self.model.read(complete, first, first + len)?;
         assert_eq!(rt;
             gap.map(|m| (m.first, m.last)),

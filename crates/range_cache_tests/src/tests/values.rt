@@ -1,5 +1,5 @@
 //! Worked values.
-use super::piece::{piece, put};
+use super::piece::{piece, put, read};
 use range_cache::{Cache, CacheError, Missing};
 use std::test::Fail;
 use tiff_dir::Span;
@@ -67,7 +67,7 @@ fn tells_the_first_gap(rt: HostRuntime) -> Result<(), Fail> {
     let mut end = vec![in alloc; 0u8; 7706]?;
     assert_eq!(rt; (out.len(), end.len()), (49152, 7706));
 
-    let gap = cache.read_into(COMPLETE, 60000, &mut end).err();
+    let gap = read(&mut cache, COMPLETE, 60000, &mut end).err();
     assert_eq!(rt;
         gap,
         Some(Missing {
@@ -94,7 +94,7 @@ fn tells_the_first_gap(rt: HostRuntime) -> Result<(), Fail> {
         wanted,
     );
     assert_eq!(rt; count.ok(), Some(1));
-    let gap = cache.read_into(COMPLETE, 0, &mut out).err();
+    let gap = read(&mut cache, COMPLETE, 0, &mut out).err();
     assert_eq!(rt;
         gap,
         Some(Missing {
@@ -123,12 +123,12 @@ fn reads_until_it_is_cleared(rt: HostRuntime) -> Result<(), Fail> {
     let bytes = piece(alloc, 0, 67706)?;
     assert_eq!(rt; (out.len(), bytes.len()), (18707, 67706));
     assert_eq!(rt; put(&mut cache, COMPLETE, 0, &bytes, whole).ok(), Some(5));
-    assert!(rt; cache.read_into(COMPLETE, 48999, &mut out).is_ok());
+    assert!(rt; read(&mut cache, COMPLETE, 48999, &mut out).is_ok());
     assert_eq!(rt; out.as_slice(), &bytes[48999..]);
     assert!(rt; !cache.wants(COMPLETE, whole, 2));
     cache.clear();
     assert!(rt; cache.wants(COMPLETE, whole, 2));
-    assert!(rt; cache.read_into(COMPLETE, 48999, &mut out).is_err());
+    assert!(rt; read(&mut cache, COMPLETE, 48999, &mut out).is_err());
     Ok(())
 }
 

@@ -20,9 +20,7 @@ returns-in_ok-give_held-in-Ok-clause-goes c =
     let known : length f ≡ a.complete = c.lengths_are_known.ensures old f agrees ∙ c.requires.complete in
     let inside = c.requires.inside in
     e.bytes f (omega arith) holds ∙ ap (λ n. slice_range f a.span.first (a.span.first + n)) size)
-    (t.complete, t.query)
-    (read old a.cache.now c.touch.new.self (ap (λ (b : Blocks). b.capacity) e.entries) e.kept e.holds)
-    t.agrees t.come
+    t (read old a.cache.now c.touch.new.self (ap (λ (b : Blocks). b.capacity) e.entries) e.kept e.holds)
 
 pub returns-in-Err-clause-given : goal.returns-in-Err-clause-given
 returns-in-Err-clause-given c =
