@@ -370,7 +370,7 @@ module _ (answered : RequestsAreAnswered) (fronts : FrontsAreRead) (named : Publ
       let case = takes p v span.first span.last own_tag (sym size) in
       let at : case_of (revision_of old) (asked_of old) piece ≡ cases.Accepted = ap (λ o. case_of o (asked_of old) piece) is ∙ ap (λ a. case_of (Some v) a piece) own.asked ∙ applies in
       let does = does_of cases.Accepted piece old new text what d reading at in
-      let read = fronts.honest text p d.seen.reading (own_honest answered named old p span text own) d.seen.reads in
+      let read = fronts.honest text p (own_honest answered named old p span text own) text d.seen.reading ([], append-nil text) d.seen.reads in
       let still : revision_of new ≡ revision_of old = does.revision in
       let stays : StaysOf p.file old new = d.file p.file still (piece_of d.seen.reading read) knows in
       let blocks : AreSame (stored_of piece span (blocks_of old)) (blocks_of new) =

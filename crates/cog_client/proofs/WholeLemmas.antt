@@ -7,8 +7,8 @@ use Rattle.std.proofs.lemmas.Option.{none-some, same_Some}
 use Rattle.tiff_dir.specs.declared.query.Query.{Query}
 use Rattle.tiff_dir.specs.Query.{cost}
 use Rattle.http_range.specs.Book.{Publication, Book, HasDistinctTags, In}
-use Rattle.http_range.specs.Honest.{IsHonest}
-use Rattle.http_range.specs.Laws.{PublishedIsNamed, RequestsAreAnswered, TagsTellOne}
+use Rattle.http_range.specs.Honest.{IsPieceOfBook, ShowsOnly}
+use Rattle.http_range.specs.Laws.{FrontsAreRead, PublishedIsNamed, RequestsAreAnswered}
 use Rattle.cog_client.specs.declared.asking.Asking.{Asking}
 use Rattle.cog_client.specs.declared.report.Report.{Report}
 use Rattle.cog_client.specs.Case.{Revision}
@@ -24,7 +24,7 @@ pub record StepLaws : Type 0 where
   pub asks : AskingLeavesAsMuch
   pub delivery : DeliveryReports
   pub cost_is : CostIsMost
-  pub one : TagsTellOne
+  pub fronts : FrontsAreRead
   pub answered : RequestsAreAnswered
   pub named : PublishedIsNamed
 
@@ -81,7 +81,7 @@ module _ (laws : StepLaws) (book : Book) (p : Publication) (q : Query) (distinct
       at None is k = absurd (none-some p.tag (sym (ap tag_by is) ∙ tag))
       at (Some v) is k =
           let same_tag : v.tag ≡ p.tag = same_Some _ _ (sym (ap tag_by is) ∙ tag) in
-          let same : k.source ≡ p = laws.one book distinct k.source p k.published among (k.of_tag ∙ same_tag) in
+          let same : k.source ≡ p = laws.fronts.one book distinct k.source p k.published among (k.of_tag ∙ same_tag) in
           subst (λ (s : Publication). Knows s.file c) same k.knows
 
   step : (m : ℕ) (c next : ClientState) → IsReading book q c → IsWithin p q (suc m) c → Exchanges p c next → IsReading book q next × (IsSome (report_of next) ⊎ IsWithin p q m next)
@@ -99,12 +99,12 @@ module _ (laws : StepLaws) (book : Book) (p : Publication) (q : Query) (distinct
       agrees : ClientAgrees x.waiting book
       agrees = x.looks.agrees book (x.requests.goes.agrees book told_agrees)
 
-      honest : IsHonest x.text (name_of x.waiting) book
-      honest =
-          inl (p, among, laws.named.named (name_of x.waiting) x.own.catalogue p x.own.has, own_honest laws.answered laws.named x.waiting p x.span x.text x.own)
+      shows : ShowsOnly (IsPieceOfBook (name_of x.waiting) book) x.text
+      shows = laws.fronts.book x.text (name_of x.waiting) book
+          (inl (p, among, laws.named.named (name_of x.waiting) x.own.catalogue p x.own.has, own_honest laws.answered laws.named x.waiting p x.span x.text x.own))
 
       after : ClientAgrees next book
-      after = x.delivers.agrees book distinct agrees honest
+      after = x.delivers.agrees book distinct agrees shows
 
       query : query_of next ≡ Some q
       query = x.delivers.seen.same.query ∙ waits.query ∙ x.requests.seen.goes.same.query ∙ told.query ∙ r.query

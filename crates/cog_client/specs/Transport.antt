@@ -2,7 +2,7 @@
 use Rattle.std.specs.Prelude.{◌≡◌, ℕ, ◌+◌, ◌⊎◌, List, [], ◌∷◌, Option, None}
 use Rattle.tiff_dir.specs.declared.query.Query.{Query}
 use Rattle.http_range.specs.Book.{Publication}
-use Rattle.http_range.specs.Honest.{IsHonestFor}
+use Rattle.http_range.specs.Honest.{IsPieceOf, ShowsOnly}
 use Rattle.cog_client.specs.declared.report.Report.{Report}
 use Rattle.cog_client.specs.Report.{IsTrueReport}
 use Rattle.cog_client.specs.Client.{ClientState, ClientAgrees, name_of, query_of}
@@ -10,9 +10,10 @@ use Rattle.cog_client.specs.Calls.{SameClient}
 
 -- In what follows speaks is what a transport speaks for, before and after are this at two moments.
 
--- what came of an answer is honest for each publication that the transport speaks for
-abbrev pub IsHonestToAll : (Publication → Type 0) → List ℕ → Type 0
-IsHonestToAll speaks text = (p : Publication) → speaks p → IsHonestFor text p
+-- What came of an answer shows only pieces of each publication that the transport speaks for. So do the answers of any server that
+-- has the file under its tag, and tells what is so.
+abbrev pub IsTrueToAll : (Publication → Type 0) → List ℕ → Type 0
+IsTrueToAll speaks text = (p : Publication) → speaks p → ShowsOnly (IsPieceOf p) text
 
 -- it goes on to speak for what it spoke for
 abbrev pub SpeaksOn : (Publication → Type 0) → (Publication → Type 0) → Type 0

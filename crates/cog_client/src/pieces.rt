@@ -2,7 +2,7 @@
 ghost use Rattle.std.specs.Prelude.{◌≡◌, ◌+◌, ◌<◌, ◌≤◌, ◌^◌, ℕ, List, IfOk, OnOk, length};
 ghost use Rattle.http_range.specs.Book.{Publication};
 ghost use Rattle.cog_client.specs.Pieces.{BringsOf};
-ghost use Rattle.cog_client.specs.Transport.{IsHonestToAll, SpeaksOn};
+ghost use Rattle.cog_client.specs.Transport.{IsTrueToAll, SpeaksOn};
 
 use crate::transport::Lost;
 
@@ -20,7 +20,7 @@ pub trait Pieces {
     /// Sends a request. What was still to come of the answer before is dropped.
     fn start(&mut self, request: &[u8]) -> Result<(), Lost>
         requires { count self.old + 1 < 2 ^ 64 }
-        ensures honest { OnOk result (IsHonestToAll (speaks_for self.old) (rest self.new)) }
+        ensures shows { OnOk result (IsTrueToAll (speaks_for self.old) (rest self.new)) }
         ensures speaks { SpeaksOn (speaks_for self.old) (speaks_for self.new) }
         ensures counted { count self.new ≡ count self.old + 1 };
 

@@ -1,7 +1,7 @@
 //! What carries a client's requests, and brings the answers.
 ghost use Rattle.std.specs.Prelude.{◌≡◌, ◌+◌, ◌<◌, ◌^◌, ℕ, IfOk};
 ghost use Rattle.http_range.specs.Book.{Publication};
-ghost use Rattle.cog_client.specs.Transport.{IsHonestToAll, SpeaksOn};
+ghost use Rattle.cog_client.specs.Transport.{IsTrueToAll, SpeaksOn};
 
 use thiserror::Error;
 
@@ -21,7 +21,7 @@ pub trait Transport {
     /// One exchange: sends a request, and gives what came of its answer.
     fn exchange(&mut self, request: &[u8]) -> Result<Vec<u8>, Lost>
         requires { count self.old + 1 < 2 ^ 64 }
-        ensures honest { IfOk result (λ text. IsHonestToAll (speaks_for self.old) text.items) }
+        ensures shows { IfOk result (λ text. IsTrueToAll (speaks_for self.old) text.items) }
         ensures speaks { SpeaksOn (speaks_for self.old) (speaks_for self.new) }
         ensures counted { count self.new ≡ count self.old + 1 };
 

@@ -1,13 +1,15 @@
 -- Pieces that come one after another, and what an answer leaves of a client that reads one publication.
-use Rattle.std.proofs.Common.{ℕ, List, [], ◌∷◌, ◌++◌, refl, sym, ap, subst, ◌∙◌, inl, arith, Result, Ok, Err, OnErr}
+use Rattle.std.proofs.Common.{◌≡◌, ℕ, List, [], ◌∷◌, ◌++◌, refl, sym, ap, subst, ◌∙◌, inl, arith, Result, Ok, Err, IfOk, OnErr}
 use Rattle.std.proofs.lemmas.List.{append_assoc, append-nil}
 use Rattle.http_range.specs.Book.{Book, Publication, HasDistinctTags}
-use Rattle.http_range.specs.Honest.{IsFront, IsHonest, IsHonestFor}
+use Rattle.http_range.specs.declared.reading.Why.{Why}
+use Rattle.http_range.specs.Piece.{SeenPiece}
+use Rattle.http_range.specs.Honest.{IsFront, IsPieceOf, IsPieceOfBook, ShowsOnly}
 use Rattle.cog_client.specs.Calls.{SameClient}
 use Rattle.cog_client.specs.Client.{ClientAgrees, ClientState, name_of}
 use Rattle.cog_client.specs.FedClient.{Fed}
 use Rattle.cog_client.specs.Keeps.{StopsDelivery}
-use Rattle.cog_client.specs.Transport.{IsHonestToAll, KeepsReading, SpeaksOn}
+use Rattle.cog_client.specs.Transport.{IsTrueToAll, KeepsReading, SpeaksOn}
 use Rattle.cog_fetch.specs.Takes.{IsNextOf, LeavesOf, Stops, Takes, TakesAnswer}
 
 -- behind a front, the next bytes of what is left make a longer front
@@ -41,18 +43,15 @@ stops_on before after rest left old mid new on first leaves then = record {
   stops = λ s p fed. subst (λ (t : List ℕ). StopsDelivery s t new) (append_assoc p first.bytes then.bytes) (then.stops s (p ++ first.bytes) (first.fed s p fed));
 }
 
--- a front of what is honest is honest
-honest_front : (bytes text : List ℕ) (p : Publication) → IsFront bytes text → IsHonestFor text p → IsHonestFor bytes p
-honest_front bytes text p front h = record {
-  catalogue = h.catalogue;
-  message = h.message;
-  response = h.response;
-  lawful = h.lawful;
-  answers = h.answers;
-  has = h.has;
-  named = h.named;
-  front = (front.0 ++ h.front.0, sym (append_assoc bytes front.0 h.front.0) ∙ ap (λ (t : List ℕ). t ++ h.front.0) front.1 ∙ h.front.1);
-}
+-- a front of what shows only pieces of a publication shows only pieces of a book that has it
+shown_front : (bytes text name : List ℕ) (p : Publication) → p.name ≡ name → IsFront bytes text → ShowsOnly (IsPieceOf p) text
+    → ShowsOnly (IsPieceOfBook name (p ∷ [])) bytes
+shown_front bytes text name p named cut shows front r within reads =
+    of r (shows front r (within.0 ++ cut.0, sym (append_assoc front within.0 cut.0) ∙ ap (λ (t : List ℕ). t ++ cut.0) within.1 ∙ cut.1) reads)
+  where
+    of : (r : Result SeenPiece Why) → IfOk r (IsPieceOf p) → IfOk r (IsPieceOfBook name (p ∷ []))
+    of (Ok x) is = (p, inl refl, named, is)
+    of (Err why) is = tt
 
 -- what holds after every refusal
 pub refused : {A E : Type 0} (r : Result A E) (P : Type 0) → P → OnErr r P
@@ -65,24 +64,23 @@ distinct p i j d before inside = absurd (omega arith)
 
 -- what came of an answer is taken, whatever becomes of it
 pub keeps_taking : (before mid after : Publication → Type 0) (rest : List ℕ) (old new : ClientState) → SpeaksOn before mid → SpeaksOn mid after
-    → IsHonestToAll before rest → TakesAnswer mid rest old new → KeepsReading before after old new
-keeps_taking before mid after rest old new on later honest takes = record {
+    → IsTrueToAll before rest → TakesAnswer mid rest old new → KeepsReading before after old new
+keeps_taking before mid after rest old new on later shows takes = record {
   same = takes.same;
   reads = λ p is.
       let front = takes.next p (on p is.spoken) in
       record {
         named = is.named ∙ sym takes.same.name;
         spoken = later p (on p is.spoken);
-        agrees = takes.agrees (p ∷ []) (distinct p) is.agrees
-            (inl (p, inl refl, is.named, honest_front takes.bytes rest p front (honest p is.spoken)));
+        agrees = takes.agrees (p ∷ []) (distinct p) is.agrees (shown_front takes.bytes rest (name_of old) p is.named front (shows p is.spoken));
       };
 }
 
 -- an answer that came at once
 pub keeps_whole : (before after : Publication → Type 0) (old new : ClientState) (text : List ℕ) → SpeaksOn before after
-    → IsHonestToAll before text → SameClient old new
-    → ((book : Book) → HasDistinctTags book → ClientAgrees old book → IsHonest text (name_of old) book → ClientAgrees new book)
+    → IsTrueToAll before text → SameClient old new
+    → ((book : Book) → HasDistinctTags book → ClientAgrees old book → ShowsOnly (IsPieceOfBook (name_of old) book) text → ClientAgrees new book)
     → KeepsReading before after old new
-keeps_whole before after old new text on honest same agrees =
-    keeps_taking before before after text old new (λ p spoken. spoken) on honest
+keeps_whole before after old new text on shows same agrees =
+    keeps_taking before before after text old new (λ p spoken. spoken) on shows
     (record { bytes = text; next = λ p spoken. ([], append-nil text); same = same; agrees = agrees })

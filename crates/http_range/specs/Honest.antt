@@ -1,6 +1,8 @@
 -- Answers as an honest network delivers them: whole, or cut anywhere.
-use Rattle.std.specs.Prelude.{◌≡◌, ◌≤◌, ◌⊎◌, ℕ, ◌+◌, IsTrue, List, ◌++◌, length, drop, Some, None}
+use Rattle.std.specs.Prelude.{◌≡◌, ◌≤◌, ◌⊎◌, ℕ, ◌+◌, IsTrue, List, ◌++◌, length, drop, Some, None, Result, IfOk}
+use Rattle.http_range.specs.declared.reading.Why.{Why}
 use Rattle.http_range.specs.Piece.{SeenPiece}
+use Rattle.http_range.specs.Reading.{ReadsAnswer}
 use Rattle.http_range.specs.Book.{Publication, Book, In, Catalogue, IsCatalogue, published}
 use Rattle.http_range.specs.Response.{Response, text_of, IsAnswer}
 
@@ -45,3 +47,7 @@ pub record IsPieceOf (p : Publication) (piece : SeenPiece) : Type 0 where
 -- it is a piece of a publication of that name in the book
 abbrev pub IsPieceOfBook : List ℕ → Book → SeenPiece → Type 0
 IsPieceOfBook name book piece = (p : Publication) × In p book × (p.name ≡ name) × IsPieceOf p piece
+
+-- Each piece that is read of the text, whole or cut anywhere, is so. What else stands in the text doesn't matter.
+abbrev pub ShowsOnly : (SeenPiece → Type 0) → List ℕ → Type 0
+ShowsOnly P text = (front : List ℕ) (r : Result SeenPiece Why) → IsFront front text → ReadsAnswer front r → IfOk r P

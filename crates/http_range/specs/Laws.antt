@@ -8,7 +8,7 @@ use Rattle.http_parts.specs.declared.limits.TheConstants.{HEAD_LIMIT, MESSAGE_LI
 use Rattle.http_range.specs.Seen.{SeenRequest, HasRequest}
 use Rattle.http_range.specs.Scan.{is_message}
 use Rattle.http_range.specs.Stream.{AreAnswers, HasNoMessage, IsAnswered, IsFirstMessage, IsMessage, IsUnfinished}
-use Rattle.http_range.specs.Honest.{IsFront, IsHonestFor, IsNamelessFront, IsHonest, IsPieceOf, IsPieceOfBook}
+use Rattle.http_range.specs.Honest.{IsFront, IsHonestFor, IsNamelessFront, IsHonest, IsPieceOf, IsPieceOfBook, ShowsOnly}
 use Rattle.http_range.specs.declared.reading.Why.{Why}
 use Rattle.http_range.specs.declared.reading.Why.TheVariants.{Cut, Head}
 use Rattle.http_range.specs.declared.reply.Reply.{Reply}
@@ -193,12 +193,10 @@ pub record FrontsAreRead : Type 0 where
   pub answer : (catalogue : Catalogue) (message bytes : List ℕ) (s : Response) (k : ℕ) (r : Result SeenPiece Why)
       → IsCatalogue catalogue → IsAnswer catalogue message s → bytes ≡ take k (text_of s) → ReadsAnswer bytes r
       → r ≡ front_seen s.reply s.close s.body k
-  -- a piece that is read of an honest answer for a publication is a piece of that file
-  pub honest : (text : List ℕ) (p : Publication) (r : Result SeenPiece Why) → IsHonestFor text p → ReadsAnswer text r
-      → IfOk r (IsPieceOf p)
-  -- a piece that is read of an honest answer for a name is a piece of a file of that name in the book
-  pub book : (text name : List ℕ) (book : Book) (r : Result SeenPiece Why) → IsHonest text name book → ReadsAnswer text r
-      → IfOk r (IsPieceOfBook name book)
+  -- an honest answer for a publication shows only pieces of that file
+  pub honest : (text : List ℕ) (p : Publication) → IsHonestFor text p → ShowsOnly (IsPieceOf p) text
+  -- an honest answer for a name shows only pieces of files of that name in the book
+  pub book : (text name : List ℕ) (book : Book) → IsHonest text name book → ShowsOnly (IsPieceOfBook name book) text
   -- an answer without a tag gives no piece
   pub nameless : (text : List ℕ) (r : Result SeenPiece Why) → IsNamelessFront text → ReadsAnswer text r → IsErr r
   -- and the tag of a piece tells one publication

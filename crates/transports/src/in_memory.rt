@@ -1,12 +1,12 @@
 //! A server in memory.
 ghost use Rattle.std.specs.Prelude.{◌≡◌, ◌↔◌, IfErr, IfOk, IsTrue, OnOk, None, option_map};
-ghost use Rattle.cog_client.specs.Transport.{IsHonestToAll};
+ghost use Rattle.cog_client.specs.Transport.{IsTrueToAll};
 ghost use Rattle.cog_server.specs.Server.{IsRefusal, refusal_of};
 ghost use Rattle.transports.specs.InMemory.{Has, IsAbout, IsAnswerAbout, first_of, new_server, server_of_one};
 
 use cog_client::{Lost, Transport};
 use cog_server::{PublishError, Server};
-use http_range::tags_tell_publications;
+use http_range::{fronts_are_read, tags_tell_publications};
 use std::alloc::Global;
 
 /// Whether an answer carries the tag of the file of this name, or none.
@@ -22,8 +22,9 @@ fn is_about(carried: &Option<Vec<u8>>, name: &[u8]) -> bool
 /// The text of the server's answer, unless it is about another file.
 fn answer_about(server: &Server, name: &[u8], request: &[u8]) -> Result<Vec<u8>, Lost>
     ensures answered { IfOk result (λ text. IsAnswerAbout server.now.catalogue name.now request.now text.items) }
-    ensures honest { IfOk result (λ text. IsHonestToAll (Has server.now.catalogue name.now) text.items) }
+    ensures shows { IfOk result (λ text. IsTrueToAll (Has server.now.catalogue name.now) text.items) }
 {
+    fronts_are_read();
     let Ok(answer) = server.answer(request) else {
         return Err(Lost);
     };
@@ -68,7 +69,7 @@ impl<'s> InMemory<'s> {
 
 impl Transport for InMemory<'_> {
     ghost use Rattle.std.specs.Prelude.{◌≡◌, ◌+◌, ◌<◌, ◌^◌, IfOk};
-    ghost use Rattle.cog_client.specs.Transport.{IsHonestToAll, SpeaksOn};
+    ghost use Rattle.cog_client.specs.Transport.{IsTrueToAll, SpeaksOn};
     ghost use Rattle.transports.specs.InMemory.{Has, IsAnswerAbout};
     ghost use Rattle.transports.specs.Transports.{exchanges_of, served_name, served_state};
 
@@ -86,8 +87,8 @@ impl Transport for InMemory<'_> {
         ensures name { served_name self.new ≡ served_name self.old }
 
         // So it keeps the trait's law.
-        ensures honest { IfOk result (λ text.
-            IsHonestToAll (Has (served_state self.old).catalogue (served_name self.old)) text.items) }
+        ensures shows { IfOk result (λ text.
+            IsTrueToAll (Has (served_state self.old).catalogue (served_name self.old)) text.items) }
         ensures speaks { SpeaksOn (Has (served_state self.old).catalogue (served_name self.old))
             (Has (served_state self.new).catalogue (served_name self.new)) }
         ensures counted { exchanges_of self.new ≡ exchanges_of self.old + 1 }

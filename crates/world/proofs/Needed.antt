@@ -117,7 +117,7 @@ knows_of laws c book p distinct agrees among tag = at (revision_of c) refl agree
     at None is k = absurd (none-some p.tag (sym (ap (λ x. option_map (λ (v : Revision). v.tag) x) is) ∙ tag))
     at (Some v) is k =
         let same_tag : v.tag ≡ p.tag = same_Some _ _ (sym (ap (λ x. option_map (λ (v : Revision). v.tag) x) is) ∙ tag) in
-        let same : k.source ≡ p = laws.one book distinct k.source p k.published among (k.of_tag ∙ same_tag) in
+        let same : k.source ≡ p = laws.fronts.one book distinct k.source p k.published among (k.of_tag ∙ same_tag) in
         subst (λ (s : Publication). Knows s.file c) same k.knows
 
 pub tag_is : (c : ClientState) (v : Revision) → revision_of c ≡ Some v → tag_of c ≡ Some v.tag

@@ -174,7 +174,7 @@ alike : (laws : LowerLaws) (book : Book) (ns : List Entry) → HasDistinctTags b
 alike laws book ns distinct sources r s i j tag query =
     let a = sources r i in
     let b = sources s j in
-    let same : a.source ≡ b.source = laws.one book distinct a.source b.source a.published b.published (a.of_tag ∙ (tag ∙ sym b.of_tag)) in
+    let same : a.source ≡ b.source = laws.fronts.one book distinct a.source b.source a.published b.published (a.of_tag ∙ (tag ∙ sym b.of_tag)) in
     let P : Publication → Type 0 = λ p. IsTrueOf p.file r.query r.outcome in
     let Q : Query → Type 0 = λ q. IsTrueOf b.source.file q r.outcome in
     same_outcome laws b.source.file s.query r.outcome s.outcome (subst Q query (subst P same a.holds)) b.holds

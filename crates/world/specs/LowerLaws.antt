@@ -3,14 +3,14 @@ use Rattle.std.specs.Prelude.{◌≡◌, ℕ, List}
 use Rattle.tiff_dir.specs.declared.query.Query.{Query}
 use Rattle.tiff_dir.specs.Faulty.{IsWindow}
 use Rattle.geokeys.specs.Same.{KeysAreUnique}
-use Rattle.http_range.specs.Laws.{TagsTellOne, TagsTellPublications, PublicationTagsAreKept, RequestsAreAnswered, ChecksAreAnswered, ChecksAreRead, PublishReplaces, PublishedIsNamed, HonestyIsKept}
+use Rattle.http_range.specs.Laws.{FrontsAreRead, TagsTellPublications, PublicationTagsAreKept, RequestsAreAnswered, ChecksAreAnswered, ChecksAreRead, PublishReplaces, PublishedIsNamed, HonestyIsKept}
 use Rattle.cog_client.specs.Client.{AgreementIsSeen}
 use Rattle.cog_client.specs.Report.{TruthIsTold}
 use Rattle.cog_client.specs.Progress.{CostIsMost, DeliveryReports, GoingOnLeavesNoMore, OneRangeIsAsked, OwnAnswersBringOn, RequestReports}
 
 pub record LowerLaws : Type 0 where
   pub apart : TagsTellPublications
-  pub one : TagsTellOne
+  pub fronts : FrontsAreRead
   pub kept : PublicationTagsAreKept
   pub answered : RequestsAreAnswered
   pub checks : ChecksAreAnswered

@@ -9,7 +9,7 @@ returns c =
       asks = c.left_never_grows.ensures.asks;
       delivery = c.nothing_left_is_reported.ensures.delivery;
       cost_is = c.left_never_grows.ensures.cost;
-      one = c.fronts_are_read.ensures.answers.one;
+      fronts = c.fronts_are_read.ensures.answers;
       answered = c.clients_are_answered.ensures.requests;
       named = c.publications_replace.ensures.named;
     })

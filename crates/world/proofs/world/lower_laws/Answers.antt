@@ -3,7 +3,7 @@ use Rattle.world.proofs.world.lower_laws.Goals as goal
 pub returns : goal.returns
 returns c = record {
   apart = c.tags_tell_publications.ensures.apart;
-  one = c.fronts_are_read.ensures.answers.one;
+  fronts = c.fronts_are_read.ensures.answers;
   kept = c.tags_tell_publications.ensures.kept;
   answered = c.clients_are_answered.ensures.requests;
   checks = c.clients_are_answered.ensures.checks;
