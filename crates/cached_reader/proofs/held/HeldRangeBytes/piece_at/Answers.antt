@@ -1,4 +1,4 @@
-use Rattle.std.proofs.Common.{◌≡◌, ◌+◌, ◌-◌, ◌≤◌, length, arith, sym, ◌∙◌}
+use Rattle.std.proofs.Common.{length, arith, sym, ◌∙◌}
 use Rattle.cached_reader.proofs.HeldLemmas.{length_of, part_of}
 use Rattle.cached_reader.proofs.held.HeldRangeBytes.piece_at.Goals as goal
 
