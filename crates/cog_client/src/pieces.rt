@@ -8,7 +8,7 @@ use crate::transport::Lost;
 
 /// Carries requests to a server, and brings its answers in pieces, whole or cut, or none.
 pub trait Pieces {
-    /// It speaks for this publication: what it brings is of answers of a server that has it.
+    /// It speaks for this publication: each piece of a file that is read of what it brings is of that one, by its tag, length and bytes.
     ghost speaks_for: { Self → Publication → Type 0 };
 
     /// The requests so far.

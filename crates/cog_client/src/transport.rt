@@ -12,7 +12,7 @@ pub struct Lost;
 
 /// Carries requests to a server, and brings its answers, whole or cut, or none.
 pub trait Transport {
-    /// It speaks for this publication: what it brings is of answers of a server that has it.
+    /// It speaks for this publication: each piece of a file that is read of what it brings is of that one, by its tag, length and bytes.
     ghost speaks_for: { Self → Publication → Type 0 };
 
     /// The exchanges so far.

@@ -8,7 +8,7 @@ use cog_client::{Client, FetchError, Lost, Memory, Pieces, Transport};
 
 /// How a request is sent to a source, and what comes of its answer taken.
 pub(crate) trait Exchange<S> {
-    /// It speaks for this publication: what it brings is of answers of a server that has it.
+    /// It speaks for this publication: each piece of a file that is read of what it brings is of that one, by its tag, length and bytes.
     ghost speaks_for: { S → Publication → Type 0 };
 
     /// The exchanges so far.
