@@ -1,5 +1,5 @@
 -- An answer is taken, case by case.
-use Rattle.std.proofs.Common.{◌≡◌, ℕ, ◌+◌, ◌-◌, Bool, true, false, List, [], length, take, drop, Option, Some, None, Result, Ok, refl, sym, ap, ◌∙◌, subst, arith, inl, inr, append-nil}
+use Rattle.std.proofs.Common.{◌≡◌, ℕ, ◌+◌, ◌-◌, Bool, true, false, List, length, take, drop, Option, Some, None, Result, Ok, refl, sym, ap, ◌∙◌, subst, arith, inl, inr}
 use Rattle.std.specs.Prelude.{IfSome, IsSome, not, if◌then◌else◌, ◌==◌}
 use Rattle.std.specs.Str.{bytes_eq}
 use Rattle.std.proofs.lemmas.Bool.{false≢true, eqb-true}
@@ -10,7 +10,7 @@ use Rattle.tiff_dir.specs.declared.query.Query.{Query}
 use Rattle.tiff_dir.specs.declared.span.Span.{Span}
 use Rattle.http_range.specs.declared.reading.Why.{Why}
 use Rattle.http_range.specs.Book.{Publication, Book, HasDistinctTags}
-use Rattle.http_range.specs.Honest.{IsFront, IsPieceOf as IsOf, IsPieceOfBook, ShowsOnly}
+use Rattle.http_range.specs.Honest.{IsFront, IsPieceOf as IsOf, IsPieceOfBook, IsReadAs}
 use Rattle.http_range.specs.Laws.{FrontsAreRead}
 use Rattle.http_range.specs.Piece.{SeenPiece}
 use Rattle.http_range.specs.Reading.{ReadsAnswer}
@@ -105,9 +105,9 @@ Keeps p old new = (f : List ℕ) → p.complete ≡ length f → IsPieceOf f p.f
 
 module _ (law : FrontsAreRead) (p : SeenPiece) (text : List ℕ) (reads : ReadsAnswer text (Ok p)) where
   begun_agrees : (old mid new : ClientState) → name_of new ≡ name_of old → revision_of new ≡ Some (revision_of_piece p) → Begins p mid → Keeps p mid new
-      → (book : Book) → ShowsOnly (IsPieceOfBook (name_of old) book) text → ClientAgrees new book
+      → (book : Book) → IsReadAs (IsPieceOfBook (name_of old) book) text → ClientAgrees new book
   unfolding ClientAgrees
-  begun_agrees old mid new name revision begins keeps book shows = at (shows text (Ok p) ([], append-nil text) reads)
+  begun_agrees old mid new name revision begins keeps book read = at (read (Ok p) reads)
     where
       at : IsPieceOfBook (name_of old) book p → IfSome (revision_of new) (KnowsOne new book)
       at (source, published, named, of) = subst (λ v. IfSome v (KnowsOne new book)) (sym revision) (record {
@@ -119,9 +119,9 @@ module _ (law : FrontsAreRead) (p : SeenPiece) (text : List ℕ) (reads : ReadsA
       })
 
   kept_agrees : (old new : ClientState) → name_of new ≡ name_of old → revision_of old ≡ Some (revision_of_piece p) → revision_of new ≡ Some (revision_of_piece p) → Keeps p old new
-      → (book : Book) → HasDistinctTags book → ClientAgrees old book → ShowsOnly (IsPieceOfBook (name_of old) book) text → ClientAgrees new book
+      → (book : Book) → HasDistinctTags book → ClientAgrees old book → IsReadAs (IsPieceOfBook (name_of old) book) text → ClientAgrees new book
   unfolding ClientAgrees
-  kept_agrees old new name before after keeps book distinct agrees shows = at (shows text (Ok p) ([], append-nil text) reads) (subst (λ v. IfSome v (KnowsOne old book)) before agrees)
+  kept_agrees old new name before after keeps book distinct agrees read = at (read (Ok p) reads) (subst (λ v. IfSome v (KnowsOne old book)) before agrees)
     where
       at : IsPieceOfBook (name_of old) book p → KnowsOne old book (revision_of_piece p) → IfSome (revision_of new) (KnowsOne new book)
       at (source, published, named, of) k =
@@ -158,7 +158,7 @@ module _ (law : FrontsAreRead) (p : SeenPiece) (text : List ℕ) (reads : ReadsA
         };
         rests = inr takes.rests;
         file = λ f still piece knows. absurd (other (sym still ∙ revision));
-        agrees = λ book distinct agrees shows. begun_agrees old mid new same.name revision adopts.knows takes.file book shows;
+        agrees = λ book distinct agrees read. begun_agrees old mid new same.name revision adopts.knows takes.file book read;
       }
 
   pub begins_stops : (old mid new : ClientState) (a : Span) (k : Case) → case_of (revision_of old) (asked_of old) p ≡ k → base_of k (blocks_of old) ≡ emptied (blocks_of old)
@@ -183,7 +183,7 @@ module _ (law : FrontsAreRead) (p : SeenPiece) (text : List ℕ) (reads : ReadsA
               (ap (λ x. stored_front stops.blocks.0 p (asked_or_first x) (blocks_of mid)) (sym stops.asked)
               ∙ ap (stored_front stops.blocks.0 p (asked_or_first (asked_of new))) (adopts.blocks ∙ sym base ∙ ap (λ x. base_of x (blocks_of old)) (sym is))) stops.blocks.1,
         );
-        agrees = λ book distinct agrees shows. begun_agrees old mid new same.name revision adopts.knows stops.file book shows;
+        agrees = λ book distinct agrees read. begun_agrees old mid new same.name revision adopts.knows stops.file book read;
       }
 
   -- ---- the revision that is read
@@ -264,7 +264,7 @@ module _ (old new : ClientState) (dropped : new ≡ record old { feed = nothing_
     };
     rests = inl tt;
     file = λ f still piece knows. record { knows = still_knows f knows; come = end_refl (to_come old f) };
-    agrees = λ book distinct agrees shows. still_agrees book agrees;
+    agrees = λ book distinct agrees read. still_agrees book agrees;
   }
 
   pub ignores : (text : List ℕ) (w : why.Ignored) (reading : Result SeenPiece Why) → ReadsAnswer text reading

@@ -1,11 +1,12 @@
 -- The whole answer to what a client asks for brings it on.
-use Rattle.std.proofs.Common.{◌≡◌, ◌⊎◌, ℕ, ◌+◌, ◌-◌, ◌*◌, ◌<◌, ◌≤◌, Bool, true, false, cond, min, List, [], ◌∷◌, length, take, drop, Option, Some, None, Result, Ok, Err, refl, sym, ap, ◌∙◌, subst, arith, inl, inr, append-nil, length-take, length-drop}
+use Rattle.std.proofs.Common.{◌≡◌, ℕ, ◌+◌, ◌-◌, ◌*◌, ◌<◌, ◌≤◌, Bool, true, false, cond, min, List, [], ◌∷◌, length, take, drop, Option, Some, None, Result, Ok, Err, refl, sym, ap, ◌∙◌, subst, arith, inl, inr, append-nil, length-take, length-drop}
 use Rattle.std.specs.Prelude.{IfOk, nat_le, nat_lt, not, ◌==◌}
+use Rattle.std.specs.List.{slice_range}
 use Rattle.std.specs.Option.{option_map}
 use Rattle.std.specs.Str.{bytes_eq}
 use Rattle.std.proofs.lemmas.Bool.{and_from, and_parts, cases_Bool, leb-true, ltb-true}
 use Rattle.std.proofs.lemmas.Bool.Decides.{nat_tests}
-use Rattle.std.proofs.lemmas.List.{length-append, take_all}
+use Rattle.std.proofs.lemmas.List.{length-append, take-append-drop, take_all}
 use Rattle.std.proofs.lemmas.Option.{none-some, same_Some}
 use Rattle.std.proofs.lemmas.Slice.Eq.{bytes_eq-Decides}
 use Rattle.tiff_dir.specs.declared.span.Span.{Span}
@@ -14,11 +15,11 @@ use Rattle.http_range.specs.declared.range.Resolved.TheVariants.{Part, Whole}
 use Rattle.http_range.specs.declared.reading.Why.{Why}
 use Rattle.http_range.specs.declared.reading.Why.TheVariants.{Cut}
 use Rattle.http_range.specs.Ask.{request_by}
-use Rattle.http_range.specs.Book.{Publication, published}
-use Rattle.http_range.specs.Honest.{IsHonestFor, IsPieceOf as IsOf}
+use Rattle.http_range.specs.Book.{IsPublication, Publication}
+use Rattle.http_range.specs.Honest.{IsPieceOf as IsOf}
 use Rattle.http_range.specs.Laws.{RequestsAreAnswered, FrontsAreRead, PublishedIsNamed}
 use Rattle.http_range.specs.Piece.{SeenPiece}
-use Rattle.http_range.specs.Reading.{front_seen, reply_seen}
+use Rattle.http_range.specs.Reading.{front_seen, reply_seen, ReadsAnswer}
 use Rattle.http_range.specs.declared.reply.Reply.TheVariants.{R416}
 use Rattle.http_range.specs.Reply.{head_text}
 use Rattle.http_range.specs.Response.{Response, IsAnswer, is_current, refused, response_to_client, serve_part, text_of, ending}
@@ -37,8 +38,7 @@ use Rattle.cog_client.specs.Take.{Holding, IsIgnored, asked_or_first, brought_by
 use Rattle.cog_client.specs.Client.{ClientState, Knows, asked_of, blocks_of, holding, host_of, name_of, revision_of, tag_of, to_come, closes}
 use Rattle.cog_client.specs.Keeps.{AsksFor, DeliversKeeping, Lacks, StaysOf}
 use Rattle.cached_reader.specs.Going.{AreSame}
-use Rattle.cog_client.specs.Progress.{BringsOn, IsOwnAnswer, OwnAnswersBringOn, left, left_of}
-use Rattle.cog_client.proofs.DeliverLemmas.{piece_at}
+use Rattle.cog_client.specs.Progress.{BringsOn, IsOwnAnswer, IsServed, OwnAnswersAreServed, ServedBringOn, all_of, left, left_of, part_of, piece_for}
 use Rattle.cog_client.proofs.ProgressLemmas.{LengthsAreKnown, first_split, inside, known_length, left_on, missing_inside}
 
 -- ---- what the whole answer is read as
@@ -53,9 +53,9 @@ whole_seen s =
     ∙ ap (λ k. reply_seen s.reply (take k s.body)) rest
     ∙ ap (reply_seen s.reply) (take_all (length s.body) s.body (omega arith))
 
--- the bytes a to b of a publication, and all of them
-abbrev pub part : Publication → ℕ → ℕ → SeenPiece
-part p a b = record {
+-- the bytes a to b of a publication as a reply carries them
+abbrev sent_part : Publication → ℕ → ℕ → SeenPiece
+sent_part p a b = record {
   tag = p.tag;
   whole = false;
   first = a;
@@ -63,27 +63,22 @@ part p a b = record {
   body = take (b - a + 1) (take (b - a + 1) (drop a p.file));
 }
 
-abbrev pub all_of : Publication → SeenPiece
-all_of p = record { tag = p.tag; whole = true; first = 0; complete = length p.file; body = take (length p.file) p.file }
+sent_is_part : (p : Publication) (a b : ℕ) → a ≤ b → sent_part p a b ≡ part_of p a b
+sent_is_part p a b low =
+    let n = b - a + 1 in
+    ap (λ (body : List ℕ). record { tag = p.tag; whole = false; first = a; complete = length p.file; body = body })
+    (take_all n (take n (drop a p.file)) (omega (arith, length-take n (drop a p.file))) ∙ ap (λ k. take k (drop a p.file)) (let same : n ≡ b + 1 - a = omega (arith, low) in same))
 
--- what a client with this tag, or none, reads of the answer to what it asks for
-abbrev pub piece_for : Publication → ℕ → ℕ → Option (List ℕ) → SeenPiece
-piece_for p first last known = cond (is_current known p.tag) (part p first (min last (length p.file - 1))) (all_of p)
+sent_is_all : (p : Publication) → record { tag = p.tag; whole = true; first = 0; complete = length p.file; body = take (length p.file) p.file } ≡ all_of p
+sent_is_all p =
+    ap (λ (body : List ℕ). record { tag = p.tag; whole = true; first = 0; complete = length p.file; body = body }) (take_all (length p.file) p.file (omega arith))
 
-part_seen : (p : Publication) (first last : ℕ) (current fits : Bool) → (current ≡ true → fits ≡ true)
+part_seen : (p : Publication) (first last : ℕ) (current fits : Bool) → (current ≡ true → fits ≡ true) → (current ≡ true → first ≤ min last (length p.file - 1))
     → let s : Response = cond current (cond fits (serve_part (Part first (min last (length p.file - 1))) p true) (refused (R416 (length p.file)) true)) (serve_part Whole p true) in
-    reply_seen s.reply s.body ≡ Ok (cond current (part p first (min last (length p.file - 1))) (all_of p))
-part_seen p first last true true fit = refl
-part_seen p first last true false fit = let e = fit refl in cc
-part_seen p first last false fits fit = refl
-
--- it carries the publication's name, or none
-part_named : (p : Publication) (first last : ℕ) (current fits : Bool)
-    → let s : Response = cond current (cond fits (serve_part (Part first (min last (length p.file - 1))) p true) (refused (R416 (length p.file)) true)) (serve_part Whole p true) in
-    (s.name ≡ Some p.name) ⊎ (s.name ≡ None)
-part_named p first last true true = inl refl
-part_named p first last true false = inr refl
-part_named p first last false fits = inl refl
+    reply_seen s.reply s.body ≡ Ok (cond current (part_of p first (min last (length p.file - 1))) (all_of p))
+part_seen p first last true true fit low = ap Ok (sent_is_part p first (min last (length p.file - 1)) (low refl))
+part_seen p first last true false fit low = let e = fit refl in cc
+part_seen p first last false fits fit low = ap Ok (sent_is_all p)
 
 own_response : RequestsAreAnswered → (c : ClientState) (p : Publication) (span : Span) (text : List ℕ) → (own : IsOwnAnswer c p span text)
     → own.response ≡ ending (closes c) (response_to_client (Some p) span.first span.last (tag_of c))
@@ -93,32 +88,18 @@ own_response answered c p span text own =
     (answered own.catalogue (closes c) (host_of c) (name_of c) [] span.first span.last (tag_of c) own.response own.can span.ascending).0 (subst P (sym (append-nil message)) own.answers)
     ∙ ap (λ o. ending (closes c) (response_to_client o span.first span.last (tag_of c))) own.has
 
--- it is honest for that publication
-pub own_honest : RequestsAreAnswered → PublishedIsNamed → (c : ClientState) (p : Publication) (span : Span) (text : List ℕ) → IsOwnAnswer c p span text → IsHonestFor text p
-own_honest answered named c p span text own = record {
-  catalogue = own.catalogue;
-  message = request_by (closes c) (host_of c) (name_of c) span.first span.last (tag_of c);
-  response = own.response;
-  lawful = own.lawful;
-  answers = own.answers;
-  has = ap (λ n. published n own.catalogue) (named.named (name_of c) own.catalogue p own.has) ∙ own.has;
-  named = subst (λ (r : Response). (r.name ≡ Some p.name) ⊎ (r.name ≡ None)) (sym (own_response answered c p span text own))
-      (part_named p span.first span.last (is_current (tag_of c) p.tag) (nat_lt span.first (length p.file)));
-  front = ([], append-nil text ∙ own.shown);
-}
-
-module _ (answered : RequestsAreAnswered) (fronts : FrontsAreRead) where
-  pub own_reading : (old new : ClientState) (p : Publication) (span : Span) (text : List ℕ) (what : Delivered) → (own : IsOwnAnswer old p span text) → (d : DeliversKeeping old text what new)
-      → (is_current (tag_of old) p.tag ≡ true → span.first < length p.file) → d.seen.reading ≡ Ok (piece_for p span.first span.last (tag_of old))
-  own_reading old new p span text what own d fits =
-      let tag = tag_of old in
-      let message = request_by (closes old) (host_of old) (name_of old) span.first span.last tag in
-      let response = own_response answered old p span text own in
-      let s = own.response in
-      let whole : text ≡ take (length (text_of s)) (text_of s) = own.shown ∙ sym (take_all (length (text_of s)) (text_of s) (omega arith)) in
-      let read = fronts.answer own.catalogue message text s (length (text_of s)) d.seen.reading own.lawful own.answers whole d.seen.reads in
-      read ∙ whole_seen s ∙ ap (λ (r : Response). reply_seen r.reply r.body) response
-      ∙ part_seen p span.first span.last (is_current tag p.tag) (nat_lt span.first (length p.file)) (λ c. let low = fits c in grind (arith, nat_tests))
+own_reading : RequestsAreAnswered → FrontsAreRead → (c : ClientState) (p : Publication) (span : Span) (text : List ℕ) → (own : IsOwnAnswer c p span text)
+    → (r : Result SeenPiece Why) → ReadsAnswer text r → (is_current (tag_of c) p.tag ≡ true → span.first < length p.file) → r ≡ Ok (piece_for p span (tag_of c))
+own_reading answered fronts c p span text own r reads begins =
+    let tag = tag_of c in
+    let message = request_by (closes c) (host_of c) (name_of c) span.first span.last tag in
+    let response = own_response answered c p span text own in
+    let s = own.response in
+    let up = span.ascending in
+    let whole : text ≡ take (length (text_of s)) (text_of s) = own.shown ∙ sym (take_all (length (text_of s)) (text_of s) (omega arith)) in
+    let read = fronts.answer own.catalogue message text s (length (text_of s)) r own.lawful own.answers whole reads in
+    read ∙ whole_seen s ∙ ap (λ (x : Response). reply_seen x.reply x.body) response
+    ∙ part_seen p span.first span.last (is_current tag p.tag) (nat_lt span.first (length p.file)) (λ c. let low = begins c in grind (arith, nat_tests)) (λ c. let low = begins c in omega (arith, low, up))
 
 -- ---- what each case of it does
 
@@ -152,7 +133,7 @@ record IsCase (k : Case) (p : Publication) (v : Option Revision) (piece : SeenPi
   revision : (h : Holding) → h.revision ≡ v → (take_by k h piece).leaves.revision ≡ Some (record { tag = p.tag; complete = length p.file })
 
 -- without a revision
-adopts : (p : Publication) (a b : ℕ) → IsCase cases.Adopted p None (part p a b)
+adopts : (p : Publication) (a b : ℕ) → IsCase cases.Adopted p None (part_of p a b)
 adopts p a b = record { used = λ what h is. took what _ is; revision = λ h is. refl }
 
 -- with another one
@@ -160,7 +141,7 @@ restarts : (p : Publication) (v : Revision) → IsCase cases.Restarted p (Some v
 restarts p v = record { used = λ what h is. restarted what is; revision = λ h is. refl }
 
 -- with this one
-takes : (p : Publication) (v : Revision) (a b : ℕ) → v.tag ≡ p.tag → v.complete ≡ length p.file → IsCase cases.Accepted p (Some v) (part p a b)
+takes : (p : Publication) (v : Revision) (a b : ℕ) → v.tag ≡ p.tag → v.complete ≡ length p.file → IsCase cases.Accepted p (Some v) (part_of p a b)
 takes p v a b tag complete = record {
   used = λ what h is. took what _ is;
   revision = λ h is. is ∙ ap Some (ap (λ t. record { tag = t; complete = v.complete }) tag ∙ ap (λ n. record { tag = p.tag; complete = n }) complete);
@@ -214,19 +195,39 @@ asked_of_file f c v ahead s size knows l =
       within = omega (arith, within, size);
     }
 
-part_length : (p : Publication) (a b : ℕ) → a ≤ b → b < length p.file → length (part p a b).body ≡ b - a + 1
-part_length p a b low high =
-    let n = b - a + 1 in
-    omega (arith, length-take n (take n (drop a p.file)), length-take n (drop a p.file), length-drop a p.file)
+part_length : (p : Publication) (a b : ℕ) → a ≤ b → b < length p.file → length (part_of p a b).body ≡ b - a + 1
+part_length p a b low high = omega (arith, length-take (b + 1 - a) (drop a p.file), length-drop a p.file)
+
+-- it is one of the publication
+part_is : (p : Publication) (a b : ℕ) → a ≤ b → b < length p.file → IsOf p (part_of p a b)
+part_is p a b low high =
+    let size = part_length p a b low high in
+    record {
+      tag = refl;
+      complete = refl;
+      place = omega (arith, size, low, high);
+      from_start = λ whole. (let wrong : false ≡ true = whole in cc);
+      body = (drop (b + 1 - a) (drop a p.file), take-append-drop (b + 1 - a) (drop a p.file));
+    }
+
+pub served_piece : (p : Publication) (s : Span) (known : Option (List ℕ)) → (is_current known p.tag ≡ true → s.first < length p.file) → IsOf p (piece_for p s known)
+served_piece p s known begins = by (is_current known p.tag) begins
+  where
+    by : (current : Bool) → (current ≡ true → s.first < length p.file) → IsOf p (cond current (part_of p s.first (min s.last (length p.file - 1))) (all_of p))
+    by true low =
+        let some = low refl in
+        let up = s.ascending in
+        part_is p s.first (min s.last (length p.file - 1)) (omega (arith, some, up)) (omega (arith, some))
+    by false low = record { tag = refl; complete = refl; place = omega arith; from_start = λ _. refl; body = ([], append-nil p.file) }
 
 case_taken : (p : Publication) (v : Revision) (s : Span) → bytes_eq v.tag p.tag ≡ true → v.complete ≡ length p.file → s.last < length p.file
-    → case_of (Some v) (Some s) (part p s.first s.last) ≡ cases.Accepted
+    → case_of (Some v) (Some s) (part_of p s.first s.last) ≡ cases.Accepted
 case_taken p v s tag complete high =
     let size = part_length p s.first s.last s.ascending high in
     let low = s.ascending in
     let same : (v.complete == length p.file) ≡ true = grind (arith, nat_tests) in
-    let beside : is_beside s (part p s.first s.last) ≡ false = grind (arith, nat_tests, size) in
-    pick (bytes_eq v.tag p.tag) (v.complete == length p.file) (is_beside s (part p s.first s.last)) tag same beside
+    let beside : is_beside s (part_of p s.first s.last) ≡ false = grind (arith, nat_tests, size) in
+    pick (bytes_eq v.tag p.tag) (v.complete == length p.file) (is_beside s (part_of p s.first s.last)) tag same beside
   where
     pick : (tag length beside : Bool) → tag ≡ true → length ≡ true → beside ≡ false
         → cond (not tag) (cases.Ignored OtherRevision) (cond (not length) (cases.Ignored OtherLength) (cond beside (cases.Ignored NotAsked) cases.Accepted)) ≡ cases.Accepted
@@ -267,7 +268,7 @@ brought_lies only complete first body s from to k first_is last_is among =
 
 -- the blocks of the piece are stored: one of them was missing, and none of the range leaves
 fewer : StoringLaws → (p : Publication) (c : ClientState) (v : Revision) (ahead : ℕ) (s : Span) → length p.file ≡ v.complete → Knows p.file c → Lacks c v ahead s
-    → left_of p.file (numbers (stored_of (part p s.first s.last) s (blocks_of c)).entries) (to_come c p.file) + 1 ≤ left p.file c
+    → left_of p.file (numbers (stored_of (part_of p s.first s.last) s (blocks_of c)).entries) (to_come c p.file) + 1 ≤ left p.file c
 unfolding left asked_of_file
 fewer laws p c v ahead s size knows l =
     let f = p.file in
@@ -283,7 +284,7 @@ fewer laws p c v ahead s size knows l =
     let begins = q.begins in
     let ends = q.ends in
     let run = q.some in
-    let piece = part p s.first s.last in
+    let piece = part_of p s.first s.last in
     let up = s.ascending in
     let high : s.last < length f = omega arith in
     let long = part_length p s.first s.last up high in
@@ -312,13 +313,12 @@ fewer laws p c v ahead s size knows l =
 
 -- ---- the three cases
 
-module _ (answered : RequestsAreAnswered) (fronts : FrontsAreRead) (named : PublishedIsNamed) (old new : ClientState) (p : Publication) (span : Span) (text : List ℕ) (what : Delivered)
-    (own : IsOwnAnswer old p span text) (d : DeliversKeeping old text what new) where
+module _ (old new : ClientState) (p : Publication) (span : Span) (text : List ℕ) (what : Delivered) (served : IsServed old p span text) (d : DeliversKeeping old text what new) where
   -- whatever case applies to the piece that is read
   brings : (k : Case) (v : Option Revision) (piece : SeenPiece) → IsCase k p v piece → revision_of old ≡ v → d.seen.reading ≡ Ok piece → case_of v (Some span) piece ≡ k
       → (tag_of old ≡ Some p.tag → left p.file new + 1 ≤ left p.file old) → BringsOn p old new what
   brings k v piece case is reading applies less =
-      let at : case_of (revision_of old) (asked_of old) piece ≡ k = ap (λ o. case_of o (asked_of old) piece) is ∙ ap (λ a. case_of v a piece) own.asked ∙ applies in
+      let at : case_of (revision_of old) (asked_of old) piece ≡ k = ap (λ o. case_of o (asked_of old) piece) is ∙ ap (λ a. case_of v a piece) served.asked ∙ applies in
       let does = does_of k piece old new text what d reading at in
       record {
         used = case.used what (holding old) does.says;
@@ -326,26 +326,20 @@ module _ (answered : RequestsAreAnswered) (fronts : FrontsAreRead) (named : Publ
         less = less;
       }
 
-  read_as : (known : Option (List ℕ)) → tag_of old ≡ known → (is_current known p.tag ≡ true → span.first < length p.file) → d.seen.reading ≡ Ok (piece_for p span.first span.last known)
-  read_as known is fits =
-      own_reading answered fronts old new p span text what own d (λ t. fits (ap (λ o. is_current o p.tag) (sym is) ∙ t))
-      ∙ ap (λ o. Ok (piece_for p span.first span.last o)) is
+  read_as : (known : Option (List ℕ)) → tag_of old ≡ known → d.seen.reading ≡ Ok (piece_for p span known)
+  read_as known is = served.read d.seen.reading d.seen.reads ∙ ap (λ o. Ok (piece_for p span o)) is
 
-  begins : revision_of old ≡ None → AsksFor old None own.ahead span → BringsOn p old new what
-  begins is asks =
+  begins : revision_of old ≡ None → BringsOn p old new what
+  begins is =
       let none = tag_in old None is in
-      let first = ap (λ (s : Span). s.first) asks in
-      let lawful = named.lawful (name_of old) own.catalogue p own.lawful own.has in
-      let some = lawful.some in
       let b = min span.last (length p.file - 1) in
-      brings cases.Adopted None (part p span.first b) (adopts p span.first b) is (read_as None none (λ _. omega (arith, first, some))) refl
-      (λ e. absurd (none-some p.tag (sym none ∙ e)))
+      brings cases.Adopted None (part_of p span.first b) (adopts p span.first b) is (read_as None none) refl (λ e. absurd (none-some p.tag (sym none ∙ e)))
 
   other : (v : Revision) → revision_of old ≡ Some v → bytes_eq v.tag p.tag ≡ false → BringsOn p old new what
   other v is differ =
       let tag = tag_in old (Some v) is in
       let wrong : bytes_eq v.tag p.tag ≡ true → ⊥ = λ t. (let e : true ≡ false = sym t ∙ differ in cc) in
-      let reading = read_as (Some v.tag) tag (λ t. absurd (wrong t)) ∙ ap (λ t. Ok (cond t (part p span.first (min span.last (length p.file - 1))) (all_of p))) differ in
+      let reading = read_as (Some v.tag) tag ∙ ap (λ t. Ok (cond t (part_of p span.first (min span.last (length p.file - 1))) (all_of p))) differ in
       brings cases.Restarted (Some v) (all_of p) (restarts p v) is reading (restarts_by differ)
       (λ e. absurd (wrong ((bytes_eq-Decides v.tag p.tag).1 (same_Some _ _ (sym tag ∙ e)))))
     where
@@ -353,48 +347,74 @@ module _ (answered : RequestsAreAnswered) (fronts : FrontsAreRead) (named : Publ
       restarts_by e = ap (λ t. cond (not t) cases.Restarted (cond (not (v.complete == length p.file)) (cases.Ignored OtherLength) (cond (is_beside span (all_of p)) (cases.Ignored NotAsked) cases.Accepted))) e
 
   same : LengthsAreKnown → FoundAreThere → MissingIsSame → StoringLaws
-      → (v : Revision) → revision_of old ≡ Some v → bytes_eq v.tag p.tag ≡ true → Knows p.file old → Lacks old v own.ahead span → BringsOn p old new what
+      → (v : Revision) → revision_of old ≡ Some v → bytes_eq v.tag p.tag ≡ true → Knows p.file old → Lacks old v served.ahead span → BringsOn p old new what
   same lengths there missing laws v is equal knows l =
       let tag = tag_in old (Some v) is in
       let own_tag = (bytes_eq-Decides v.tag p.tag).0 equal in
       let size = known_length lengths p.file old v is knows in
-      let q = asked_of_file p.file old v own.ahead span size knows l in
+      let q = asked_of_file p.file old v served.ahead span size knows l in
       let low = q.low in
       let fits = q.fits in
+      let up = span.ascending in
       let high : span.last < length p.file = omega arith in
-      let piece = part p span.first span.last in
+      let piece = part_of p span.first span.last in
+      let long = part_length p span.first span.last up high in
       let reading : d.seen.reading ≡ Ok piece =
-      read_as (Some v.tag) tag (λ _. low) ∙ ap (λ t. Ok (cond t (part p span.first (min span.last (length p.file - 1))) (all_of p))) equal
-      ∙ ap (λ b. Ok (part p span.first b)) fits in
+      read_as (Some v.tag) tag ∙ ap (λ t. Ok (cond t (part_of p span.first (min span.last (length p.file - 1))) (all_of p))) equal
+      ∙ ap (λ b. Ok (part_of p span.first b)) fits in
       let applies = case_taken p v span equal (sym size) high in
       let case = takes p v span.first span.last own_tag (sym size) in
-      let at : case_of (revision_of old) (asked_of old) piece ≡ cases.Accepted = ap (λ o. case_of o (asked_of old) piece) is ∙ ap (λ a. case_of (Some v) a piece) own.asked ∙ applies in
+      let at : case_of (revision_of old) (asked_of old) piece ≡ cases.Accepted = ap (λ o. case_of o (asked_of old) piece) is ∙ ap (λ a. case_of (Some v) a piece) served.asked ∙ applies in
       let does = does_of cases.Accepted piece old new text what d reading at in
-      let read = fronts.honest text p (own_honest answered named old p span text own) text d.seen.reading ([], append-nil text) d.seen.reads in
+      let ends : span.last + 1 ≡ span.first + length piece.body = omega (arith, long, up) in
+      let of : IsPieceOf p.file piece.first piece.body = ap (λ k. slice_range p.file span.first k) ends in
       let still : revision_of new ≡ revision_of old = does.revision in
-      let stays : StaysOf p.file old new = d.file p.file still (piece_of d.seen.reading read) knows in
+      let stays : StaysOf p.file old new = d.file p.file still (subst (λ r. IfOk r (λ x. IsPieceOf p.file x.first x.body)) (sym reading) of) knows in
       let blocks : AreSame (stored_of piece span (blocks_of old)) (blocks_of new) =
-      subst (λ a. AreSame (stored_of piece (asked_or_first a) (blocks_of old)) (blocks_of new)) own.asked does.blocks in
+      subst (λ a. AreSame (stored_of piece (asked_or_first a) (blocks_of old)) (blocks_of new)) served.asked does.blocks in
       let on = left_on there laws.few missing p.file old new (stored_of piece span (blocks_of old)) blocks stays.come in
       brings cases.Accepted (Some v) piece case is reading applies
-      (λ _. omega (arith, on, fewer laws p old v own.ahead span size knows l))
-    where
-      piece_of : (r : Result SeenPiece Why) → IfOk r (IsOf p) → IfOk r (λ x. IsPieceOf p.file x.first x.body)
-      piece_of (Ok x) of = piece_at p x of
-      piece_of (Err why) of = tt
+      (λ _. omega (arith, on, fewer laws p old v served.ahead span size knows l))
 
--- ---- the law
+-- ---- the laws
 
-module _ (answered : RequestsAreAnswered) (fronts : FrontsAreRead) (named : PublishedIsNamed) (lengths : LengthsAreKnown) (there : FoundAreThere) (missing : MissingIsSame)
-    (laws : StoringLaws) where
-  pub own_answers : OwnAnswersBringOn
-  own_answers old new p span text what own knows d = at (revision_of old) refl own.asks
+module _ (lengths : LengthsAreKnown) where
+  pub served_bring_on : (there : FoundAreThere) (missing : MissingIsSame) (laws : StoringLaws) → ServedBringOn
+  served_bring_on there missing laws old new p span text what served knows d = at (revision_of old) refl served.asks
     where
-      at : (v : Option Revision) → revision_of old ≡ v → AsksFor old v own.ahead span → BringsOn p old new what
-      at None is asks = begins answered fronts named old new p span text what own d is asks
+      at : (v : Option Revision) → revision_of old ≡ v → AsksFor old v served.ahead span → BringsOn p old new what
+      at None is asks = begins old new p span text what served d is
       at (Some v) is l = elim (cases_Bool (bytes_eq v.tag p.tag)) [
         | inl equal ↦
-            same answered fronts named old new p span text what own d lengths there missing laws v is equal
+            same old new p span text what served d lengths there missing laws v is equal
             (knows (tag_in old (Some v) is ∙ ap Some ((bytes_eq-Decides v.tag p.tag).0 equal))) l
-        | inr differ ↦ other answered fronts named old new p span text what own d v is differ
+        | inr differ ↦ other old new p span text what served d v is differ
       ]
+
+  pub own_are_served : RequestsAreAnswered → FrontsAreRead → PublishedIsNamed → OwnAnswersAreServed
+  own_are_served answered fronts named c p span text own knows = record {
+    named = named.named (name_of c) own.catalogue p own.has;
+    lawful = lawful;
+    asked = own.asked;
+    ahead = own.ahead;
+    asks = own.asks;
+    begins = begins_in;
+    read = λ r reads. own_reading answered fronts c p span text own r reads begins_in;
+  }
+    where
+      lawful : IsPublication p
+      lawful = named.lawful (name_of c) own.catalogue p own.lawful own.has
+
+      at : (v : Option Revision) → revision_of c ≡ v → AsksFor c v own.ahead span → is_current (tag_of c) p.tag ≡ true → span.first < length p.file
+      at None is asks current =
+          let some = lawful.some in
+          let first = ap (λ (s : Span). s.first) asks in
+          omega (arith, first, some)
+      at (Some v) is l current =
+          let tag = tag_in c (Some v) is in
+          let equal : bytes_eq v.tag p.tag ≡ true = ap (λ o. is_current o p.tag) (sym tag) ∙ current in
+          let held = knows (tag ∙ ap Some ((bytes_eq-Decides v.tag p.tag).0 equal)) in
+          (asked_of_file p.file c v own.ahead span (known_length lengths p.file c v is held) held l).low
+
+      begins_in : is_current (tag_of c) p.tag ≡ true → span.first < length p.file
+      begins_in = at (revision_of c) refl own.asks

@@ -1,32 +1,30 @@
 -- Whole answers, one after another, lead to a report.
 use Rattle.std.proofs.Common.{◌≡◌, ◌⊎◌, ℕ, zero, suc, true, ◌+◌, ◌<◌, ◌≤◌, List, Option, Some, None, refl, sym, ap, ◌∙◌, subst, arith, inl, inr}
-use Rattle.std.specs.Prelude.{IfSome, IsSome, is_some}
+use Rattle.std.specs.Prelude.{IfOk, IfSome, IsSome, is_some}
 use Rattle.std.specs.Option.{option_map}
 use Rattle.std.proofs.lemmas.Bool.{false≢true}
 use Rattle.std.proofs.lemmas.Option.{none-some, same_Some}
 use Rattle.tiff_dir.specs.declared.query.Query.{Query}
 use Rattle.tiff_dir.specs.Query.{cost}
 use Rattle.http_range.specs.Book.{Publication, Book, HasDistinctTags, In}
-use Rattle.http_range.specs.Honest.{IsPieceOfBook, ShowsOnly}
-use Rattle.http_range.specs.Laws.{FrontsAreRead, PublishedIsNamed, RequestsAreAnswered}
+use Rattle.http_range.specs.Honest.{IsPieceOfBook, IsReadAs}
+use Rattle.http_range.specs.Laws.{TagsTellOne}
 use Rattle.cog_client.specs.declared.asking.Asking.{Asking}
 use Rattle.cog_client.specs.declared.report.Report.{Report}
 use Rattle.cog_client.specs.Case.{Revision}
 use Rattle.cog_client.specs.Client.{ClientAgrees, ClientState, Knows, KnowsOne, asked_of, how_of, name_of, query_of, report_of, revision_of, tag_of}
 use Rattle.cog_client.specs.Keeps.{AsksLike}
-use Rattle.cog_client.specs.Progress.{AreExchanges, AskingLeavesAsMuch, BringsOn, CostIsMost, DeliveryReports, Exchanges, GoingOnLeavesNoMore, OwnAnswersBringOn, WholeAnswersReport, left}
-use Rattle.cog_client.proofs.OwnLemmas.{own_honest}
+use Rattle.cog_client.specs.Progress.{AreExchanges, AskingLeavesAsMuch, BringsOn, CostIsMost, DeliveryReports, Exchanges, GoingOnLeavesNoMore, ServedBringOn, WholeAnswersReport, left}
+use Rattle.cog_client.proofs.OwnLemmas.{served_piece}
 
 -- what is known of the single steps
 pub record StepLaws : Type 0 where
-  pub own : OwnAnswersBringOn
+  pub bring : ServedBringOn
   pub goes : GoingOnLeavesNoMore
   pub asks : AskingLeavesAsMuch
   pub delivery : DeliveryReports
   pub cost_is : CostIsMost
-  pub fronts : FrontsAreRead
-  pub answered : RequestsAreAnswered
-  pub named : PublishedIsNamed
+  pub one : TagsTellOne
 
 -- ---- how a client asks
 
@@ -68,7 +66,7 @@ ends p c next x stands =
     let waits = seen_as (record (how_of x.asking) { ahead = x.ahead }) x.asking x.waiting x.looks in
     let there : is_some (report_of x.told) ≡ true = ap is_some told.report ∙ stands in
     let still : is_some (report_of x.asking) ≡ true = ap is_some (x.requests.seen.report there) ∙ there in
-    let asked : asked_of x.asking ≡ Some x.span = sym waits.asked ∙ x.own.asked in
+    let asked : asked_of x.asking ≡ Some x.span = sym waits.asked ∙ x.served.asked in
     none-some x.span (sym (x.requests.seen.idle (inr still)) ∙ asked)
 
 module _ (laws : StepLaws) (book : Book) (p : Publication) (q : Query) (distinct : HasDistinctTags book) (among : In p book) where
@@ -81,7 +79,7 @@ module _ (laws : StepLaws) (book : Book) (p : Publication) (q : Query) (distinct
       at None is k = absurd (none-some p.tag (sym (ap tag_by is) ∙ tag))
       at (Some v) is k =
           let same_tag : v.tag ≡ p.tag = same_Some _ _ (sym (ap tag_by is) ∙ tag) in
-          let same : k.source ≡ p = laws.fronts.one book distinct k.source p k.published among (k.of_tag ∙ same_tag) in
+          let same : k.source ≡ p = laws.one book distinct k.source p k.published among (k.of_tag ∙ same_tag) in
           subst (λ (s : Publication). Knows s.file c) same k.knows
 
   step : (m : ℕ) (c next : ClientState) → IsReading book q c → IsWithin p q (suc m) c → Exchanges p c next → IsReading book q next × (IsSome (report_of next) ⊎ IsWithin p q m next)
@@ -99,18 +97,19 @@ module _ (laws : StepLaws) (book : Book) (p : Publication) (q : Query) (distinct
       agrees : ClientAgrees x.waiting book
       agrees = x.looks.agrees book (x.requests.goes.agrees book told_agrees)
 
-      shows : ShowsOnly (IsPieceOfBook (name_of x.waiting) book) x.text
-      shows = laws.fronts.book x.text (name_of x.waiting) book
-          (inl (p, among, laws.named.named (name_of x.waiting) x.own.catalogue p x.own.has, own_honest laws.answered laws.named x.waiting p x.span x.text x.own))
+      read : IsReadAs (IsPieceOfBook (name_of x.waiting) book) x.text
+      read r reads =
+          subst (λ r. IfOk r (IsPieceOfBook (name_of x.waiting) book)) (sym (x.served.read r reads))
+          (p, among, x.served.named, served_piece p x.span (tag_of x.waiting) x.served.begins)
 
       after : ClientAgrees next book
-      after = x.delivers.agrees book distinct agrees shows
+      after = x.delivers.agrees book distinct agrees read
 
       query : query_of next ≡ Some q
       query = x.delivers.seen.same.query ∙ waits.query ∙ x.requests.seen.goes.same.query ∙ told.query ∙ r.query
 
       brings : BringsOn p x.waiting next x.what
-      brings = laws.own x.waiting next p x.span x.text x.what x.own (knows_file x.waiting agrees) x.delivers
+      brings = laws.bring x.waiting next p x.span x.text x.what x.served (knows_file x.waiting agrees) x.delivers
 
       tag : tag_of next ≡ Some p.tag
       tag = ap tag_by brings.revision

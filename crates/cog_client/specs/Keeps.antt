@@ -6,7 +6,7 @@ use Rattle.tiff_dir.specs.Needs.{Extent, IsEndOf}
 use Rattle.tiff_dir.specs.Query.{needs}
 use Rattle.http_range.specs.declared.reading.Why.{Why}
 use Rattle.http_range.specs.Book.{Book, HasDistinctTags}
-use Rattle.http_range.specs.Honest.{IsPieceOfBook, ShowsOnly}
+use Rattle.http_range.specs.Honest.{IsPieceOfBook, IsReadAs}
 use Rattle.http_range.specs.Piece.{SeenPiece}
 use Rattle.http_range.specs.Reading.{ReadsAnswer}
 use Rattle.range_cache.specs.Piece.{IsPieceOf}
@@ -108,7 +108,7 @@ pub record DeliversKeeping (old : ClientState) (text : List ℕ) (what : Deliver
   pub rests : IsIgnored what ⊎ Rests new
   pub file : (f : List ℕ) → revision_of new ≡ revision_of old → IfOk seen.reading (λ p. IsPieceOf f p.first p.body)
       → Knows f old → StaysOf f old new
-  pub agrees : (book : Book) → HasDistinctTags book → ClientAgrees old book → ShowsOnly (IsPieceOfBook (name_of old) book) text → ClientAgrees new book
+  pub agrees : (book : Book) → HasDistinctTags book → ClientAgrees old book → IsReadAs (IsPieceOfBook (name_of old) book) text → ClientAgrees new book
 
 -- After want of memory, which no answer meets that is ignored, the revision and what is asked for are those that the answer
 -- leaves, and some of its blocks are stored.
@@ -123,7 +123,7 @@ pub record StopsDelivery (old : ClientState) (text : List ℕ) (new : ClientStat
   pub feed : feed_of new ≡ nothing_fed
   pub blocks : IfOk reading (λ p. (k : ℕ) × AreSame (stored_front k p (asked_or_first (asked_of new))
       (base_of (case_of (revision_of old) (asked_of old) p) (blocks_of old))) (blocks_of new))
-  pub agrees : (book : Book) → HasDistinctTags book → ClientAgrees old book → ShowsOnly (IsPieceOfBook (name_of old) book) text → ClientAgrees new book
+  pub agrees : (book : Book) → HasDistinctTags book → ClientAgrees old book → IsReadAs (IsPieceOfBook (name_of old) book) text → ClientAgrees new book
 
 -- ---- report
 

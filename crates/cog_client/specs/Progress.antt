@@ -1,13 +1,16 @@
 -- How much of a file a client still has to get for its query, counted in blocks, and what its calls make of that.
-use Rattle.std.specs.Prelude.{◌≡◌, ◌⊎◌, ℕ, zero, suc, ◌+◌, ◌-◌, ◌*◌, ◌<◌, ◌≤◌, false, not, if◌then◌else◌, List, [], ◌∷◌, length, sum_by, Option, Some, IfSome, IsSome}
-use Rattle.std.specs.List.{filter, IsAmong}
+use Rattle.std.specs.Prelude.{◌≡◌, ◌⊎◌, ℕ, zero, suc, ◌+◌, ◌-◌, ◌*◌, ◌<◌, ◌≤◌, true, false, min, not, if◌then◌else◌, List, [], ◌∷◌, length, sum_by, Option, Some, IfSome, IsSome, Result, Ok}
+use Rattle.std.specs.List.{filter, slice_range, IsAmong}
 use Rattle.tiff_dir.specs.declared.query.Query.{Query}
 use Rattle.tiff_dir.specs.declared.span.Span.{Span}
 use Rattle.tiff_dir.specs.Needs.{Extent, ends_past}
 use Rattle.tiff_dir.specs.Query.{blocks_of_extent as touched, cost, needs}
 use Rattle.http_range.specs.Ask.{CanAsk, request_by}
-use Rattle.http_range.specs.Book.{Publication, Book, Catalogue, HasDistinctTags, In, IsCatalogue, published}
-use Rattle.http_range.specs.Response.{Response, IsAnswer, text_of}
+use Rattle.http_range.specs.declared.reading.Why.{Why}
+use Rattle.http_range.specs.Book.{Publication, Book, Catalogue, HasDistinctTags, In, IsCatalogue, IsPublication, published}
+use Rattle.http_range.specs.Piece.{SeenPiece}
+use Rattle.http_range.specs.Reading.{ReadsAnswer}
+use Rattle.http_range.specs.Response.{Response, IsAnswer, is_current, text_of}
 use Rattle.tiff_dir.specs.Block.{block_size, first_block, blocks, end_of}
 use Rattle.range_cache.specs.Numbers.{has, missing}
 use Rattle.range_cache.specs.Cache.{numbers}
@@ -116,6 +119,34 @@ pub record IsOwnAnswer (c : ClientState) (p : Publication) (span : Span) (text :
   pub answers : IsAnswer catalogue (request_by (closes c) (host_of c) (name_of c) span.first span.last (tag_of c)) response
   pub shown : text ≡ text_of response
 
+-- the bytes a to b of a publication, as a 206 brings them, and all of them, as a 200 does
+abbrev pub part_of : Publication → ℕ → ℕ → SeenPiece
+part_of p a b = record { tag = p.tag; whole = false; first = a; complete = length p.file; body = slice_range p.file a (b + 1) }
+
+abbrev pub all_of : Publication → SeenPiece
+all_of p = record { tag = p.tag; whole = true; first = 0; complete = length p.file; body = p.file }
+
+-- what HTTP has a server of p answer to a request for bytes of it under a tag, or none: the part, and all of it where the tag is another
+-- one (RFC 9110, sections 13.1.5 and 14.2)
+abbrev pub piece_for : Publication → Span → Option (List ℕ) → SeenPiece
+piece_for p s known = if is_current known p.tag then part_of p s.first (min s.last (length p.file - 1)) else all_of p
+
+-- The text is read as that answer to what the client asks for, whichever server wrote it, and p has the client's name. However far the
+-- client looked ahead when it asked, it may look otherwise now.
+pub record IsServed (c : ClientState) (p : Publication) (span : Span) (text : List ℕ) : Type 0 where
+  pub named : p.name ≡ name_of c
+  pub lawful : IsPublication p
+  pub asked : asked_of c ≡ Some span
+  pub ahead : ℕ
+  pub asks : AsksFor c (revision_of c) ahead span
+  pub begins : is_current (tag_of c) p.tag ≡ true → span.first < length p.file
+  pub read : (r : Result SeenPiece Why) → ReadsAnswer text r → r ≡ Ok (piece_for p span (tag_of c))
+
+-- This server's own answers are so.
+abbrev pub OwnAnswersAreServed : Type 0
+OwnAnswersAreServed = (c : ClientState) (p : Publication) (span : Span) (text : List ℕ) →
+    IsOwnAnswer c p span text → (tag_of c ≡ Some p.tag → Knows p.file c) → IsServed c p span text
+
 -- The client has p's revision then, and where it had it before, less is left.
 pub record BringsOn (p : Publication) (old new : ClientState) (what : Delivered) : Type 0 where
   pub used : IsIgnored what → ⊥
@@ -123,14 +154,14 @@ pub record BringsOn (p : Publication) (old new : ClientState) (what : Delivered)
   pub less : tag_of old ≡ Some p.tag → left p.file new + 1 ≤ left p.file old
 
 -- Such an answer is never ignored, and brings the client on.
-abbrev pub OwnAnswersBringOn : Type 0
-OwnAnswersBringOn = (old new : ClientState) (p : Publication) (span : Span) (text : List ℕ) (what : Delivered) →
-    IsOwnAnswer old p span text → (tag_of old ≡ Some p.tag → Knows p.file old) →
+abbrev pub ServedBringOn : Type 0
+ServedBringOn = (old new : ClientState) (p : Publication) (span : Span) (text : List ℕ) (what : Delivered) →
+    IsServed old p span text → (tag_of old ≡ Some p.tag → Knows p.file old) →
     DeliversKeeping old text what new → BringsOn p old new what
 
 -- ---- whole answers, one after another
 
--- A client is told how to ask, asks, may be told then to look otherwise ahead, and takes the whole answer of a server that has p.
+-- A client is told how to ask, asks, may be told then to look otherwise ahead, and takes the whole answer that HTTP has a server of p give.
 pub record Exchanges (p : Publication) (old new : ClientState) : Type 0 where
   pub how : Asking
   pub told : ClientState
@@ -143,7 +174,7 @@ pub record Exchanges (p : Publication) (old new : ClientState) : Type 0 where
   pub looks : LooksAhead ahead asking waiting
   pub span : Span
   pub text : List ℕ
-  pub own : IsOwnAnswer waiting p span text
+  pub served : IsServed waiting p span text
   pub what : Delivered
   pub delivers : DeliversKeeping waiting text what new
 

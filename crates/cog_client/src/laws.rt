@@ -6,7 +6,7 @@ ghost use Rattle.cog_client.specs.Client.{AgreementIsSeen, query_of, to_come, Cl
 ghost use Rattle.cog_client.specs.Report.{TruthIsTold};
 ghost use Rattle.cog_client.specs.FedClient.{AnswersBeginAnywhere};
 ghost use Rattle.cog_client.specs.Fed.{CaseIsOfHead, CutsAreStored, EdgesAreStored, EndTells, LeavesByHead, PartsAreNotStored};
-ghost use Rattle.cog_client.specs.Progress.{AskingLeavesAsMuch, CostIsMost, DeliveryReports, GoingOnLeavesNoMore, NeededAreAsked, OneRangeIsAsked, OpeningLeavesCost, OwnAnswersBringOn, RequestReports, WholeAnswersReport};
+ghost use Rattle.cog_client.specs.Progress.{AskingLeavesAsMuch, CostIsMost, DeliveryReports, GoingOnLeavesNoMore, NeededAreAsked, OneRangeIsAsked, OpeningLeavesCost, OwnAnswersAreServed, RequestReports, ServedBringOn, WholeAnswersReport};
 
 use cached_reader::looks_at_one_range;
 use cog_reader::{end_is_wanted, lengths_are_known, nothing_comes};
@@ -52,9 +52,11 @@ pub fn needed_are_asked()
     lengths_are_known();
 }
 
-/// The whole answer to what a client asks for leaves less, or begins with the server's revision.
-pub fn own_answers_bring_on()
-    ensures { OwnAnswersBringOn }
+/// The whole answer that HTTP has a server give to what a client asks for leaves less, or begins with the server's revision. This
+/// server gives it.
+pub fn whole_answers_bring_on()
+    ensures served { ServedBringOn }
+    ensures own { OwnAnswersAreServed }
 {
     lengths_are_known();
     clients_are_answered();
@@ -70,12 +72,10 @@ pub fn own_answers_bring_on()
 pub fn whole_answers_report()
     ensures { WholeAnswersReport }
 {
-    own_answers_bring_on();
+    whole_answers_bring_on();
     left_never_grows();
     nothing_left_is_reported();
-    clients_are_answered();
     fronts_are_read();
-    publications_replace();
 }
 
 /// A client that agrees with a book is, as far as a caller sees, of one publication of it.

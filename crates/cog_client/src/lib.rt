@@ -25,7 +25,7 @@ pub use http_range::{Span, Tag, Why};
 pub use laws::{
     agreement_is_seen, answers_begin_anywhere, answers_come_in_pieces, end_is_needed,
     equal_reports_are_true, left_never_grows, needed_are_asked, nothing_left_is_reported,
-    own_answers_bring_on, whole_answers_report,
+    whole_answers_bring_on, whole_answers_report,
 };
 pub use pieces::Pieces;
 pub use report::Report;

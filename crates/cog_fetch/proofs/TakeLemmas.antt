@@ -4,7 +4,7 @@ use Rattle.std.proofs.lemmas.List.{append_assoc, append-nil}
 use Rattle.http_range.specs.Book.{Book, Publication, HasDistinctTags}
 use Rattle.http_range.specs.declared.reading.Why.{Why}
 use Rattle.http_range.specs.Piece.{SeenPiece}
-use Rattle.http_range.specs.Honest.{IsFront, IsPieceOf, IsPieceOfBook, ShowsOnly}
+use Rattle.http_range.specs.Honest.{IsFront, IsPieceOf, IsPieceOfBook, IsReadAs, ShowsOnly}
 use Rattle.cog_client.specs.Calls.{SameClient}
 use Rattle.cog_client.specs.Client.{ClientAgrees, ClientState, name_of}
 use Rattle.cog_client.specs.FedClient.{Fed}
@@ -43,11 +43,10 @@ stops_on before after rest left old mid new on first leaves then = record {
   stops = λ s p fed. subst (λ (t : List ℕ). StopsDelivery s t new) (append_assoc p first.bytes then.bytes) (then.stops s (p ++ first.bytes) (first.fed s p fed));
 }
 
--- a front of what shows only pieces of a publication shows only pieces of a book that has it
-shown_front : (bytes text name : List ℕ) (p : Publication) → p.name ≡ name → IsFront bytes text → ShowsOnly (IsPieceOf p) text
-    → ShowsOnly (IsPieceOfBook name (p ∷ [])) bytes
-shown_front bytes text name p named cut shows front r within reads =
-    of r (shows front r (within.0 ++ cut.0, sym (append_assoc front within.0 cut.0) ∙ ap (λ (t : List ℕ). t ++ cut.0) within.1 ∙ cut.1) reads)
+-- a piece that is read of a front of what shows only pieces of a publication is of a book that has it
+read_front : (bytes text name : List ℕ) (p : Publication) → p.name ≡ name → IsFront bytes text → ShowsOnly (IsPieceOf p) text
+    → IsReadAs (IsPieceOfBook name (p ∷ [])) bytes
+read_front bytes text name p named cut shows r reads = of r (shows bytes cut r reads)
   where
     of : (r : Result SeenPiece Why) → IfOk r (IsPieceOf p) → IfOk r (IsPieceOfBook name (p ∷ []))
     of (Ok x) is = (p, inl refl, named, is)
@@ -72,14 +71,14 @@ keeps_taking before mid after rest old new on later shows takes = record {
       record {
         named = is.named ∙ sym takes.same.name;
         spoken = later p (on p is.spoken);
-        agrees = takes.agrees (p ∷ []) (distinct p) is.agrees (shown_front takes.bytes rest (name_of old) p is.named front (shows p is.spoken));
+        agrees = takes.agrees (p ∷ []) (distinct p) is.agrees (read_front takes.bytes rest (name_of old) p is.named front (shows p is.spoken));
       };
 }
 
 -- an answer that came at once
 pub keeps_whole : (before after : Publication → Type 0) (old new : ClientState) (text : List ℕ) → SpeaksOn before after
     → IsTrueToAll before text → SameClient old new
-    → ((book : Book) → HasDistinctTags book → ClientAgrees old book → ShowsOnly (IsPieceOfBook (name_of old) book) text → ClientAgrees new book)
+    → ((book : Book) → HasDistinctTags book → ClientAgrees old book → IsReadAs (IsPieceOfBook (name_of old) book) text → ClientAgrees new book)
     → KeepsReading before after old new
 keeps_whole before after old new text on shows same agrees =
     keeps_taking before before after text old new (λ p spoken. spoken) on shows

@@ -1,7 +1,7 @@
 -- What a client takes of an answer that comes in pieces, and what the whole of it leaves.
 use Rattle.std.specs.Prelude.{◌≡◌, ◌<◌, ℕ, List, ◌++◌}
 use Rattle.http_range.specs.Book.{Book, HasDistinctTags, Publication}
-use Rattle.http_range.specs.Honest.{IsFront, IsPieceOfBook, ShowsOnly}
+use Rattle.http_range.specs.Honest.{IsFront, IsPieceOfBook, IsReadAs}
 use Rattle.cog_client.specs.Calls.{SameClient}
 use Rattle.cog_client.specs.Client.{ClientAgrees, ClientState, name_of}
 use Rattle.cog_client.specs.FedClient.{Fed}
@@ -34,9 +34,9 @@ pub record Stops (speaks : Publication → Type 0) (rest : List ℕ) (old new : 
   pub next : IsNextOf speaks rest bytes
   pub stops : (s : ClientState) (p : List ℕ) → Fed s p old → StopsDelivery s (p ++ bytes) new
 
--- An answer came, in part or whole: host, name and query stay, and so does the agreement with each book of which it shows only pieces.
+-- An answer came, in part or whole: host, name and query stay, and so does the agreement with each book, where a piece that is read of it is of that one.
 pub record TakesAnswer (speaks : Publication → Type 0) (rest : List ℕ) (old new : ClientState) : Type 0 where
   pub bytes : List ℕ
   pub next : IsNextOf speaks rest bytes
   pub same : SameClient old new
-  pub agrees : (book : Book) → HasDistinctTags book → ClientAgrees old book → ShowsOnly (IsPieceOfBook (name_of old) book) bytes → ClientAgrees new book
+  pub agrees : (book : Book) → HasDistinctTags book → ClientAgrees old book → IsReadAs (IsPieceOfBook (name_of old) book) bytes → ClientAgrees new book

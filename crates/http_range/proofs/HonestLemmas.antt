@@ -231,8 +231,8 @@ module _ (laws : PartsAreRead) where
     head = λ reply close body bytes k r sent is reads. front_head laws reply close body k sent bytes is r reads;
     reply = λ reply close body bytes k r sent is reads. front_read laws reply close body k sent bytes is r reads;
     answer = λ catalogue message bytes s k r lawful answers is reads. answer_read catalogue message s k lawful answers bytes is r reads;
-    honest = λ text p honest front r cut reads. honest_read front p (honest_cut front text p cut honest) r reads;
-    book = λ text name book honest front r cut reads. book_read front name book (stays_cut front text name book cut honest) r reads;
+    honest = λ text p honest front cut r reads. honest_read front p (honest_cut front text p cut honest) r reads;
+    book = λ text name book honest front cut r reads. book_read front name book (stays_cut front text name book cut honest) r reads;
     nameless = λ text r front reads. nameless_read text front r reads;
     one = tags_tell_one;
   }

@@ -48,6 +48,10 @@ pub record IsPieceOf (p : Publication) (piece : SeenPiece) : Type 0 where
 abbrev pub IsPieceOfBook : List ℕ → Book → SeenPiece → Type 0
 IsPieceOfBook name book piece = (p : Publication) × In p book × (p.name ≡ name) × IsPieceOf p piece
 
--- Each piece that is read of the text, whole or cut anywhere, is so. What else stands in the text doesn't matter.
+-- a piece that is read of the text is so
+abbrev pub IsReadAs : (SeenPiece → Type 0) → List ℕ → Type 0
+IsReadAs P text = (r : Result SeenPiece Why) → ReadsAnswer text r → IfOk r P
+
+-- So is each piece that is read of the text, whole or cut anywhere. What else stands in the text doesn't matter.
 abbrev pub ShowsOnly : (SeenPiece → Type 0) → List ℕ → Type 0
-ShowsOnly P text = (front : List ℕ) (r : Result SeenPiece Why) → IsFront front text → ReadsAnswer front r → IfOk r P
+ShowsOnly P text = (front : List ℕ) → IsFront front text → IsReadAs P front

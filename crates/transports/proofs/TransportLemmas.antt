@@ -26,8 +26,8 @@ shown_answer law catalogue name message text s answers is named p has =
 
 -- a front of what shows only pieces shows only pieces
 pub shown_cut : (speaks : Publication → Type 0) (front text : List ℕ) → IsFront front text → IsTrueToAll speaks text → IsTrueToAll speaks front
-shown_cut speaks front text cut shows p spoken first r within reads =
-    shows p spoken first r (within.0 ++ cut.0, sym (append_assoc first within.0 cut.0) ∙ ap (λ (t : List ℕ). t ++ cut.0) within.1 ∙ cut.1) reads
+shown_cut speaks front text cut shows p spoken first within =
+    shows p spoken first (within.0 ++ cut.0, sym (append_assoc first within.0 cut.0) ∙ ap (λ (t : List ℕ). t ++ cut.0) within.1 ∙ cut.1)
 
 -- so it is, whatever becomes of it
 pub shown_fate : {A E : Type 0} (r : Result A E) (items : A → List ℕ) (speaks : Publication → Type 0) (text : List ℕ) → IfOk r (λ x. IsFront (items x) text)

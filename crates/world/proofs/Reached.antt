@@ -118,7 +118,8 @@ module _ (laws : LowerLaws) (w : World) (cs : List ClientState) (i : ℕ) (c : C
       let among = in_book (name_of c) has in
       let mid_agrees : ClientAgrees mid w.book = k.goes.agrees w.book agrees_now in
       let brings : BringsOn p mid next what =
-      laws.brings mid next p a.span a.answer.text.items what (own mid a asks k has) (knows_of laws mid w.book p g.distinct mid_agrees among) d in
+      let known = knows_of laws mid w.book p g.distinct mid_agrees among in
+      laws.brings mid next p a.span a.answer.text.items what (laws.served mid p a.span a.answer.text.items (own mid a asks k has) known) known d in
       let tag : tag_of next ≡ Some p.tag = tag_is next (record { tag = p.tag; complete = length f }) brings.revision in
       let knows : Knows f next = knows_of laws next w.book p g.distinct agrees among tag in
       let query : query_of next ≡ Some q = d.seen.same.query ∙ r.goes.same.query ∙ reading.query in
@@ -136,7 +137,8 @@ module _ (laws : LowerLaws) (w : World) (cs : List ClientState) (i : ℕ) (c : C
           let knows = knows_of laws c w.book p g.distinct agrees_now among had.0 in
           let mid_agrees : ClientAgrees mid w.book = k.goes.agrees w.book agrees_now in
           let brings : BringsOn p mid next what =
-          laws.brings mid next p a.span a.answer.text.items what (own mid a asks k has) (knows_of laws mid w.book p g.distinct mid_agrees among) d in
+          let known = knows_of laws mid w.book p g.distinct mid_agrees among in
+          laws.brings mid next p a.span a.answer.text.items what (laws.served mid p a.span a.answer.text.items (own mid a asks k has) known) known d in
           omega (arith, had.1, brings.less mid_tag, laws.goes c mid p.file k.goes knows)
 
   -- what one exchange comes to: the report is told, or the query is still read

@@ -14,7 +14,7 @@ use Rattle.http_range.specs.Book.{Publication, Book, Catalogue, Includes, publis
 use Rattle.http_range.specs.declared.range.Resolved.TheVariants.{Part, Whole}
 use Rattle.http_range.specs.declared.reply.Reply.TheVariants.{R416}
 use Rattle.http_range.specs.Response.{Response, IsAnswer, is_current, response_to_client, serve_part, refused}
-use Rattle.http_range.specs.Honest.{IsFront, IsHonest, IsPieceOfBook, ShowsOnly}
+use Rattle.http_range.specs.Honest.{IsFront, IsHonest, IsPieceOfBook, IsReadAs}
 use Rattle.cog_server.specs.declared.error.PublishError.{PublishError}
 use Rattle.cog_server.specs.declared.server.Answer.{Answer}
 use Rattle.cog_server.specs.Server.{IsAnswered}
@@ -265,11 +265,11 @@ module _ (laws : LowerLaws) where
       let asked = asked_for c (asked_of mid) a.request.items r.text r.lawful in
       let for : is_for a.answer (name_of c) ≡ true = answer_for w.catalogue (closes c) (host_of c) (name_of c) (tag_of c) asked.0 a.request.items a.answer asked.1 asked.2 asks.answered.answered in
       let honest = answer_honest w cs a.request.items a.answer g asks.answered.answered in
-      let P : Book → List ℕ → Type 0 = λ later name. ShowsOnly (IsPieceOfBook name later) a.answer.text.items in
+      let P : Book → List ℕ → Type 0 = λ later name. IsReadAs (IsPieceOfBook name later) a.answer.text.items in
       record {
         same = seen_same c next (delivers.seen.same.name ∙ r.goes.same.name) (delivers.seen.same.query ∙ r.goes.same.query);
         agrees = λ later inc x. delivers.agrees later x (k.goes.agrees later (agrees later inc x)) (subst (λ name. P later name) (sym r.goes.same.name)
-            (laws.fronts.book a.answer.text.items (name_of c) later (honest (name_of c) later for inc)));
+            (laws.fronts.book a.answer.text.items (name_of c) later (honest (name_of c) later for inc) a.answer.text.items ([], append-nil _)));
       }
 
   exchanged_honest : (w : World) (i : ℕ) (o : Option AnsweredRequest) (effect : Effect) (mid next : ClientState) → IsExchanged i o effect mid next → IfSome o (λ a. StaysHonest a.answer w.book) → IfSome (answer_in effect) (λ a. StaysHonest a w.book)
@@ -298,8 +298,7 @@ module _ (laws : LowerLaws) where
       let kept : IsKept c h.next w.book = record {
         same = seen_same c h.next d.seen.same.name d.seen.same.query;
         agrees = λ later inc x. d.agrees later x (g.agree i c at later inc x)
-            (laws.fronts.book (cut_at cut a.text.items) (name_of c) later
-            (laws.honest.cut (cut_at cut a.text.items) a.text.items (name_of c) later (front_is cut a.text.items) (g.honest k a sent (name_of c) later for inc)));
+            (laws.fronts.book a.text.items (name_of c) later (g.honest k a sent (name_of c) later for inc) (cut_at cut a.text.items) (front_is cut a.text.items));
       } in
       sound_kept laws w cs new i c h.next n g at h.changed kept h.acts.does.stands h.acts.tells
 

@@ -6,7 +6,7 @@ use Rattle.geokeys.specs.Same.{KeysAreUnique}
 use Rattle.http_range.specs.Laws.{FrontsAreRead, TagsTellPublications, PublicationTagsAreKept, RequestsAreAnswered, ChecksAreAnswered, ChecksAreRead, PublishReplaces, PublishedIsNamed, HonestyIsKept}
 use Rattle.cog_client.specs.Client.{AgreementIsSeen}
 use Rattle.cog_client.specs.Report.{TruthIsTold}
-use Rattle.cog_client.specs.Progress.{CostIsMost, DeliveryReports, GoingOnLeavesNoMore, OneRangeIsAsked, OwnAnswersBringOn, RequestReports}
+use Rattle.cog_client.specs.Progress.{CostIsMost, DeliveryReports, GoingOnLeavesNoMore, OneRangeIsAsked, OwnAnswersAreServed, RequestReports, ServedBringOn}
 
 pub record LowerLaws : Type 0 where
   pub apart : TagsTellPublications
@@ -27,4 +27,5 @@ pub record LowerLaws : Type 0 where
   pub request : RequestReports
   pub delivery : DeliveryReports
   pub one_range : OneRangeIsAsked
-  pub brings : OwnAnswersBringOn
+  pub served : OwnAnswersAreServed
+  pub brings : ServedBringOn

@@ -15,7 +15,7 @@ use crate::handing::Handing;
 use crate::server::{ask, publish, restart};
 use cog_client::{
     Client, agreement_is_seen, equal_reports_are_true, left_never_grows, needed_are_asked,
-    nothing_left_is_reported, own_answers_bring_on,
+    nothing_left_is_reported, whole_answers_bring_on,
 };
 use cog_server::Server;
 use geokeys::one_geo;
@@ -143,7 +143,7 @@ fn lower_laws()
     left_never_grows();
     nothing_left_is_reported();
     needed_are_asked();
-    own_answers_bring_on();
+    whole_answers_bring_on();
 }
 
 /// One event, after these entries; the answers that were sent stand at these places of them.

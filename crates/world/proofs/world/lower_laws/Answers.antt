@@ -20,5 +20,6 @@ returns c = record {
   request = c.nothing_left_is_reported.ensures.request;
   delivery = c.nothing_left_is_reported.ensures.delivery;
   one_range = c.needed_are_asked.ensures.one;
-  brings = c.own_answers_bring_on.ensures;
+  served = c.whole_answers_bring_on.ensures.own;
+  brings = c.whole_answers_bring_on.ensures.served;
 }
