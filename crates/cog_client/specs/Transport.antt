@@ -1,8 +1,8 @@
 -- What a transport promises, and what fetching over it keeps.
-use Rattle.std.specs.Prelude.{◌≡◌, ℕ, ◌+◌, ◌⊎◌, List, [], ◌∷◌, Option, None}
+use Rattle.std.specs.Prelude.{◌≡◌, ℕ, ◌+◌, ◌⊎◌, List, Option, None}
 use Rattle.tiff_dir.specs.declared.query.Query.{Query}
-use Rattle.http_range.specs.Book.{Publication}
-use Rattle.http_range.specs.Honest.{IsPieceOf, ShowsOnly}
+use Rattle.http_range.specs.Book.{Publication, Book, HasDistinctTags, In}
+use Rattle.http_range.specs.Honest.{IsPieceOfSome, ShowsOnly}
 use Rattle.cog_client.specs.declared.report.Report.{Report}
 use Rattle.cog_client.specs.Report.{IsTrueReport}
 use Rattle.cog_client.specs.Client.{ClientState, ClientAgrees, name_of, query_of}
@@ -10,30 +10,30 @@ use Rattle.cog_client.specs.Calls.{SameClient}
 
 -- In what follows speaks is what a transport speaks for, before and after are this at two moments.
 
--- What came of an answer shows only pieces of each publication that the transport speaks for. So do the answers of any server that
--- has the file under its tag, and tells what is so.
-abbrev pub IsTrueToAll : (Publication → Type 0) → List ℕ → Type 0
-IsTrueToAll speaks text = (p : Publication) → speaks p → ShowsOnly (IsPieceOf p) text
+-- What came of an answer shows only pieces of publications of each book that the transport speaks for. So do the answers of any servers
+-- that have one file after another of a name, each under its tag, and tell what is so.
+abbrev pub IsTrueToAll : (Book → Type 0) → List ℕ → Type 0
+IsTrueToAll speaks text = (book : Book) → speaks book → ShowsOnly (IsPieceOfSome book) text
 
 -- it goes on to speak for what it spoke for
-abbrev pub SpeaksOn : (Publication → Type 0) → (Publication → Type 0) → Type 0
-SpeaksOn before after = (p : Publication) → before p → after p
+abbrev pub SpeaksOn : (Book → Type 0) → (Book → Type 0) → Type 0
+SpeaksOn before after = (book : Book) → before book → after book
 
--- The transport speaks for a publication of the client's name, and the client agrees with the book of that one.
-pub record ReadsPublication (speaks : Publication → Type 0) (c : ClientState) (p : Publication) : Type 0 where
-  pub named : p.name ≡ name_of c
-  pub spoken : speaks p
-  pub agrees : ClientAgrees c (p ∷ [])
+-- The transport speaks for a book of the client's name, no two of whose publications have one tag, and the client agrees with it.
+pub record ReadsBook (speaks : Book → Type 0) (c : ClientState) (book : Book) : Type 0 where
+  pub named : (p : Publication) → In p book → p.name ≡ name_of c
+  pub distinct : HasDistinctTags book
+  pub spoken : speaks book
+  pub agrees : ClientAgrees c book
 
--- Host, name and query stay, and so does the one publication that the client reads.
-pub record KeepsReading (before after : Publication → Type 0) (old new : ClientState) : Type 0 where
+-- Host, name and query stay, and so does each book that the client reads.
+pub record KeepsReading (before after : Book → Type 0) (old new : ClientState) : Type 0 where
   pub same : SameClient old new
-  pub reads : (p : Publication) → ReadsPublication before old p → ReadsPublication after new p
+  pub reads : (book : Book) → ReadsBook before old book → ReadsBook after new book
 
--- The report is true of the one publication that the client reads.
-abbrev pub IsTrueOfOne : (Publication → Type 0) → ClientState → Report → Type 0
-IsTrueOfOne speaks c r =
-    (p : Publication) → ReadsPublication speaks c p → IsTrueReport r (name_of c) (query_of c) (p ∷ [])
+-- The report is true of one publication of each book that the client reads: of the one whose tag it tells.
+abbrev pub IsTrueOfBooks : (Book → Type 0) → ClientState → Report → Type 0
+IsTrueOfBooks speaks c r = (book : Book) → ReadsBook speaks c book → IsTrueReport r (name_of c) (query_of c) book
 
 -- there is no report: so many exchanges more are used up, or there is no query
 abbrev pub IsInVain : Option Query → ℕ → ℕ → ℕ → Type 0

@@ -1,6 +1,6 @@
 //! What carries a client's requests, and brings the answers in pieces, as they arrive.
 ghost use Rattle.std.specs.Prelude.{◌≡◌, ◌+◌, ◌<◌, ◌≤◌, ◌^◌, ℕ, List, IfOk, OnOk, length};
-ghost use Rattle.http_range.specs.Book.{Publication};
+ghost use Rattle.http_range.specs.Book.{Book};
 ghost use Rattle.cog_client.specs.Pieces.{BringsOf};
 ghost use Rattle.cog_client.specs.Transport.{IsTrueToAll, SpeaksOn};
 
@@ -8,8 +8,8 @@ use crate::transport::Lost;
 
 /// Carries requests to a server, and brings its answers in pieces, whole or cut, or none.
 pub trait Pieces {
-    /// It speaks for this publication: each piece of a file that is read of what it brings is of that one, by its tag, length and bytes.
-    ghost speaks_for: { Self → Publication → Type 0 };
+    /// It speaks for this book: each piece of a file that is read of what it brings is of a publication of it, by its tag, length and bytes.
+    ghost speaks_for: { Self → Book → Type 0 };
 
     /// The requests so far.
     ghost count: { Self → ℕ };

@@ -1,6 +1,6 @@
 //! What carries a client's requests, and brings the answers.
 ghost use Rattle.std.specs.Prelude.{◌≡◌, ◌+◌, ◌<◌, ◌^◌, ℕ, IfOk};
-ghost use Rattle.http_range.specs.Book.{Publication};
+ghost use Rattle.http_range.specs.Book.{Book};
 ghost use Rattle.cog_client.specs.Transport.{IsTrueToAll, SpeaksOn};
 
 use thiserror::Error;
@@ -12,8 +12,8 @@ pub struct Lost;
 
 /// Carries requests to a server, and brings its answers, whole or cut, or none.
 pub trait Transport {
-    /// It speaks for this publication: each piece of a file that is read of what it brings is of that one, by its tag, length and bytes.
-    ghost speaks_for: { Self → Publication → Type 0 };
+    /// It speaks for this book: each piece of a file that is read of what it brings is of a publication of it, by its tag, length and bytes.
+    ghost speaks_for: { Self → Book → Type 0 };
 
     /// The exchanges so far.
     ghost count: { Self → ℕ };

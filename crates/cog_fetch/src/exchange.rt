@@ -1,6 +1,6 @@
 //! One exchange: a request is sent, and what comes of its answer is taken.
 ghost use Rattle.std.specs.Prelude.{◌≡◌, ◌+◌, ◌<◌, ◌^◌, ℕ};
-ghost use Rattle.http_range.specs.Book.{Publication};
+ghost use Rattle.http_range.specs.Book.{Book};
 ghost use Rattle.cog_client.specs.Transport.{KeepsReading, SpeaksOn};
 
 use crate::taking::take_answer;
@@ -8,8 +8,8 @@ use cog_client::{Client, FetchError, Lost, Memory, Pieces, Transport};
 
 /// How a request is sent to a source, and what comes of its answer taken.
 pub(crate) trait Exchange<S> {
-    /// It speaks for this publication: each piece of a file that is read of what it brings is of that one, by its tag, length and bytes.
-    ghost speaks_for: { S → Publication → Type 0 };
+    /// It speaks for this book: each piece of a file that is read of what it brings is of a publication of it, by its tag, length and bytes.
+    ghost speaks_for: { S → Book → Type 0 };
 
     /// The exchanges so far.
     ghost count: { S → ℕ };

@@ -7,7 +7,7 @@ ghost use Rattle.cog_client.specs.contracts.client.Client.{the_row};
 ghost use Rattle.cog_client.specs.Client.{query_of, report_of};
 ghost use Rattle.cog_client.specs.Calls.{IsIdle};
 ghost use Rattle.cog_client.specs.Keeps.{Stands};
-ghost use Rattle.cog_client.specs.Transport.{IsInVain, IsTrueOfOne, KeepsReading};
+ghost use Rattle.cog_client.specs.Transport.{IsInVain, IsTrueOfBooks, KeepsReading};
 
 use crate::exchange::{Exchange, InPieces, Whole};
 use cog_client::{Client, FetchError, Pieces, Report, Transport};
@@ -67,15 +67,15 @@ pub fn fetch<'c, T: Transport>(
 ) -> Result<Option<&'c Report>, FetchError>
     requires { T.count transport.old + tries < 2 ^ 64 }
 
-    // A client that reads a publication for which the transport speaks reads it still, whatever was lost or cut, and
+    // A client that reads a book for which the transport speaks reads it still, whatever was lost or cut, and
     // after want of memory too. What is given is its standing report.
     ensures* client { sem 𝓛 (Rests the_row client.entry (λ c.
         KeepsReading (T.speaks_for transport.old) (T.speaks_for transport.new) client.old c
         × IfOk result (λ report. Stands c (option_copied report)))) }
 
-    // A report is true of that publication.
+    // A report is true of one publication of that book: of the one whose tag it tells.
     ensures report { IfOk result (λ report.
-        IfSome (option_copied report) (IsTrueOfOne (T.speaks_for transport.old) client.old)) }
+        IfSome (option_copied report) (IsTrueOfBooks (T.speaks_for transport.old) client.old)) }
 
     // There is none only after so many exchanges, or without a query.
     ensures none { IfOk result (λ report. report ≡ None
@@ -102,15 +102,15 @@ pub fn fetch_pieces<'c, P: Pieces>(
 ) -> Result<Option<&'c Report>, FetchError>
     requires { P.count pieces.old + tries < 2 ^ 64 }
 
-    // A client that reads a publication for which the source speaks reads it still, whatever was lost or cut, and after want of
+    // A client that reads a book for which the source speaks reads it still, whatever was lost or cut, and after want of
     // memory too. What is given is its standing report.
     ensures* client { sem 𝓛 (Rests the_row client.entry (λ c.
         KeepsReading (P.speaks_for pieces.old) (P.speaks_for pieces.new) client.old c
         × IfOk result (λ report. Stands c (option_copied report)))) }
 
-    // A report is true of that publication.
+    // A report is true of one publication of that book: of the one whose tag it tells.
     ensures report { IfOk result (λ report.
-        IfSome (option_copied report) (IsTrueOfOne (P.speaks_for pieces.old) client.old)) }
+        IfSome (option_copied report) (IsTrueOfBooks (P.speaks_for pieces.old) client.old)) }
 
     // There is none only after so many exchanges, or without a query.
     ensures none { IfOk result (λ report. report ≡ None

@@ -48,6 +48,10 @@ pub record IsPieceOf (p : Publication) (piece : SeenPiece) : Type 0 where
 abbrev pub IsPieceOfBook : List ℕ → Book → SeenPiece → Type 0
 IsPieceOfBook name book piece = (p : Publication) × In p book × (p.name ≡ name) × IsPieceOf p piece
 
+-- it is a piece of a publication of the book, whatever its name
+abbrev pub IsPieceOfSome : Book → SeenPiece → Type 0
+IsPieceOfSome book piece = (p : Publication) × In p book × IsPieceOf p piece
+
 -- a piece that is read of the text is so
 abbrev pub IsReadAs : (SeenPiece → Type 0) → List ℕ → Type 0
 IsReadAs P text = (r : Result SeenPiece Why) → ReadsAnswer text r → IfOk r P

@@ -1,5 +1,5 @@
 -- The sides that Info tells of a level are the file's.
-use Rattle.std.proofs.Common.{◌≡◌, ℕ, [], ◌∷◌, List, Option, Some, None, refl, sym, subst, ap, ◌∙◌, inl, inr}
+use Rattle.std.proofs.Common.{◌≡◌, ℕ, [], ◌∷◌, List, Option, Some, None, Result, refl, sym, subst, ap, ◌∙◌, inl, inr}
 use Rattle.std.specs.Prelude.{slice_get, IfSome}
 use Rattle.std.specs.Option.{option_map}
 use Rattle.std.proofs.lemmas.Option.{none-some, same_Some, slice_get-map}
@@ -9,14 +9,19 @@ use Rattle.tiff_dir.specs.declared.query.Pick.TheVariants.{Level}
 use Rattle.tiff_dir.specs.Fault.{sides}
 use Rattle.tiff_dir.specs.File.{◌>>=◌}
 use Rattle.tiff_dir.specs.Level.{level_directories, level_directory}
-use Rattle.http_range.specs.Book.{Publication, In}
+use Rattle.http_range.specs.Book.{Publication, Book, HasDistinctTags, In}
+use Rattle.http_range.specs.Laws.{TagsTellOne}
 use Rattle.cog_reader.specs.declared.outcome.Info.{Info}
 use Rattle.cog_reader.specs.declared.outcome.Outcome.TheVariants as outcome
 use Rattle.cog_reader.specs.Outcome.{IsInfoOf, IsTrueOf}
 use Rattle.cog_client.specs.declared.report.Report.{Report}
-use Rattle.cog_client.specs.Client.{ClientState, ClientAgrees}
+use Rattle.cog_client.specs.Client.{ClientState, ClientAgrees, query_of}
 use Rattle.cog_client.specs.Keeps.{Stands}
-use Rattle.programs.specs.Text.{sides_of_level, IsOfWhole}
+use Rattle.programs.specs.declared.fault.Fault.{Fault}
+use Rattle.programs.specs.declared.reading.Asked.{Asked}
+use Rattle.programs.specs.declared.text.Text.{Text}
+use Rattle.programs.specs.Exchanges.{AsksOf}
+use Rattle.programs.specs.Text.{sides_of_level, IsFor, IsOfWhole, IsOfWholeBy, IsTrueOfBook, IsWritten}
 
 told : {A B : Type 0} (g : A → Option B) (b : Option B) (a : Option A) → option_map Some b ≡ option_map g a → (a >>= g) ≡ b
 told g None None is = refl
@@ -40,14 +45,31 @@ whole_is f i level s is same =
     at None same = tt
     at (Some t) same = ap (λ (t : ℕ × ℕ). Window 0 0 t.0 t.1 (Level level)) (sym same)
 
-of_one : (p q : Publication) (level : ℕ) (query : Query) → In q (p ∷ []) → IsOfWhole q.file level query → IsOfWhole p.file level query
-of_one p q level query (inl same) is = subst (λ (x : Publication). IsOfWhole x.file level query) same is
-of_one p q level query (inr none) is = absurd none
-
--- A window with the sides that the client's report tells of a level is the whole of it, in the publication that the client reads.
-pub whole_told : (p : Publication) (c : ClientState) (r : Report) (i : Info) (level : ℕ) (s : ℕ × ℕ) → Stands c (Some r) → ClientAgrees c (p ∷ [])
-    → r.outcome ≡ outcome.Info i → IfSome (slice_get i.sides.items level) (λ t. t ≡ s) → IsOfWhole p.file level (Window 0 0 s.0 s.1 (Level level))
-whole_told p c r i level s stands agrees is same =
-    let true_of = stands.holds (p ∷ []) agrees in
+-- A window with the sides that the client's report tells of a level is the whole of it, in the publication whose tag the report tells.
+pub whole_told : TagsTellOne → (book : Book) → HasDistinctTags book → (c : ClientState) (r : Report) (i : Info) (level : ℕ) (s : ℕ × ℕ) → Stands c (Some r) → ClientAgrees c book
+    → r.outcome ≡ outcome.Info i → IfSome (slice_get i.sides.items level) (λ t. t ≡ s) → IsOfWholeBy book r.tag level (Window 0 0 s.0 s.1 (Level level))
+whole_told one book distinct c r i level s stands agrees is same p among tag =
+    let true_of = stands.holds book agrees in
     let info = subst (λ o. IsTrueOf true_of.source.file r.query o) is true_of.holds in
-    of_one p true_of.source level (Window 0 0 s.0 s.1 (Level level)) true_of.published (whole_is true_of.source.file i level s info.1 same)
+    let equal = one book distinct true_of.source p true_of.published among (true_of.of_tag ∙ sym tag) in
+    subst (λ (x : Publication). IsOfWhole x.file level (Window 0 0 s.0 s.1 (Level level))) equal (whole_is true_of.source.file i level s info.1 same)
+
+-- What is written of the report that stands is true of one publication of the book.
+pub true_of_book : (name : List ℕ) (book : Book) (a : Asked) (c : ClientState) (r : Report) (written : Result Text Fault) → ((p : Publication) → In p book → p.name ≡ name) → ClientAgrees c book
+    → Stands c (Some r) → AsksOf book a c → IsWritten a r.outcome written → IsTrueOfBook name book a written
+true_of_book name book a c r written named agrees stands asks says =
+    let true_of = stands.holds book agrees in
+    let of = subst (λ o. IfSome o (λ r. (p : Publication) → In p book → p.tag ≡ r.tag → IfSome (query_of c) (IsFor p.file a))) (sym stands.standing) asks in
+    record {
+      report = r;
+      holds = record {
+        asked = refl;
+        source = true_of.source;
+        published = true_of.published;
+        of_name = named true_of.source true_of.published;
+        of_tag = true_of.of_tag;
+        holds = true_of.holds;
+      };
+      asked = subst (λ o. IfSome o (IsFor true_of.source.file a)) true_of.asked (of true_of.source true_of.published true_of.of_tag);
+      says = says;
+    }

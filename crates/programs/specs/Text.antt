@@ -1,12 +1,12 @@
 -- What `cogread` writes of a file, and when it is true.
-use Rattle.std.specs.Prelude.{◌≡◌, ◌≤◌, ℕ, ◌⊎◌, List, ◌++◌, Option, Some, IfSome, [], ◌∷◌, Result, Ok, Err, ⊤}
+use Rattle.std.specs.Prelude.{◌≡◌, ◌≤◌, ℕ, ◌⊎◌, List, ◌++◌, Option, Some, IfSome, Result, Ok, Err, ⊤}
 use Rattle.tiff_dir.specs.declared.query.Query.{Query}
 use Rattle.tiff_dir.specs.declared.query.Query.TheVariants.{Window, Info}
 use Rattle.tiff_dir.specs.declared.query.Pick.TheVariants.{Level}
 use Rattle.tiff_dir.specs.Fault.{sides}
 use Rattle.tiff_dir.specs.File.{◌>>=◌}
 use Rattle.tiff_dir.specs.Level.{level_directory}
-use Rattle.http_range.specs.Book.{Publication}
+use Rattle.http_range.specs.Book.{Publication, Book, In}
 use Rattle.cog_reader.specs.declared.outcome.Outcome.{Outcome}
 use Rattle.cog_reader.specs.declared.outcome.Outcome.TheVariants as outcome
 use Rattle.cog_client.specs.declared.report.Report.{Report}
@@ -43,18 +43,27 @@ IsWritten (asked.Query query) o (Err NoReport) = ⊥
 IsWritten a o (Err (OfFile fault)) = o ≡ outcome.Fault fault
 IsWritten a o (Err fault) = ⊤
 
--- A report that answers what is asked is true of the publication, and is what is written.
-pub record IsTrueOfPublication (p : Publication) (a : Asked) (written : Result Text Fault) : Type 0 where
+-- the query is for the whole of the level, in each file of the book that has this tag
+abbrev pub IsOfWholeBy : Book → List ℕ → ℕ → Query → Type 0
+IsOfWholeBy book tag level q = (p : Publication) → In p book → p.tag ≡ tag → IsOfWhole p.file level q
+
+-- A report that answers what is asked of one publication of the book, of the one whose tag it tells, is true of that one, and is what is
+-- written.
+pub record IsTrueOfBook (name : List ℕ) (book : Book) (a : Asked) (written : Result Text Fault) : Type 0 where
   pub report : Report
-  pub asked : IsFor p.file a report.query
-  pub holds : IsTrueReport report p.name (Some report.query) (p ∷ [])
+  pub holds : IsTrueReport report name (Some report.query) book
+  pub asked : IsFor holds.source.file a report.query
   pub says : IsWritten a report.outcome written
 
--- What is written of a publication is true of it: a text, and a fault of its file.
-abbrev pub WritesTrue : Publication → Asked → Result Text Fault → Type 0
-WritesTrue p a (Ok text) = IsTrueOfPublication p a (Ok text)
-WritesTrue p a (Err (OfFile fault)) = IsTrueOfPublication p a (Err (OfFile fault))
-WritesTrue p a (Err fault) = ⊤
+-- it is a text, or a fault of the file
+abbrev pub IsOfFile : Result Text Fault → Type 0
+IsOfFile (Ok text) = ⊤
+IsOfFile (Err (OfFile fault)) = ⊤
+IsOfFile (Err fault) = ⊥
+
+-- What is written of a file is true of one publication of the book.
+abbrev pub WritesTrue : List ℕ → Book → Asked → Result Text Fault → Type 0
+WritesTrue name book a written = IsOfFile written → IsTrueOfBook name book a written
 
 -- a number that isn't above the most isn't afterwards
 abbrev pub StaysWithin : (most before after : ℕ) → Type 0

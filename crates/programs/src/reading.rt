@@ -1,15 +1,15 @@
 //! How `cogread` reads: its exchanges, which are told with `--verbose` and drawn with `--progress`, and what is asked of the file.
-ghost use Rattle.std.specs.Prelude.{◌≡◌, ◌+◌, ◌<◌, ◌≤◌, ◌^◌, ◌⊎◌, [], ◌∷◌, Err, IfSome, OnOk, slice_get};
-ghost use Rattle.http_range.specs.Book.{Publication};
+ghost use Rattle.std.specs.Prelude.{◌≡◌, ◌+◌, ◌<◌, ◌≤◌, ◌^◌, ◌⊎◌, false, Err, IfSome, OnOk, slice_get};
+ghost use Rattle.http_range.specs.Book.{Book, HasDistinctTags};
 ghost use Rattle.tiff_dir.specs.declared.query.Query.{Query};
 ghost use Rattle.cog_client.specs.Calls.{IsIdle};
-ghost use Rattle.cog_client.specs.Client.{query_of, ClientAgrees};
-ghost use Rattle.cog_client.specs.Transport.{KeepsReading, ReadsPublication};
+ghost use Rattle.cog_client.specs.Client.{name_of, report_of, ClientAgrees};
+ghost use Rattle.cog_client.specs.Transport.{KeepsReading, ReadsBook};
 ghost use Rattle.exchange_notes.specs.Noted.{source_of};
 ghost use Rattle.programs.specs.declared.fault.Fault.TheVariants.{NoReport};
 ghost use Rattle.programs.specs.declared.reading.Asked.TheVariants.{Query as AQuery, Whole};
-ghost use Rattle.programs.specs.Exchanges.{Ends, StillReads};
-ghost use Rattle.programs.specs.Text.{IsFor, IsOfWhole, IsWritten, StaysWithin, WritesTrue};
+ghost use Rattle.programs.specs.Exchanges.{AsksOf, Ends, StillReads};
+ghost use Rattle.programs.specs.Text.{IsOfWholeBy, IsWritten, StaysWithin, WritesTrue};
 
 use crate::fault::Fault;
 use crate::text::Text;
@@ -17,6 +17,7 @@ use cog_client::{Client, FetchError, Info, Outcome, Pieces, Query, Report, Tag};
 use cog_fetch::fetch_pieces;
 use describing::{Description, Form};
 use exchange_notes::{Noted, NotedNet, exchanges_drawn, exchanges_told};
+use http_range::fronts_are_read;
 use report_text::{FaultSentence, info_text, picture_head};
 use std::rt::Clock;
 use tiff_dir::Pick;
@@ -90,8 +91,8 @@ impl<R: Eprint + Clock + AllocGlobal> Exchanges<'_, '_, R> {
         level: u32,
     ) -> Result<(), FetchError>
         ensures reads { StillReads (P.speaks_for (source_of noted.old)) (P.speaks_for (source_of noted.new)) client.old client.new }
-        ensures asks { (p : Publication) → ReadsPublication (P.speaks_for (source_of noted.old)) client.old p
-            → OnOk result (IfSome (query_of client.new) (IsFor p.file (Whole level))) }
+        ensures asks { (book : Book) → ReadsBook (P.speaks_for (source_of noted.old)) client.old book
+            → OnOk result (AsksOf book (Whole level) client.new) }
         ensures few { StaysWithin self.now.requests (P.count (source_of noted.old)) (P.count (source_of noted.new)) }
     {
         for _ in 0..self.requests {
@@ -125,8 +126,8 @@ impl<R: Eprint + Clock + AllocGlobal> Exchanges<'_, '_, R> {
         asked: Asked,
     ) -> Result<(), FetchError>
         ensures reads { StillReads (P.speaks_for (source_of noted.old)) (P.speaks_for (source_of noted.new)) client.old client.new }
-        ensures asks { (p : Publication) → ReadsPublication (P.speaks_for (source_of noted.old)) client.old p
-            → OnOk result (IfSome (query_of client.new) (IsFor p.file asked)) }
+        ensures asks { (book : Book) → ReadsBook (P.speaks_for (source_of noted.old)) client.old book
+            → OnOk result (AsksOf book asked client.new) }
         ensures few { StaysWithin self.now.requests (P.count (source_of noted.old)) (P.count (source_of noted.new)) }
         ensures ends { OnOk result (Ends asked self.now.requests (P.count (source_of noted.new)) client.new) }
     {
@@ -147,9 +148,9 @@ impl<R: Eprint + Clock + AllocGlobal> Exchanges<'_, '_, R> {
         noted: &mut Noted<P>,
         asked: Asked,
     ) -> Result<Text<'c>, Fault>
-        // What is written is true of the publication that the client reads, if the source speaks for it.
-        ensures truth { (p : Publication)
-            → ReadsPublication (P.speaks_for (source_of noted.old)) client.old p → WritesTrue p asked result }
+        // What is written is true of one publication of each book that the client reads and the source speaks for.
+        ensures truth { (book : Book)
+            → ReadsBook (P.speaks_for (source_of noted.old)) client.old book → WritesTrue (name_of client.old) book asked result }
         // So many exchanges are made at most, and that no report stands is told of a query only after them all.
         ensures few { StaysWithin self.now.requests (P.count (source_of noted.old)) (P.count (source_of noted.new)) }
         ensures none { (query : Query) → asked ≡ AQuery query → result ≡ Err NoReport
@@ -222,8 +223,10 @@ fn level_sides(info: &Info, level: u32) -> (u32, u32)
 /// a window that isn't, either.
 #[tactic(auto, using(crate::proofs::WholeLemmas::whole_told))]
 fn whole_of(client: &Client, level: u32) -> Option<(Tag, Query)>
-    ensures { (p : Publication) → ClientAgrees client.now (p ∷ []) → IfSome result (λ whole. IsOfWhole p.file level whole.1) }
+    ensures { (book : Book) → HasDistinctTags book → ClientAgrees client.now book
+        → IfSome result (λ whole. IsOfWholeBy book whole.0 level whole.1) }
 {
+    fronts_are_read();
     let report = client.report()?;
     let Outcome::Info(info) = &report.outcome else {
         return None;
@@ -234,7 +237,9 @@ fn whole_of(client: &Client, level: u32) -> Option<(Tag, Query)>
 }
 
 /// Whether a client's report stands under another tag.
-fn has_another_tag(client: &Client, tag: &Tag) -> bool {
+fn has_another_tag(client: &Client, tag: &Tag) -> bool
+    ensures { result ≡ false → IfSome (report_of client.now) (λ r. r.tag ≡ tag.now) }
+{
     match client.report() {
         Some(report) => report.tag != *tag,
         None => false,

@@ -1,6 +1,6 @@
 -- What a server in memory has.
 use Rattle.std.specs.Prelude.{◌≡◌, ◌⊎◌, ℕ, List, [], Option, Some, None}
-use Rattle.http_range.specs.Book.{Publication, Catalogue, IsCatalogue, publish, published, publication_tag}
+use Rattle.http_range.specs.Book.{Publication, Book, Catalogue, In, IsCatalogue, publish, published, publication_tag}
 use Rattle.http_range.specs.Response.{Response, IsAnswer, text_of}
 use Rattle.cog_server.specs.Server.{ServerState}
 
@@ -9,6 +9,10 @@ pub record Has (catalogue : Catalogue) (name : List ℕ) (p : Publication) : Typ
   pub lawful : IsCatalogue catalogue
   pub named : p.name ≡ name
   pub there : published name catalogue ≡ Some p
+
+-- what the catalogue has under the name stands in the book
+abbrev pub StandsIn : Catalogue → List ℕ → Book → Type 0
+StandsIn catalogue name book = (p : Publication) × Has catalogue name p × In p book
 
 -- the first publication of an epoch
 abbrev pub first_of : ℕ → List ℕ → List ℕ → Publication

@@ -2,7 +2,7 @@
 ghost use Rattle.std.specs.Prelude.{◌≡◌, ◌↔◌, IfErr, IfOk, IsTrue, OnOk, None, option_map};
 ghost use Rattle.cog_client.specs.Transport.{IsTrueToAll};
 ghost use Rattle.cog_server.specs.Server.{IsRefusal, refusal_of};
-ghost use Rattle.transports.specs.InMemory.{Has, IsAbout, IsAnswerAbout, first_of, new_server, server_of_one};
+ghost use Rattle.transports.specs.InMemory.{Has, IsAbout, IsAnswerAbout, StandsIn, first_of, new_server, server_of_one};
 
 use cog_client::{Lost, Transport};
 use cog_server::{PublishError, Server};
@@ -22,7 +22,7 @@ fn is_about(carried: &Option<Vec<u8>>, name: &[u8]) -> bool
 /// The text of the server's answer, unless it is about another file.
 fn answer_about(server: &Server, name: &[u8], request: &[u8]) -> Result<Vec<u8>, Lost>
     ensures answered { IfOk result (λ text. IsAnswerAbout server.now.catalogue name.now request.now text.items) }
-    ensures shows { IfOk result (λ text. IsTrueToAll (Has server.now.catalogue name.now) text.items) }
+    ensures shows { IfOk result (λ text. IsTrueToAll (StandsIn server.now.catalogue name.now) text.items) }
 {
     fronts_are_read();
     let Ok(answer) = server.answer(request) else {
@@ -34,7 +34,7 @@ fn answer_about(server: &Server, name: &[u8], request: &[u8]) -> Result<Vec<u8>,
     Ok(answer.text)
 }
 
-/// A server that is asked for the file of one name. It speaks for the file that its catalogue has under that name. An
+/// A server that is asked for the file of one name. It speaks for each book that has the file of its catalogue under that name. An
 /// answer that carries another file's tag is lost, and so is one for which there is no memory.
 #[derive(Drop)]
 pub struct InMemory<'s> {
@@ -70,10 +70,10 @@ impl<'s> InMemory<'s> {
 impl Transport for InMemory<'_> {
     ghost use Rattle.std.specs.Prelude.{◌≡◌, ◌+◌, ◌<◌, ◌^◌, IfOk};
     ghost use Rattle.cog_client.specs.Transport.{IsTrueToAll, SpeaksOn};
-    ghost use Rattle.transports.specs.InMemory.{Has, IsAnswerAbout};
+    ghost use Rattle.transports.specs.InMemory.{IsAnswerAbout, StandsIn};
     ghost use Rattle.transports.specs.Transports.{exchanges_of, served_name, served_state};
 
-    ghost speaks_for = { λ s. Has (served_state s).catalogue (served_name s) };
+    ghost speaks_for = { λ s. StandsIn (served_state s).catalogue (served_name s) };
 
     ghost count = { exchanges_of };
 
@@ -88,9 +88,9 @@ impl Transport for InMemory<'_> {
 
         // So it keeps the trait's law.
         ensures shows { IfOk result (λ text.
-            IsTrueToAll (Has (served_state self.old).catalogue (served_name self.old)) text.items) }
-        ensures speaks { SpeaksOn (Has (served_state self.old).catalogue (served_name self.old))
-            (Has (served_state self.new).catalogue (served_name self.new)) }
+            IsTrueToAll (StandsIn (served_state self.old).catalogue (served_name self.old)) text.items) }
+        ensures speaks { SpeaksOn (StandsIn (served_state self.old).catalogue (served_name self.old))
+            (StandsIn (served_state self.new).catalogue (served_name self.new)) }
         ensures counted { exchanges_of self.new ≡ exchanges_of self.old + 1 }
     {
         self.exchanges += 1;
