@@ -394,7 +394,6 @@ module _ (lengths : LengthsAreKnown) where
   pub own_are_served : RequestsAreAnswered → FrontsAreRead → PublishedIsNamed → OwnAnswersAreServed
   own_are_served answered fronts named c p span text own knows = record {
     named = named.named (name_of c) own.catalogue p own.has;
-    lawful = lawful;
     asked = own.asked;
     ahead = own.ahead;
     asks = own.asks;

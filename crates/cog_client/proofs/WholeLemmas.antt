@@ -5,6 +5,7 @@ use Rattle.std.specs.Option.{option_map}
 use Rattle.std.proofs.lemmas.Bool.{false≢true}
 use Rattle.std.proofs.lemmas.Option.{none-some, same_Some}
 use Rattle.tiff_dir.specs.declared.query.Query.{Query}
+use Rattle.tiff_dir.specs.declared.span.Span.{Span}
 use Rattle.tiff_dir.specs.Query.{cost}
 use Rattle.http_range.specs.Book.{Publication, Book, HasDistinctTags, In}
 use Rattle.http_range.specs.Honest.{IsPieceOfBook, IsReadAs}
@@ -14,11 +15,12 @@ use Rattle.cog_client.specs.declared.report.Report.{Report}
 use Rattle.cog_client.specs.Case.{Revision}
 use Rattle.cog_client.specs.Client.{ClientAgrees, ClientState, Knows, KnowsOne, asked_of, how_of, name_of, query_of, report_of, revision_of, tag_of}
 use Rattle.cog_client.specs.Keeps.{AsksLike}
-use Rattle.cog_client.specs.Progress.{AreExchanges, AskingLeavesAsMuch, BringsOn, CostIsMost, DeliveryReports, Exchanges, GoingOnLeavesNoMore, ServedBringOn, WholeAnswersReport, left}
+use Rattle.cog_client.specs.Progress.{AnswersReport, AreExchanges, AskingLeavesAsMuch, BringsOn, CostIsMost, DeliveryReports, Exchanges, GoingOnLeavesNoMore, IsOwnAnswer, IsServed, OwnAnswersAreServed, ServedBringOn, left}
 use Rattle.cog_client.proofs.OwnLemmas.{served_piece}
 
 -- what is known of the single steps
 pub record StepLaws : Type 0 where
+  pub own : OwnAnswersAreServed
   pub bring : ServedBringOn
   pub goes : GoingOnLeavesNoMore
   pub asks : AskingLeavesAsMuch
@@ -59,17 +61,7 @@ record IsReading (book : Book) (q : Query) (c : ClientState) : Type 0 where
   agrees : ClientAgrees c book
   query : query_of c ≡ Some q
 
--- where the report stands nothing is asked any more
-ends : (p : Publication) (c next : ClientState) → Exchanges p c next → is_some (report_of c) ≡ true → ⊥
-ends p c next x stands =
-    let told = seen_as x.how c x.told x.tells in
-    let waits = seen_as (record (how_of x.asking) { ahead = x.ahead }) x.asking x.waiting x.looks in
-    let there : is_some (report_of x.told) ≡ true = ap is_some told.report ∙ stands in
-    let still : is_some (report_of x.asking) ≡ true = ap is_some (x.requests.seen.report there) ∙ there in
-    let asked : asked_of x.asking ≡ Some x.span = sym waits.asked ∙ x.served.asked in
-    none-some x.span (sym (x.requests.seen.idle (inr still)) ∙ asked)
-
-module _ (laws : StepLaws) (book : Book) (p : Publication) (q : Query) (distinct : HasDistinctTags book) (among : In p book) where
+module _ (laws : StepLaws) (book : Book) (p : Publication) (distinct : HasDistinctTags book) (among : In p book) where
   -- a client that agrees with the book knows p's file, where it has the tag
   knows_file : (c : ClientState) → ClientAgrees c book → tag_of c ≡ Some p.tag → Knows p.file c
   unfolding ClientAgrees
@@ -82,7 +74,38 @@ module _ (laws : StepLaws) (book : Book) (p : Publication) (q : Query) (distinct
           let same : k.source ≡ p = laws.one book distinct k.source p k.published among (k.of_tag ∙ same_tag) in
           subst (λ (s : Publication). Knows s.file c) same k.knows
 
-  step : (m : ℕ) (c next : ClientState) → IsReading book q c → IsWithin p q (suc m) c → Exchanges p c next → IsReading book q next × (IsSome (report_of next) ⊎ IsWithin p q m next)
+  -- so this server's own answer to it is one that any server gives
+  own_served : (c : ClientState) → ClientAgrees c book → (span : Span) (text : List ℕ) → IsOwnAnswer c p span text → IsServed c p span text
+  own_served c agrees span text own = laws.own c p span text own (knows_file c agrees)
+
+-- each such answer to a client that agrees with the book is as any server gives it
+abbrev AreServed : (ClientState → Publication → Span → List ℕ → Type 0) → Book → Publication → Type 0
+AreServed Answers book p = (c : ClientState) → ClientAgrees c book → (span : Span) (text : List ℕ) → Answers c p span text → IsServed c p span text
+
+module _ (laws : StepLaws) (book : Book) (p : Publication) (q : Query) (distinct : HasDistinctTags book) (among : In p book) (Answers : ClientState → Publication → Span → List ℕ → Type 0) (are : AreServed Answers book p) where
+  known : (c : ClientState) → ClientAgrees c book → tag_of c ≡ Some p.tag → Knows p.file c
+  known = knows_file laws book p distinct among
+
+  told_agrees : (c next : ClientState) → ClientAgrees c book → (x : Exchanges Answers p c next) → ClientAgrees x.told book
+  told_agrees c next agrees x = x.tells.agrees book agrees
+
+  waits_agrees : (c next : ClientState) → ClientAgrees c book → (x : Exchanges Answers p c next) → ClientAgrees x.waiting book
+  waits_agrees c next agrees x = x.looks.agrees book (x.requests.goes.agrees book (told_agrees c next agrees x))
+
+  served_in : (c next : ClientState) → ClientAgrees c book → (x : Exchanges Answers p c next) → IsServed x.waiting p x.span x.text
+  served_in c next agrees x = are x.waiting (waits_agrees c next agrees x) x.span x.text x.answered
+
+  -- where the report stands nothing is asked any more
+  ends : (c next : ClientState) → ClientAgrees c book → Exchanges Answers p c next → is_some (report_of c) ≡ true → ⊥
+  ends c next agrees x stands =
+      let told = seen_as x.how c x.told x.tells in
+      let waits = seen_as (record (how_of x.asking) { ahead = x.ahead }) x.asking x.waiting x.looks in
+      let there : is_some (report_of x.told) ≡ true = ap is_some told.report ∙ stands in
+      let still : is_some (report_of x.asking) ≡ true = ap is_some (x.requests.seen.report there) ∙ there in
+      let asked : asked_of x.asking ≡ Some x.span = sym waits.asked ∙ (served_in c next agrees x).asked in
+      none-some x.span (sym (x.requests.seen.idle (inr still)) ∙ asked)
+
+  step : (m : ℕ) (c next : ClientState) → IsReading book q c → IsWithin p q (suc m) c → Exchanges Answers p c next → IsReading book q next × (IsSome (report_of next) ⊎ IsWithin p q m next)
   step m c next r within x = (record { agrees = after; query = query }, by (report_of next) refl)
     where
       told : IsSeenAs c x.told
@@ -91,16 +114,16 @@ module _ (laws : StepLaws) (book : Book) (p : Publication) (q : Query) (distinct
       waits : IsSeenAs x.asking x.waiting
       waits = seen_as (record (how_of x.asking) { ahead = x.ahead }) x.asking x.waiting x.looks
 
-      told_agrees : ClientAgrees x.told book
-      told_agrees = x.tells.agrees book r.agrees
-
       agrees : ClientAgrees x.waiting book
-      agrees = x.looks.agrees book (x.requests.goes.agrees book told_agrees)
+      agrees = waits_agrees c next r.agrees x
+
+      served : IsServed x.waiting p x.span x.text
+      served = served_in c next r.agrees x
 
       read : IsReadAs (IsPieceOfBook (name_of x.waiting) book) x.text
       read r reads =
-          subst (λ r. IfOk r (IsPieceOfBook (name_of x.waiting) book)) (sym (x.served.read r reads))
-          (p, among, x.served.named, served_piece p x.span (tag_of x.waiting) x.served.begins)
+          subst (λ r. IfOk r (IsPieceOfBook (name_of x.waiting) book)) (sym (served.read r reads))
+          (p, among, served.named, served_piece p x.span (tag_of x.waiting) served.begins)
 
       after : ClientAgrees next book
       after = x.delivers.agrees book distinct agrees read
@@ -109,13 +132,13 @@ module _ (laws : StepLaws) (book : Book) (p : Publication) (q : Query) (distinct
       query = x.delivers.seen.same.query ∙ waits.query ∙ x.requests.seen.goes.same.query ∙ told.query ∙ r.query
 
       brings : BringsOn p x.waiting next x.what
-      brings = laws.bring x.waiting next p x.span x.text x.what x.served (knows_file x.waiting agrees) x.delivers
+      brings = laws.bring x.waiting next p x.span x.text x.what served (known x.waiting agrees) x.delivers
 
       tag : tag_of next ≡ Some p.tag
       tag = ap tag_by brings.revision
 
       knows : Knows p.file next
-      knows = knows_file next after tag
+      knows = known next after tag
 
       most : left p.file next ≤ cost p.file q
       most = some_of (query_of next) q (λ k. left p.file next ≤ cost p.file k) query (laws.cost_is next p.file knows)
@@ -129,7 +152,7 @@ module _ (laws : StepLaws) (book : Book) (p : Publication) (q : Query) (distinct
             arith,
             brings.less waiting_tag,
             laws.asks (record (how_of x.asking) { ahead = x.ahead }) x.asking x.waiting p.file x.looks,
-            laws.goes x.told x.asking p.file x.requests.goes (knows_file x.told told_agrees told_tag),
+            laws.goes x.told x.asking p.file x.requests.goes (known x.told (told_agrees c next r.agrees x) told_tag),
             laws.asks x.how c x.told p.file x.tells,
           )
 
@@ -147,21 +170,29 @@ module _ (laws : StepLaws) (book : Book) (p : Publication) (q : Query) (distinct
 
   -- ---- so many
 
-  reach : (n m : ℕ) (c new : ClientState) → IsReading book q c → IsSome (report_of c) ⊎ IsWithin p q m c → AreExchanges p n c new → (n ≤ m) × (IsSome (report_of new) ⊎ (n + 1 ≤ m))
+  reach : (n m : ℕ) (c new : ClientState) → IsReading book q c → IsSome (report_of c) ⊎ IsWithin p q m c → AreExchanges Answers p n c new → (n ≤ m) × (IsSome (report_of new) ⊎ (n + 1 ≤ m))
   reach zero m c new r (inl stands) is = (omega arith, inl (ap (λ (x : ClientState). is_some (report_of x)) is ∙ stands))
   reach zero m c new r (inr within) is = (omega arith, inr (some within))
     where
       some : IsWithin p q m c → 1 ≤ m
       some (inl low) = omega (arith, low)
       some (inr had) = had.2
-  reach (suc n) m c new r (inl stands) (mid, x, rest) = absurd (ends p c mid x stands)
+  reach (suc n) m c new r (inl stands) (mid, x, rest) = absurd (ends c mid r.agrees x stands)
   reach (suc n) zero c new r (inr within) (mid, x, rest) = absurd (elim within [ inl low ↦ omega (arith, low) | inr had ↦ omega (arith, had.2) ])
   reach (suc n) (suc m) c new r (inr within) (mid, x, rest) =
       let on = step m c mid r within x in
       let far = reach n m mid new on.0 on.1 rest in
       (omega (arith, far.0), elim far.1 [ inl stands ↦ inl stands | inr few ↦ inr (omega (arith, few)) ])
 
-pub whole_answers : StepLaws → WholeAnswersReport
-whole_answers laws book p q old opened new n distinct among agrees opens are =
-    let far = reach laws book p q distinct among n (cost p.file q + 1) opened new (record { agrees = opens.agrees book agrees; query = opens.seen.asks }) (inr (inl (omega arith))) are in
-    (far.0, elim far.1 [ inl stands ↦ inl stands | inr few ↦ inr (omega (arith, few)) ])
+module _ (laws : StepLaws) (Answers : ClientState → Publication → Span → List ℕ → Type 0) (are : (book : Book) (p : Publication) → HasDistinctTags book → In p book → AreServed Answers book p) where
+  pub answers_report : AnswersReport Answers
+  answers_report book p q old opened new n distinct among agrees opens exchanges =
+      let begins : IsReading book q opened = record { agrees = opens.agrees book agrees; query = opens.seen.asks } in
+      let far = reach laws book p q distinct among Answers (are book p distinct among) n (cost p.file q + 1) opened new begins (inr (inl (omega arith))) exchanges in
+      (far.0, elim far.1 [ inl stands ↦ inl stands | inr few ↦ inr (omega (arith, few)) ])
+
+pub served_report : StepLaws → AnswersReport IsServed
+served_report laws = answers_report laws IsServed (λ book p distinct among c agrees span text served. served)
+
+pub own_report : StepLaws → AnswersReport IsOwnAnswer
+own_report laws = answers_report laws IsOwnAnswer (λ book p distinct among. own_served laws book p distinct among)

@@ -7,7 +7,7 @@ use Rattle.tiff_dir.specs.Needs.{Extent, ends_past}
 use Rattle.tiff_dir.specs.Query.{blocks_of_extent as touched, cost, needs}
 use Rattle.http_range.specs.Ask.{CanAsk, request_by}
 use Rattle.http_range.specs.declared.reading.Why.{Why}
-use Rattle.http_range.specs.Book.{Publication, Book, Catalogue, HasDistinctTags, In, IsCatalogue, IsPublication, published}
+use Rattle.http_range.specs.Book.{Publication, Book, Catalogue, HasDistinctTags, In, IsCatalogue, published}
 use Rattle.http_range.specs.Piece.{SeenPiece}
 use Rattle.http_range.specs.Reading.{ReadsAnswer}
 use Rattle.http_range.specs.Response.{Response, IsAnswer, is_current, text_of}
@@ -135,7 +135,6 @@ piece_for p s known = if is_current known p.tag then part_of p s.first (min s.la
 -- client looked ahead when it asked, it may look otherwise now.
 pub record IsServed (c : ClientState) (p : Publication) (span : Span) (text : List ℕ) : Type 0 where
   pub named : p.name ≡ name_of c
-  pub lawful : IsPublication p
   pub asked : asked_of c ≡ Some span
   pub ahead : ℕ
   pub asks : AsksFor c (revision_of c) ahead span
@@ -161,8 +160,10 @@ ServedBringOn = (old new : ClientState) (p : Publication) (span : Span) (text : 
 
 -- ---- whole answers, one after another
 
--- A client is told how to ask, asks, may be told then to look otherwise ahead, and takes the whole answer that HTTP has a server of p give.
-pub record Exchanges (p : Publication) (old new : ClientState) : Type 0 where
+-- In what follows Answers says of a client, of a server's p, and of what was asked for, which texts answer it.
+
+-- A client is told how to ask, asks, may be told then to look otherwise ahead, and takes such an answer to what it asks for.
+pub record Exchanges (Answers : ClientState → Publication → Span → List ℕ → Type 0) (p : Publication) (old new : ClientState) : Type 0 where
   pub how : Asking
   pub told : ClientState
   pub tells : AsksLike how old told
@@ -174,18 +175,18 @@ pub record Exchanges (p : Publication) (old new : ClientState) : Type 0 where
   pub looks : LooksAhead ahead asking waiting
   pub span : Span
   pub text : List ℕ
-  pub served : IsServed waiting p span text
+  pub answered : Answers waiting p span text
   pub what : Delivered
   pub delivers : DeliversKeeping waiting text what new
 
 -- so many of them, one after another
-abbrev pub AreExchanges : Publication → ℕ → ClientState → ClientState → Type 0
-AreExchanges p zero old new = new ≡ old
-AreExchanges p (suc n) old new = (mid : ClientState) × Exchanges p old mid × AreExchanges p n mid new
+abbrev pub AreExchanges : (ClientState → Publication → Span → List ℕ → Type 0) → Publication → ℕ → ClientState → ClientState → Type 0
+AreExchanges Answers p zero old new = new ≡ old
+AreExchanges Answers p (suc n) old new = (mid : ClientState) × Exchanges Answers p old mid × AreExchanges Answers p n mid new
 
--- After an opening no more whole answers are taken than the query costs of p's file, and one more; with as many the report stands,
+-- After an opening no more such answers are taken than the query costs of p's file, and one more; with as many the report stands,
 -- however far the client looks ahead at each of them.
-abbrev pub WholeAnswersReport : Type 0
-WholeAnswersReport = (book : Book) (p : Publication) (q : Query) (old opened new : ClientState) (n : ℕ) →
-    HasDistinctTags book → In p book → ClientAgrees old book → OpensKeeping q old opened → AreExchanges p n opened new →
+abbrev pub AnswersReport : (ClientState → Publication → Span → List ℕ → Type 0) → Type 0
+AnswersReport Answers = (book : Book) (p : Publication) (q : Query) (old opened new : ClientState) (n : ℕ) →
+    HasDistinctTags book → In p book → ClientAgrees old book → OpensKeeping q old opened → AreExchanges Answers p n opened new →
     (n ≤ cost p.file q + 1) × (IsSome (report_of new) ⊎ (n ≤ cost p.file q))

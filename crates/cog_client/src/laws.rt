@@ -6,7 +6,7 @@ ghost use Rattle.cog_client.specs.Client.{AgreementIsSeen, query_of, to_come, Cl
 ghost use Rattle.cog_client.specs.Report.{TruthIsTold};
 ghost use Rattle.cog_client.specs.FedClient.{AnswersBeginAnywhere};
 ghost use Rattle.cog_client.specs.Fed.{CaseIsOfHead, CutsAreStored, EdgesAreStored, EndTells, LeavesByHead, PartsAreNotStored};
-ghost use Rattle.cog_client.specs.Progress.{AskingLeavesAsMuch, CostIsMost, DeliveryReports, GoingOnLeavesNoMore, NeededAreAsked, OneRangeIsAsked, OpeningLeavesCost, OwnAnswersAreServed, RequestReports, ServedBringOn, WholeAnswersReport};
+ghost use Rattle.cog_client.specs.Progress.{AnswersReport, AskingLeavesAsMuch, CostIsMost, DeliveryReports, GoingOnLeavesNoMore, IsOwnAnswer, IsServed, NeededAreAsked, OneRangeIsAsked, OpeningLeavesCost, OwnAnswersAreServed, RequestReports, ServedBringOn};
 
 use cached_reader::looks_at_one_range;
 use cog_reader::{end_is_wanted, lengths_are_known, nothing_comes};
@@ -68,9 +68,10 @@ pub fn whole_answers_bring_on()
 }
 
 /// After an opening as many whole answers as the query costs, and one more, lead to the report, however far the client looks ahead
-/// at each of them.
+/// at each of them: answers that HTTP has a server give, whichever it is, and answers of this server.
 pub fn whole_answers_report()
-    ensures { WholeAnswersReport }
+    ensures served { AnswersReport IsServed }
+    ensures own { AnswersReport IsOwnAnswer }
 {
     whole_answers_bring_on();
     left_never_grows();

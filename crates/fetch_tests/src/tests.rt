@@ -6,6 +6,7 @@ mod exchanges;
 mod fates;
 mod fetched;
 mod memory;
+mod replaced;
 mod tries;
 
 /// A window of level 0.

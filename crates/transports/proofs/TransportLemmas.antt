@@ -43,3 +43,9 @@ pub shown_fate : {A E : Type 0} (r : Result A E) (items : A → List ℕ) (speak
     → IsTrueToAll speaks text → IfOk r (λ x. IsTrueToAll speaks (items x))
 shown_fate (Ok x) items speaks text cut shows = shown_cut speaks (items x) text cut shows
 shown_fate (Err e) items speaks text cut shows = tt
+
+-- what shows only pieces of a server's books does so of those books that are of another server too
+pub shown_more : {A E : Type 0} (r : Result A E) (items : A → List ℕ) (speaks more : Book → Type 0) → ((book : Book) → more book → speaks book)
+    → IfOk r (λ x. IsTrueToAll speaks (items x)) → IfOk r (λ x. IsTrueToAll more (items x))
+shown_more (Ok x) items speaks more less shows = λ book spoken. shows book (less book spoken)
+shown_more (Err e) items speaks more less shows = tt

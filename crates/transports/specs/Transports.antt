@@ -1,10 +1,13 @@
 -- What others know of the transports here.
-use Rattle.std.specs.Prelude.{ℕ, List, drop}
+use Rattle.std.specs.Prelude.{ℕ, ◌==◌, if◌then◌else◌, List, [], ◌∷◌, drop}
+use Rattle.http_range.specs.Book.{Book}
 use Rattle.cog_server.specs.Server.{ServerState}
 use Rattle.transports.specs.declared.in_memory.InMemory.{InMemory}
 use Rattle.transports.specs.declared.in_pieces.InPieces.{InPieces}
+use Rattle.transports.specs.declared.replaced.Replaced.{Replaced}
 use Rattle.transports.specs.declared.scripted.Fate.{Fate}
 use Rattle.transports.specs.declared.scripted.Scripted.{Scripted}
+use Rattle.transports.specs.InMemory.{StandsIn}
 
 -- the server, and the name that it is asked for
 abbrev pub served_state : InMemory → ServerState
@@ -16,6 +19,27 @@ served_name s = s.name.now
 -- the exchanges so far
 abbrev pub exchanges_of : InMemory → ℕ
 exchanges_of s = s.exchanges
+
+-- of a server that is replaced: the servers before and after, the name, how many exchanges are left to the first one, and those so far
+abbrev pub states_of : Replaced → List ServerState
+states_of s = s.before.now ∷ s.after.now ∷ []
+
+abbrev pub name_of : Replaced → List ℕ
+name_of s = s.name.now
+
+abbrev pub left_of : Replaced → ℕ
+left_of s = s.left
+
+abbrev pub count_of : Replaced → ℕ
+count_of s = s.exchanges
+
+-- the server whose turn it is
+abbrev pub state_in_turn : Replaced → ServerState
+state_in_turn s = if s.left == 0 then s.after.now else s.before.now
+
+-- what either server has under the name stands in the book
+abbrev pub StandInBoth : Replaced → Book → Type 0
+StandInBoth s book = StandsIn s.before.now.catalogue s.name.now book × StandsIn s.after.now.catalogue s.name.now book
 
 -- the transport whose answers are lost and cut
 abbrev pub inner_of : {T : Type 0} → Scripted T → T

@@ -20,7 +20,7 @@ fn is_about(carried: &Option<Vec<u8>>, name: &[u8]) -> bool
 }
 
 /// The text of the server's answer, unless it is about another file.
-fn answer_about(server: &Server, name: &[u8], request: &[u8]) -> Result<Vec<u8>, Lost>
+pub(crate) fn answer_about(server: &Server, name: &[u8], request: &[u8]) -> Result<Vec<u8>, Lost>
     ensures answered { IfOk result (λ text. IsAnswerAbout server.now.catalogue name.now request.now text.items) }
     ensures shows { IfOk result (λ text. IsTrueToAll (StandsIn server.now.catalogue name.now) text.items) }
 {

@@ -1,13 +1,20 @@
-use Rattle.cog_client.proofs.WholeLemmas.{whole_answers}
+use Rattle.cog_client.specs.Progress.{AnswersReport, IsOwnAnswer, IsServed}
+use Rattle.cog_client.proofs.WholeLemmas.{StepLaws, own_report, served_report}
 use Rattle.cog_client.proofs.laws.whole_answers_report.Goals as goal
 
-pub returns : goal.returns
-returns c =
-    whole_answers (record {
-      bring = c.whole_answers_bring_on.ensures.served;
-      goes = c.left_never_grows.ensures.goes;
-      asks = c.left_never_grows.ensures.asks;
-      delivery = c.nothing_left_is_reported.ensures.delivery;
-      cost_is = c.left_never_grows.ensures.cost;
-      one = c.fronts_are_read.ensures.answers.one;
-    })
+step_laws : (c : goal.After-fronts_are_read) → StepLaws
+step_laws c = record {
+  own = c.whole_answers_bring_on.ensures.own;
+  bring = c.whole_answers_bring_on.ensures.served;
+  goes = c.left_never_grows.ensures.goes;
+  asks = c.left_never_grows.ensures.asks;
+  delivery = c.nothing_left_is_reported.ensures.delivery;
+  cost_is = c.left_never_grows.ensures.cost;
+  one = c.fronts_are_read.ensures.answers.one;
+}
+
+pub returns-clause-served : goal.returns-clause-served
+returns-clause-served c = served_report (step_laws c)
+
+pub returns-clause-own : goal.returns-clause-own
+returns-clause-own c = own_report (step_laws c)

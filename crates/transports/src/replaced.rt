@@ -1,0 +1,75 @@
+//! A server in memory whose file is replaced.
+use crate::in_memory::answer_about;
+use cog_client::{Lost, Transport};
+use cog_server::Server;
+
+/// A server that is asked for the file of one name, and after so many exchanges another server in its place, as where the file is
+/// replaced, or the server is started anew. It speaks for each book that has the files of both under that name, and counts its
+/// exchanges.
+#[derive(Drop)]
+pub struct Replaced<'s> {
+    before: &'s Server,
+    after: &'s Server,
+    name: &'s [u8],
+    left: u64,
+    exchanges: u64,
+}
+
+impl<'s> Replaced<'s> {
+    ghost use Rattle.std.specs.Prelude.{◌≡◌, [], ◌∷◌};
+    ghost use Rattle.transports.specs.Transports.{count_of, left_of, name_of, states_of};
+
+    /// A transport without exchanges: so many of them come to the first server.
+    pub fn new(before: &'s Server, after: &'s Server, name: &'s [u8], left: u64) -> Self
+        ensures servers { states_of result ≡ before.now ∷ after.now ∷ [] }
+        ensures name { name_of result ≡ name.now }
+        ensures left { left_of result ≡ left }
+        ensures exchanges { count_of result ≡ 0 }
+    {
+        Replaced {
+            before,
+            after,
+            name,
+            left,
+            exchanges: 0,
+        }
+    }
+}
+
+impl Transport for Replaced<'_> {
+    ghost use Rattle.std.specs.Prelude.{◌≡◌, ◌+◌, ◌-◌, ◌<◌, ◌^◌, IfOk};
+    ghost use Rattle.cog_client.specs.Transport.{IsTrueToAll, SpeaksOn};
+    ghost use Rattle.transports.specs.InMemory.{IsAnswerAbout};
+    ghost use Rattle.transports.specs.Transports.{StandInBoth, count_of, left_of, name_of, state_in_turn, states_of};
+
+    ghost speaks_for = { StandInBoth };
+
+    ghost count = { count_of };
+
+    fn exchange(&mut self, request: &[u8]) -> Result<Vec<u8>, Lost>
+        requires { count_of self.old + 1 < 2 ^ 64 }
+
+        // What comes is the answer to the request of the server whose turn it is.
+        ensures answered { IfOk result (λ text.
+            IsAnswerAbout (state_in_turn self.old).catalogue (name_of self.old) request.now text.items) }
+        ensures servers { states_of self.new ≡ states_of self.old }
+        ensures name { name_of self.new ≡ name_of self.old }
+        ensures left { left_of self.new ≡ left_of self.old - 1 }
+
+        // So it keeps the trait's law.
+        ensures shows { IfOk result (λ text. IsTrueToAll (StandInBoth self.old) text.items) }
+        ensures speaks { SpeaksOn (StandInBoth self.old) (StandInBoth self.new) }
+        ensures counted { count_of self.new ≡ count_of self.old + 1 }
+    {
+        self.exchanges += 1;
+        if self.left == 0 {
+            return answer_about(self.after, self.name, request);
+        }
+        self.left -= 1;
+        answer_about(self.before, self.name, request)
+    }
+
+    fn exchanges(&self) -> u64 {
+        self.exchanges
+    }
+}
