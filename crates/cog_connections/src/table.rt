@@ -137,6 +137,7 @@ impl Connections {
         ensures table { IfOk result (λ number. Becomes number (Some (record { connection = start; progress = now }))
             self.old.table.entries self.new.table.entries) }
         ensures next { OnOk result (self.new.next ≡ self.old.next + 1) }
+        ensures kept { OnErr result (self.new.next ≡ self.old.next) }
         ensures cap { self.new.table.cap ≡ self.old.table.cap }
         ensures err { OnErr result (self.new.table.entries ≡ self.old.table.entries) }
     {

@@ -132,6 +132,10 @@ impl<'a> Watched<'a> {
     ) -> Result<Tag, WatchError>
         ensures ok { IfOk result (IsPublished self.old.name.now server.old server.new) }
         ensures err { OnErr result (server.new ≡ server.old) }
+
+        // It is watched under its name, and by its path, from then on.
+        ensures name { self.new.name ≡ self.old.name }
+        ensures path { self.new.path ≡ self.old.path }
     {
         let seen = look(rt, self.path)?;
         let bytes = read_file(rt, self.path).map_err(WatchError::CantRead)?;
@@ -154,6 +158,8 @@ impl<'a> Watched<'a> {
         ensures ok { IfOk result (λ tag. IfSome tag (IsPublished self.old.name.now server.old server.new)) }
         ensures same { IfOk result (λ tag. tag ≡ None → server.new ≡ server.old) }
         ensures err { OnErr result (server.new ≡ server.old) }
+        ensures name { self.new.name ≡ self.old.name }
+        ensures path { self.new.path ≡ self.old.path }
     {
         let seen = look(rt, self.path)?;
         if seen.is_some() && seen == self.seen {

@@ -37,13 +37,12 @@ sides_told f i level is =
 
 whole_is : (f : List ℕ) (i : Info) (level : ℕ) (s : ℕ × ℕ) → IsInfoOf f i → IfSome (slice_get i.sides.items level) (λ t. t ≡ s)
     → IsOfWhole f level (Window 0 0 s.0 s.1 (Level level))
-whole_is f i level s is same =
-    subst (λ o. IfSome o (λ t. Window 0 0 s.0 s.1 (Level level) ≡ Window 0 0 t.0 t.1 (Level level)))
-    (sym (sides_told f i level is)) (at (slice_get i.sides.items level) same)
-  where
-    at : (o : Option (ℕ × ℕ)) → IfSome o (λ t. t ≡ s) → IfSome o (λ t. Window 0 0 s.0 s.1 (Level level) ≡ Window 0 0 t.0 t.1 (Level level))
-    at None same = tt
-    at (Some t) same = ap (λ (t : ℕ × ℕ). Window 0 0 t.0 t.1 (Level level)) (sym same)
+whole_is f i level s is same = record {
+  width = s.0;
+  height = s.1;
+  window = refl;
+  sides = subst (λ o. IfSome o (λ t. t ≡ s)) (sym (sides_told f i level is)) same;
+}
 
 -- A window with the sides that the client's report tells of a level is the whole of it, in the publication whose tag the report tells.
 pub whole_told : TagsTellOne → (book : Book) → HasDistinctTags book → (c : ClientState) (r : Report) (i : Info) (level : ℕ) (s : ℕ × ℕ) → Stands c (Some r) → ClientAgrees c book

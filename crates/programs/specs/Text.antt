@@ -22,9 +22,12 @@ use Rattle.programs.specs.declared.text.Text.{Text}
 unfoldable pub sides_of_level : List ℕ → ℕ → Option (ℕ × ℕ)
 sides_of_level f level = level_directory f level >>= sides f
 
--- The query is for the whole of a level, if the file has that.
-abbrev pub IsOfWhole : List ℕ → ℕ → Query → Type 0
-IsOfWhole f level q = IfSome (sides_of_level f level) (λ s. q ≡ Window 0 0 s.0 s.1 (Level level))
+-- The query is for the whole of a level. Of one that the file doesn't have it is for some window, which isn't there either.
+pub record IsOfWhole (f : List ℕ) (level : ℕ) (q : Query) : Type 0 where
+  pub width : ℕ
+  pub height : ℕ
+  pub window : q ≡ Window 0 0 width height (Level level)
+  pub sides : IfSome (sides_of_level f level) (λ s. s ≡ (width, height))
 
 -- The query is one for what is asked of the file: of a whole level also Info, which tells its sides.
 abbrev pub IsFor : List ℕ → Asked → Query → Type 0

@@ -139,18 +139,23 @@ where
     exchanges.text(client, &mut noted, numbers.asked)
 }
 
-/// Writes a text to the file at a path, or to standard output.
-fn write_text<R>(rt: &R, path: Option<&str>, text: &Text<'_>) -> Result<(), Fault>
+/// Writes a text to a line's file, or to standard output.
+fn write_text<R>(rt: &R, line: &ReadLine<'_>, text: &Text<'_>) -> Result<(), Fault>
 where
-    R: Files + Print + AllocGlobal,
+    R: Files + Print + Eprint + AllocGlobal,
 {
-    let Some(path) = path else {
+    let Some(path) = line.output else {
         return Ok(text.write_to(&mut io::writer(rt))?);
     };
     match replace_file(rt, path, &text.head, text.samples) {
         Ok(()) => Ok(()),
         Err(error) if error.kind() == io::ErrorKind::OutOfMemory => Err(Fault::Memory),
-        Err(_) => Err(Fault::CantWriteFile(String::from_str(rt.alloc(), path)?)),
+        Err(error) => {
+            if line.verbose {
+                let _ = eprintln!(rt; "cogread: {path} isn't written: {error}");
+            }
+            Err(Fault::CantWriteFile(String::from_str(rt.alloc(), path)?))
+        }
     }
 }
 
@@ -162,7 +167,7 @@ where
     let numbers = numbers_of(rt, line)?;
     let mut client = client_of(rt, line, numbers.blocks)?;
     let text = text_of_line(rt, line, numbers, &mut client)?;
-    write_text(rt, line.output, &text)
+    write_text(rt, line, &text)
 }
 
 /// The words with a server and a name in the place of their URL.

@@ -45,8 +45,8 @@ pub enum ServeError<'a> {
     #[error("can't listen: {0}")]
     CantListen(io::Error),
     /// No connection can be accepted any more.
-    #[error("can't accept")]
-    CantAccept,
+    #[error("can't accept: {0}")]
+    CantAccept(io::Error),
     /// Standard output can't be written.
     #[error("can't write: {0}")]
     CantWrite(io::Error),
@@ -56,9 +56,10 @@ impl From<AcceptError> for ServeError<'_> {
     ghost use Rattle.std.specs.Prelude.{◌≡◌};
     ghost use Rattle.served_files.specs.declared.error.ServeError.TheVariants.{CantAccept};
 
-    ghost from_gives = { λ _ error. error ≡ CantAccept };
+    ghost from_gives = { λ refused error. error ≡ CantAccept refused.0 };
 
-    fn from(_error: AcceptError) -> Self {
-        ServeError::CantAccept
+    fn from(error: AcceptError) -> Self {
+        let AcceptError(error) = error;
+        ServeError::CantAccept(error)
     }
 }

@@ -77,8 +77,8 @@ where
         if serving.is_over() {
             break;
         }
-        if serving.wait(moment(log.rt)).is_err() {
-            return Err(ServeError::CantAccept);
+        if let Err(error) = serving.wait(moment(log.rt)) {
+            return Err(ServeError::CantAccept(error));
         }
     }
     Ok(())

@@ -41,9 +41,9 @@ pub struct Limits {
     pub patience: u64,
 }
 
-/// No connection can be accepted any more.
-#[derive(Clone, Copy, Debug, PartialEq, Eq)]
-pub struct AcceptError;
+/// No connection can be accepted any more, and what the system says of it.
+#[derive(Debug, Drop)]
+pub struct AcceptError(pub io::Error);
 
 /// A server's sockets. Each moment is given in milliseconds of one clock.
 #[derive(Drop)]
@@ -116,7 +116,7 @@ impl Serving {
             match self.listener.accept() {
                 Ok((stream, _)) => self.welcome(stream, now)?,
                 Err(error) => {
-                    if !self.may_try_again(&error, now)? {
+                    if !self.may_try_again(error, now)? {
                         break;
                     }
                 }
@@ -172,7 +172,7 @@ impl Serving {
         let registry = self.poll.registry();
         registry
             .reregister(&mut self.listener, LISTENER, Interest::READABLE)
-            .map_err(|_| AcceptError)
+            .map_err(AcceptError)
     }
 
     /// Gives a newcomer its place.
@@ -188,7 +188,7 @@ impl Serving {
     /// Whether to try again at once: where there is no room for a newcomer and another connection was displaced for it. Else no newcomer
     /// waits, or it waits until the system says so again: behind one that is lost at once, without room once a connection ends or can be
     /// displaced.
-    fn may_try_again(&mut self, error: &io::Error, now: u64) -> Result<bool, AcceptError> {
+    fn may_try_again(&mut self, error: io::Error, now: u64) -> Result<bool, AcceptError> {
         match error.raw_os_error() {
             _ if error.kind() == ErrorKind::WouldBlock => {
                 self.knocks = false;
@@ -205,7 +205,7 @@ impl Serving {
                 self.ask()?;
                 Ok(false)
             }
-            _ => Err(AcceptError),
+            _ => Err(AcceptError(error)),
         }
     }
 

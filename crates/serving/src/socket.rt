@@ -1,5 +1,7 @@
 //! Bytes between a connection and its socket.
-ghost use Rattle.std.specs.Prelude.{◌≤◌, IfOk, length};
+ghost use Rattle.std.specs.Prelude.{◌≤◌, IfOk, OnErr, length, take};
+ghost use Rattle.cog_server.specs.Received.{after_read};
+ghost use Rattle.cog_connections.specs.Table.{Changes, GoesOnAt, timed_after_write, timed_at};
 
 use cog_connections::Connections;
 use cog_server::Server;
@@ -21,7 +23,12 @@ pub fn write_some(
     mut stream: &TcpStream,
     most: usize,
     now: u64,
-) -> io::Result<usize> {
+) -> io::Result<usize>
+    ensures few { IfOk result (λ n. n ≤ most) }
+    ensures wrote { IfOk result (λ n. Changes number (timed_after_write n now)
+        connections.old.table.entries connections.new.table.entries) }
+    ensures err { OnErr result (Changes number (λ p. p) connections.old.table.entries connections.new.table.entries) }
+{
     let Some(timed) = connections.get(number) else {
         return Ok(0);
     };
@@ -48,7 +55,10 @@ pub fn read_some(
     mut stream: &TcpStream,
     buffer: &mut [u8],
 ) -> io::Result<usize>
-    ensures { IfOk result (λ n. n ≤ length buffer.new) }
+    ensures within { IfOk result (λ n. n ≤ length buffer.new) }
+    ensures came { IfOk result (λ n. Changes number (λ p. record p { connection = after_read (take n buffer.new) p.connection })
+        connections.old.table.entries connections.new.table.entries) }
+    ensures err { OnErr result (Changes number (λ p. p) connections.old.table.entries connections.new.table.entries) }
 {
     let Some(timed) = connections.get(number) else {
         return Ok(0);
@@ -69,6 +79,10 @@ pub fn answer(
     number: u64,
     server: &Server,
     now: u64,
-) -> io::Result<bool> {
+) -> io::Result<bool>
+    ensures ok { IfOk result (GoesOnAt server.now.catalogue number now (timed_at number connections.old.table.entries)
+        connections.old.table.entries connections.new.table.entries) }
+    ensures err { OnErr result (Changes number (λ p. p) connections.old.table.entries connections.new.table.entries) }
+{
     connections.go_on(number, server, now).map_err(memory)
 }

@@ -233,7 +233,12 @@ fn ends_where_no_connection_is_accepted(rt: HostRuntime) -> Result<(), Fail> {
     let mut server = Server::new(rt.alloc(), 1);
     let mut log = unlogged(&capture);
     let served = serve_connections(&mut log, &mut server, &mut [], deaf, limits(1));
-    assert!(rt; matches!(served, Err(ServeError::CantAccept)));
+    let Err(error) = served else {
+        return Err(Fail::from("it accepts"));
+    };
+    assert!(rt; matches!(error, ServeError::CantAccept(_)));
+    let told = format!(in rt.alloc(); "{error}")?;
+    assert!(rt; told.as_str().starts_with("can't accept: "), "{told}");
     let (out, _) = capture.into_texts();
     assert!(rt; out.is_empty());
     assert_eq!(rt; Fault::CantAccept.status(), 1);
