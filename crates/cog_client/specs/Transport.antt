@@ -1,9 +1,11 @@
 -- What a transport promises, and what fetching over it keeps.
-use Rattle.std.specs.Prelude.{◌≡◌, ℕ, ◌+◌, ◌⊎◌, List, Option, None}
+use Rattle.std.specs.Prelude.{◌≡◌, ℕ, zero, suc, ◌+◌, ◌⊎◌, List, Option, Some, None}
 use Rattle.tiff_dir.specs.declared.query.Query.{Query}
 use Rattle.http_range.specs.Book.{Publication, Book, HasDistinctTags, In}
 use Rattle.http_range.specs.Honest.{IsPieceOfSome, ShowsOnly}
+use Rattle.cog_client.specs.declared.delivered.Delivered.{Delivered}
 use Rattle.cog_client.specs.declared.report.Report.{Report}
+use Rattle.cog_client.specs.Keeps.{DeliversKeeping, RequestsKeeping}
 use Rattle.cog_client.specs.Report.{IsTrueReport}
 use Rattle.cog_client.specs.Client.{ClientState, ClientAgrees, name_of, query_of}
 use Rattle.cog_client.specs.Calls.{SameClient}
@@ -38,3 +40,37 @@ IsTrueOfBooks speaks c r = (book : Book) → ReadsBook speaks c book → IsTrueR
 -- there is no report: so many exchanges more are used up, or there is no query
 abbrev pub IsInVain : Option Query → ℕ → ℕ → ℕ → Type 0
 IsInVain query tries old new = (new ≡ old + tries) ⊎ (query ≡ None)
+
+-- ---- what is exchanged
+
+-- In what follows answers says of a transport which texts may come of the answer to a request.
+
+-- what may come later might have come before
+abbrev pub AnswersOn : (List ℕ → List ℕ → Type 0) → (List ℕ → List ℕ → Type 0) → Type 0
+AnswersOn before after = (request text : List ℕ) → after request text → before request text
+
+-- The answer to a request is lost, or what came of it is taken.
+abbrev pub TakesOrLoses : (List ℕ → List ℕ → Type 0) → List ℕ → ClientState → ClientState → Type 0
+TakesOrLoses answers request old new =
+    (new ≡ old) ⊎ ((text : List ℕ) × (what : Delivered) × answers request text × DeliversKeeping old text what new)
+
+-- so it is, if there is a request
+abbrev pub TakesIfAsked : (List ℕ → List ℕ → Type 0) → Option (List ℕ) → ClientState → ClientState → Type 0
+TakesIfAsked answers None old new = new ≡ old
+TakesIfAsked answers (Some request) old new = TakesOrLoses answers request old new
+
+-- The client is asked for its request, and what comes of the answer to it is taken.
+pub record FetchesOnce (answers : List ℕ → List ℕ → Type 0) (old new : ClientState) : Type 0 where
+  pub request : Option (List ℕ)
+  pub asking : ClientState
+  pub asks : RequestsKeeping old request asking
+  pub takes : TakesIfAsked answers request asking new
+
+-- So it is so many times, and nothing else is done to the client.
+abbrev pub Fetches : (List ℕ → List ℕ → Type 0) → ℕ → ClientState → ClientState → Type 0
+Fetches answers zero old new = new ≡ old
+Fetches answers (suc n) old new = (mid : ClientState) × Fetches answers n old mid × FetchesOnce answers mid new
+
+-- It is done some times.
+abbrev pub FetchesSome : (List ℕ → List ℕ → Type 0) → ClientState → ClientState → Type 0
+FetchesSome answers old new = (n : ℕ) × Fetches answers n old new

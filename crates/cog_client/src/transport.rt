@@ -1,7 +1,7 @@
 //! What carries a client's requests, and brings the answers.
-ghost use Rattle.std.specs.Prelude.{◌≡◌, ◌+◌, ◌<◌, ◌^◌, ℕ, IfOk};
+ghost use Rattle.std.specs.Prelude.{◌≡◌, ◌+◌, ◌<◌, ◌^◌, ℕ, IfOk, List};
 ghost use Rattle.http_range.specs.Book.{Book};
-ghost use Rattle.cog_client.specs.Transport.{IsTrueToAll, SpeaksOn};
+ghost use Rattle.cog_client.specs.Transport.{AnswersOn, IsTrueToAll, SpeaksOn};
 
 use thiserror::Error;
 
@@ -15,12 +15,17 @@ pub trait Transport {
     /// It speaks for this book: each piece of a file that is read of what it brings is of a publication of it, by its tag, length and bytes.
     ghost speaks_for: { Self → Book → Type 0 };
 
+    /// This text may come of the answer to this request. One that leaves this out says nothing of it.
+    ghost answers: { Self → List ℕ → List ℕ → Type 0 } = { λ _ _ _. Unit {0} };
+
     /// The exchanges so far.
     ghost count: { Self → ℕ };
 
     /// One exchange: sends a request, and gives what came of its answer.
     fn exchange(&mut self, request: &[u8]) -> Result<Vec<u8>, Lost>
         requires { count self.old + 1 < 2 ^ 64 }
+        ensures answered { IfOk result (λ text. answers self.old request.now text.items) }
+        ensures goes_on { AnswersOn (answers self.old) (answers self.new) }
         ensures shows { IfOk result (λ text. IsTrueToAll (speaks_for self.old) text.items) }
         ensures speaks { SpeaksOn (speaks_for self.old) (speaks_for self.new) }
         ensures counted { count self.new ≡ count self.old + 1 };

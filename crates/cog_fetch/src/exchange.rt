@@ -1,7 +1,7 @@
 //! One exchange: a request is sent, and what comes of its answer is taken.
-ghost use Rattle.std.specs.Prelude.{◌≡◌, ◌+◌, ◌<◌, ◌^◌, ℕ};
+ghost use Rattle.std.specs.Prelude.{◌≡◌, ◌+◌, ◌<◌, ◌^◌, ℕ, List, OnOk};
 ghost use Rattle.http_range.specs.Book.{Book};
-ghost use Rattle.cog_client.specs.Transport.{KeepsReading, SpeaksOn};
+ghost use Rattle.cog_client.specs.Transport.{AnswersOn, KeepsReading, SpeaksOn, TakesOrLoses};
 
 use crate::taking::take_answer;
 use cog_client::{Client, FetchError, Lost, Memory, Pieces, Transport};
@@ -10,6 +10,9 @@ use cog_client::{Client, FetchError, Lost, Memory, Pieces, Transport};
 pub(crate) trait Exchange<S> {
     /// It speaks for this book: each piece of a file that is read of what it brings is of a publication of it, by its tag, length and bytes.
     ghost speaks_for: { S → Book → Type 0 };
+
+    /// This text may come of the answer to this request.
+    ghost answers: { S → List ℕ → List ℕ → Type 0 };
 
     /// The exchanges so far.
     ghost count: { S → ℕ };
@@ -23,6 +26,8 @@ pub(crate) trait Exchange<S> {
     ) -> Result<(), FetchError>
         requires { count source.old + 1 < 2 ^ 64 }
         ensures keeps { KeepsReading (speaks_for source.old) (speaks_for source.new) client.old client.new }
+        ensures takes { OnOk result (TakesOrLoses (answers source.old) request.now client.old client.new) }
+        ensures goes_on { AnswersOn (answers source.old) (answers source.new) }
         ensures counted { count source.new ≡ count source.old + 1 };
 }
 
@@ -31,6 +36,8 @@ pub(crate) struct Whole;
 
 impl<T: Transport> Exchange<T> for Whole {
     ghost speaks_for = { T.speaks_for };
+
+    ghost answers = { T.answers };
 
     ghost count = { T.count };
 
@@ -69,6 +76,8 @@ pub(crate) struct InPieces;
 
 impl<P: Pieces> Exchange<P> for InPieces {
     ghost speaks_for = { P.speaks_for };
+
+    ghost answers = { λ _ _ _. Unit {0} };
 
     ghost count = { P.count };
 

@@ -7,7 +7,7 @@ ghost use Rattle.cog_client.specs.contracts.client.Client.{the_row};
 ghost use Rattle.cog_client.specs.Client.{query_of, report_of};
 ghost use Rattle.cog_client.specs.Calls.{IsIdle};
 ghost use Rattle.cog_client.specs.Keeps.{Stands};
-ghost use Rattle.cog_client.specs.Transport.{IsInVain, IsTrueOfBooks, KeepsReading};
+ghost use Rattle.cog_client.specs.Transport.{AnswersOn, FetchesOnce, FetchesSome, IsInVain, IsTrueOfBooks, KeepsReading};
 
 use crate::exchange::{Exchange, InPieces, Whole};
 use cog_client::{Client, FetchError, Pieces, Report, Transport};
@@ -20,6 +20,8 @@ fn exchange_once<S, E: Exchange<S>>(
 ) -> Result<bool, FetchError>
     requires { E.count source.old + 1 < 2 ^ 64 }
     ensures keeps { KeepsReading (E.speaks_for source.old) (E.speaks_for source.new) client.old client.new }
+    ensures fetches { OnOk result (FetchesOnce (E.answers source.old) client.old client.new) }
+    ensures goes_on { AnswersOn (E.answers source.old) (E.answers source.new) }
     ensures counted { IfOk result (λ asked. E.count source.new
         ≡ (if asked then E.count source.old + 1 else E.count source.old)) }
     ensures few { E.count source.new ≤ E.count source.old + 1 }
@@ -44,6 +46,7 @@ fn exchange_up_to<S, E: Exchange<S>>(
 ) -> Result<(), FetchError>
     requires { E.count source.old + tries < 2 ^ 64 }
     ensures keeps { KeepsReading (E.speaks_for source.old) (E.speaks_for source.new) client.old client.new }
+    ensures fetches { OnOk result (FetchesSome (E.answers source.old) client.old client.new) }
     ensures ends { OnOk result ((E.count source.new ≡ E.count source.old + tries) ⊎ IsIdle client.new) }
     ensures few { E.count source.new ≤ E.count source.old + tries }
     ensures idle { IsIdle client.old → E.count source.new ≡ E.count source.old }
@@ -68,10 +71,11 @@ pub fn fetch<'c, T: Transport>(
     requires { T.count transport.old + tries < 2 ^ 64 }
 
     // A client that reads a book for which the transport speaks reads it still, whatever was lost or cut, and
-    // after want of memory too. What is given is its standing report.
+    // after want of memory too. What is given is its standing report. Its own requests were sent one after another, and what
+    // came of their answers taken, and nothing else was done to it.
     ensures* client { sem 𝓛 (Rests the_row client.entry (λ c.
         KeepsReading (T.speaks_for transport.old) (T.speaks_for transport.new) client.old c
-        × IfOk result (λ report. Stands c (option_copied report)))) }
+        × IfOk result (λ report. Stands c (option_copied report) × FetchesSome (T.answers transport.old) client.old c))) }
 
     // A report is true of one publication of that book: of the one whose tag it tells.
     ensures report { IfOk result (λ report.
@@ -103,10 +107,11 @@ pub fn fetch_pieces<'c, P: Pieces>(
     requires { P.count pieces.old + tries < 2 ^ 64 }
 
     // A client that reads a book for which the source speaks reads it still, whatever was lost or cut, and after want of
-    // memory too. What is given is its standing report.
+    // memory too. What is given is its standing report. Its requests were asked for, and answers taken, in turn, and nothing else
+    // was done to it.
     ensures* client { sem 𝓛 (Rests the_row client.entry (λ c.
         KeepsReading (P.speaks_for pieces.old) (P.speaks_for pieces.new) client.old c
-        × IfOk result (λ report. Stands c (option_copied report)))) }
+        × IfOk result (λ report. Stands c (option_copied report) × FetchesSome (λ _ _. Unit {0}) client.old c))) }
 
     // A report is true of one publication of that book: of the one whose tag it tells.
     ensures report { IfOk result (λ report.
@@ -135,6 +140,7 @@ pub fn exchange_pieces<P: Pieces>(
 ) -> Result<bool, FetchError>
     requires { P.count pieces.old + 1 < 2 ^ 64 }
     ensures keeps { KeepsReading (P.speaks_for pieces.old) (P.speaks_for pieces.new) client.old client.new }
+    ensures fetches { OnOk result (FetchesOnce (λ _ _. Unit {0}) client.old client.new) }
     ensures counted { IfOk result (λ asked. P.count pieces.new
         ≡ (if asked then P.count pieces.old + 1 else P.count pieces.old)) }
     ensures few { P.count pieces.new ≤ P.count pieces.old + 1 }

@@ -1,13 +1,14 @@
 -- What others know of the transports here.
-use Rattle.std.specs.Prelude.{ℕ, ◌==◌, if◌then◌else◌, List, [], ◌∷◌, drop}
+use Rattle.std.specs.Prelude.{ℕ, ◌==◌, ◌⊎◌, if◌then◌else◌, List, [], ◌∷◌, drop}
 use Rattle.http_range.specs.Book.{Book}
+use Rattle.http_range.specs.Honest.{IsFront}
 use Rattle.cog_server.specs.Server.{ServerState}
 use Rattle.transports.specs.declared.in_memory.InMemory.{InMemory}
 use Rattle.transports.specs.declared.in_pieces.InPieces.{InPieces}
 use Rattle.transports.specs.declared.replaced.Replaced.{Replaced}
 use Rattle.transports.specs.declared.scripted.Fate.{Fate}
 use Rattle.transports.specs.declared.scripted.Scripted.{Scripted}
-use Rattle.transports.specs.InMemory.{StandsIn}
+use Rattle.transports.specs.InMemory.{IsAnswerAbout, StandsIn}
 
 -- the server, and the name that it is asked for
 abbrev pub served_state : InMemory → ServerState
@@ -40,6 +41,15 @@ state_in_turn s = if s.left == 0 then s.after.now else s.before.now
 -- what either server has under the name stands in the book
 abbrev pub StandInBoth : Replaced → Book → Type 0
 StandInBoth s book = StandsIn s.before.now.catalogue s.name.now book × StandsIn s.after.now.catalogue s.name.now book
+
+-- the answer of either server to a request
+abbrev pub AnswersOfEither : Replaced → List ℕ → List ℕ → Type 0
+AnswersOfEither s request text =
+    IsAnswerAbout s.before.now.catalogue s.name.now request text ⊎ IsAnswerAbout s.after.now.catalogue s.name.now request text
+
+-- a front of what may come of the answer to a request
+abbrev pub FrontsOf : (List ℕ → List ℕ → Type 0) → List ℕ → List ℕ → Type 0
+FrontsOf answers request text = (whole : List ℕ) × answers request whole × IsFront text whole
 
 -- the transport whose answers are lost and cut
 abbrev pub inner_of : {T : Type 0} → Scripted T → T

@@ -38,11 +38,13 @@ impl<'s> Replaced<'s> {
 
 impl Transport for Replaced<'_> {
     ghost use Rattle.std.specs.Prelude.{◌≡◌, ◌+◌, ◌-◌, ◌<◌, ◌^◌, IfOk};
-    ghost use Rattle.cog_client.specs.Transport.{IsTrueToAll, SpeaksOn};
+    ghost use Rattle.cog_client.specs.Transport.{AnswersOn, IsTrueToAll, SpeaksOn};
     ghost use Rattle.transports.specs.InMemory.{IsAnswerAbout};
-    ghost use Rattle.transports.specs.Transports.{StandInBoth, count_of, left_of, name_of, state_in_turn, states_of};
+    ghost use Rattle.transports.specs.Transports.{AnswersOfEither, StandInBoth, count_of, left_of, name_of, state_in_turn, states_of};
 
     ghost speaks_for = { StandInBoth };
+
+    ghost answers = { AnswersOfEither };
 
     ghost count = { count_of };
 
@@ -50,13 +52,15 @@ impl Transport for Replaced<'_> {
         requires { count_of self.old + 1 < 2 ^ 64 }
 
         // What comes is the answer to the request of the server whose turn it is.
-        ensures answered { IfOk result (λ text.
+        ensures in_turn { IfOk result (λ text.
             IsAnswerAbout (state_in_turn self.old).catalogue (name_of self.old) request.now text.items) }
         ensures servers { states_of self.new ≡ states_of self.old }
         ensures name { name_of self.new ≡ name_of self.old }
         ensures left { left_of self.new ≡ left_of self.old - 1 }
 
         // So it keeps the trait's law.
+        ensures answered { IfOk result (λ text. AnswersOfEither self.old request.now text.items) }
+        ensures goes_on { AnswersOn (AnswersOfEither self.old) (AnswersOfEither self.new) }
         ensures shows { IfOk result (λ text. IsTrueToAll (StandInBoth self.old) text.items) }
         ensures speaks { SpeaksOn (StandInBoth self.old) (StandInBoth self.new) }
         ensures counted { count_of self.new ≡ count_of self.old + 1 }

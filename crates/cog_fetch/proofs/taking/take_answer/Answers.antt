@@ -18,3 +18,8 @@ returns-clause-takes g c =
     let t = c.in_ok-take_pieces.ensures.ok in
     let e = c.in_ok-end.ensures.ok c.args.client.now t.bytes (t.fed c.args.client.now [] c.begin.ensures) in
     record { bytes = t.bytes; next = t.next; same = e.seen.same; agrees = e.agrees }
+
+pub returns-clause-ok : goal.returns-clause-ok
+returns-clause-ok g c =
+    let t = c.in_ok-take_pieces.ensures.ok in
+    (t.bytes, c.in_ok-end.field-0, c.in_ok-end.ensures.ok c.args.client.now t.bytes (t.fed c.args.client.now [] c.begin.ensures))

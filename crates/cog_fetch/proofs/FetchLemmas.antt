@@ -1,0 +1,25 @@
+-- One exchange more.
+use Rattle.std.proofs.Common.{◌≡◌, ◌⊎◌, ℕ, suc, ◌+◌, List, Option, Some, None, sym, subst, inl, inr, add-one}
+use Rattle.cog_client.specs.Client.{ClientState}
+use Rattle.cog_client.specs.Transport.{AnswersOn, Fetches, FetchesOnce, FetchesSome, TakesIfAsked}
+
+takes_as : (before after : List ℕ → List ℕ → Type 0) → AnswersOn before after → (request : Option (List ℕ)) (old new : ClientState)
+    → TakesIfAsked after request old new → TakesIfAsked before request old new
+takes_as before after on None old new same = same
+takes_as before after on (Some request) old new (inl lost) = inl lost
+takes_as before after on (Some request) old new (inr (text, what, came, delivers)) = inr (text, what, on request text came, delivers)
+
+once_as : (before after : List ℕ → List ℕ → Type 0) → AnswersOn before after → (old new : ClientState)
+    → FetchesOnce after old new → FetchesOnce before old new
+once_as before after on old new once = record {
+  request = once.request;
+  asking = once.asking;
+  asks = once.asks;
+  takes = takes_as before after on once.request once.asking new once.takes;
+}
+
+-- what a transport answers later is what it might have answered at first
+pub fetches_more : (before after : List ℕ → List ℕ → Type 0) → AnswersOn before after → (n : ℕ) (old mid new : ClientState)
+    → Fetches before n old mid → FetchesOnce after mid new → Fetches before (n + 1) old new
+fetches_more before after on n old mid new are once =
+    subst (λ k. Fetches before k old new) (sym (add-one n)) (mid, are, once_as before after on mid new once)
