@@ -80,12 +80,13 @@ int32_t cog_client_new(const uint8_t *host, size_t host_length, const uint8_t *n
 /* cog_client_free: frees the client of a handle, if it has one; the handle is then as one of zeros. */
 void cog_client_free(struct cog_client *client);
 
-/* cog_client_forget: drops all that is known of the file, a report that stands too; host, name, query, and whether connections
- * are kept, stay. Gives 0 or COG_NO_CLIENT. */
+/* cog_client_forget: drops all that is known of the file, a report that stands too; host, name, query, whether connections are
+ * kept, and how far it looks ahead, stay. Gives 0 or COG_NO_CLIENT. */
 int32_t cog_client_forget(struct cog_client *client);
 
-/* cog_client_keep_open: writes requests without `Connection: close` from here on, so that a connection may be kept from one to the next. The
- * caller has to know then where an answer ends (RFC 9112, section 6.3), and feeds no byte behind it. Gives 0 or COG_NO_CLIENT. */
+/* cog_client_keep_open: writes all requests but the check without `Connection: close` from here on, so that a connection may be kept from
+ * one to the next. The caller has to know then where an answer ends (RFC 9112, section 6.3), and feeds no byte behind it. Gives 0 or
+ * COG_NO_CLIENT. */
 int32_t cog_client_keep_open(struct cog_client *client);
 
 /* cog_client_look_ahead: looks ahead by so many blocks from here on: a request asks, behind the blocks that are missing of the range that is
@@ -111,8 +112,8 @@ int64_t cog_client_request(struct cog_client *client, uint8_t *room, size_t leng
 /* cog_client_later: lays the text of the request into the room that will come `index` requests after the next one, 0 for the one right
  * behind it, as far as it is known before their answers which bytes are needed then. It may be sent ahead of its time, on the same
  * connection too; its answer is taken once cog_client_request gives the same text. Another one may come in its place, as where the file is
- * replaced or an answer is cut. Gives the text's length; 0, where none is known; COG_MEMORY or COG_NO_CLIENT. It changes nothing of the
- * client. */
+ * replaced or an answer is cut. Gives the text's length; 0, where none is known, as before cog_client_keep_open and cog_client_look_ahead;
+ * COG_MEMORY or COG_NO_CLIENT. It changes nothing of the client. */
 int64_t cog_client_later(struct cog_client *client, uint32_t index, uint8_t *room, size_t length);
 
 /* cog_client_begin: begins an answer to the request. An unfinished one is dropped. Gives 0 or COG_NO_CLIENT. */
@@ -165,7 +166,8 @@ int64_t cog_client_pixels(struct cog_client *client, uint8_t *room, size_t lengt
 int64_t cog_client_info(struct cog_client *client, uint8_t *room, size_t length);
 
 /* cog_client_check: the text of a request that asks whether the file still has the tag of what is known: a HEAD with If-None-Match. Gives
- * its length; 0, where nothing is known; COG_MEMORY or COG_NO_CLIENT. It changes nothing of the client. */
+ * its length; 0, where nothing is known; COG_MEMORY or COG_NO_CLIENT. It changes nothing of the client. The text
+ * always has `Connection: close`. */
 int64_t cog_client_check(struct cog_client *client, uint8_t *room, size_t length);
 
 enum { COG_SAME = 1, COG_OTHER = 2, COG_UNKNOWN = 3 /* for the reason of this number, as COG_IGNORED */ };

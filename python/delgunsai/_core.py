@@ -84,7 +84,7 @@ def _checked(result: int) -> int:
 
 
 class Core:
-    """A client of one file of a host, whose requests let connections go on. One thread uses it at a time."""
+    """A client of one file of a host, whose requests, all but the check, let connections go on. One thread uses it at a time."""
 
     def __init__(self, host: bytes, name: bytes, blocks: int) -> None:
         self._handle = Handle()

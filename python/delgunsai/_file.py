@@ -120,6 +120,8 @@ class File:
                 answer = bytearray()
                 try:
                     self._source.exchange(request, [], answer.extend)
+                except self._source.final:
+                    raise
                 except OSError:
                     continue
                 kind, reason = self._core.current(bytes(answer))
@@ -149,6 +151,8 @@ class File:
                     raise fault_of(report.fault, report.field)
                 return report
             failed = self._exchange(request)
+            if isinstance(failed, self._source.final):
+                raise failed
             failures = failures + 1 if failed else 0
             if failures == TRIES:
                 raise Lost(f'no answer in {TRIES} exchanges: {failed}') from failed
@@ -210,7 +214,8 @@ def open(url: str, *, blocks: int = 256, timeout: float = 30.0, context: Optiona
 
 
 def open_file(path: Union[str, 'os.PathLike[str]'], *, blocks: int = 256) -> File:
-    """A file of the disk. It is read by ranges too, and may be replaced.
+    """A file of the disk. It is read by ranges too, and may be replaced. Where it isn't there, is a folder or may not be read, now or
+    later, the exception is that of the standard `open`.
 
     >>> with open_file('docs/example.tif') as f:                                    # doctest: +SKIP
     ...     f.levels

@@ -5,8 +5,9 @@ import http.client
 import os
 import re
 import select
+import socket
 import ssl
-from typing import Callable, Iterator, List, Optional, Protocol
+from typing import Callable, Iterator, List, Optional, Protocol, Tuple, Type
 from urllib.parse import urlsplit
 
 from ._core import Piece
@@ -25,6 +26,8 @@ class Source(Protocol):
 
     depth: int
     """How many requests that will come later it takes."""
+    final: Tuple[Type[OSError], ...]
+    """After which errors no other exchange is tried."""
 
     def exchange(self, request: bytes, later: List[bytes], take: Take) -> bool:
         """Hands each piece of the answer to `take`, in order; an OSError where the rest of the answer is lost. Requests that will come
@@ -60,6 +63,8 @@ class Address:
         self.port = port
         if not re.fullmatch(r'[A-Za-z0-9.:-]{1,64}', parts.netloc, re.ASCII):
             raise BadUrl(url, "its host is 1 to 64 letters, digits, '.', '-', ':'")
+        if not re.fullmatch(r'[^.]{1,63}(\.[^.]{1,63})*\.?', self.host):
+            raise BadUrl(url, 'its host is there, and each label of it has 1 to 63 characters')
         self.netloc = parts.netloc.encode('ascii')
         if not re.fullmatch(r'/[A-Za-z0-9._/-]{1,200}', parts.path, re.ASCII):
             raise BadUrl(url, 'its path is a slash and 1 to 200 bytes of A-Z a-z 0-9 . _ - /')
@@ -87,6 +92,8 @@ class Host:
     """A server of HTTP/1.1, with TLS or without. One connection is kept, where request and answer leave it open, and requests that will
     come later are sent on it at once (pipelining, RFC 9112, section 9.3.2), until three times in a row such ones weren't answered.
     Redirects aren't followed: they are answers that can't be used."""
+
+    final: Tuple[Type[OSError], ...] = ()
 
     def __init__(self, address: Address, timeout: float, context: Optional[ssl.SSLContext]) -> None:
         if address.secure:
@@ -127,7 +134,7 @@ class Host:
                     return first
             except (ConnectionError, ssl.SSLError):
                 pass
-            except TimeoutError:
+            except (socket.timeout, TimeoutError):       # one class from Python 3.10 on
                 if not self._ahead:
                     raise
         self.close()
@@ -203,23 +210,28 @@ class Host:
 
 
 class Disk:
-    """A file of the disk, which answers by ranges as a server would. Its tag is of its place, its length and its last change."""
+    """A file of the disk, which answers by ranges as a server would. Its tag is of its place, its length and its last change. An answer
+    is handed on only where the file didn't change while it was read."""
 
     depth = 0
+    final: Tuple[Type[OSError], ...] = (FileNotFoundError, IsADirectoryError, PermissionError)
 
     def __init__(self, path: str) -> None:
         self._path = path
+        with open(path, 'rb'):
+            pass
 
     def exchange(self, request: bytes, later: List[bytes], take: Take) -> bool:
         with open(self._path, 'rb') as file:
             state = os.fstat(file.fileno())
             size = state.st_size
             tag = b'"%x-%x-%x"' % (state.st_ino, size, state.st_mtime_ns)
-            for piece in _answer(request, tag, size, file):
-                take(piece)
+            pieces = list(_answer(request, tag, size, file))
             after = os.fstat(file.fileno())
             if (after.st_size, after.st_mtime_ns) != (size, state.st_mtime_ns):
                 raise OSError('the file changed while it was read')
+        for piece in pieces:
+            take(piece)
         return False
 
     def close(self) -> None:

@@ -4,6 +4,7 @@ import shutil
 import subprocess
 import sys
 import unittest
+from unittest import mock
 
 import delgunsai
 import numpy
@@ -22,10 +23,38 @@ class Refused(unittest.TestCase):
             'http://h_st/a': 'host', 'http://' + 'h' * 65 + '/a': 'host', 'http://[::1]/a': 'host', 'http://host': 'path',
             'http://host/': 'path', 'http://host/%41': 'path', 'http://host/' + 'a' * 201: 'path', 'http://host/\u00e4': 'path',
             'http://host/a b': 'spaces', 'http://host/a\n': 'control', 'http://host:0/a': 'port', 'http://host:port/a': 'URL',
+            'http://a..b/x': 'label', 'http://.a/x': 'label', 'http://a../x': 'label', 'http://./x': 'label',
+            'http://' + 'h' * 64 + '/a': 'label', 'http://:8080/a.tif': 'host is there',
         }.items():
             with self.subTest(url), self.assertRaises(delgunsai.BadUrl) as seen:
                 delgunsai.open(url)
             self.assertIn(rule, seen.exception.rule)
+        for url in 'http://' + 'h' * 63 + '/a', 'http://host./a', 'https://a.b.:8443/a':
+            with self.subTest(url):
+                delgunsai.open(url).close()
+
+    def test_paths(self):
+        """What can't be opened of the disk is told as the standard open tells it, at once and later."""
+        place = os.path.join(FOLDER, 'removed.tif')
+        for path, error in (place, FileNotFoundError), (FOLDER, IsADirectoryError):
+            with self.subTest(path), self.assertRaises(error):
+                delgunsai.open_file(path)
+        shutil.copy(EXAMPLE, place)
+        with delgunsai.open_file(place) as file:
+            with mock.patch('delgunsai._sources.open', create=True, side_effect=PermissionError):
+                with self.assertRaises(PermissionError):
+                    delgunsai.open_file(place)
+                with self.assertRaises(PermissionError):
+                    file.read(x=0, y=0, width=1, height=1)
+            self.assertEqual(file.read(x=24, y=30, width=1, height=1).tolist(), [[216]])
+            os.remove(place)
+            with self.assertRaises(FileNotFoundError):
+                file.same()
+        shutil.copy(EXAMPLE, place)
+        with delgunsai.open_file(place) as file:
+            os.remove(place)
+            with self.assertRaises(FileNotFoundError):
+                file.read(x=0, y=0, width=1, height=1)
 
     def test_status_and_redirect(self):
         with Cogserve({'a': EXAMPLE}) as server, delgunsai.open(server.url('b')) as file:

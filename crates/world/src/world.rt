@@ -48,8 +48,8 @@ pub fn run(alloc: Global, events: &[Event], log: &mut Log) -> Result<(), Memory>
     // Reports of one tag for one query are equal windows, or tell the same levels, keys and geo fields, or are both faults.
     ensures alike { OnOk result (AreAlike log.new.entries.items) }
 
-    // Each request is its client's request, for what its query needs: missing blocks of one range of the file that it reads, or
-    // the first 65,536 bytes.
+    // Each request is its client's request, for what its query needs: whole blocks of one range that it needs of the file that
+    // it reads, or the first 65,536 bytes.
     ensures needed { OnOk result (AtEach IsNeededEntry start events.now log.new.entries.items) }
 
     // A client that opens a query and then exchanges, with nothing between, has its report by exchange cost + 1, where cost
