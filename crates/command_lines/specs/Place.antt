@@ -1,10 +1,15 @@
--- Why a URL is no place of a file (`http://HOST[:PORT]/NAME`).
-use Rattle.std.specs.Prelude.{◌≡◌, ◌≢◌, ◌⊎◌, List, ℕ, IsTrue, None, Ok, Err, codes, ⊤}
+-- The server of a URL, and why a URL is no place of a file (`http://HOST[:PORT]/NAME`).
+use Rattle.std.specs.Prelude.{◌≡◌, ◌≢◌, ◌⊎◌, List, [], ◌++◌, ℕ, IsTrue, None, Ok, Err, codes, decimal, option_map, unwrap_or, ⊤}
 use Rattle.url.specs.declared.error.ParseError.TheVariants.{Overflow}
+use Rattle.url.specs.Host.{host_text}
 use Rattle.url.specs.Parser.{parse_url}
-use Rattle.url.specs.Parts.{Parts, has_credentials}
+use Rattle.url.specs.Parts.{Parts, has_credentials, nonempty_host}
 use Rattle.command_lines.specs.declared.place.PlaceError.{PlaceError}
 use Rattle.command_lines.specs.declared.place.PlaceError.TheVariants.{NotAUrl, Tls, Scheme, User, Path, Memory}
+
+-- HOST:PORT of a URL, with the port of http where it names none (RFC 9110, section 4.2.1)
+abbrev pub server_text : Parts → List ℕ
+server_text url = unwrap_or (option_map host_text (nonempty_host url)) [] ++ codes ":" ++ decimal (unwrap_or url.port 80)
 
 -- this is wrong with the parts in front of the path
 abbrev pub IsFrontError : Parts → PlaceError → Type 0

@@ -1,9 +1,10 @@
 //! A server and a name as one word: `http://HOST[:PORT]/NAME`.
-ghost use Rattle.std.specs.Prelude.{◌≡◌, IfErr, IfOk, IfSome, None, Ok, OnOk, codes, drop};
+ghost use Rattle.std.specs.Prelude.{◌≡◌, IfErr, IfOk, IfSome, None, Ok, OnOk, codes, drop, string_bytes};
 ghost use Rattle.url.specs.Parser.{parse_url};
 ghost use Rattle.url.specs.Parts.{Parts};
-ghost use Rattle.command_lines.specs.Place.{IsFrontError, IsPlaceError};
+ghost use Rattle.command_lines.specs.Place.{IsFrontError, IsPlaceError, server_text};
 
+use itoa::Buffer;
 use std::alloc::{AllocError, Global};
 use thiserror::Error;
 use url::{ParseError, Url};
@@ -92,20 +93,31 @@ fn check_front(url: &Url) -> Result<(), PlaceError>
     Ok(())
 }
 
+/// The server of a URL.
+fn server_of(alloc: Global, url: &Url) -> Result<String, AllocError>
+    ensures { IfOk result (λ server. string_bytes server ≡ server_text url.now) }
+{
+    let port = url.port().unwrap_or(HTTP_PORT);
+    let mut digits = Buffer::new();
+    let mut server = String::new(alloc);
+    server.push_str(url.host_str().unwrap_or_default())?;
+    server.push_str(":")?;
+    server.push_str(digits.format(port))?;
+    Ok(server)
+}
+
 /// The file that a URL names. Without a port it is 80. A path that would be asked for otherwise than it was typed, as one with `..`
 /// or a query, is refused.
 pub fn place_of(alloc: Global, word: &str) -> Result<Place<'_>, PlaceError>
     ensures ok { IfOk result (λ place. (url : Parts) × (parse_url None word.now ≡ Ok url) × (url.scheme ≡ codes "http")
-        × (place.name.now ≡ drop 1 url.path)) }
+        × (string_bytes place.server ≡ server_text url) × (place.name.now ≡ drop 1 url.path)) }
     ensures err { IfErr result (IsPlaceError word.now) }
 {
     let url = parse(alloc, word)?;
     check_front(&url)?;
-    let host = url.host_str().unwrap_or_default();
-    let port = url.port().unwrap_or(HTTP_PORT);
     match name_in(word, url.path()) {
         Some(name) => Ok(Place {
-            server: format!(in alloc; "{host}:{port}")?,
+            server: server_of(alloc, &url)?,
             name,
         }),
         None => Err(PlaceError::Path),

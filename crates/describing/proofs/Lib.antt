@@ -1,1 +1,2 @@
+pub mod LevelLemmas
 pub mod TextLemmas

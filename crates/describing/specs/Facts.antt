@@ -1,5 +1,5 @@
 -- What the levels and the keys of a file say (GeoTIFF 1.1, OGC 19-008, annex A).
-use Rattle.std.specs.Prelude.{◌≡◌, ℕ, ◌-◌, ◌==◌, ◌||◌, Bool, false, if◌then◌else◌, List, length, take, codes, slice_get, Option, Some, None, find, option_and_then, option_map}
+use Rattle.std.specs.Prelude.{◌≡◌, ℕ, ◌-◌, ◌==◌, ◌||◌, Bool, false, if◌then◌else◌, List, [], ◌∷◌, length, take, codes, slice_get, Option, Some, None, find, option_and_then, option_map, ⊤}
 use Rattle.std.specs.Option.{option_or}
 use Rattle.std.specs.Cow.{cow_str_bytes}
 use Rattle.std.specs.Str.Lossy.{utf8_lossy}
@@ -35,6 +35,12 @@ pub record IsFactsOf (level : Level) (facts : LevelFacts) : Type 0 where
   pub bits : facts.bits ≡ level.bits
   pub kind : facts.kind.now ≡ type_name level.bits
   pub compression : facts.compression.now ≡ compression_name level.compression
+
+-- the facts are the levels', one for each, in their order
+abbrev pub AreFactsOf : List Level → List LevelFacts → Type 0
+AreFactsOf [] [] = ⊤
+AreFactsOf (level ∷ levels) (facts ∷ more) = IsFactsOf level facts × AreFactsOf levels more
+AreFactsOf levels facts = ⊥
 
 -- ---- keys
 

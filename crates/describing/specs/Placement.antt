@@ -1,8 +1,8 @@
 -- Where the columns and rows of an image lie (GeoTIFF 1.1, OGC 19-008, section 7.3), in doubles, each result rounded (IEEE 754).
-use Rattle.std.specs.Prelude.{ℕ, ◌==◌, Bool, true, false, if◌then◌else◌, List, [], ◌∷◌, length, slice_get, Option, Some, None, from_bits}
+use Rattle.std.specs.Prelude.{ℕ, ◌==◌, pos, Bool, true, false, if◌then◌else◌, List, [], ◌∷◌, length, slice_get, Option, Some, None, from_bits, option_and_then}
 use Rattle.std.specs.Option.{option_map}
 use Rattle.std.specs.Int.{w64, from_be_bytes}
-use Rattle.std.specs.Float.Ieee.{Float, binary64, add, sub, mul, div, neg}
+use Rattle.std.specs.Float.Ieee.{Float, binary64, add, sub, mul, div, neg, of_int}
 use Rattle.cog_reader.specs.declared.outcome.Info.{Info}
 use Rattle.describing.specs.declared.placement.Placement.{Placement}
 use Rattle.describing.specs.declared.placement.Corners.{Corners}
@@ -30,6 +30,14 @@ corners_of p columns rows = record {
   upper_right = place_of p columns NOTHING;
   center = place_of p (div binary64 columns TWO) (div binary64 rows TWO);
 }
+
+-- the corners of an image of this size
+abbrev pub corners_at : Placement → (size : ℕ × ℕ) → Corners
+corners_at p size = corners_of p (of_int binary64 (pos size.0)) (of_int binary64 (pos size.1))
+
+-- the corners, where both the placement and the size are known
+abbrev pub corners_by : Option Placement → (size : Option (ℕ × ℕ)) → Option Corners
+corners_by placement size = option_and_then (λ p. option_map (corners_at p) size) placement
 
 -- GDAL's GetGeoTransform
 abbrev pub geo_transform_of : Placement → List Float

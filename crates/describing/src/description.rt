@@ -1,8 +1,9 @@
 //! The description of a file.
 ghost use Rattle.std.specs.Prelude.{◌≡◌, IfOk, IfSome, None, Ok};
 ghost use Rattle.std.specs.Option.{option_map};
-ghost use Rattle.describing.specs.Description.{Describes, HasNoInfo, is_point};
-ghost use Rattle.describing.specs.Placement.{geo_transform_of};
+ghost use Rattle.describing.specs.Description.{Describes, AreLevelsBy, HasNoInfo, is_point};
+ghost use Rattle.describing.specs.Facts.{AreFactsOf};
+ghost use Rattle.describing.specs.Placement.{corners_by, geo_transform_of};
 
 use crate::facts::{CoordinateSystem, LevelFacts, RasterType, readable};
 use crate::placement::{Corners, Placement};
@@ -10,6 +11,7 @@ use cog_client::{Client, Memory, Outcome};
 use serde::Serialize;
 use std::alloc::Global;
 use std::borrow::CowStr;
+use tiff_dir::Level;
 
 /// How a description is told.
 #[derive(Clone, Copy, Debug, PartialEq, Eq)]
@@ -49,6 +51,7 @@ impl<'a> Description<'a> {
     /// What a client's report of Info says of the file, with what the client knows of its levels; none without such a report.
     pub fn of(alloc: Global, client: &'a Client) -> Result<Option<Description<'a>>, Memory>
         ensures described { IfOk result (λ made. IfSome made (Describes client.now)) }
+        ensures levels { IfOk result (λ made. IfSome made (λ d. AreLevelsBy client.now d.levels.items)) }
         ensures none { result ≡ Ok None → HasNoInfo client.now }
     {
         let (Some(report), Some(length)) = (client.report(), client.complete()) else {
@@ -60,17 +63,16 @@ impl<'a> Description<'a> {
         let raster_type = RasterType::of(info);
         let placement = Placement::of(info, is_point(raster_type));
         let size = info.sides.first().copied();
-        let levels = client.levels().unwrap_or_default();
         Ok(Some(Description {
             tag: readable(alloc, report.tag.as_bytes())?,
             length,
             size,
-            levels: levels.iter().map(LevelFacts::of).collect(alloc)?,
+            levels: levels_of(alloc, client)?,
             coordinate_system: CoordinateSystem::of(alloc, info)?,
             raster_type,
             placement,
             geo_transform: geo_transform_of(placement),
-            corner_coordinates: placement.zip(size).map(|(it, size)| it.corners(size)),
+            corner_coordinates: corners_by(placement, size),
         }))
     }
 
@@ -96,6 +98,36 @@ fn geo_transform_of(placement: Option<Placement>) -> Option<[f64; 6]>
 {
     let placement = placement?;
     Some(placement.numbers())
+}
+
+/// The corners of an image of this size, where both are known.
+fn corners_by(placement: Option<Placement>, size: Option<(u32, u32)>) -> Option<Corners>
+    ensures { result ≡ corners_by placement size }
+{
+    let placement = placement?;
+    Some(placement.corners(size?))
+}
+
+/// What the levels say that the client knows.
+fn levels_of(alloc: Global, client: &Client) -> Result<Vec<LevelFacts>, Memory>
+    ensures { IfOk result (λ facts. AreLevelsBy client.now facts.items) }
+{
+    match client.levels() {
+        Some(levels) => Ok(facts_of(alloc, levels)?),
+        None => Ok(Vec::new(alloc)),
+    }
+}
+
+/// What the levels say, each in its place.
+#[tactic(auto, using(crate::proofs::LevelLemmas::next_one))]
+fn facts_of(alloc: Global, levels: &[Level]) -> Result<Vec<LevelFacts>, Memory>
+    ensures { IfOk result (λ facts. AreFactsOf levels.now facts.items) }
+{
+    let mut facts = Vec::new(alloc);
+    for level in levels {
+        facts.push(LevelFacts::of(level))?;
+    }
+    Ok(facts)
 }
 
 /// A description in JSON, with lines and indents. A number that JSON doesn't have (NaN, or one without end) is `null`. `Memory` is the

@@ -62,11 +62,11 @@ fn help(alloc: Global, name: &str) -> Result<String, AllocError> {
     format!(in alloc;
         "\
 Usage: {name} cogserve --listen HOST:PORT --epoch N --connections N [--at-once N] [--patience SECONDS] [--log] NAME=PATH..
-       {name} cogread window SERVER NAME X Y W H [--level N] [--columns C] [--requests N] [--blocks N] [--ahead N] [--keep]
+       {name} cogread window SERVER NAME X Y W H [--level N | --columns C] [--requests N] [--blocks N] [--ahead N] [--keep]
        {name} cogread info SERVER NAME [--requests N] [--blocks N] [--ahead N] [--keep]
        {name} cogread describe SERVER NAME [--json] [--requests N] [--blocks N] [--ahead N] [--keep]
        {name} cogread window .. --whole [--level N] ..
-       {name} cogread .. http://HOST[:PORT]/NAME .. [--close] [--output FILE] [--verbose] [--progress]
+       {name} cogread .. http://HOST[:PORT]/NAME .. [--close] [--output FILE] [--verbose | --progress]
        {name} cogworld [--pieces N] SCRIPT
        {name} --version
 

@@ -98,7 +98,9 @@ fn plain_sentence(fault: FileFault) -> &'static str {
         }
         FileFault::TileSize => "a tile's side, plain size or byte count is wrong",
         FileFault::Packet => "the packed bytes of a tile don't fill it",
-        FileFault::Outside => "the window is empty, or passes its level",
+        FileFault::Outside => {
+            "the window is empty or passes its level, there is no such level, or 0 columns are asked for"
+        }
         FileFault::TooLarge => {
             "the window has more than 4194304 samples, or a geo field more than 65536 bytes"
         }

@@ -97,7 +97,7 @@ const TOLD: [(&[Fate], u32, &str); 4] = [
     (
         &[Fate::Whole], 16,
         "cogread: GET /a bytes=0-65535: 206, 543 bytes, T ms: 378 bytes of the file, tag \"1-1\"\n\
-        cogread: the window is empty, or passes its level\n\
+        cogread: the window is empty or passes its level, there is no such level, or 0 columns are asked for\n\
         cogread: fault 14\n",
     ),
 ];

@@ -39,11 +39,11 @@ const WINDOW_PARTS: &[&str] = &[
 const HELPS: [(&str, &[&str]); 8] = [
     ("--help", &[
         "cogtools cogserve --listen HOST:PORT --epoch N --connections N [--at-once N] [--patience SECONDS] [--log] NAME=PATH..\n",
-        "cogtools cogread window SERVER NAME X Y W H [--level N] [--columns C] [--requests N] [--blocks N] [--ahead N] [--keep]\n",
+        "cogtools cogread window SERVER NAME X Y W H [--level N | --columns C] [--requests N] [--blocks N] [--ahead N] [--keep]\n",
         "cogtools cogread info SERVER NAME [--requests N] [--blocks N] [--ahead N] [--keep]\n",
         "cogtools cogread describe SERVER NAME [--json] [--requests N] [--blocks N] [--ahead N] [--keep]\n",
         "cogtools cogread window .. --whole [--level N] ..\n",
-        "cogtools cogread .. http://HOST[:PORT]/NAME .. [--close] [--output FILE] [--verbose] [--progress]\n",
+        "cogtools cogread .. http://HOST[:PORT]/NAME .. [--close] [--output FILE] [--verbose | --progress]\n",
         "cogtools cogworld [--pieces N] SCRIPT\n",
         "cogtools --version\n",
     ]),
