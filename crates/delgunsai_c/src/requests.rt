@@ -34,7 +34,7 @@ fn check(client: &Client, room: &mut [u8]) -> i64
 
 /// A later request of a client into a caller's room, or 0.
 fn later(client: &Client, index: u32, room: &mut [u8]) -> i64
-    ensures { ForetellsOr room.old room.new result client.now client.now }
+    ensures { ForetellsOr index room.old room.new result client.now client.now }
 {
     let Ok(texts) = client.early_requests(index.saturating_add(1)) else {
         return Failure::Memory.code() as i64;
@@ -107,7 +107,7 @@ pub extern "C" fn cog_client_later(
     index: u32,
     room: &mut [u8],
 ) -> i64
-    ensures does { Calls (ForetellsOr room.old room.new result) (client_of client.old) (client_of client.new) result }
+    ensures does { Calls (ForetellsOr index room.old room.new result) (client_of client.old) (client_of client.new) result }
     ensures untouched { client_of client.old ≡ None → room.new ≡ room.old }
 {
     let Some(held) = client.take(alloc) else {
