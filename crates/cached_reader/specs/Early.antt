@@ -1,5 +1,6 @@
 -- What may be asked for early: before the answer came to what is asked for now.
 use Rattle.std.specs.Prelude.{◌≡◌, ℕ, ◌+◌, ◌-◌, ◌*◌, ◌<◌, ◌≤◌, false, List}
+use Rattle.std.specs.List.{AllPairs}
 use Rattle.tiff_dir.specs.declared.span.Span.{Span}
 use Rattle.tiff_dir.specs.Block.{block_size, end_of}
 use Rattle.range_cache.specs.Cache.{numbers}
@@ -24,3 +25,7 @@ pub record IsEarly (w : CachedReader) (asked span : Span) : Type 0 where
   pub first : span.first ≡ from * block_size
   pub last : span.last + 1 ≡ end_of (complete_of w.reader) (to - 1)
   pub behind : asked.last < span.first
+
+-- Each span lies behind all those before it.
+abbrev pub AreApart : List Span → Type 0
+AreApart spans = AllPairs (λ (s t : Span). s.last < t.first) spans

@@ -5,7 +5,7 @@ ghost use Rattle.tiff_dir.specs.Block.{block_size, end_of};
 ghost use Rattle.tiff_dir.specs.Walk.{extent_of_span};
 ghost use Rattle.cog_reader.specs.Reader.{complete_of, to_come, ReaderAgrees};
 ghost use Rattle.cached_reader.specs.Going.{work};
-ghost use Rattle.cached_reader.specs.Early.{AreNeededLater, IsEarly};
+ghost use Rattle.cached_reader.specs.Early.{AreApart, AreNeededLater, IsEarly};
 
 use crate::ahead::{MAX_BLOCKS, reach};
 use cog_reader::Reader;
@@ -116,6 +116,7 @@ pub fn early_spans(
 ) -> Result<Vec<Span>, Memory>
     requires { complete_of reader.now ≡ complete }
     ensures early { IfOk result (λ spans. All (IsEarly (work reader.now cache.now) asked) spans.items) }
+    ensures apart { IfOk result (λ spans. AreApart spans.items) }
     ensures few { IfOk result (λ spans. length spans.items ≤ most) }
 {
     let mut spans = Vec::new(alloc);

@@ -1,6 +1,9 @@
 -- What a client asks for early.
-use Rattle.std.proofs.Common.{ℕ, List, Option, Some, arith}
-use Rattle.std.specs.List.{All}
+use Rattle.std.proofs.Common.{◌≡◌, ℕ, ◌+◌, ◌<◌, List, [], ◌∷◌, ◌++◌, false, Option, Some, Vec, Global, get_or, length, take, map, arith, inl, inr, sym, ap, ◌∙◌, subst}
+use Rattle.std.specs.List.{All, AllZip}
+use Rattle.std.proofs.lemmas.Bool.{false≢true}
+use Rattle.std.proofs.lemmas.List.{map-append, take_more}
+use Rattle.std.proofs.lemmas.Slice.Zip.{all_zipped_more}
 use Rattle.tiff_dir.specs.declared.query.Query.{Query}
 use Rattle.tiff_dir.specs.declared.span.Span.{Span}
 use Rattle.range_cache.specs.Cache.{Blocks}
@@ -10,8 +13,8 @@ use Rattle.cog_client.specs.declared.asking.Asking.{Asking}
 use Rattle.cog_client.specs.declared.report.Report.{Report}
 use Rattle.cog_client.specs.declared.source.Source.{Source}
 use Rattle.cog_client.specs.Feeding.{Feed}
-use Rattle.cog_client.specs.Client.{Knows, asked_of, blocks_of, to_come}
-use Rattle.cog_client.specs.Early.{IsEarly, IsNeededEarly}
+use Rattle.cog_client.specs.Client.{ClientState, Knows, asked_of, blocks_of, how_of, to_come}
+use Rattle.cog_client.specs.Early.{AsksNothingEarly, IsEarly, IsNeededEarly, IsRequestFor}
 use Rattle.cog_client.proofs.ClientLemmas.{known}
 
 module _ (e : Feed) (how : Asking) (h n : List ℕ) (q : Option Query) (asked : Span) (s : Source) (b : Blocks) (r : Option Report) where
@@ -33,3 +36,24 @@ module _ (e : Feed) (how : Asking) (h n : List ℕ) (q : Option Query) (asked : 
   pub early_spans : (spans : List Span) → All (reading.IsEarly (work s.reader b) asked) spans → All (IsEarly (known e how h n q (Some asked) (Some s) b r)) spans
   unfolding asked_of
   early_spans spans all k d lt = early_span _ (all k d lt)
+
+-- It keeps its connections, and looks ahead.
+pub asks_early : (e : Feed) (how : Asking) (h n : List ℕ) (q : Option Query) (asked : Option Span) (s : Option Source) (b : Blocks) (r : Option Report)
+    → how.closes ≡ false → (how.ahead ≡ 0 → ⊥) → AsksNothingEarly (known e how h n q asked s b r) → ⊥
+unfolding how_of
+asks_early e how h n q asked s b r keeps ahead nothing = elim nothing [ inl closes ↦ false≢true (sym keeps ∙ closes) | inr near ↦ ahead near ]
+
+-- the texts of these
+abbrev pub texts_of : List (Vec ℕ Global) → List (List ℕ)
+texts_of texts = map (λ (text : Vec ℕ Global). text.items) texts
+
+-- a request for the next span
+pub one_more : (c : ClientState) (spans : List Span) (old new : List (Vec ℕ Global)) (at : ℕ) (span : Span) (text : Vec ℕ Global)
+    → new ≡ old ++ text ∷ [] → at < length spans → span ≡ get_or spans at span → AllZip (IsRequestFor c) (take at spans) (texts_of old)
+    → IsRequestFor c span text.items → AllZip (IsRequestFor c) (take (at + 1) spans) (texts_of new)
+one_more c spans old new at span text pushed below is before asks =
+    let R = IsRequestFor c in
+    let more : take (at + 1) spans ≡ take at spans ++ span ∷ [] = take_more spans at span below ∙ ap (λ (s : Span). take at spans ++ s ∷ []) (sym is) in
+    let last : texts_of new ≡ texts_of old ++ text.items ∷ [] = ap texts_of pushed ∙ map-append (λ (t : Vec ℕ Global). t.items) old (text ∷ []) in
+    subst (λ (xs : List Span). AllZip R xs (texts_of new)) (sym more)
+    (subst (λ (ys : List (List ℕ)). AllZip R (take at spans ++ span ∷ []) ys) (sym last) (all_zipped_more R (take at spans) (texts_of old) span text.items before asks))

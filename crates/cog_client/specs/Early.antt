@@ -1,10 +1,12 @@
 -- The requests that a client makes early: before the answer came to what it asks for now.
-use Rattle.std.specs.Prelude.{◌≡◌, ℕ, ◌<◌, List, Some, IsSomeAnd}
+use Rattle.std.specs.Prelude.{◌≡◌, ℕ, ◌<◌, ◌⊎◌, true, List, [], Some, IsSomeAnd}
+use Rattle.std.specs.List.{All, AllZip}
 use Rattle.tiff_dir.specs.declared.span.Span.{Span}
 use Rattle.http_range.specs.Ask.{CanAsk}
 use Rattle.range_cache.specs.Cache.{numbers}
 use Rattle.cached_reader.specs.Going.{AreTouched}
-use Rattle.cog_client.specs.Client.{ClientState, IsFew, Knows, asked_of, blocks_of, host_of, name_of, tag_of, to_come}
+use Rattle.cached_reader.specs.Early.{AreApart}
+use Rattle.cog_client.specs.Client.{ClientState, IsFew, Knows, ahead_of, asked_of, blocks_of, closes, host_of, name_of, tag_of, to_come}
 use Rattle.cog_client.specs.Calls.{request_for}
 use Rattle.cog_client.specs.Progress.{IsGone}
 
@@ -20,9 +22,23 @@ pub record IsNeededEarly (c : ClientState) (asked span : Span) : Type 0 where
 abbrev pub IsEarly : ClientState → Span → Type 0
 IsEarly c span = IsSomeAnd (asked_of c) (λ asked. IsNeededEarly c asked span)
 
--- The text is a request for such a span, under the condition that the file still has the revision's tag.
-pub record IsEarlyRequest (c : ClientState) (text : List ℕ) : Type 0 where
-  pub span : Span
-  pub early : IsEarly c span
+-- Nothing is asked early: requests close their connections, or look no block ahead.
+abbrev pub AsksNothingEarly : ClientState → Type 0
+AsksNothingEarly c = (closes c ≡ true) ⊎ (ahead_of c ≡ 0)
+
+-- Such spans, each of which lies behind all those before it; there are none where nothing is asked early.
+pub record AreEarly (c : ClientState) (spans : List Span) : Type 0 where
+  pub each : All (IsEarly c) spans
+  pub apart : AreApart spans
+  pub none : AsksNothingEarly c → spans ≡ []
+
+-- The text is the client's request for the span, under the condition that the file still has the revision's tag.
+pub record IsRequestFor (c : ClientState) (span : Span) (text : List ℕ) : Type 0 where
   pub asks : Some text ≡ request_for c (Some span)
   pub lawful : CanAsk (host_of c) (name_of c) span.first span.last (tag_of c)
+
+-- The texts are requests for such spans, one for each, in their order.
+pub record AreEarlyRequests (c : ClientState) (texts : List (List ℕ)) : Type 0 where
+  pub spans : List Span
+  pub early : AreEarly c spans
+  pub asks : AllZip (IsRequestFor c) spans texts

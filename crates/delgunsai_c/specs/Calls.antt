@@ -1,12 +1,12 @@
 -- What a call from C does to the client of its handle, and to the caller's room.
-use Rattle.std.specs.Prelude.{◌≡◌, ◌⊎◌, ℕ, ℤ, pos, List, ◌++◌, Option, Some, None, IfSome}
+use Rattle.std.specs.Prelude.{◌≡◌, ◌⊎◌, ℕ, ℤ, pos, List, ◌++◌, Option, Some, None, slice_get}
 use Rattle.cog_client.specs.declared.error.ClientError.{ClientError}
 use Rattle.cog_client.specs.Calls.{Starts}
 use Rattle.cog_client.specs.Check.{check_of}
 use Rattle.cog_client.specs.Client.{ClientState, IsClientRefusal, client_refusal}
 use Rattle.cog_client.specs.FedClient.{Fed}
 use Rattle.cog_client.specs.Keeps.{RequestsKeeping, StopsAsking, StopsDelivery}
-use Rattle.cog_client.specs.Early.{IsEarlyRequest}
+use Rattle.cog_client.specs.Early.{AreEarlyRequests}
 use Rattle.delgunsai_c.specs.declared.failure.Failure.{Failure}
 use Rattle.delgunsai_c.specs.declared.failure.Failure.TheVariants.{Memory, NoClient}
 use Rattle.delgunsai_c.specs.Failure.{code_of, failure_in}
@@ -98,15 +98,15 @@ ChecksOr room left told old new = Checks room left told old new ⊎ Stopped ((ne
 
 -- ---- a later request
 
--- The client stays, and a request is given that comes later, if one is known.
-pub record Foretells (room left : List ℕ) (told : ℤ) (old new : ClientState) : Type 0 where
-  pub request : Option (List ℕ)
-  pub later : IfSome request (IsEarlyRequest old)
-  pub gives : Gives request room left told
+-- The client stays, and the request is given that stands at this place among those that it makes early, if so many are known.
+pub record Foretells (index : ℕ) (room left : List ℕ) (told : ℤ) (old new : ClientState) : Type 0 where
+  pub texts : List (List ℕ)
+  pub early : AreEarlyRequests old texts
+  pub gives : Gives (slice_get texts index) room left told
   pub stays : new ≡ old
 
-abbrev pub ForetellsOr : List ℕ → List ℕ → ℤ → ClientState → ClientState → Type 0
-ForetellsOr room left told old new = Foretells room left told old new ⊎ Stopped ((new ≡ old) × (left ≡ room)) told
+abbrev pub ForetellsOr : ℕ → List ℕ → List ℕ → ℤ → ClientState → ClientState → Type 0
+ForetellsOr index room left told old new = Foretells index room left told old new ⊎ Stopped ((new ≡ old) × (left ≡ room)) told
 
 -- ---- an answer
 

@@ -1,5 +1,5 @@
 //! Answers are taken.
-ghost use Rattle.std.specs.Prelude.{[]};
+ghost use Rattle.std.specs.Prelude.{◌≡◌, []};
 ghost use Rattle.cog_client.specs.FedClient.{Fed};
 ghost use Rattle.delgunsai_c.specs.Answers.{EndsOr, Reads};
 ghost use Rattle.delgunsai_c.specs.Calls.{Calls, Done, FeedsOr};
@@ -63,7 +63,8 @@ pub extern "C" fn cog_client_feed(alloc: Global, client: &mut Handle, piece: &[u
 /// Ends an answer, and says what it did.
 #[unsafe(no_mangle)]
 pub extern "C" fn cog_client_end(alloc: Global, client: &mut Handle, said: &mut Said) -> i32
-    ensures { Calls (EndsOr said.old said.new result) (client_of client.old) (client_of client.new) result }
+    ensures does { Calls (EndsOr said.old said.new result) (client_of client.old) (client_of client.new) result }
+    ensures untouched { client_of client.old ≡ None → said.new ≡ said.old }
 {
     let Some(mut held) = client.take(alloc) else {
         return Failure::NoClient.code();
@@ -81,7 +82,8 @@ pub extern "C" fn cog_client_current(
     answer: &[u8],
     said: &mut Said,
 ) -> i32
-    ensures { Calls (λ s t. Done (Reads answer.now said.new s t) result) (client_of client.old) (client_of client.new) result }
+    ensures does { Calls (λ s t. Done (Reads answer.now said.new s t) result) (client_of client.old) (client_of client.new) result }
+    ensures untouched { client_of client.old ≡ None → said.new ≡ said.old }
 {
     let Some(held) = client.take(alloc) else {
         return Failure::NoClient.code();

@@ -117,8 +117,10 @@ pub extern "C" fn cog_client_report(
     out: &mut Told,
     tag: &mut [u8],
 ) -> i64
-    ensures { Calls (λ s t. Kept (TellsReport s out.old out.new tag.old tag.new result) s t)
+    ensures does { Calls (λ s t. Kept (TellsReport s out.old out.new tag.old tag.new result) s t)
         (client_of client.old) (client_of client.new) result }
+    ensures out_untouched { client_of client.old ≡ None → out.new ≡ out.old }
+    ensures tag_untouched { client_of client.old ≡ None → tag.new ≡ tag.old }
 {
     let Some(held) = client.take(alloc) else {
         return Failure::NoClient.code() as i64;
@@ -131,8 +133,9 @@ pub extern "C" fn cog_client_report(
 /// The samples of the window that is reported.
 #[unsafe(no_mangle)]
 pub extern "C" fn cog_client_pixels(alloc: Global, client: &mut Handle, room: &mut [u8]) -> i64
-    ensures { Calls (λ s t. Kept (TellsPixels s room.old room.new result) s t)
+    ensures does { Calls (λ s t. Kept (TellsPixels s room.old room.new result) s t)
         (client_of client.old) (client_of client.new) result }
+    ensures untouched { client_of client.old ≡ None → room.new ≡ room.old }
 {
     let Some(held) = client.take(alloc) else {
         return Failure::NoClient.code() as i64;
@@ -145,8 +148,9 @@ pub extern "C" fn cog_client_pixels(alloc: Global, client: &mut Handle, room: &m
 /// The text of what Info tells that is reported.
 #[unsafe(no_mangle)]
 pub extern "C" fn cog_client_info(alloc: Global, client: &mut Handle, room: &mut [u8]) -> i64
-    ensures { Calls (λ s t. Kept (TellsInfo s room.old room.new result) s t)
+    ensures does { Calls (λ s t. Kept (TellsInfo s room.old room.new result) s t)
         (client_of client.old) (client_of client.new) result }
+    ensures untouched { client_of client.old ≡ None → room.new ≡ room.old }
 {
     let Some(held) = client.take(alloc) else {
         return Failure::NoClient.code() as i64;

@@ -1,4 +1,5 @@
 //! Requests are made: for what a query needs, ahead of their time too, and to check whether the file is still the same.
+ghost use Rattle.std.specs.Prelude.{◌≡◌};
 ghost use Rattle.cog_client.specs.Keeps.{KeepsOpen, LooksAhead};
 ghost use Rattle.delgunsai_c.specs.Calls.{AsksOr, Calls, ChecksOr, Done, ForetellsOr};
 ghost use Rattle.delgunsai_c.specs.Handle.{client_of};
@@ -33,7 +34,7 @@ fn check(client: &Client, room: &mut [u8]) -> i64
 
 /// A later request of a client into a caller's room, or 0.
 fn later(client: &Client, index: u32, room: &mut [u8]) -> i64
-    ensures { ForetellsOr room.old room.new result client.now client.now }
+    ensures { ForetellsOr index room.old room.new result client.now client.now }
 {
     let Ok(texts) = client.early_requests(index.saturating_add(1)) else {
         return Failure::Memory.code() as i64;
@@ -73,7 +74,8 @@ pub extern "C" fn cog_client_look_ahead(alloc: Global, client: &mut Handle, bloc
 /// Goes on as far as the blocks reach, and makes the next request.
 #[unsafe(no_mangle)]
 pub extern "C" fn cog_client_request(alloc: Global, client: &mut Handle, room: &mut [u8]) -> i64
-    ensures { Calls (AsksOr room.old room.new result) (client_of client.old) (client_of client.new) result }
+    ensures does { Calls (AsksOr room.old room.new result) (client_of client.old) (client_of client.new) result }
+    ensures untouched { client_of client.old ≡ None → room.new ≡ room.old }
 {
     let Some(mut held) = client.take(alloc) else {
         return Failure::NoClient.code() as i64;
@@ -86,7 +88,8 @@ pub extern "C" fn cog_client_request(alloc: Global, client: &mut Handle, room: &
 /// The check whether the file still has the revision's tag.
 #[unsafe(no_mangle)]
 pub extern "C" fn cog_client_check(alloc: Global, client: &mut Handle, room: &mut [u8]) -> i64
-    ensures { Calls (ChecksOr room.old room.new result) (client_of client.old) (client_of client.new) result }
+    ensures does { Calls (ChecksOr room.old room.new result) (client_of client.old) (client_of client.new) result }
+    ensures untouched { client_of client.old ≡ None → room.new ≡ room.old }
 {
     let Some(held) = client.take(alloc) else {
         return Failure::NoClient.code() as i64;
@@ -104,7 +107,8 @@ pub extern "C" fn cog_client_later(
     index: u32,
     room: &mut [u8],
 ) -> i64
-    ensures { Calls (ForetellsOr room.old room.new result) (client_of client.old) (client_of client.new) result }
+    ensures does { Calls (ForetellsOr index room.old room.new result) (client_of client.old) (client_of client.new) result }
+    ensures untouched { client_of client.old ≡ None → room.new ≡ room.old }
 {
     let Some(held) = client.take(alloc) else {
         return Failure::NoClient.code() as i64;

@@ -1,7 +1,8 @@
 //! The requests that a client makes next, as far as they are known before the answer to the present one came.
-ghost use Rattle.std.specs.Prelude.{◌≤◌, IfOk, length};
+ghost use Rattle.std.specs.Prelude.{◌≡◌, ◌≤◌, [], IfOk, length, map};
 ghost use Rattle.std.specs.List.{All};
-ghost use Rattle.cog_client.specs.Early.{IsEarly, IsEarlyRequest};
+ghost use Rattle.cached_reader.specs.Early.{AreApart};
+ghost use Rattle.cog_client.specs.Early.{AreEarlyRequests, AsksNothingEarly, IsEarly};
 
 use crate::client::Client;
 use cached_reader::early_spans;
@@ -14,7 +15,8 @@ impl Client {
     /// 9.3.2), takes the answers as ever: `request` makes each of them once more when its turn comes, or another one, where an answer
     /// came otherwise. `Memory` is the only error.
     pub fn early_requests(&self, most: u32) -> Result<Vec<Vec<u8>>, Memory>
-        ensures requests { IfOk result (λ texts. All (λ text. IsEarlyRequest self.now text.items) texts.items) }
+        ensures requests { IfOk result (λ texts. AreEarlyRequests self.now (map (λ text. text.items) texts.items)) }
+        ensures none { AsksNothingEarly self.now → IfOk result (λ texts. texts.items ≡ []) }
         ensures few { IfOk result (λ texts. length texts.items ≤ most) }
     {
         let spans = self.spans_early(most)?;
@@ -28,6 +30,8 @@ impl Client {
     /// What those requests ask for.
     fn spans_early(&self, most: u32) -> Result<Vec<Span>, Memory>
         ensures early { IfOk result (λ spans. All (IsEarly self.now) spans.items) }
+        ensures apart { IfOk result (λ spans. AreApart spans.items) }
+        ensures none { AsksNothingEarly self.now → IfOk result (λ spans. spans.items ≡ []) }
         ensures few { IfOk result (λ spans. length spans.items ≤ most) }
     {
         let (Some(asked), Some(source)) = (self.asked, &self.source) else {

@@ -1,4 +1,3 @@
-use Rattle.cog_client.specs.Progress.{AnswersReport, IsOwnAnswer, IsServed}
 use Rattle.cog_client.proofs.WholeLemmas.{StepLaws, own_report, served_report}
 use Rattle.cog_client.proofs.laws.whole_answers_report.Goals as goal
 

@@ -1,12 +1,12 @@
-use Rattle.std.proofs.Common.{◌≡◌, Some, sym, ap, subst, ◌∙◌}
+use Rattle.std.proofs.Common.{◌≡◌, Some, arith, sym, ap, subst, ◌∙◌}
 use Rattle.std.specs.Prelude.{IfOk}
 use Rattle.std.specs.List.{All}
 use Rattle.std.proofs.lemmas.Result.{IfOk-weaker}
 use Rattle.cached_reader.specs.Going.{work}
 use Rattle.cached_reader.specs.Early as reading
-use Rattle.cog_client.specs.Early.{IsEarly}
+use Rattle.cog_client.specs.Early.{AsksNothingEarly, IsEarly}
 use Rattle.cog_client.proofs.ClientLemmas.{known}
-use Rattle.cog_client.proofs.EarlyLemmas.{early_spans}
+use Rattle.cog_client.proofs.EarlyLemmas.{asks_early, early_spans}
 use Rattle.cog_client.proofs.client.Client.spans_early.Goals as goal
 
 pub returns-clause-early : goal.returns-clause-early
@@ -21,3 +21,10 @@ returns-clause-early c =
     subst (λ k. IfOk c.early_spans.result (λ spans. All (IsEarly k) spans.items)) is
     (IfOk-weaker c.early_spans.result (λ spans. All (reading.IsEarly (work s.reader i.cache) asked) spans.items) (λ spans. All (IsEarly made) spans.items)
     (λ spans all. early_spans i.arrival i.how i.host.items i.name.items i.query asked s i.cache i.report spans.items all) c.early_spans.ensures.early)
+
+pub returns-clause-none : goal.returns-clause-none
+returns-clause-none c = λ nothing.
+    let i = c.self.inside in
+    let some = c.if-ahead-eq0.false in
+    absurd (asks_early i.arrival i.how i.host.items i.name.items i.query i.asked i.source i.cache i.report c.if-self.false (λ near. omega (arith, near, some))
+    (subst AsksNothingEarly (sym c.self.view_is) nothing))
