@@ -126,8 +126,8 @@ part_of p a b = record { tag = p.tag; whole = false; first = a; complete = lengt
 abbrev pub all_of : Publication → SeenPiece
 all_of p = record { tag = p.tag; whole = true; first = 0; complete = length p.file; body = p.file }
 
--- what HTTP has a server of p answer to a request for bytes of it under a tag, or none: the part, and all of it where the tag is another
--- one (RFC 9110, sections 13.1.5 and 14.2)
+-- what a server of p answers that serves the range in full, as HTTP lets it, to a request for bytes of it under a tag, or none: the part,
+-- and all of it where the tag is another one (RFC 9110, sections 13.1.5 and 14.2)
 abbrev pub piece_for : Publication → Span → Option (List ℕ) → SeenPiece
 piece_for p s known = if is_current known p.tag then part_of p s.first (min s.last (length p.file - 1)) else all_of p
 

@@ -170,7 +170,7 @@ impl Client {
         self.cache.clear();
     }
 
-    /// Writes requests without `Connection: close` from here on, so that a connection may be kept from one to the next (RFC 9112,
+    /// Writes requests, but not the check, without `Connection: close` from here on, so that a connection may be kept from one to the next (RFC 9112,
     /// section 9.3). Whoever sends them has to know where an answer ends. It takes no memory.
     pub fn keep_open(&mut self)
         ensures { KeepsOpen self.old self.new }

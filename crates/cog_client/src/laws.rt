@@ -52,8 +52,8 @@ pub fn needed_are_asked()
     lengths_are_known();
 }
 
-/// The whole answer that HTTP has a server give to what a client asks for leaves less, or begins with the server's revision. This
-/// server gives it.
+/// The whole answer of a server that serves the range in full, as HTTP lets it, to what a client asks for leaves less, or begins with
+/// the server's revision. This server gives it.
 pub fn whole_answers_bring_on()
     ensures served { ServedBringOn }
     ensures own { OwnAnswersAreServed }
@@ -68,7 +68,7 @@ pub fn whole_answers_bring_on()
 }
 
 /// After an opening as many whole answers as the query costs, and one more, lead to the report, however far the client looks ahead
-/// at each of them: answers that HTTP has a server give, whichever it is, and answers of this server.
+/// at each of them: answers of any server that serves ranges in full, and answers of this one.
 pub fn whole_answers_report()
     ensures served { AnswersReport IsServed }
     ensures own { AnswersReport IsOwnAnswer }

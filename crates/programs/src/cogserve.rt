@@ -106,10 +106,7 @@ fn fault_of<R: AllocGlobal>(rt: &R, error: ServeError<'_>) -> Result<Fault, Allo
     match error {
         ServeError::NotPublished(file) => fault_of_file(rt, file),
         ServeError::CantListen(error) | ServeError::CantAccept(error)
-            if error.kind() == ErrorKind::OutOfMemory =>
-        {
-            Ok(Fault::Memory)
-        }
+            if error.kind() == ErrorKind::OutOfMemory => { Ok(Fault::Memory) }
         ServeError::CantListen(_) => Ok(Fault::CantListen),
         ServeError::CantAccept(_) => Ok(Fault::CantAccept),
         ServeError::CantWrite(error) => Ok(Fault::from(error)),

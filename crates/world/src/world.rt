@@ -52,8 +52,8 @@ pub fn run(alloc: Global, events: &[Event], log: &mut Log) -> Result<(), Memory>
     // it reads, or the first 65,536 bytes.
     ensures needed { OnOk result (AtEach IsNeededEntry start events.now log.new.entries.items) }
 
-    // A client that opens a query and then exchanges, with nothing between, has its report by exchange cost + 1, where cost
-    // counts the blocks that the query needs of the file under its name.
+    // A client that opens a query of a name that the server has and then exchanges, with nothing between, has its report by
+    // exchange cost + 1, where cost sums the blocks that each range touches which the query needs of that file.
     ensures progress { OnOk result (AllReport events.now log.new.entries.items) }
 
     // A check says "same" exactly where the catalogue of that moment has the client's tag under its name.
