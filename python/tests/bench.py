@@ -1,12 +1,15 @@
 """Windows beside rasterio, over loopback and over round trips of 40 ms."""
 import os
 import random
+import struct
 import subprocess
 import sys
 import time
+from unittest import mock
 
 import delgunsai
 import numpy
+from delgunsai import _sources
 from files import PLAIN, TRANSLATE
 from servers import Cogserve
 from support import EXAMPLE, FOLDER, RASTERIO, free_port
@@ -73,6 +76,46 @@ def spread(row, urls, windows):
     tell(row, share * len(urls), *map(sum, zip(*took)))
 
 
+def offsets_of(path):
+    """The offsets of the tiles of level 0 of a file that is little-endian."""
+    with open(path, 'rb') as file:
+        text = file.read()
+    at, = struct.unpack_from('<I', text, 4)
+    for entry in range(struct.unpack_from('<H', text, at)[0]):
+        tag, _, count, place = struct.unpack_from('<HHII', text, at + 2 + 12 * entry)
+        if tag == 324:
+            return struct.unpack_from(f'<{count}I', text, place)
+    sys.exit(f'python: {path} has no tiles')
+
+
+def planned(url, path, windows):
+    """The plan of these windows for floor.c: the requests that the package makes for them, of a file of which nothing is kept."""
+    offsets = offsets_of(path)
+    plan = [struct.pack(f'<5I{len(offsets)}I', os.path.getsize(path), WIDTH // SIDE, SIDE, SIDE, len(offsets), *offsets)]
+    exchange = _sources.Host.exchange
+
+    def noted(self, request, later, take):
+        plan.append(struct.pack('<2I', 1, len(request)) + request)
+        return exchange(self, request, later, take)
+    with mock.patch.object(_sources.Host, 'exchange', noted), delgunsai.open(url, blocks=4096) as file:
+        for x, y, width, height in windows:
+            file.read(x=x, y=y, width=width, height=height)
+            plan.append(struct.pack('<3I', 2, x, y))
+    return b''.join(plan)
+
+
+def least(server, name, path, windows):
+    """Tells how long the same requests and the copies of the windows take a program in C that does nothing else."""
+    plan, program = os.path.join(FOLDER, 'plan'), os.path.join(FOLDER, 'floor')
+    with open(plan, 'wb') as file:
+        file.write(planned(server.url(name), path, windows))
+    source = os.path.join(os.path.dirname(os.path.abspath(__file__)), 'floor.c')
+    subprocess.run([os.environ.get('CC', 'cc'), '-O2', '-o', program, source], check=True)
+    took = min(float(subprocess.run([program, str(server.port), plan], check=True, capture_output=True).stdout) for _ in range(ROUNDS))
+    print(f'a program in C that only exchanges and copies: {len(windows)} windows: {took:.3f} s, {len(windows) / took:.0f} in a second',
+          flush=True)
+
+
 def main(near=1000, far=200):
     if not RASTERIO:
         sys.exit('python: bench needs rasterio with GDAL')
@@ -80,10 +123,11 @@ def main(near=1000, far=200):
     source = random.Random(1)
     windows = [(source.randint(0, WIDTH - SIDE), source.randint(0, HEIGHT - SIDE), SIDE, SIDE) for _ in range(max(near, far))]
     path = written()
-    names = [f'{k}.tif' for k in range(ROUNDS + SHARES + 1)]      # one for each round, since GDAL keeps what it read of a URL
+    names = [f'{k}.tif' for k in range(ROUNDS + SHARES + 2)]      # one for each round, since GDAL keeps what it read of a URL
     with Cogserve({name: path for name in names}) as server:
         compare(['loopback', 'the same again'], [server.url(name) for name in names[:ROUNDS]], windows[:near])
-        spread(f'loopback, {SHARES} files', [server.url(name) for name in names[ROUNDS:-1]], windows[:near])
+        least(server, names[-2], path, windows[:near])
+        spread(f'loopback, {SHARES} files', [server.url(name) for name in names[ROUNDS:-2]], windows[:near])
         port = free_port()
         relay = subprocess.Popen([sys.executable, os.path.join(os.path.dirname(os.path.abspath(__file__)), 'relay.py'), str(port),
                                   f'127.0.0.1:{server.port}', str(ROUND_TRIP)], stdout=subprocess.PIPE)

@@ -1,7 +1,7 @@
 -- One exchange more.
-use Rattle.std.proofs.Common.{◌≡◌, ◌⊎◌, ℕ, suc, ◌+◌, List, Option, Some, None, sym, subst, inl, inr, add-one}
+use Rattle.std.proofs.Common.{ℕ, ◌+◌, List, Option, Some, None, sym, subst, inl, inr, add-one}
 use Rattle.cog_client.specs.Client.{ClientState}
-use Rattle.cog_client.specs.Transport.{AnswersOn, Fetches, FetchesOnce, FetchesSome, TakesIfAsked}
+use Rattle.cog_client.specs.Transport.{AnswersOn, Fetches, FetchesOnce, TakesIfAsked}
 
 takes_as : (before after : List ℕ → List ℕ → Type 0) → AnswersOn before after → (request : Option (List ℕ)) (old new : ClientState)
     → TakesIfAsked after request old new → TakesIfAsked before request old new

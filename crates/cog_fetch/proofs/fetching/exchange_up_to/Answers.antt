@@ -1,15 +1,15 @@
-use Rattle.std.proofs.Common.{◌+◌, arith, rules}
-use Rattle.cog_client.specs.Transport.{AnswersOn}
+use Rattle.std.proofs.Common.{◌+◌, rules}
 use Rattle.cog_fetch.proofs.FetchLemmas.{fetches_more}
 use Rattle.cog_fetch.proofs.fetching.exchange_up_to.Goals as goal
 
 pub returns-then-not-branch-clause-fetches : goal.returns-then-not-branch-clause-fetches
 returns-then-not-branch-clause-fetches g c =
     let i = c.loop-done.invariant in
-    let on = c.in_ok-exchange_once.ensures in
-    (c.loop-done.done + 1,
-    fetches_more (g.E.Exchange.answers c.args.source.now) (g.E.Exchange.answers c.loop-done.source) i.goes_on c.loop-done.done
-    c.args.client.now c.loop-done.client c.exchange_once.new.client i.fetches on.fetches)
+    let on = c.in_ok-exchange_once.ensures in (
+      c.loop-done.done + 1,
+      fetches_more (g.E.Exchange.answers c.args.source.now) (g.E.Exchange.answers c.loop-done.source) i.goes_on c.loop-done.done
+          c.args.client.now c.loop-done.client c.exchange_once.new.client i.fetches on.fetches,
+    )
 
 pub loop-done-preserved : goal.loop-done-preserved
 loop-done-preserved g c =
@@ -21,6 +21,6 @@ loop-done-preserved g c =
       stands = search rules;
       keeps = search rules;
       fetches = fetches_more (g.E.Exchange.answers c.args.source.now) (g.E.Exchange.answers c.loop-done.source) i.goes_on c.loop-done.done
-      c.args.client.now c.loop-done.client c.exchange_once.new.client i.fetches on.fetches;
+          c.args.client.now c.loop-done.client c.exchange_once.new.client i.fetches on.fetches;
       goes_on = λ request text came. i.goes_on request text (on.goes_on request text came);
     }

@@ -1,5 +1,3 @@
-use Rattle.std.proofs.Common.{List}
-use Rattle.http_range.specs.Book.{Book}
 use Rattle.transports.specs.InMemory.{StandsIn}
 use Rattle.transports.specs.Transports.{StandInBoth}
 use Rattle.transports.proofs.TransportLemmas.{shown_more}
