@@ -7,7 +7,7 @@ use Rattle.range_cache.specs.Cache.{Block, Blocks, stored}
 use Rattle.cog_client.specs.declared.report.Report.{Report}
 use Rattle.cog_client.specs.Take.{asked_or_first, brought_by, stored_count, stored_front, stored_of}
 use Rattle.cog_client.specs.Client.{ClientState, asked_of, blocks_of, feed_of, report_of}
-use Rattle.cog_client.specs.Feeding.{nothing_fed}
+use Rattle.cog_client.specs.Feeding.{TakesNoBody, nothing_fed}
 use Rattle.cog_client.specs.Calls.{unless_reported}
 use Rattle.cog_client.specs.Keeps.{GoesOnKeeping, Misses}
 use Rattle.cached_reader.specs.Going.{AreSame}
@@ -32,7 +32,7 @@ accept_stops p span k old mid new is s g asked none dropped = record {
   asked = asked ∙ unreported (report_of new) (asked_of mid) none ∙ s.asked;
   revision = g.seen.revision ∙ s.revision;
   report = none;
-  feed = dropped;
+  feed = subst TakesNoBody (sym dropped) tt;
   blocks = (
     k,
     subst (λ b. AreSame b (blocks_of new)) (s.blocks ∙ ap (λ x. stored_front k p x (blocks_of old)) (span_is (asked_of old) span is)) g.seen.blocks,

@@ -163,8 +163,8 @@ module _ (law : FrontsAreRead) (p : SeenPiece) (text : List ℕ) (reads : ReadsA
 
   pub begins_stops : (old mid new : ClientState) (a : Span) (k : Case) → case_of (revision_of old) (asked_of old) p ≡ k → base_of k (blocks_of old) ≡ emptied (blocks_of old)
       → (taken (holding old) (Ok p)).leaves ≡ keep (revision_of_piece p) a (emptied (blocks_of old)) p → (IsIgnored (taken (holding old) (Ok p)).says → ⊥)
-      → Adopts (revision_of_piece p) (Some a) old mid → StopsStoring p mid new → StopsDelivery old text new
-  begins_stops old mid new a k is base leaves used adopts stops =
+      → (revision_of old ≡ Some (revision_of_piece p) → ⊥) → Adopts (revision_of_piece p) (Some a) old mid → StopsStoring p mid new → StopsDelivery old text new
+  begins_stops old mid new a k is base leaves used other adopts stops =
       let revision : revision_of new ≡ Some (revision_of_piece p) = stops.revision ∙ adopts.revision in
       let asked : asked_of new ≡ Some a = stops.asked ∙ adopts.asks in
       let same = same_trans old mid new adopts.same stops.same in
@@ -183,6 +183,7 @@ module _ (law : FrontsAreRead) (p : SeenPiece) (text : List ℕ) (reads : ReadsA
               (ap (λ x. stored_front stops.blocks.0 p (asked_or_first x) (blocks_of mid)) (sym stops.asked)
               ∙ ap (stored_front stops.blocks.0 p (asked_or_first (asked_of new))) (adopts.blocks ∙ sym base ∙ ap (λ x. base_of x (blocks_of old)) (sym is))) stops.blocks.1,
         );
+        file = λ f still piece knows. absurd (other (sym still ∙ revision));
         agrees = λ book distinct agrees read. begun_agrees old mid new same.name revision adopts.knows stops.file book read;
       }
 
@@ -210,8 +211,9 @@ module _ (law : FrontsAreRead) (p : SeenPiece) (text : List ℕ) (reads : ReadsA
         agrees = kept_agrees old new takes.same.name before revision takes.file;
       }
 
-  pub keeps_stops : (old new : ClientState) → case_of (revision_of old) (asked_of old) p ≡ cases.Accepted → revision_of old ≡ Some (revision_of_piece p) → StopsStoring p old new → StopsDelivery old text new
-  keeps_stops old new is before stops =
+  pub keeps_stops : (old new : ClientState) → case_of (revision_of old) (asked_of old) p ≡ cases.Accepted → revision_of old ≡ Some (revision_of_piece p) → ((f : List ℕ) → Knows f old → p.complete ≡ length f)
+      → StopsStoring p old new → StopsDelivery old text new
+  keeps_stops old new is before size stops =
       let revision : revision_of new ≡ Some (revision_of_piece p) = stops.revision ∙ before in
       let t : taken (holding old) (Ok p) ≡ take_by cases.Accepted (holding old) p = ap (λ k. take_by k (holding old) p) is in
       record {
@@ -229,6 +231,7 @@ module _ (law : FrontsAreRead) (p : SeenPiece) (text : List ℕ) (reads : ReadsA
               (ap (λ x. stored_front stops.blocks.0 p (asked_or_first x) (blocks_of old)) (sym stops.asked)
               ∙ ap (λ x. stored_front stops.blocks.0 p (asked_or_first (asked_of new)) (base_of x (blocks_of old))) (sym is)) stops.blocks.1,
         );
+        file = λ f still piece knows. stops.file f (size f knows) piece knows;
         agrees = kept_agrees old new stops.same.name before revision stops.file;
       }
 
@@ -311,6 +314,7 @@ module _ (law : FrontsAreRead) (p : SeenPiece) (text : List ℕ) (reads : ReadsA
   adopted_stops is adopts stops =
       let t : taken (holding old) (Ok p) ≡ take_by cases.Adopted (holding old) p = ap (λ k. take_by k (holding old) p) is in
       begins_stops law p text reads old mid new (asked_or_first (asked_of old)) cases.Adopted is refl (ap (λ (x : Taken). x.leaves) t) (λ i. subst (λ (x : Taken). IsIgnored x.says) t i)
+      (λ some. none-some (revision_of_piece p) (sym (nothing_asked (revision_of old) (asked_of old) p is) ∙ some))
       (subst (λ o. Adopts (revision_of_piece p) o old mid) (adopted_asks is) adopts) stops
 
   pub restarted_delivers : (count : ℕ) → case_of (revision_of old) (asked_of old) p ≡ cases.Restarted → Adopts (revision_of_piece p) (Some first_span) old mid → AcceptsPiece p mid new count → DeliversKeeping old text Restarted new
@@ -322,7 +326,8 @@ module _ (law : FrontsAreRead) (p : SeenPiece) (text : List ℕ) (reads : ReadsA
   pub restarted_stops : case_of (revision_of old) (asked_of old) p ≡ cases.Restarted → Adopts (revision_of_piece p) (Some first_span) old mid → StopsStoring p mid new → StopsDelivery old text new
   restarted_stops is adopts stops =
       let t : taken (holding old) (Ok p) ≡ take_by cases.Restarted (holding old) p = ap (λ k. take_by k (holding old) p) is in
-      begins_stops law p text reads old mid new first_span cases.Restarted is refl (ap (λ (x : Taken). x.leaves) t) (λ i. subst (λ (x : Taken). IsIgnored x.says) t i) adopts stops
+      begins_stops law p text reads old mid new first_span cases.Restarted is refl (ap (λ (x : Taken). x.leaves) t) (λ i. subst (λ (x : Taken). IsIgnored x.says) t i)
+      (λ some. other_tag (revision_of_piece p) (asked_of old) p (subst (λ v. case_of v (asked_of old) p ≡ cases.Restarted) some is) refl) adopts stops
 
 module _ (law : FrontsAreRead) (p : SeenPiece) (text : List ℕ) (reads : ReadsAnswer text (Ok p)) (old new : ClientState) where
   pub accepted_delivers : ((r : ReaderState) (f : List ℕ) → reader.ReaderAgrees r f → length f ≡ reader.complete_of r) → (count : ℕ) → case_of (revision_of old) (asked_of old) p ≡ cases.Accepted → AcceptsPiece p old new count → DeliversKeeping old text (Took count) new
@@ -331,5 +336,8 @@ module _ (law : FrontsAreRead) (p : SeenPiece) (text : List ℕ) (reads : ReadsA
       keeps_delivers law p text reads old new count is before (was_asked (revision_of old) (asked_of old) p cases.Accepted is (λ w e. cc))
       (known_length lengths old (revision_of_piece p) before) takes
 
-  pub accepted_stops : case_of (revision_of old) (asked_of old) p ≡ cases.Accepted → StopsStoring p old new → StopsDelivery old text new
-  accepted_stops is stops = keeps_stops law p text reads old new is (same_revision (revision_of old) (asked_of old) p is) stops
+  pub accepted_stops : ((r : ReaderState) (f : List ℕ) → reader.ReaderAgrees r f → length f ≡ reader.complete_of r) → case_of (revision_of old) (asked_of old) p ≡ cases.Accepted
+      → StopsStoring p old new → StopsDelivery old text new
+  accepted_stops lengths is stops =
+      let before = same_revision (revision_of old) (asked_of old) p is in
+      keeps_stops law p text reads old new is before (known_length lengths old (revision_of_piece p) before) stops

@@ -163,7 +163,7 @@ module _ (law : FrontsAreRead) (lengths : (r : ReaderState) (f : List ℕ) → r
         let q = piece_with head (body_behind head p) in
         let t = subst (λ (e : Feed). IsTold e what) x.feed told in
         let next = x.is.next in
-        stops_by law s x.mid new p head reads (case_for s head)
+        stops_by law lengths s x.mid new p head reads (case_for s head)
         (case_is s head (body_behind head p) x.taken.span (case_for s head)
         (λ accepted. (
           asked_before (case_for s head) head s x.mid x.taken.span x.begins x.asked accepted,

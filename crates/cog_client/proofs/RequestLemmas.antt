@@ -158,6 +158,11 @@ module _ (e : Feed) (how : Asking) (h n : List ℕ) (q : Option Query) (a : Opti
       }
 
 -- where nothing is to do, there is no request
+-- a client that asks and has no report isn't idle
+pub busy : (c : ClientState) → is_some (query_of c) ≡ true → is_some (report_of c) ≡ false → IsIdle c → ⊥
+busy c asks quiet (inl none) = false≢true (sym (ap is_some none) ∙ asks)
+busy c asks quiet (inr some) = false≢true (sym quiet ∙ some)
+
 pub requests_none : (old new : ClientState) → GoesOnKeeping old new → asked_of new ≡ None → IsIdle new → (IsSome (report_of old) → report_of new ≡ report_of old)
     → feed_of new ≡ nothing_fed → RequestsKeeping old None new
 requests_none old new goes none idle report dropped = record {

@@ -11,6 +11,8 @@ use Rattle.http_range.specs.Piece.{SeenPiece}
 use Rattle.http_range.specs.Reading.{ReadsHead}
 use Rattle.range_cache.specs.Cache.{Blocks}
 use Rattle.range_cache.specs.Laws.{BesideBringNone, FrontHolds}
+use Rattle.cog_reader.specs.Reader as reader
+use Rattle.cog_reader.specs.Reader.{ReaderState}
 use Rattle.cog_client.specs.declared.asking.Asking.{Asking}
 use Rattle.cog_client.specs.declared.case.Case.{Case}
 use Rattle.cog_client.specs.declared.case.Case.TheVariants.{Ignored, Adopted, Restarted, Accepted}
@@ -22,7 +24,7 @@ use Rattle.cog_client.specs.Case.{Revision, case_of, is_beside}
 use Rattle.cog_client.specs.Client.{ClientState, IsAlone, IsClient, IsStanding, asked_of, blocks_of, feed_of, host_of, how_of, name_of, query_of, report_of, revision_of}
 use Rattle.cog_client.specs.Fed.{case_of_head, piece_with}
 use Rattle.cog_client.specs.FedClient.{Begins, FedAllBut, FedBefore, FedBody, case_for}
-use Rattle.cog_client.specs.Feeding.{Feed, nothing_fed, waits, unused, passed, follows}
+use Rattle.cog_client.specs.Feeding.{Feed, TakesNoBody, waits, unused, passed, follows}
 use Rattle.cached_reader.specs.Going.{AreSame}
 use Rattle.cog_client.specs.Keeps.{StopsDelivery}
 use Rattle.cog_client.specs.Steps.{Stores, StopsStoring}
@@ -87,7 +89,7 @@ case_is s head body span k asks is = elim (case_is_of_head (revision_of s) (aske
 
 -- ---- memory was wanting
 
-stops_storing : (p : SeenPiece) (span : Span) (k : ℕ) (mid new : ClientState) → asked_of mid ≡ Some span → report_of new ≡ None → feed_of new ≡ nothing_fed
+stops_storing : (p : SeenPiece) (span : Span) (k : ℕ) (mid new : ClientState) → asked_of mid ≡ Some span → report_of new ≡ None → TakesNoBody (feed_of new)
     → Stores p span k mid new → StopsStoring p mid new
 stops_storing p span k mid new asks none dropped st = record {
   same = st.same;
@@ -114,7 +116,7 @@ stops_from p s new e st = record {
   file = λ f size piece knows. stays_refed s new e f (st.file f size piece (refed s e f knows));
 }
 
-module _ (law : FrontsAreRead) (s mid new : ClientState) (text : List ℕ) (head : Announced) (reads : ReadsHead text (Ok head)) where
+module _ (law : FrontsAreRead) (lengths : (r : ReaderState) (f : List ℕ) → reader.ReaderAgrees r f → length f ≡ reader.complete_of r) (s mid new : ClientState) (text : List ℕ) (head : Announced) (reads : ReadsHead text (Ok head)) where
   abbrev piece : SeenPiece
   piece = piece_with head (body_behind head text)
 
@@ -123,7 +125,7 @@ module _ (law : FrontsAreRead) (s mid new : ClientState) (text : List ℕ) (head
   stops_by Adopted is b st = adopted_stops law piece text (Ok head, reads, refl) s mid new is b st
   stops_by Restarted is b st = restarted_stops law piece text (Ok head, reads, refl) s mid new is b st
   stops_by Accepted is (e, same) st =
-      accepted_stops law piece text (Ok head, reads, refl) s new is (stops_from piece s new e (subst (λ (m : ClientState). StopsStoring piece m new) same st))
+      accepted_stops law piece text (Ok head, reads, refl) s new lengths is (stops_from piece s new e (subst (λ (m : ClientState). StopsStoring piece m new) same st))
 
 -- what is asked for where the piece is of the revision that was read
 pub asked_before : (k : Case) (head : Announced) (s mid : ClientState) (span : Span) → Begins k head s mid → asked_of mid ≡ Some span → k ≡ Accepted → asked_of s ≡ Some span
@@ -133,8 +135,8 @@ asked_before Adopted head s mid span b asks is = absurd (let wrong : Adopted ≡
 asked_before Restarted head s mid span b asks is = absurd (let wrong : Restarted ≡ Accepted = is in cc)
 asked_before Accepted head s mid span (e, same) asks is = sym (ap asked_of same) ∙ asks
 
-module _ (law : FrontsAreRead) (holds : FrontHolds) (beside : BesideBringNone) (s : ClientState) (p bytes : List ℕ) (old new : ClientState)
-    (same : new ≡ record old { cache = blocks_of new; feed = feed_of new }) (dropped : feed_of new ≡ nothing_fed) (sound : IsClient new)
+module _ (law : FrontsAreRead) (lengths : (r : ReaderState) (f : List ℕ) → reader.ReaderAgrees r f → length f ≡ reader.complete_of r) (holds : FrontHolds) (beside : BesideBringNone) (s : ClientState) (p bytes : List ℕ) (old new : ClientState)
+    (same : new ≡ record old { cache = blocks_of new; feed = feed_of new }) (dropped : TakesNoBody (feed_of new)) (sound : IsClient new)
     (stops : StopsInBytes (feed_of old) (blocks_of old) bytes (blocks_of new)) where
   abbrev At : Feed → Type 0
   At e = StopsInBytes e (blocks_of old) bytes (blocks_of new)
@@ -153,7 +155,7 @@ module _ (law : FrontsAreRead) (holds : FrontHolds) (beside : BesideBringNone) (
       let st = stored_over holds x.mid new over sound (piece_with b.head all) x.taken.span stopped.0 (begun_reads (case_for s b.head) b.head s x.mid refl x.begins) stopped.2 in
       let some : brought_by (piece_with b.head all) x.taken.span ≡ [] → ⊥ =
       λ none. let long = ap length none in let few = stopped.1 in omega (arith, long, few) in
-      stops_by law s x.mid new p b.head b.reads (case_for s b.head)
+      stops_by law lengths s x.mid new p b.head b.reads (case_for s b.head)
       (case_is s b.head all x.taken.span (case_for s b.head)
       (λ accepted. (asked_before (case_for s b.head) b.head s x.mid x.taken.span x.begins x.asked accepted, λ is. some (brings_none beside b.head all x.taken.span is))) refl)
       x.begins

@@ -1,6 +1,7 @@
 -- What a client keeps of an answer that comes in pieces, between two of them.
 use Rattle.std.specs.Prelude.{ℕ, List, [], ⊤}
 use Rattle.http_range.specs.declared.reading.Why.{Why}
+use Rattle.http_range.specs.declared.reading.Why.TheVariants.{Cut}
 use Rattle.http_range.specs.Announced.{Announced}
 use Rattle.cog_client.specs.declared.body.Body.{Body}
 use Rattle.cog_client.specs.declared.case.Case.{Case}
@@ -17,6 +18,10 @@ pub data Feed : Type 0 where
 -- no byte of an answer
 abbrev pub nothing_fed : Feed
 nothing_fed = waits []
+
+-- what is still to come of the answer is passed over
+abbrev pub rest_dropped : Feed
+rest_dropped = unused Cut
 
 -- no body is taken
 abbrev pub TakesNoBody : Feed → Type 0

@@ -1,5 +1,5 @@
 -- What each call of a client keeps of the file that it knows, beside what a caller sees of the call.
-use Rattle.std.specs.Prelude.{◌≡◌, ℕ, ◌⊎◌, false, List, Option, Some, None, IfSome, slice_get, IfOk, Result}
+use Rattle.std.specs.Prelude.{◌≡◌, ℕ, ◌⊎◌, false, List, Option, Some, None, IfSome, IsSome, slice_get, IfOk, Result}
 use Rattle.tiff_dir.specs.declared.query.Query.{Query}
 use Rattle.tiff_dir.specs.declared.span.Span.{Span}
 use Rattle.tiff_dir.specs.Needs.{Extent, IsEndOf}
@@ -13,7 +13,7 @@ use Rattle.range_cache.specs.Piece.{IsPieceOf}
 use Rattle.cog_client.specs.declared.delivered.Delivered.{Delivered}
 use Rattle.cog_client.specs.declared.report.Report.{Report}
 use Rattle.cog_client.specs.Case.{Revision, case_of}
-use Rattle.cog_client.specs.Feeding.{nothing_fed}
+use Rattle.cog_client.specs.Feeding.{TakesNoBody, nothing_fed}
 use Rattle.cog_client.specs.Take.{IsIgnored, asked_or_first, base_of, first_span, stored_front, take}
 use Rattle.cog_client.specs.Report.{IsTrueReport}
 use Rattle.cog_client.specs.declared.asking.Asking.{Asking}
@@ -93,8 +93,9 @@ pub record RequestsKeeping (old : ClientState) (request : Option (List ℕ)) (ne
   pub goes : GoesOnKeeping old new
   pub asks : IfSome (asked_of new) (AsksFor new (revision_of new) (ahead_of new))
 
--- After want of memory nothing is asked.
+-- Memory was wanting for a query that has no report: nothing is asked then.
 pub record StopsAsking (old new : ClientState) : Type 0 where
+  pub busy : IsIdle old → ⊥
   pub goes : GoesOnKeeping old new
   pub asked : asked_of new ≡ None
   pub report : report_of new ≡ None
@@ -111,7 +112,7 @@ pub record DeliversKeeping (old : ClientState) (text : List ℕ) (what : Deliver
   pub agrees : (book : Book) → HasDistinctTags book → ClientAgrees old book → IsReadAs (IsPieceOfBook (name_of old) book) text → ClientAgrees new book
 
 -- After want of memory, which no answer meets that is ignored, the revision and what is asked for are those that the answer
--- leaves, and some of its blocks are stored.
+-- leaves, some of its blocks are stored, and what was known of the same file is known.
 pub record StopsDelivery (old : ClientState) (text : List ℕ) (new : ClientState) : Type 0 where
   pub same : SameClient old new
   pub reading : Result SeenPiece Why
@@ -120,14 +121,16 @@ pub record StopsDelivery (old : ClientState) (text : List ℕ) (new : ClientStat
   pub revision : revision_of new ≡ (take (holding old) reading).leaves.revision
   pub asked : asked_of new ≡ (take (holding old) reading).leaves.asked
   pub report : report_of new ≡ None
-  pub feed : feed_of new ≡ nothing_fed
+  pub feed : TakesNoBody (feed_of new)
   pub blocks : IfOk reading (λ p. (k : ℕ) × AreSame (stored_front k p (asked_or_first (asked_of new))
       (base_of (case_of (revision_of old) (asked_of old) p) (blocks_of old))) (blocks_of new))
+  pub file : (f : List ℕ) → revision_of new ≡ revision_of old → IfOk reading (λ p. IsPieceOf f p.first p.body) → Knows f old → StaysOf f old new
   pub agrees : (book : Book) → HasDistinctTags book → ClientAgrees old book → IsReadAs (IsPieceOfBook (name_of old) book) text → ClientAgrees new book
 
 -- ---- report
 
--- The report that stands is true for each book that the client agrees with.
+-- The report that stands is of the revision that is read, and true for each book that the client agrees with.
 pub record Stands (c : ClientState) (report : Option Report) : Type 0 where
   pub standing : report ≡ report_of c
+  pub read : IsSome report → IsSome (revision_of c)
   pub holds : (book : Book) → ClientAgrees c book → IfSome report (λ r. IsTrueReport r (name_of c) (query_of c) book)

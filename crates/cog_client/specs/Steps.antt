@@ -11,7 +11,7 @@ use Rattle.cog_client.specs.declared.source.Source.{Source}
 use Rattle.cog_client.specs.Case.{Revision}
 use Rattle.cog_client.specs.Take.{asked_or_first, stored_count, emptied, stored_front, stored_of}
 use Rattle.cog_client.specs.Client.{ClientState, Knows, asked_of, blocks_of, feed_of, report_of, revision_of}
-use Rattle.cog_client.specs.Feeding.{nothing_fed}
+use Rattle.cog_client.specs.Feeding.{TakesNoBody, nothing_fed}
 use Rattle.cached_reader.specs.Going.{AreSame}
 use Rattle.cog_client.specs.Calls.{SameClient, unless_reported}
 use Rattle.cog_client.specs.Keeps.{Rests, StaysOf}
@@ -68,6 +68,6 @@ pub record StopsStoring (p : SeenPiece) (old new : ClientState) : Type 0 where
   pub asked : asked_of new ≡ asked_of old
   pub revision : revision_of new ≡ revision_of old
   pub report : report_of new ≡ None
-  pub feed : feed_of new ≡ nothing_fed
+  pub feed : TakesNoBody (feed_of new)
   pub blocks : (k : ℕ) × AreSame (stored_front k p (asked_or_first (asked_of old)) (blocks_of old)) (blocks_of new)
   pub file : (f : List ℕ) → p.complete ≡ length f → IsPieceOf f p.first p.body → Knows f old → StaysOf f old new

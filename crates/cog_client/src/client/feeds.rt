@@ -1,10 +1,13 @@
 //! The client takes an answer, piece by piece as it arrives, or whole.
-ghost use Rattle.std.specs.Prelude.{◌≡◌, ◌≤◌, ◌++◌, ℕ, List, [], IfOk, OnErr, OnOk, drop, length};
+ghost use Rattle.std.specs.Prelude.{◌≡◌, ◌≤◌, ◌++◌, ℕ, List, [], IfOk, OnErr, OnOk, Ok, drop, length};
+ghost use Rattle.http_range.specs.declared.reading.Why.TheVariants.{Cut};
 ghost use Rattle.http_range.specs.Announced.{announced, FitsFile};
+ghost use Rattle.cog_client.specs.declared.delivered.Delivered.TheVariants.{Ignored};
+ghost use Rattle.cog_client.specs.declared.delivered.Ignored.TheVariants.{NotUsed};
 ghost use Rattle.cog_client.specs.Arrival.{IsBounded};
 ghost use Rattle.cog_client.specs.Client.{ClientState, feed_of};
 ghost use Rattle.cog_client.specs.FedClient.{Fed, FedBefore, FedBy};
-ghost use Rattle.cog_client.specs.Feeding.{nothing_fed};
+ghost use Rattle.cog_client.specs.Feeding.{nothing_fed, rest_dropped};
 ghost use Rattle.cog_client.specs.Keeps.{DeliversKeeping, StopsDelivery};
 
 use crate::case::{Case, case_of_head};
@@ -26,10 +29,13 @@ impl Client {
     }
 
     /// Takes the next bytes of an answer, and stores the blocks that become whole. After `Memory`, the only error, the rest of
-    /// the answer is dropped, and some of its blocks may be stored. Without `begin` an answer begins here.
+    /// the answer is dropped: what is fed of it changes nothing, and its end tells that it is cut, though some of its blocks may be
+    /// stored. Without `begin` an answer begins here.
     pub fn feed(&mut self, piece: &[u8]) -> Result<(), Memory>
         ensures ok { OnOk result ((s : ClientState) (p : List ℕ) → Fed s p self.old → Fed s (p ++ piece.now) self.new) }
         ensures err { OnErr result ((s : ClientState) (p : List ℕ) → Fed s p self.old → StopsDelivery s (p ++ piece.now) self.new) }
+        ensures stops { OnErr result (feed_of self.new ≡ rest_dropped) }
+        ensures dropped { feed_of self.old ≡ rest_dropped → OnOk result (self.new ≡ self.old) × OnErr result ⊥ }
         ensures bounded { IsBounded (feed_of self.new) }
     {
         let from = self.feed_head(piece);
@@ -43,7 +49,8 @@ impl Client {
     pub fn end(&mut self) -> Result<Delivered, Memory>
         ensures ok { IfOk result (λ what. (s : ClientState) (p : List ℕ) → Fed s p self.old → DeliversKeeping s p what self.new) }
         ensures err { OnErr result ((s : ClientState) (p : List ℕ) → Fed s p self.old → StopsDelivery s p self.new) }
-        ensures dropped { feed_of self.new ≡ nothing_fed }
+        ensures dropped { feed_of self.old ≡ rest_dropped → result ≡ Ok (Ignored (NotUsed Cut)) }
+        ensures ended { feed_of self.new ≡ nothing_fed }
     {
         fronts_are_read();
         lengths_are_known();
@@ -76,6 +83,7 @@ impl Client {
     fn feed_head(&mut self, piece: &[u8]) -> usize
         ensures within { result ≤ length piece.now }
         ensures before { (s : ClientState) (p : List ℕ) → Fed s p self.old → FedBefore s (p ++ piece.now) (drop result piece.now) self.new }
+        ensures dropped { feed_of self.old ≡ rest_dropped → self.new ≡ self.old }
     {
         heads_grow();
         match self.arrival.look(piece) {
@@ -117,13 +125,16 @@ impl Client {
     fn feed_body(&mut self, bytes: &[u8]) -> Result<(), Memory>
         ensures ok { OnOk result ((s : ClientState) (p : List ℕ) → FedBefore s p bytes.now self.old → Fed s p self.new) }
         ensures err { OnErr result ((s : ClientState) (p : List ℕ) → FedBefore s p bytes.now self.old → StopsDelivery s p self.new) }
+        ensures stops { OnErr result (feed_of self.new ≡ rest_dropped) }
+        ensures dropped { feed_of self.old ≡ rest_dropped → OnOk result (self.new ≡ self.old) × OnErr result ⊥ }
     {
         fronts_are_read();
+        lengths_are_known();
         stored_are_held();
         parts_bring_blocks();
         let taken = self.arrival.take(&mut self.cache, bytes);
         if taken.is_err() {
-            self.arrival.clear();
+            self.arrival.drop_rest();
         }
         taken
     }

@@ -57,7 +57,8 @@ returns-in_err-missing c =
       ok = search rules;
       err = refused c.from_residual.result ((s : ClientState) → (p : List ℕ) → Fed s p c.args.self.now → StopsDelivery s p c.missing.new.self) (λ (s : ClientState) (p : List ℕ) (fed : Fed s p c.args.self.now).
           stops c.fronts_are_read.ensures.answers c.lengths_are_known.ensures c.stored_are_held.ensures.front c.parts_bring_blocks.ensures.beside s p c.args.self.now mid gone.dropped gone.sound c.told-told.result gone.told used fed c.missing.new.self e.goes e.asked e.err (e.feed ∙ c.clear.ensures));
-      dropped = e.feed ∙ c.clear.ensures;
+      dropped = λ is. absurd (used (subst IsIgnored (sym (subst (λ (e : Feed). IsTold e c.told-told.result) is gone.told)) tt));
+      ended = e.feed ∙ c.clear.ensures;
     }
 
 pub returns-in_ok-missing : goal.returns-in_ok-missing
@@ -72,7 +73,8 @@ returns-in_ok-missing c =
       ok = λ (s : ClientState) (p : List ℕ) (fed : Fed s p c.args.self.now).
           ends c.fronts_are_read.ensures.answers c.lengths_are_known.ensures c.stored_are_held.ensures.front c.parts_bring_blocks.ensures.beside s p c.args.self.now mid gone.dropped gone.sound c.told-told.result gone.told used fed c.missing.new.self c.in_ok-missing.field-0 e.goes e.asked e.ok (e.feed ∙ c.clear.ensures);
       err = tt;
-      dropped = e.feed ∙ c.clear.ensures;
+      dropped = λ is. absurd (used (subst IsIgnored (sym (subst (λ (e : Feed). IsTold e c.told-told.result) is gone.told)) tt));
+      ended = e.feed ∙ c.clear.ensures;
     }
 
 pub returns-else-is_none : goal.returns-else-is_none
@@ -87,5 +89,6 @@ returns-else-is_none c =
       ok = λ (s : ClientState) (p : List ℕ) (fed : Fed s p c.args.self.now).
           absurd (false≢true (sym (ap is_some (silent c.fronts_are_read.ensures.answers c.lengths_are_known.ensures c.stored_are_held.ensures.front c.parts_bring_blocks.ensures.beside s p c.args.self.now mid gone.dropped gone.sound c.told-told.result gone.told used fed)) ∙ stands));
       err = tt;
-      dropped = c.clear.ensures;
+      dropped = λ is. absurd (used (subst IsIgnored (sym (subst (λ (e : Feed). IsTold e c.told-told.result) is gone.told)) tt));
+      ended = c.clear.ensures;
     }

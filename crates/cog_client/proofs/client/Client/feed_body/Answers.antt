@@ -1,7 +1,8 @@
-use Rattle.std.proofs.Common.{◌≡◌, ℕ, List, refl, subst}
+use Rattle.std.proofs.Common.{◌≡◌, ℕ, List, refl, sym, subst}
 use Rattle.cog_client.specs.Arrival.{StopsInBytes, TakesBytes}
 use Rattle.cog_client.specs.Client.{ClientState, blocks_of, feed_of}
 use Rattle.cog_client.specs.FedClient.{FedBefore}
+use Rattle.cog_client.specs.Feeding.{TakesNoBody}
 use Rattle.cog_client.proofs.ArrivalLemmas.{then_err, then_ok}
 use Rattle.cog_client.proofs.ClientLemmas.{known}
 use Rattle.cog_client.proofs.FollowLemmas.{fed_on}
@@ -15,11 +16,11 @@ returns-then-is_err-clause-err c =
     let now = c.args.self.now in
     let bytes = c.args.bytes.now in
     let cache = c.take-taken.new.cache in
-    let new = known c.clear.new.self i.how i.host.items i.name.items i.query i.asked i.source cache i.report in
-    let same : new ≡ record now { cache = cache; feed = c.clear.new.self } = subst (λ (m : ClientState). new ≡ record m { cache = cache; feed = c.clear.new.self }) c.self.view_is refl in
+    let new = known c.drop_rest.new.self i.how i.host.items i.name.items i.query i.asked i.source cache i.report in
+    let same : new ≡ record now { cache = cache; feed = c.drop_rest.new.self } = subst (λ (m : ClientState). new ≡ record m { cache = cache; feed = c.drop_rest.new.self }) c.self.view_is refl in
     then_err c.take-taken.result (λ (stops : StopsInBytes i.arrival i.cache bytes cache). λ (s : ClientState) (p : List ℕ) (fed : FedBefore s p bytes now).
-    fed_stops c.fronts_are_read.ensures.answers c.stored_are_held.ensures.front c.parts_bring_blocks.ensures.beside s p bytes now new same c.clear.ensures
-    (stopped_sound i.arrival c.clear.new.self i.how i.host.items i.name.items i.query i.asked i.source i.cache cache i.report bytes c.self.invariant stops)
+    fed_stops c.fronts_are_read.ensures.answers c.lengths_are_known.ensures c.stored_are_held.ensures.front c.parts_bring_blocks.ensures.beside s p bytes now new same (subst TakesNoBody (sym c.drop_rest.ensures) tt)
+    (stopped_sound i.arrival c.drop_rest.new.self i.how i.host.items i.name.items i.query i.asked i.source i.cache cache i.report bytes c.self.invariant stops)
     (subst (λ (m : ClientState). StopsInBytes (feed_of m) (blocks_of m) bytes cache) c.self.view_is stops) fed) c.take-taken.ensures.err
 
 pub returns-else-is_err-clause-ok : goal.returns-else-is_err-clause-ok

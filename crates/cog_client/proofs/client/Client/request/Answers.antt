@@ -7,18 +7,20 @@ use Rattle.cog_client.specs.Calls.{IsIdle, request_for}
 use Rattle.cog_client.specs.Keeps.{AsksFor, GoesOnKeeping, Misses, StopsAsking}
 use Rattle.cog_client.proofs.GoingLemmas.{refused}
 use Rattle.cog_client.proofs.ClientLemmas.{goes_trans, known}
-use Rattle.cog_client.proofs.RequestLemmas.{asking_sound, none_asked, none_of, requested, requests_none, unasked}
+use Rattle.cog_client.proofs.RequestLemmas.{asking_sound, busy, none_asked, none_of, requested, requests_none, unasked}
 use Rattle.cog_client.proofs.client.Client.request.Goals.{then-is_none-via-then-is_none, then-is_none-via-else-is_none+then-is_some}
 use Rattle.cog_client.proofs.client.Client.request.Goals as goal
 
 pub returns-in_err-text-clause-err : goal.returns-in_err-text-clause-err
-unfolding asked_of feed_of
+unfolding asked_of query_of report_of feed_of
 returns-in_err-text-clause-err c =
     let i = c.self.inside in
     let e = c.in_ok-span.ensures in
     let before = known c.clear.new.self i.how i.host.items i.name.items i.query None i.source i.cache i.report in
     let old : GoesOnKeeping c.args.self.now before = subst (λ k. GoesOnKeeping k before) c.self.view_is (unasked i.arrival c.clear.new.self c.clear.ensures i.how i.host.items i.name.items i.query i.asked i.source i.cache i.report c.self.invariant) in
     refused c.from_residual-in_err-text.result (StopsAsking c.args.self.now c.missing.new.self) (record {
+      busy = busy c.args.self.now (ap (λ (k : ClientState). is_some (query_of k)) (sym c.self.view_is) ∙ c.is_none.ensures ∙ ap not c.if-is_none.false)
+          (ap (λ (k : ClientState). is_some (report_of k)) (sym c.self.view_is) ∙ sym c.is_some.ensures ∙ c.if-is_some.false);
       goes = goes_trans c.args.self.now before c.missing.new.self old e.goes;
       asked = none_asked (report_of c.missing.new.self) (asked_of c.missing.new.self) (asked_of before) e.asked refl;
       report = e.silent (ap is_some c.in-Some.is);
@@ -67,13 +69,15 @@ returns-then-is_none-clause-ok c =
     requests_none c.args.self.now new goes refl idle (λ _. ap (λ (k : ClientState). report_of k) c.self.view_is) c.clear.ensures
 
 pub returns-in_err-span-clause-err : goal.returns-in_err-span-clause-err
-unfolding asked_of feed_of
+unfolding asked_of query_of report_of feed_of
 returns-in_err-span-clause-err c =
     let i = c.self.inside in
     let e = c.in_err-span.ensures in
     let before = known c.clear.new.self i.how i.host.items i.name.items i.query None i.source i.cache i.report in
     let old : GoesOnKeeping c.args.self.now before = subst (λ k. GoesOnKeeping k before) c.self.view_is (unasked i.arrival c.clear.new.self c.clear.ensures i.how i.host.items i.name.items i.query i.asked i.source i.cache i.report c.self.invariant) in
     refused c.from_residual.result (StopsAsking c.args.self.now c.missing.new.self) (record {
+      busy = busy c.args.self.now (ap (λ (k : ClientState). is_some (query_of k)) (sym c.self.view_is) ∙ c.is_none.ensures ∙ ap not c.if-is_none.false)
+          (ap (λ (k : ClientState). is_some (report_of k)) (sym c.self.view_is) ∙ sym c.is_some.ensures ∙ c.if-is_some.false);
       goes = goes_trans c.args.self.now before c.missing.new.self old e.goes;
       asked = none_asked (report_of c.missing.new.self) (asked_of c.missing.new.self) (asked_of before) e.asked refl;
       report = e.err;
