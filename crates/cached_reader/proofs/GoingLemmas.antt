@@ -1,7 +1,8 @@
 -- Going on, step by step.
 use Rattle.std.proofs.Common.{◌≡◌, ℕ, ◌+◌, ◌-◌, ◌/◌, cond, arith, ◌<◌, ◌≤◌, List, [], ◌∷◌, ◌++◌, Option, Some, None, Result, Ok, Err, refl, sym, ap, ◌∙◌, subst, inl, inr, append-nil, append_assoc}
 use Rattle.std.proofs.lemmas.Bool.Decides.{eqb_tells}
-use Rattle.std.specs.Prelude.{IsSome, IsSomeAnd, OnErr}
+use Rattle.std.specs.Prelude.{IfSome, IsSome, IsSomeAnd, OnErr}
+use Rattle.tiff_dir.specs.declared.query.Query.{Query}
 use Rattle.tiff_dir.specs.declared.span.Span.{Span}
 use Rattle.tiff_dir.specs.Needs.{Extent, IsEndOf, bytes_in, max_range_bytes}
 use Rattle.range_cache.specs.Cache.{Blocks, Holds, block_at, numbers}
@@ -11,9 +12,9 @@ use Rattle.range_cache.specs.Laws.{MissingIsFew, RunsAreMissing}
 use Rattle.range_cache.specs.Missing.{IsFirstGap}
 use Rattle.range_cache.specs.declared.missing.Missing.{Missing}
 use Rattle.cog_reader.specs.Reader as reader
-use Rattle.cog_reader.specs.Reader.{ReaderState, ReaderAgrees, IsWantedOf, Takes, complete_of, outcome_of, query_of, to_come, wanted}
+use Rattle.cog_reader.specs.Reader.{ReaderState, ReaderAgrees, IsWantedOf, Takes, complete_of, outcome_of, query_of, to_come, unread, wanted}
 use Rattle.cog_reader.specs.declared.outcome.Outcome.{Outcome}
-use Rattle.cached_reader.specs.Going.{CachedReader, work, AreSame, ReaderGoesOn, IsMissing}
+use Rattle.cached_reader.specs.Going.{CachedReader, work, AreSame, KeepsRead, ReaderGoesOn, IsMissing}
 
 -- ---- ends of lists
 
@@ -40,6 +41,21 @@ same_refl b = record { capacity = refl; blocks = λ k. refl }
 pub same_trans : (a b c : Blocks) → AreSame a b → AreSame b c → AreSame a c
 same_trans a b c h k = record { capacity = k.capacity ∙ h.capacity; blocks = λ n. k.blocks n ∙ h.blocks n }
 
+-- ---- what is held of the file
+
+pub kept_refl : (f : List ℕ) (r : ReaderState) → KeepsRead f r r
+kept_refl f r asked q is one = end_refl (unread r f q)
+
+pub kept_trans : (f : List ℕ) (a b c : ReaderState) → query_of b ≡ query_of a → KeepsRead f a b → KeepsRead f b c → KeepsRead f a c
+kept_trans f a b c same h k asked q is one = end_trans (unread a f q) (unread b f q) (unread c f q) (h asked q is one) (k asked q (same ∙ is) one)
+
+pub kept_same : (f : List ℕ) (a b : ReaderState) → ((q : Query) → unread b f q ≡ unread a f q) → KeepsRead f a b
+kept_same f a b same asked q is one = subst (λ rs. IsEndOf rs (unread a f q)) (sym (same q)) (end_refl (unread a f q))
+
+kept_given : (f : List ℕ) (a b : ReaderState) → reader.KeepsHeld f a b → KeepsRead f a b
+kept_given f a b h asked q is one =
+    (subst (λ o. IfSome o (λ x. (q : Query) → reader.AreOfOneLevel f x q → IsEndOf (unread b f q) (unread a f q))) is h) q one
+
 -- ---- going on
 
 pub goes_refl : (w : CachedReader) → ReaderGoesOn w w
@@ -47,7 +63,7 @@ goes_refl w = record {
   complete = refl;
   query = refl;
   blocks = same_refl w.cache;
-  file = λ f agrees holds. record { reader = agrees; cache = holds; come = end_refl (to_come w.reader f) };
+  file = λ f agrees holds. record { reader = agrees; cache = holds; come = end_refl (to_come w.reader f); held = kept_refl f w.reader };
 }
 
 pub goes_trans : (a b c : CachedReader) → ReaderGoesOn a b → ReaderGoesOn b c → ReaderGoesOn a c
@@ -62,6 +78,7 @@ goes_trans a b c h k = record {
         reader = next.reader;
         cache = next.cache;
         come = end_trans (to_come a.reader f) (to_come b.reader f) (to_come c.reader f) first.come next.come;
+        held = kept_trans f a.reader b.reader c.reader h.query first.held next.held;
       };
 }
 
@@ -77,8 +94,9 @@ pub needed : (old new : ReaderState) (cache : Blocks) → complete_of new ≡ co
     → ((f : List ℕ) → ReaderAgrees old f → ReaderAgrees new f)
     → ((f : List ℕ) → ReaderAgrees old f → outcome_of new ≡ None → to_come new f ≡ to_come old f)
     → ((f : List ℕ) → IsSome (outcome_of new) → to_come new f ≡ [])
+    → ((f : List ℕ) (q : Query) → unread new f q ≡ unread old f q)
     → ReaderGoesOn (work old cache) (work new cache)
-needed old new cache complete query agrees come none = record {
+needed old new cache complete query agrees come none held = record {
   complete = complete;
   query = query;
   blocks = same_refl cache;
@@ -86,6 +104,7 @@ needed old new cache complete query agrees come none = record {
     reader = agrees f before;
     cache = holds;
     come = come_of f old new (outcome_of new) refl (come f before) (none f);
+    held = kept_same f old new (held f);
   };
 }
 
@@ -97,7 +116,7 @@ read r old new capacity kept holds = record {
   complete = refl;
   query = refl;
   blocks = record { capacity = capacity; blocks = kept };
-  file = λ f agrees held. record { reader = agrees; cache = holds f held; come = end_refl (to_come r f) };
+  file = λ f agrees held. record { reader = agrees; cache = holds f held; come = end_refl (to_come r f); held = kept_refl f r };
 }
 
 -- the reader is given the range that it wants
@@ -121,6 +140,7 @@ given old new before after r bytes is of takes goes = record {
         reader = takes.agrees f held is_wanted;
         cache = (goes.file f held holds).cache;
         come = given_end f old new (Some r) is (takes.come f held is_wanted);
+        held = kept_given f old new (takes.held f held);
       };
 }
 

@@ -1,5 +1,6 @@
 -- Going on: the reader is given what the cache has, and what is missing then.
 use Rattle.std.specs.Prelude.{◌≡◌, ℕ, ◌+◌, ◌-◌, ◌*◌, ◌<◌, ◌≤◌, false, List, Option, Some, None, IsSome, IsSomeAnd, ◌⊎◌, slice_get}
+use Rattle.tiff_dir.specs.declared.query.Query.{Query}
 use Rattle.tiff_dir.specs.declared.span.Span.{Span}
 use Rattle.tiff_dir.specs.Needs.{Extent, IsEndOf, max_range_bytes}
 use Rattle.tiff_dir.specs.Block.{block_size, end_of, first_block, blocks}
@@ -7,7 +8,7 @@ use Rattle.range_cache.specs.Cache.{Blocks, Holds, block_at, numbers}
 use Rattle.range_cache.specs.Numbers.{has, missing as absent, IsLed}
 use Rattle.range_cache.specs.Missing.{IsFirstGap}
 use Rattle.range_cache.specs.declared.missing.Missing.{Missing}
-use Rattle.cog_reader.specs.Reader.{ReaderState, ReaderAgrees, complete_of, outcome_of, query_of, steps_of, to_come}
+use Rattle.cog_reader.specs.Reader.{AreOfOneLevel, ReaderState, ReaderAgrees, complete_of, outcome_of, query_of, steps_of, to_come, unread}
 
 -- a reader, and the blocks that it reads from
 pub record CachedReader : Type 0 where
@@ -22,11 +23,16 @@ pub record AreSame (old new : Blocks) : Type 0 where
   pub capacity : new.capacity ≡ old.capacity
   pub blocks : (k : ℕ) → block_at k new.entries ≡ block_at k old.entries
 
+-- No query of the level that is asked of needs more of the file than before.
+abbrev pub KeepsRead : List ℕ → ReaderState → ReaderState → Type 0
+KeepsRead f old new = (asked q : Query) → query_of old ≡ Some asked → AreOfOneLevel f asked q → IsEndOf (unread new f q) (unread old f q)
+
 -- what it holds is still the file's, and what is to come is an end of what was
 pub record ReaderStaysOf (f : List ℕ) (old new : CachedReader) : Type 0 where
   pub reader : ReaderAgrees new.reader f
   pub cache : Holds f new.cache
   pub come : IsEndOf (to_come new.reader f) (to_come old.reader f)
+  pub held : KeepsRead f old.reader new.reader
 
 -- What the reader is given changes no block, no length and no query.
 pub record ReaderGoesOn (old new : CachedReader) : Type 0 where

@@ -37,7 +37,7 @@ accept_stops p span k old mid new is s g asked none dropped = record {
     k,
     subst (λ b. AreSame b (blocks_of new)) (s.blocks ∙ ap (λ x. stored_front k p x (blocks_of old)) (span_is (asked_of old) span is)) g.seen.blocks,
   );
-  file = λ f size piece knows. let first = s.file f size piece knows in stays_trans f old mid new first (g.file f first.knows);
+  file = λ f size piece knows. let first = s.file f size piece knows in stays_trans f old mid new s.same.query first (g.file f first.knows);
 }
 
 pub accept_goes : (p : SeenPiece) (span : Span) (count : ℕ) (o : Option Span) (old mid new : ClientState) → asked_of old ≡ Some span → Stores p span (length (brought_by p span)) old mid
@@ -51,5 +51,5 @@ accept_goes p span count o old mid new is s counted g asked misses dropped = rec
   counted = counted ∙ ap (λ x. stored_count p x (blocks_of old)) (span_is (asked_of old) span is);
   feed = dropped;
   rests = (o, misses);
-  file = λ f size piece knows. let first = s.file f size piece knows in stays_trans f old mid new first (g.file f first.knows);
+  file = λ f size piece knows. let first = s.file f size piece knows in stays_trans f old mid new s.same.query first (g.file f first.knows);
 }

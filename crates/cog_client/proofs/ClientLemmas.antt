@@ -85,7 +85,7 @@ goes_by old new same revision blocks file = record {
 module _ (e e' : Feed) (how : Asking) (h n : List ℕ) (q : Option Query) (a : Option Span) (s : Source) (b : Blocks) (r : Option Report) where
   pub stores_front : (new : Blocks) (p : SeenPiece) (span : Span) (k : ℕ) → FrontHolds → IsClient (known e' how h n q a (Some s) new r)
       → new ≡ stored_front k p span b → Stores p span k (known e how h n q a (Some s) b r) (known e' how h n q a (Some s) new r)
-  unfolding how_of host_of name_of query_of asked_of revision_of report_of blocks_of to_come Knows
+  unfolding how_of host_of name_of query_of asked_of revision_of report_of blocks_of to_come unread Knows
   stores_front new p span k law c is = record {
     same = record { host = refl; name = refl; query = refl; how = refl };
     asked = refl;
@@ -100,6 +100,7 @@ module _ (e e' : Feed) (how : Asking) (h n : List ℕ) (q : Option Query) (a : O
         sound = c;
       };
       come = end_refl (reader.to_come s.reader f);
+      held = λ asked x is one. end_refl (reader.unread s.reader f x);
     };
   }
 
@@ -121,10 +122,14 @@ module _ (e : Feed) (how : Asking) (h n : List ℕ) (q : Option Query) (a : Opti
   gone_report f s' None tag h = tt
   gone_report f s' (Some x) tag h = (h.0 ∙ sym tag, h.1)
 
-  pub gone : (s' : Source) (new : Blocks) → s'.tag ≡ s.tag → s'.complete ≡ s.complete → IsClient (known e how h n q a (Some s) b r)
+  -- the reader is asked what the client is
+  reading_of : IsClient (known e how h n q a (Some s) b r) → r ≡ None → reader.query_of s.reader ≡ q
+  reading_of c quiet = c.reading.1 ∙ ap (λ o. if is_some o then None else q) quiet
+
+  pub gone : (s' : Source) (new : Blocks) → r ≡ None → s'.tag ≡ s.tag → s'.complete ≡ s.complete → IsClient (known e how h n q a (Some s) b r)
       → going.ReaderGoesOn (work s.reader b) (work s'.reader new) → GoesOnKeeping (known e how h n q a (Some s) b r) (known e how h n q a (Some s') new r)
-  unfolding how_of host_of name_of query_of revision_of blocks_of to_come Knows
-  gone s' new tag complete c goes =
+  unfolding how_of host_of name_of query_of revision_of blocks_of to_come unread Knows
+  gone s' new quiet tag complete c goes =
       goes_by (known e how h n q a (Some s) b r) (known e how h n q a (Some s') new r) (record { host = refl; name = refl; query = refl; how = refl })
       (ap Some (ap (λ t. record { tag = t; complete = s'.complete }) tag ∙ ap (λ l. record { tag = s.tag; complete = l }) complete)) goes.blocks
       (λ f knows.
@@ -132,6 +137,7 @@ module _ (e : Feed) (how : Asking) (h n : List ℕ) (q : Option Query) (a : Opti
       record {
         knows = record { reader = w.reader; blocks = w.cache; report = gone_report f s' r tag knows.report; sound = gone_sound s' new complete c goes };
         come = w.come;
+        held = λ asked x is one. w.held asked x (reading_of c quiet ∙ is) one;
       })
 
 -- ---- a report that stands from now on
@@ -154,24 +160,29 @@ module _ (e : Feed) (how : Asking) (h n : List ℕ) (q : Query) (a : Option Span
 
   pub concluded : (x : Report) → ((r : ReaderState) (f : List ℕ) → reader.query_of r ≡ None → reader.to_come r f ≡ []) → IsClient (known e how h n (Some q) a (Some s) b None) → Concludes q s (Some x) s'
       → GoesOnKeeping (known e how h n (Some q) a (Some s) b None) (known e how h n (Some q) None (Some s') b (Some x))
-  unfolding how_of host_of name_of query_of revision_of blocks_of to_come Knows
+  unfolding how_of host_of name_of query_of revision_of blocks_of to_come unread Knows
   concluded x none c d =
       goes_by (known e how h n (Some q) a (Some s) b None) (known e how h n (Some q) None (Some s') b (Some x)) (record { host = refl; name = refl; query = refl; how = refl })
       (ap Some (ap (λ t. record { tag = t; complete = s'.complete }) d.tag ∙ ap (λ l. record { tag = s.tag; complete = l }) d.complete)) (same_refl b)
       (λ f knows. record {
         knows = record { reader = d.agrees f knows.reader; blocks = knows.blocks; report = concluded_true f x c d knows.reader; sound = concluded_sound x c d };
         come = subst (λ rs. IsEndOf rs (reader.to_come s.reader f)) (sym (none s'.reader f (d.unasked refl))) (end_nil (reader.to_come s.reader f));
+        held = λ asked x is one. subst (λ rs. IsEndOf rs (reader.unread s.reader f x)) (sym (d.held f x)) (end_refl (reader.unread s.reader f x));
       })
 
 pub goes_refl : (c : ClientState) → GoesOnKeeping c c
 goes_refl c =
-    goes_by c c (record { host = refl; name = refl; query = refl; how = refl }) refl (same_refl (blocks_of c)) (λ f knows. record { knows = knows; come = end_refl (to_come c f) })
+    goes_by c c (record { host = refl; name = refl; query = refl; how = refl }) refl (same_refl (blocks_of c)) (λ f knows. record { knows = knows; come = end_refl (to_come c f); held = λ asked q is one. end_refl (unread c f q) })
 
 pub same_trans : (a b c : ClientState) → SameClient a b → SameClient b c → SameClient a c
 same_trans a b c h k = record { host = k.host ∙ h.host; name = k.name ∙ h.name; query = k.query ∙ h.query; how = k.how ∙ h.how }
 
-pub stays_trans : (f : List ℕ) (a b c : ClientState) → StaysOf f a b → StaysOf f b c → StaysOf f a c
-stays_trans f a b c h k = record { knows = k.knows; come = end_trans (to_come a f) (to_come b f) (to_come c f) h.come k.come }
+pub stays_trans : (f : List ℕ) (a b c : ClientState) → query_of b ≡ query_of a → StaysOf f a b → StaysOf f b c → StaysOf f a c
+stays_trans f a b c same h k = record {
+  knows = k.knows;
+  come = end_trans (to_come a f) (to_come b f) (to_come c f) h.come k.come;
+  held = λ asked q is one. end_trans (unread a f q) (unread b f q) (unread c f q) (h.held asked q is one) (k.held asked q (same ∙ is) one);
+}
 
 pub goes_trans : (a b c : ClientState) → GoesOnKeeping a b → GoesOnKeeping b c → GoesOnKeeping a c
 goes_trans a b c h k = record {
@@ -180,7 +191,7 @@ goes_trans a b c h k = record {
     revision = k.seen.revision ∙ h.seen.revision;
     blocks = blocks_trans (blocks_of a) (blocks_of b) (blocks_of c) h.seen.blocks k.seen.blocks;
   };
-  file = λ f knows. let first = h.file f knows in stays_trans f a b c first (k.file f first.knows);
+  file = λ f knows. let first = h.file f knows in stays_trans f a b c h.seen.same.query first (k.file f first.knows);
   agrees = λ book agrees. k.agrees book (h.agrees book agrees);
 }
 
@@ -197,6 +208,7 @@ module _ (e e' : Feed) (dropped : e' ≡ nothing_fed) (how : Asking) (h n : List
     knows = λ f k. tt;
     come = λ f k. end_nil (needs f query);
     held = λ f. refl;
+    kept = λ f q. refl;
     agrees = λ book k. tt;
   }
 
@@ -206,10 +218,11 @@ module _ (e e' : Feed) (dropped : e' ≡ nothing_fed) (how : Asking) (h n : List
       record { hosted = c.hosted; named = c.named; alone = tt; reading = (c.reading.0 ∙ sym complete, asks); standing = tt; few = tt }
 
   pub opened : (s : Source) (x : ReaderState) → EndsAreWanted → reader.complete_of x ≡ reader.complete_of s.reader → reader.query_of x ≡ Some query
-      → ((f : List ℕ) → reader.ReaderAgrees s.reader f → reader.ReaderAgrees x f) → ((f : List ℕ) → reader.to_come x f ≡ reader.unread s.reader f query) → IsClient (known e how h n q a (Some s) b r)
+      → ((f : List ℕ) → reader.ReaderAgrees s.reader f → reader.ReaderAgrees x f) → ((f : List ℕ) → reader.to_come x f ≡ reader.unread s.reader f query)
+      → ((f : List ℕ) (k : Query) → reader.unread x f k ≡ reader.unread s.reader f k) → IsClient (known e how h n q a (Some s) b r)
       → OpensKeeping query (known e how h n q a (Some s) b r) (known e' how h n (Some query) None (Some (record s { reader = x })) b None)
   unfolding how_of host_of name_of query_of asked_of revision_of report_of blocks_of feed_of to_come unread Knows
-  opened s x law complete asks agrees held c =
+  opened s x law complete asks agrees held kept c =
       let knows : (f : List ℕ) → Knows f (known e how h n q a (Some s) b r) → Knows f (known e' how h n (Some query) None (Some (record s { reader = x })) b None) =
       λ f k. record { reader = agrees f k.reader; blocks = k.blocks; report = tt; sound = opened_sound s x complete asks c } in
       record {
@@ -217,6 +230,7 @@ module _ (e e' : Feed) (dropped : e' ≡ nothing_fed) (how : Asking) (h n : List
         knows = knows;
         come = λ f k. subst (λ o. IfSome o (λ q. IsEndOf (reader.to_come x f) (needs f q))) asks (law x f (agrees f k.reader));
         held = held;
+        kept = kept;
         agrees = agrees_by (known e how h n q a (Some s) b r) (known e' how h n (Some query) None (Some (record s { reader = x })) b None) refl refl knows;
       }
 
@@ -306,5 +320,5 @@ rehowed c how f knows = at c.source refl knows
     }
 
 pub stays_refed : (s new : ClientState) (e : Feed) (f : List ℕ) → StaysOf f (record s { feed = e }) new → StaysOf f s new
-unfolding to_come
-stays_refed s new e f st = record { knows = st.knows; come = st.come }
+unfolding query_of to_come unread
+stays_refed s new e f st = record { knows = st.knows; come = st.come; held = st.held }

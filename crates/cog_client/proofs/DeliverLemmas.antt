@@ -28,7 +28,7 @@ use Rattle.cog_client.specs.declared.report.Report.{Report}
 use Rattle.cog_client.specs.declared.source.Source.{Source}
 use Rattle.cog_client.specs.Case.{Revision, case_of, is_beside}
 use Rattle.cog_client.specs.Take.{Holding, Taken, IsIgnored, asked_or_first, base_of, keep, stored_count, emptied, first_span, revision_of_piece, stored_front, stored_of, take as taken, take_by}
-use Rattle.cog_client.specs.Client.{ClientAgrees, ClientState, IsReadingOf, IsStanding, Knows, KnowsBy, KnowsOne, asked_of, blocks_of, feed_of, holding, host_of, how_of, name_of, query_of, report_of, revision_at, revision_in, revision_of, to_come}
+use Rattle.cog_client.specs.Client.{ClientAgrees, ClientState, IsReadingOf, IsStanding, Knows, KnowsBy, KnowsOne, asked_of, blocks_of, feed_of, holding, host_of, how_of, name_of, query_of, report_of, revision_at, revision_in, revision_of, to_come, unread}
 use Rattle.cog_client.specs.Feeding.{nothing_fed}
 use Rattle.cog_client.specs.Calls.{unless_reported}
 use Rattle.cog_client.specs.Keeps.{DeliversKeeping, StaysOf, StopsDelivery}
@@ -252,7 +252,7 @@ module _ (old new : ClientState) (dropped : new ≡ record old { feed = nothing_
   ignores_at : (text : List ℕ) (w : why.Ignored) (reading : Result SeenPiece Why) → ReadsAnswer text reading
       → taken (holding old) reading ≡ record { says = Ignored w; leaves = holding old } → asked_of old ≡ unless_reported (report_of old) (asked_of old)
       → DeliversKeeping old text (Ignored w) (record old { feed = nothing_fed })
-  unfolding how_of host_of name_of query_of asked_of revision_of report_of blocks_of feed_of to_come
+  unfolding how_of host_of name_of query_of asked_of revision_of report_of blocks_of feed_of to_come unread
   ignores_at text w reading reads is asked = record {
     seen = record {
       same = record { host = refl; name = refl; query = refl; how = refl };
@@ -266,7 +266,7 @@ module _ (old new : ClientState) (dropped : new ≡ record old { feed = nothing_
       ignored = λ i. refl;
     };
     rests = inl tt;
-    file = λ f still piece knows. record { knows = still_knows f knows; come = end_refl (to_come old f) };
+    file = λ f still piece knows. record { knows = still_knows f knows; come = end_refl (to_come old f); held = λ asked q is one. end_refl (unread old f q) };
     agrees = λ book distinct agrees read. still_agrees book agrees;
   }
 

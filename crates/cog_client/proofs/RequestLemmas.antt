@@ -15,7 +15,7 @@ use Rattle.cog_client.specs.declared.report.Report.{Report}
 use Rattle.cog_client.specs.declared.source.Source.{Source}
 use Rattle.cog_client.specs.Case.{Revision}
 use Rattle.cog_client.specs.Feeding.{Feed, TakesNoBody, nothing_fed}
-use Rattle.cog_client.specs.Client.{ClientState, IsAlone, IsClient, IsFew, IsStanding, Knows, ahead_of, asked_of, blocks_of, feed_of, host_of, how_of, name_of, query_of, report_of, revision_of, tag_of, to_come}
+use Rattle.cog_client.specs.Client.{ClientState, IsAlone, IsClient, IsFew, IsStanding, Knows, ahead_of, asked_of, blocks_of, feed_of, host_of, how_of, name_of, query_of, report_of, revision_of, tag_of, to_come, unread}
 use Rattle.cog_client.specs.Calls.{IsAsked, IsIdle, request_for, unless_reported}
 use Rattle.cog_client.specs.Keeps.{AsksFor, AsksLike, GoesOnKeeping, ComesFirst, Lacks, RequestsKeeping}
 use Rattle.cached_reader.specs.Going.{AreTouched, IsMissing}
@@ -40,10 +40,10 @@ module _ (e e' : Feed) (how : Asking) (h n : List ℕ) (q : Option Query) (a ask
   reasked_knows (Some s) c f k = record { reader = k.reader; blocks = k.blocks; report = k.report; sound = c }
 
   pub reasked : (s : Option Source) → IsClient (known e' how h n q asked s b r) → GoesOnKeeping (known e how h n q a s b r) (known e' how h n q asked s b r)
-  unfolding how_of host_of name_of query_of revision_of blocks_of to_come
+  unfolding how_of host_of name_of query_of revision_of blocks_of to_come unread
   reasked s c =
       goes_by (known e how h n q a s b r) (known e' how h n q asked s b r) (record { host = refl; name = refl; query = refl; how = refl }) refl (same_refl b)
-      (λ f k. record { knows = reasked_knows s c f k; come = end_refl (to_come (known e how h n q a s b r) f) })
+      (λ f k. record { knows = reasked_knows s c f k; come = end_refl (to_come (known e how h n q a s b r) f); held = λ x k is one. end_refl (unread (known e how h n q a s b r) f k) })
 
 -- nothing is asked
 

@@ -6,6 +6,7 @@ use Rattle.http_range.specs.Announced.{Announced}
 use Rattle.cog_client.specs.declared.body.Body.{Body}
 use Rattle.cog_client.specs.declared.case.Case.{Case}
 use Rattle.cog_client.specs.declared.delivered.Ignored as why
+use Rattle.cog_client.specs.declared.delivered.Ignored.TheVariants.{NotUsed}
 
 -- The bytes of a head that isn't whole; why what follows matters no more; or the head, its case, how far the body has come, and
 -- the room for the block that is cut.
@@ -21,7 +22,7 @@ nothing_fed = waits []
 
 -- what is still to come of the answer is passed over
 abbrev pub rest_dropped : Feed
-rest_dropped = unused Cut
+rest_dropped = passed (NotUsed Cut)
 
 -- no body is taken
 abbrev pub TakesNoBody : Feed → Type 0

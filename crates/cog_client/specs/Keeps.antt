@@ -18,23 +18,30 @@ use Rattle.cog_client.specs.Take.{IsIgnored, asked_or_first, base_of, first_span
 use Rattle.cog_client.specs.Report.{IsTrueReport}
 use Rattle.cog_client.specs.declared.asking.Asking.{Asking}
 use Rattle.cog_client.specs.Client.{ClientState, Knows, ClientAgrees, ahead_of, asked_of, blocks_of, feed_of, holding, how_of, name_of, query_of, report_of, revision_of, to_come, unread}
+use Rattle.cog_reader.specs.Reader.{AreOfOneLevel}
 use Rattle.cached_reader.specs.Going.{AreSame, AreTouched, IsMissing}
 use Rattle.cog_client.specs.Calls.{Delivers, GoesOn, IsIdle, Opens, Requests, SameClient}
 
--- What the query needs is to come, but for what is held.
+-- What the query needs is to come, but for what is held, which stays.
 pub record OpensKeeping (query : Query) (old new : ClientState) : Type 0 where
   pub seen : Opens query old new
   pub knows : (f : List ℕ) → Knows f old → Knows f new
   pub come : (f : List ℕ) → Knows f old → IsEndOf (to_come new f) (needs f query)
   pub held : (f : List ℕ) → to_come new f ≡ unread old f query
+  pub kept : (f : List ℕ) (q : Query) → unread new f q ≡ unread old f q
   pub agrees : (book : Book) → ClientAgrees old book → ClientAgrees new book
 
 -- ---- going on
+
+-- No query of the level that is asked of needs more of the file than before.
+abbrev pub KeepsRead : List ℕ → ClientState → ClientState → Type 0
+KeepsRead f old new = (asked q : Query) → query_of old ≡ Some asked → AreOfOneLevel f asked q → IsEndOf (unread new f q) (unread old f q)
 
 -- what the client holds is still the file's, and what is to come is an end of what was
 pub record StaysOf (f : List ℕ) (old new : ClientState) : Type 0 where
   pub knows : Knows f new
   pub come : IsEndOf (to_come new f) (to_come old f)
+  pub held : KeepsRead f old new
 
 pub record GoesOnKeeping (old new : ClientState) : Type 0 where
   pub seen : GoesOn old new

@@ -29,6 +29,7 @@ pub record Concludes (query : Query) (old : Source) (r : Option Report) (new : S
   pub unasked : IsSome r → reader.query_of new.reader ≡ None
   pub told : IsSome (reader.outcome_of old.reader) → IsSome r
   pub silent : r ≡ None → new ≡ old
+  pub held : (f : List ℕ) (q : Query) → reader.unread new.reader f q ≡ reader.unread old.reader f q
   pub true_of : (f : List ℕ) → reader.ReaderAgrees old.reader f
       → IfSome r (λ r. IsSomeAnd (reader.query_of old.reader) (λ q. IsTrueOf f q r.outcome))
   pub agrees : (f : List ℕ) → reader.ReaderAgrees old.reader f → reader.ReaderAgrees new.reader f

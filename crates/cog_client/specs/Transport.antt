@@ -1,11 +1,11 @@
 -- What a transport promises, and what fetching over it keeps.
-use Rattle.std.specs.Prelude.{◌≡◌, ℕ, zero, suc, ◌+◌, ◌⊎◌, List, Option, Some, None}
+use Rattle.std.specs.Prelude.{◌≡◌, ℕ, zero, suc, ◌+◌, ◌⊎◌, List, Option, Some, None, ⊤}
 use Rattle.tiff_dir.specs.declared.query.Query.{Query}
 use Rattle.http_range.specs.Book.{Publication, Book, HasDistinctTags, In}
 use Rattle.http_range.specs.Honest.{IsPieceOfSome, ShowsOnly}
 use Rattle.cog_client.specs.declared.delivered.Delivered.{Delivered}
 use Rattle.cog_client.specs.declared.report.Report.{Report}
-use Rattle.cog_client.specs.Keeps.{DeliversKeeping, RequestsKeeping}
+use Rattle.cog_client.specs.Keeps.{DeliversKeeping, RequestsKeeping, StopsAsking, StopsDelivery}
 use Rattle.cog_client.specs.Report.{IsTrueReport}
 use Rattle.cog_client.specs.Client.{ClientState, ClientAgrees, name_of, query_of}
 use Rattle.cog_client.specs.Calls.{SameClient}
@@ -74,3 +74,29 @@ Fetches answers (suc n) old new = (mid : ClientState) × Fetches answers n old m
 -- It is done some times.
 abbrev pub FetchesSome : (List ℕ → List ℕ → Type 0) → ClientState → ClientState → Type 0
 FetchesSome answers old new = (n : ℕ) × Fetches answers n old new
+
+-- any text may come of the answer to a request
+abbrev pub AnyText : List ℕ → List ℕ → Type 0
+AnyText request text = ⊤
+
+-- ---- want of memory
+
+-- Nothing of the answer to a request was taken, or a beginning of what came of it.
+abbrev pub StopsTaking : (List ℕ → List ℕ → Type 0) → List ℕ → ClientState → ClientState → Type 0
+StopsTaking answers request old new =
+    (new ≡ old) ⊎ ((text : List ℕ) × answers request text × StopsDelivery old text new)
+
+-- The client's request was made, and memory was wanting behind it.
+pub record StopsExchange (answers : List ℕ → List ℕ → Type 0) (old new : ClientState) : Type 0 where
+  pub request : List ℕ
+  pub asking : ClientState
+  pub asks : RequestsKeeping old (Some request) asking
+  pub stops : StopsTaking answers request asking new
+
+-- Memory was wanting for the request, or behind it.
+abbrev pub StopsOnce : (List ℕ → List ℕ → Type 0) → ClientState → ClientState → Type 0
+StopsOnce answers old new = StopsAsking old new ⊎ StopsExchange answers old new
+
+-- It was wanting in one exchange, after some.
+abbrev pub StopsFetching : (List ℕ → List ℕ → Type 0) → ClientState → ClientState → Type 0
+StopsFetching answers old new = (mid : ClientState) × FetchesSome answers old mid × StopsOnce answers mid new

@@ -3,7 +3,7 @@ ghost use Rattle.std.specs.Prelude.{◌≡◌, IfOk, OnErr, OnOk, length};
 ghost use Rattle.http_range.specs.Announced.{announced, FitsFile};
 ghost use Rattle.cog_client.specs.Arrival.{IsBounded, IsTold, LooksOn, StartsBody, StopsInBytes, TakesBytes};
 ghost use Rattle.cog_client.specs.Client.{IsFew};
-ghost use Rattle.cog_client.specs.Feeding.{nothing_fed, rest_dropped};
+ghost use Rattle.cog_client.specs.Feeding.{nothing_fed};
 ghost use Rattle.cog_client.specs.Feeding.Feed.{passed};
 
 use crate::body::{Body, PART_ROOM};
@@ -11,7 +11,7 @@ use crate::case::{Case, told_at_end};
 use crate::delivered::{Delivered, Ignored};
 use crate::feeding::Feeding;
 use crate::head::{HEAD_ROOM, Look, read_on};
-use http_range::{Head, HeadReading, Span, Why, heads_grow, read_head};
+use http_range::{Head, HeadReading, Span, heads_grow, read_head};
 use range_cache::Cache;
 use std::alloc::{AllocError, Global};
 use std::marker::Model;
@@ -69,13 +69,6 @@ impl Arrival {
     {
         heads_grow();
         self.feeding = Feeding::Waits(0);
-    }
-
-    /// Passes over what is still to come of the answer.
-    pub fn drop_rest(&mut self)
-        ensures { self.new ≡ rest_dropped }
-    {
-        self.feeding = Feeding::Unused(Why::Cut);
     }
 
     /// Reads on in the head, if it isn't whole. Where it is from now on, what was kept is dropped.

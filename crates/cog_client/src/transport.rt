@@ -1,7 +1,7 @@
 //! What carries a client's requests, and brings the answers.
 ghost use Rattle.std.specs.Prelude.{◌≡◌, ◌+◌, ◌<◌, ◌^◌, ℕ, IfOk, List};
 ghost use Rattle.http_range.specs.Book.{Book};
-ghost use Rattle.cog_client.specs.Transport.{AnswersOn, IsTrueToAll, SpeaksOn};
+ghost use Rattle.cog_client.specs.Transport.{AnswersOn, AnyText, IsTrueToAll, SpeaksOn};
 
 use thiserror::Error;
 
@@ -16,7 +16,7 @@ pub trait Transport {
     ghost speaks_for: { Self → Book → Type 0 };
 
     /// This text may come of the answer to this request. One that leaves this out says nothing of it.
-    ghost answers: { Self → List ℕ → List ℕ → Type 0 } = { λ _ _ _. Unit {0} };
+    ghost answers: { Self → List ℕ → List ℕ → Type 0 } = { λ _. AnyText };
 
     /// The exchanges so far.
     ghost count: { Self → ℕ };

@@ -1,7 +1,7 @@
 -- One exchange more.
 use Rattle.std.proofs.Common.{ℕ, ◌+◌, List, Option, Some, None, sym, subst, inl, inr, add-one}
 use Rattle.cog_client.specs.Client.{ClientState}
-use Rattle.cog_client.specs.Transport.{AnswersOn, Fetches, FetchesOnce, TakesIfAsked}
+use Rattle.cog_client.specs.Transport.{AnswersOn, Fetches, FetchesOnce, StopsOnce, StopsTaking, TakesIfAsked}
 
 takes_as : (before after : List ℕ → List ℕ → Type 0) → AnswersOn before after → (request : Option (List ℕ)) (old new : ClientState)
     → TakesIfAsked after request old new → TakesIfAsked before request old new
@@ -17,6 +17,21 @@ once_as before after on old new once = record {
   asks = once.asks;
   takes = takes_as before after on once.request once.asking new once.takes;
 }
+
+stops_taking_as : (before after : List ℕ → List ℕ → Type 0) → AnswersOn before after → (request : List ℕ) (old new : ClientState)
+    → StopsTaking after request old new → StopsTaking before request old new
+stops_taking_as before after on request old new (inl same) = inl same
+stops_taking_as before after on request old new (inr (text, came, stops)) = inr (text, on request text came, stops)
+
+pub stops_as : (before after : List ℕ → List ℕ → Type 0) → AnswersOn before after → (old new : ClientState)
+    → StopsOnce after old new → StopsOnce before old new
+stops_as before after on old new (inl asking) = inl asking
+stops_as before after on old new (inr x) = inr (record {
+  request = x.request;
+  asking = x.asking;
+  asks = x.asks;
+  stops = stops_taking_as before after on x.request x.asking new x.stops;
+})
 
 -- what a transport answers later is what it might have answered at first
 pub fetches_more : (before after : List ℕ → List ℕ → Type 0) → AnswersOn before after → (n : ℕ) (old mid new : ClientState)

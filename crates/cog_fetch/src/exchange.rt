@@ -1,7 +1,7 @@
 //! One exchange: a request is sent, and what comes of its answer is taken.
-ghost use Rattle.std.specs.Prelude.{◌≡◌, ◌+◌, ◌<◌, ◌^◌, ℕ, List, OnOk};
+ghost use Rattle.std.specs.Prelude.{◌≡◌, ◌+◌, ◌<◌, ◌^◌, ℕ, List, OnErr, OnOk};
 ghost use Rattle.http_range.specs.Book.{Book};
-ghost use Rattle.cog_client.specs.Transport.{AnswersOn, KeepsReading, SpeaksOn, TakesOrLoses};
+ghost use Rattle.cog_client.specs.Transport.{AnswersOn, AnyText, KeepsReading, SpeaksOn, StopsTaking, TakesOrLoses};
 
 use crate::taking::take_answer;
 use cog_client::{Client, FetchError, Lost, Memory, Pieces, Transport};
@@ -27,6 +27,7 @@ pub(crate) trait Exchange<S> {
         requires { count source.old + 1 < 2 ^ 64 }
         ensures keeps { KeepsReading (speaks_for source.old) (speaks_for source.new) client.old client.new }
         ensures takes { OnOk result (TakesOrLoses (answers source.old) request.now client.old client.new) }
+        ensures stops { OnErr result (StopsTaking (answers source.old) request.now client.old client.new) }
         ensures goes_on { AnswersOn (answers source.old) (answers source.new) }
         ensures counted { count source.new ≡ count source.old + 1 };
 }
@@ -77,7 +78,7 @@ pub(crate) struct InPieces;
 impl<P: Pieces> Exchange<P> for InPieces {
     ghost speaks_for = { P.speaks_for };
 
-    ghost answers = { λ _ _ _. Unit {0} };
+    ghost answers = { λ _. AnyText };
 
     ghost count = { P.count };
 

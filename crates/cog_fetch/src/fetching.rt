@@ -1,5 +1,5 @@
 //! Fetching: a client's requests over a transport or a source of answers in pieces, until its report stands.
-ghost use Rattle.std.specs.Prelude.{◌≡◌, ◌+◌, ◌<◌, ◌≤◌, ◌^◌, ◌⊎◌, IfOk, IfSome, IsSome, OnOk, false};
+ghost use Rattle.std.specs.Prelude.{◌≡◌, ◌+◌, ◌<◌, ◌≤◌, ◌^◌, ◌⊎◌, IfOk, IfSome, IsSome, OnErr, OnOk, false};
 ghost use Rattle.std.specs.Prelude.{if◌then◌else◌, option_copied};
 ghost use Rattle.std.specs.Borrow.{sem};
 ghost use Rattle.std.specs.Io.BufRead.{Rests};
@@ -7,7 +7,7 @@ ghost use Rattle.cog_client.specs.contracts.client.Client.{the_row};
 ghost use Rattle.cog_client.specs.Client.{query_of, report_of};
 ghost use Rattle.cog_client.specs.Calls.{IsIdle};
 ghost use Rattle.cog_client.specs.Keeps.{Stands};
-ghost use Rattle.cog_client.specs.Transport.{AnswersOn, FetchesOnce, FetchesSome, IsInVain, IsTrueOfBooks, KeepsReading};
+ghost use Rattle.cog_client.specs.Transport.{AnswersOn, AnyText, FetchesOnce, FetchesSome, StopsFetching, StopsOnce, IsInVain, IsTrueOfBooks, KeepsReading};
 
 use crate::exchange::{Exchange, InPieces, Whole};
 use cog_client::{Client, FetchError, Pieces, Report, Transport};
@@ -21,6 +21,7 @@ fn exchange_once<S, E: Exchange<S>>(
     requires { E.count source.old + 1 < 2 ^ 64 }
     ensures keeps { KeepsReading (E.speaks_for source.old) (E.speaks_for source.new) client.old client.new }
     ensures fetches { OnOk result (FetchesOnce (E.answers source.old) client.old client.new) }
+    ensures stops { OnErr result (StopsOnce (E.answers source.old) client.old client.new) }
     ensures goes_on { AnswersOn (E.answers source.old) (E.answers source.new) }
     ensures counted { IfOk result (λ asked. E.count source.new
         ≡ (if asked then E.count source.old + 1 else E.count source.old)) }
@@ -47,6 +48,7 @@ fn exchange_up_to<S, E: Exchange<S>>(
     requires { E.count source.old + tries < 2 ^ 64 }
     ensures keeps { KeepsReading (E.speaks_for source.old) (E.speaks_for source.new) client.old client.new }
     ensures fetches { OnOk result (FetchesSome (E.answers source.old) client.old client.new) }
+    ensures stops { OnErr result (StopsFetching (E.answers source.old) client.old client.new) }
     ensures ends { OnOk result ((E.count source.new ≡ E.count source.old + tries) ⊎ IsIdle client.new) }
     ensures few { E.count source.new ≤ E.count source.old + tries }
     ensures idle { IsIdle client.old → E.count source.new ≡ E.count source.old }
@@ -72,10 +74,11 @@ pub fn fetch<'c, T: Transport>(
 
     // A client that reads a book for which the transport speaks reads it still, whatever was lost or cut, and
     // after want of memory too. What is given is its standing report. Its own requests were sent one after another, and what
-    // came of their answers taken, and nothing else was done to it.
+    // came of their answers taken, and nothing else was done to it; want of memory came in the last of them.
     ensures* client { sem 𝓛 (Rests the_row client.entry (λ c.
         KeepsReading (T.speaks_for transport.old) (T.speaks_for transport.new) client.old c
-        × IfOk result (λ report. Stands c (option_copied report) × FetchesSome (T.answers transport.old) client.old c))) }
+        × IfOk result (λ report. Stands c (option_copied report) × FetchesSome (T.answers transport.old) client.old c)
+        × OnErr result (StopsFetching (T.answers transport.old) client.old c))) }
 
     // A report is true of one publication of that book: of the one whose tag it tells.
     ensures report { IfOk result (λ report.
@@ -108,10 +111,11 @@ pub fn fetch_pieces<'c, P: Pieces>(
 
     // A client that reads a book for which the source speaks reads it still, whatever was lost or cut, and after want of
     // memory too. What is given is its standing report. Its requests were asked for, and answers taken, in turn, and nothing else
-    // was done to it.
+    // was done to it; want of memory came in the last of them.
     ensures* client { sem 𝓛 (Rests the_row client.entry (λ c.
         KeepsReading (P.speaks_for pieces.old) (P.speaks_for pieces.new) client.old c
-        × IfOk result (λ report. Stands c (option_copied report) × FetchesSome (λ _ _. Unit {0}) client.old c))) }
+        × IfOk result (λ report. Stands c (option_copied report) × FetchesSome AnyText client.old c)
+        × OnErr result (StopsFetching AnyText client.old c))) }
 
     // A report is true of one publication of that book: of the one whose tag it tells.
     ensures report { IfOk result (λ report.
@@ -140,7 +144,8 @@ pub fn exchange_pieces<P: Pieces>(
 ) -> Result<bool, FetchError>
     requires { P.count pieces.old + 1 < 2 ^ 64 }
     ensures keeps { KeepsReading (P.speaks_for pieces.old) (P.speaks_for pieces.new) client.old client.new }
-    ensures fetches { OnOk result (FetchesOnce (λ _ _. Unit {0}) client.old client.new) }
+    ensures fetches { OnOk result (FetchesOnce AnyText client.old client.new) }
+    ensures stops { OnErr result (StopsOnce AnyText client.old client.new) }
     ensures counted { IfOk result (λ asked. P.count pieces.new
         ≡ (if asked then P.count pieces.old + 1 else P.count pieces.old)) }
     ensures few { P.count pieces.new ≤ P.count pieces.old + 1 }

@@ -1,7 +1,7 @@
 //! A client takes an answer piece by piece, as it arrives.
 ghost use Rattle.std.specs.Prelude.{◌≡◌, ◌<◌, ◌≤◌, ℕ, IfOk, List, OnErr, OnOk, length};
 ghost use Rattle.cog_client.specs.declared.delivered.Delivered.{Delivered};
-ghost use Rattle.cog_client.specs.Keeps.{DeliversKeeping};
+ghost use Rattle.cog_client.specs.Keeps.{DeliversKeeping, StopsDelivery};
 ghost use Rattle.cog_client.specs.Transport.{SpeaksOn};
 ghost use Rattle.cog_fetch.specs.Takes.{Stops, Takes, TakesAnswer, TakesPiece};
 
@@ -60,6 +60,7 @@ fn take_pieces<P: Pieces>(client: &mut Client, pieces: &mut P) -> Result<(), Mem
 pub fn take_answer<P: Pieces>(client: &mut Client, pieces: &mut P) -> Result<(), Memory>
     ensures takes { TakesAnswer (P.speaks_for pieces.old) (P.rest pieces.old) client.old client.new }
     ensures ok { OnOk result ((text : List ℕ) × (what : Delivered) × DeliversKeeping client.old text what client.new) }
+    ensures err { OnErr result ((text : List ℕ) × StopsDelivery client.old text client.new) }
     ensures speaks { SpeaksOn (P.speaks_for pieces.old) (P.speaks_for pieces.new) }
     ensures counted { P.count pieces.new ≡ P.count pieces.old }
 {

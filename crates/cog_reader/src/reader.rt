@@ -68,6 +68,7 @@ impl Reader {
         ensures agrees { (f : List ℕ) → ReaderAgrees self.old f → ReaderAgrees self.new f }
         // What the query needs is to come, but for the directories and the arrays that are held.
         ensures come { (f : List ℕ) → to_come self.new f ≡ unread self.old f query }
+        ensures held { (f : List ℕ) (q : Query) → unread self.new f q ≡ unread self.old f q }
         ensures complete { complete_of self.new ≡ complete_of self.old }
         ensures query { query_of self.new ≡ Some query }
         ensures outcome { outcome_of self.new ≡ None }

@@ -2,7 +2,7 @@
 ghost use Rattle.std.specs.Prelude.{◌≡◌, ◌≤◌, ◌++◌, ℕ, List, [], IfOk, OnErr, OnOk, Ok, drop, length};
 ghost use Rattle.http_range.specs.declared.reading.Why.TheVariants.{Cut};
 ghost use Rattle.http_range.specs.Announced.{announced, FitsFile};
-ghost use Rattle.cog_client.specs.declared.delivered.Delivered.TheVariants.{Ignored};
+ghost use Rattle.cog_client.specs.declared.delivered.Delivered.TheVariants.{Ignored as AnIgnored};
 ghost use Rattle.cog_client.specs.declared.delivered.Ignored.TheVariants.{NotUsed};
 ghost use Rattle.cog_client.specs.Arrival.{IsBounded};
 ghost use Rattle.cog_client.specs.Client.{ClientState, feed_of};
@@ -12,9 +12,9 @@ ghost use Rattle.cog_client.specs.Keeps.{DeliversKeeping, StopsDelivery};
 
 use crate::case::{Case, case_of_head};
 use crate::client::{Client, first_span};
-use crate::delivered::Delivered;
+use crate::delivered::{Delivered, Ignored};
 use cog_reader::lengths_are_known;
-use http_range::{Head, fronts_are_read, heads_grow};
+use http_range::{Head, Why, fronts_are_read, heads_grow};
 use range_cache::{parts_bring_blocks, stored_are_held};
 use tiff_dir::Memory;
 
@@ -49,7 +49,7 @@ impl Client {
     pub fn end(&mut self) -> Result<Delivered, Memory>
         ensures ok { IfOk result (λ what. (s : ClientState) (p : List ℕ) → Fed s p self.old → DeliversKeeping s p what self.new) }
         ensures err { OnErr result ((s : ClientState) (p : List ℕ) → Fed s p self.old → StopsDelivery s p self.new) }
-        ensures dropped { feed_of self.old ≡ rest_dropped → result ≡ Ok (Ignored (NotUsed Cut)) }
+        ensures dropped { feed_of self.old ≡ rest_dropped → result ≡ Ok (AnIgnored (NotUsed Cut)) }
         ensures ended { feed_of self.new ≡ nothing_fed }
     {
         fronts_are_read();
@@ -134,7 +134,7 @@ impl Client {
         parts_bring_blocks();
         let taken = self.arrival.take(&mut self.cache, bytes);
         if taken.is_err() {
-            self.arrival.drop_rest();
+            self.arrival.pass(Ignored::NotUsed(Why::Cut));
         }
         taken
     }

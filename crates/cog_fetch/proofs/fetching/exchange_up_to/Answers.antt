@@ -1,6 +1,18 @@
 use Rattle.std.proofs.Common.{◌+◌, rules}
-use Rattle.cog_fetch.proofs.FetchLemmas.{fetches_more}
+use Rattle.cog_client.specs.Transport.{StopsFetching}
+use Rattle.cog_fetch.proofs.FetchLemmas.{fetches_more, stops_as}
+use Rattle.cog_fetch.proofs.TakeLemmas.{refused}
 use Rattle.cog_fetch.proofs.fetching.exchange_up_to.Goals as goal
+
+pub returns-in_err-exchange_once-clause-stops : goal.returns-in_err-exchange_once-clause-stops
+returns-in_err-exchange_once-clause-stops g c =
+    let i = c.loop-done.invariant in
+    let before = g.E.Exchange.answers c.args.source.now in
+    refused c.from_residual.result (StopsFetching before c.args.client.now c.exchange_once.new.client) (
+      c.loop-done.client,
+      (c.loop-done.done, i.fetches),
+      stops_as before (g.E.Exchange.answers c.loop-done.source) i.goes_on c.loop-done.client c.exchange_once.new.client c.in_err-exchange_once.ensures.stops,
+    )
 
 pub returns-then-not-branch-clause-fetches : goal.returns-then-not-branch-clause-fetches
 returns-then-not-branch-clause-fetches g c =

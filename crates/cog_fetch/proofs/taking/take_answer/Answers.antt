@@ -1,4 +1,6 @@
-use Rattle.std.proofs.Common.{[]}
+use Rattle.std.proofs.Common.{ℕ, List, []}
+use Rattle.cog_client.specs.Keeps.{StopsDelivery}
+use Rattle.cog_fetch.proofs.TakeLemmas.{refused}
 use Rattle.cog_fetch.proofs.taking.take_answer.Goals as goal
 
 pub returns-in_err-take_pieces-clause-takes : goal.returns-in_err-take_pieces-clause-takes
@@ -6,6 +8,18 @@ returns-in_err-take_pieces-clause-takes g c =
     let s = c.in_err-take_pieces.ensures.err in
     let e = s.stops c.args.client.now [] c.begin.ensures in
     record { bytes = s.bytes; next = s.next; same = e.same; agrees = e.agrees }
+
+pub returns-in_err-take_pieces-clause-err : goal.returns-in_err-take_pieces-clause-err
+returns-in_err-take_pieces-clause-err g c =
+    let s = c.in_err-take_pieces.ensures.err in
+    refused c.from_residual.result ((text : List ℕ) × StopsDelivery c.args.client.now text c.take_pieces.new.client)
+    (s.bytes, s.stops c.args.client.now [] c.begin.ensures)
+
+pub returns-in_err-end-clause-err : goal.returns-in_err-end-clause-err
+returns-in_err-end-clause-err g c =
+    let t = c.in_ok-take_pieces.ensures.ok in
+    refused c.from_residual-in_err-end.result ((text : List ℕ) × StopsDelivery c.args.client.now text c.end.new.self)
+    (t.bytes, c.in_err-end.ensures.err c.args.client.now t.bytes (t.fed c.args.client.now [] c.begin.ensures))
 
 pub returns-in_err-end-clause-takes : goal.returns-in_err-end-clause-takes
 returns-in_err-end-clause-takes g c =
