@@ -20,9 +20,13 @@ pub data Feed : Type 0 where
 abbrev pub nothing_fed : Feed
 nothing_fed = waits []
 
+-- why an answer isn't used whose rest was dropped
+abbrev pub is_cut : why.Ignored
+is_cut = NotUsed Cut
+
 -- what is still to come of the answer is passed over
 abbrev pub rest_dropped : Feed
-rest_dropped = passed (NotUsed Cut)
+rest_dropped = passed is_cut
 
 -- no body is taken
 abbrev pub TakesNoBody : Feed → Type 0

@@ -3,9 +3,11 @@ use Rattle.std.specs.Prelude.{◌≡◌, ◌⊎◌, ℕ, ℤ, pos, List}
 use Rattle.cog_client.specs.declared.delivered.Current.{Current}
 use Rattle.cog_client.specs.declared.delivered.Current.TheVariants.{Same}
 use Rattle.cog_client.specs.declared.delivered.Delivered.{Delivered}
+use Rattle.cog_client.specs.declared.delivered.Delivered.TheVariants.{Ignored}
 use Rattle.cog_client.specs.Check.{IsCurrent, IsStillThere}
-use Rattle.cog_client.specs.Client.{ClientState, tag_of}
+use Rattle.cog_client.specs.Client.{ClientState, feed_of, tag_of}
 use Rattle.cog_client.specs.FedClient.{Fed}
+use Rattle.cog_client.specs.Feeding.{is_cut, nothing_fed, rest_dropped}
 use Rattle.cog_client.specs.Keeps.{DeliversKeeping, StopsDelivery}
 use Rattle.delgunsai_c.specs.declared.said.Said.{Said}
 use Rattle.delgunsai_c.specs.Calls.{Stopped}
@@ -13,12 +15,17 @@ use Rattle.delgunsai_c.specs.Said.{said_of_current, said_of_delivered}
 
 -- ---- end
 
--- whatever answer it is the end of
-abbrev pub Ends : Delivered → ClientState → ClientState → Type 0
-Ends what old new = (s : ClientState) (p : List ℕ) → Fed s p old → DeliversKeeping s p what new
+-- It is the end of whatever answer this is. Of one whose rest is dropped it tells that it is cut.
+pub record Ends (what : Delivered) (old new : ClientState) : Type 0 where
+  pub delivers : (s : ClientState) (p : List ℕ) → Fed s p old → DeliversKeeping s p what new
+  pub dropped : feed_of old ≡ rest_dropped → what ≡ Ignored is_cut
+  pub ended : feed_of new ≡ nothing_fed
 
-abbrev pub StopsEnd : ClientState → ClientState → Type 0
-StopsEnd old new = (s : ClientState) (p : List ℕ) → Fed s p old → StopsDelivery s p new
+-- Memory was wanting behind it.
+pub record StopsEnd (old new : ClientState) : Type 0 where
+  pub stops : (s : ClientState) (p : List ℕ) → Fed s p old → StopsDelivery s p new
+  pub fresh : feed_of old ≡ rest_dropped → ⊥
+  pub ended : feed_of new ≡ nothing_fed
 
 pub record EndsAs (left : Said) (told : ℤ) (old new : ClientState) : Type 0 where
   pub what : Delivered

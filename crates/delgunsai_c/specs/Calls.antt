@@ -3,8 +3,9 @@ use Rattle.std.specs.Prelude.{◌≡◌, ◌⊎◌, ℕ, ℤ, pos, List, ◌++�
 use Rattle.cog_client.specs.declared.error.ClientError.{ClientError}
 use Rattle.cog_client.specs.Calls.{Starts}
 use Rattle.cog_client.specs.Check.{check_of}
-use Rattle.cog_client.specs.Client.{ClientState, IsClientRefusal, client_refusal}
+use Rattle.cog_client.specs.Client.{ClientState, IsClientRefusal, client_refusal, feed_of}
 use Rattle.cog_client.specs.FedClient.{Fed}
+use Rattle.cog_client.specs.Feeding.{rest_dropped}
 use Rattle.cog_client.specs.Keeps.{RequestsKeeping, StopsAsking, StopsDelivery}
 use Rattle.cog_client.specs.Early.{AreEarlyRequests}
 use Rattle.delgunsai_c.specs.declared.failure.Failure.{Failure}
@@ -110,12 +111,16 @@ ForetellsOr index room left told old new = Foretells index room left told old ne
 
 -- ---- an answer
 
--- the next bytes of whatever answer this is
-abbrev pub Feeds : List ℕ → ClientState → ClientState → Type 0
-Feeds piece old new = (s : ClientState) (p : List ℕ) → Fed s p old → Fed s (p ++ piece) new
+-- These are the next bytes of whatever answer this is. Of one whose rest is dropped they change nothing.
+pub record Feeds (piece : List ℕ) (old new : ClientState) : Type 0 where
+  pub fed : (s : ClientState) (p : List ℕ) → Fed s p old → Fed s (p ++ piece) new
+  pub dropped : feed_of old ≡ rest_dropped → new ≡ old
 
-abbrev pub StopsFeeding : List ℕ → ClientState → ClientState → Type 0
-StopsFeeding piece old new = (s : ClientState) (p : List ℕ) → Fed s p old → StopsDelivery s (p ++ piece) new
+-- Memory was wanting for them: the rest of the answer is dropped.
+pub record StopsFeeding (piece : List ℕ) (old new : ClientState) : Type 0 where
+  pub stops : (s : ClientState) (p : List ℕ) → Fed s p old → StopsDelivery s (p ++ piece) new
+  pub drops : feed_of new ≡ rest_dropped
+  pub fresh : feed_of old ≡ rest_dropped → ⊥
 
 abbrev pub FeedsOr : List ℕ → ℤ → ClientState → ClientState → Type 0
 FeedsOr piece told old new = Done (Feeds piece old new) told ⊎ Stopped (StopsFeeding piece old new) told
