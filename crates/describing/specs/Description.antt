@@ -61,6 +61,6 @@ IsNoInfo (outcome.Info info) = ⊥
 IsNoInfo (outcome.Window window) = ⊤
 IsNoInfo (outcome.Fault fault) = ⊤
 
--- no report of Info stands, or no file is read
+-- no report of Info stands
 abbrev pub HasNoInfo : ClientState → Type 0
-HasNoInfo c = (length_of c ≡ None) ⊎ ((report : Report) → report_of c ≡ Some report → IsNoInfo report.outcome)
+HasNoInfo c = (report : Report) → report_of c ≡ Some report → IsNoInfo report.outcome

@@ -15,7 +15,7 @@ StillReads before after old new = (book : Book) → ReadsBook before old book �
 abbrev pub AsksOf : Book → Asked → ClientState → Type 0
 AsksOf book a c = IfSome (report_of c) (λ r. (p : Publication) → In p book → p.tag ≡ r.tag → IfSome (query_of c) (IsFor p.file a))
 
--- the exchanges for a query end where its report stands, or all are used up
+-- the exchanges for one query end where its report stands, or all are used up; those for a whole level are for several
 abbrev pub Ends : Asked → (most count : ℕ) → ClientState → Type 0
-Ends (asked.Query query) most count c = (most ≤ count) ⊎ IsSome (report_of c)
-Ends a most count c = ⊤
+Ends (asked.Whole level) most count c = ⊤
+Ends a most count c = (most ≤ count) ⊎ IsSome (report_of c)

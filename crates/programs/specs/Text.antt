@@ -36,13 +36,14 @@ IsFor f (asked.Whole level) q = (q ≡ Info) ⊎ IsOfWhole f level q
 IsFor f (asked.Description form) q = q ≡ Info
 
 -- A text, or a fault of the file, is what an outcome says: a window is written as a graymap or a pixmap, and of a whole level nothing
--- else. Of the texts of Info and of descriptions nothing is said here. That there is no report isn't said of one to a query.
+-- else. Of the texts of Info and of descriptions nothing is said here. That there is no report is said of a whole level alone.
 abbrev pub IsWritten : Asked → Outcome → Result Text Fault → Type 0
 IsWritten a (outcome.Window v) (Ok text) = text.head.items ++ text.samples.now ≡ netpbm v.samples v.bits v.w v.h v.pixels.items
 IsWritten (asked.Whole level) (outcome.Info i) (Ok text) = ⊥
 IsWritten a (outcome.Info i) (Ok text) = ⊤
 IsWritten a (outcome.Fault fault) (Ok text) = ⊥
 IsWritten (asked.Query query) o (Err NoReport) = ⊥
+IsWritten (asked.Description form) o (Err NoReport) = ⊥
 IsWritten a o (Err (OfFile fault)) = o ≡ outcome.Fault fault
 IsWritten a o (Err fault) = ⊤
 

@@ -1,13 +1,12 @@
 //! How `cogread` reads: its exchanges, which are told with `--verbose` and drawn with `--progress`, and what is asked of the file.
-ghost use Rattle.std.specs.Prelude.{◌≡◌, ◌+◌, ◌<◌, ◌≤◌, ◌^◌, ◌⊎◌, false, Err, IfSome, OnOk, slice_get};
+ghost use Rattle.std.specs.Prelude.{◌≡◌, ◌≢◌, ℕ, ◌+◌, ◌<◌, ◌≤◌, ◌^◌, ◌⊎◌, false, Err, IfSome, OnOk, Some, slice_get};
 ghost use Rattle.http_range.specs.Book.{Book, HasDistinctTags};
-ghost use Rattle.tiff_dir.specs.declared.query.Query.{Query};
 ghost use Rattle.cog_client.specs.Calls.{IsIdle};
 ghost use Rattle.cog_client.specs.Client.{name_of, report_of, ClientAgrees};
 ghost use Rattle.cog_client.specs.Transport.{KeepsReading, ReadsBook};
 ghost use Rattle.exchange_notes.specs.Noted.{source_of};
 ghost use Rattle.programs.specs.declared.fault.Fault.TheVariants.{NoReport};
-ghost use Rattle.programs.specs.declared.reading.Asked.TheVariants.{Query as AQuery, Whole};
+ghost use Rattle.programs.specs.declared.reading.Asked.TheVariants.{Whole};
 ghost use Rattle.programs.specs.Exchanges.{AsksOf, Ends, StillReads};
 ghost use Rattle.programs.specs.Text.{IsOfWholeBy, IsWritten, StaysWithin, WritesTrue};
 
@@ -151,9 +150,10 @@ impl<R: Eprint + Clock + AllocGlobal> Exchanges<'_, '_, R> {
         // What is written is true of one publication of each book that the client reads and the source speaks for.
         ensures truth { (book : Book)
             → ReadsBook (P.speaks_for (source_of noted.old)) client.old book → WritesTrue (name_of client.old) book asked result }
-        // So many exchanges are made at most, and that no report stands is told of a query only after them all.
+        // So many exchanges are made at most, and that no report stands is told only after them all, but of a whole level, which is
+        // read by several queries.
         ensures few { StaysWithin self.now.requests (P.count (source_of noted.old)) (P.count (source_of noted.new)) }
-        ensures none { (query : Query) → asked ≡ AQuery query → result ≡ Err NoReport
+        ensures none { ((level : ℕ) → asked ≢ Whole level) → result ≡ Err NoReport
             → self.now.requests ≤ P.count (source_of noted.new) }
     {
         let fetched = self.fetch_asked(client, noted, asked);
@@ -184,6 +184,7 @@ impl<R: Eprint + Clock + AllocGlobal> Exchanges<'_, '_, R> {
         report: &'c Report,
         asked: Asked,
     ) -> Result<Text<'c>, Fault>
+        requires { report_of client.now ≡ Some report.now }
         ensures { IsWritten asked report.now.outcome result }
     {
         let alloc = self.rt.alloc();
