@@ -120,7 +120,7 @@ int64_t cog_client_later(struct cog_client *client, uint32_t index, uint8_t *roo
 int32_t cog_client_begin(struct cog_client *client);
 
 /* cog_client_feed: takes the next bytes of the answer, from its status line on, as many as there are. After COG_MEMORY the rest of the
- * answer is dropped. Gives 0, COG_MEMORY or COG_NO_CLIENT. */
+ * answer is dropped, until cog_client_begin: what is fed of it changes nothing. Gives 0, COG_MEMORY or COG_NO_CLIENT. */
 int32_t cog_client_feed(struct cog_client *client, const uint8_t *piece, size_t length);
 
 /* What is said of an answer. */
@@ -136,7 +136,8 @@ enum {
 };
 
 /* cog_client_end: ends the answer, whole or cut, and goes on as far as the known bytes reach. The caller's said is written where the result
- * is 0. Gives 0, COG_MEMORY or COG_NO_CLIENT. */
+ * is 0. Of an answer whose rest was dropped it says COG_IGNORED, 1 (cut), though blocks of it may be stored. Gives 0, COG_MEMORY or
+ * COG_NO_CLIENT. */
 int32_t cog_client_end(struct cog_client *client, struct cog_said *said);
 
 /* What a report tells; 0 in what isn't of its kind. */
@@ -170,7 +171,7 @@ int64_t cog_client_info(struct cog_client *client, uint8_t *room, size_t length)
  * always has `Connection: close`. */
 int64_t cog_client_check(struct cog_client *client, uint8_t *room, size_t length);
 
-enum { COG_SAME = 1, COG_OTHER = 2, COG_UNKNOWN = 3 /* for the reason of this number, as COG_IGNORED */ };
+enum { COG_SAME = 1, COG_OTHER = 2, COG_UNKNOWN = 3 /* for the reason of this number, 1 to 9 as COG_IGNORED, 12: nothing is known */ };
 
 /* cog_client_current: says what the answer to a check, or a front of it, tells of the tag. It changes nothing of the client. Gives 0 or
  * COG_NO_CLIENT. */

@@ -72,7 +72,7 @@ pub fn run(alloc: Global, events: &[Event], log: &mut Log) -> Result<(), Memory>
     // make: an event makes a client, or changes only the one that it names, and a report in an entry is that client's.
     ensures logged { OnOk result (Runs start [] events.now log.new.entries.items log.new.clients.items) }
 
-    // After want of memory all this holds of the events before the one that met it.
+    // After want of memory the entries are those of as many first events, not of all, and of these all this holds.
     ensures memory { OnErr result (IsBeginning events.now log.new.entries.items) }
 {
     run_by(alloc, events, Handing::Whole, log)

@@ -1,10 +1,11 @@
 //! Each test passes with ample memory, and wherever one allocation is refused. The call that finds no memory is made again, and goes
 //! on to the same report; an answer that found none begins again.
-use cog_client::{Client, ClientError, Query, Tag};
+use cog_client::{Client, ClientError, Delivered, Query, Tag};
 use cog_client_support::Answer::{Part, Whole};
 use cog_client_support::Step::{Asks, AsksNothing, Checks, Copies, Open, Opens, Reports, Uses};
 use cog_client_support::{
-    F2_REPLACED, FIRST, NEW, NotDone, OLD, Publication, Revisions, Session, Step, client_of_a,
+    Answer, F2_REPLACED, FIRST, NEW, NotDone, OLD, Publication, Revisions, Session, Step,
+    client_of_a,
 };
 use cog_reader_support::{FACTS_OF_F3, Fixture, Want};
 use std::alloc::{AllocError, Global};
@@ -153,6 +154,45 @@ const REPLACED: [Step<'static>; 12] = [
 #[test]
 fn goes_on_after_refused_memory_where_the_file_is_replaced(rt: HostRuntime) -> Result<(), Fail> {
     expect(&rt, &F2_REPLACED, &REPLACED)
+}
+
+/// The text of an answer, made again if no memory is found.
+fn text_again(
+    alloc: Global,
+    answer: Answer,
+    files: &[Publication<'_>],
+) -> Result<Vec<u8>, NotDone> {
+    match answer.text(alloc, files) {
+        Err(NotDone::NoRoom) => answer.text(alloc, files),
+        text => text,
+    }
+}
+
+/// Whether the rest of an answer is dropped whose block found no memory: it is fed once more behind that, and changes nothing.
+fn drops_rest(alloc: Global) -> Result<bool, NotDone> {
+    let file = file_again(alloc, Fixture::F1)?;
+    let [tag, next_tag] = F1_TWICE.tags;
+    let files = Publication::in_turn(tag, &file, next_tag, &file);
+    let text = text_again(alloc, Part(0, 0, 377), &files)?;
+    let mut client = client_again(alloc)?;
+    client.open(Query::Info);
+    if client.request().is_err() {
+        client.request()?;
+    }
+    client.begin();
+    let fed = client.feed(&text);
+    let fed_again = client.feed(&text);
+    Ok(match (fed, client.end()) {
+        (Ok(()), Ok(Delivered::Took(1)) | Err(_)) => true,
+        (Err(_), Ok(Delivered::Ignored(why))) => fed_again.is_ok() && why.number() == 1,
+        _ => false,
+    })
+}
+
+#[test]
+fn drops_the_rest_after_refused_memory(rt: HostRuntime) -> Result<(), Fail> {
+    assert!(rt; drops_rest(rt.alloc())?);
+    Ok(())
 }
 
 /// The file f3, published twice.
