@@ -8,10 +8,9 @@ import tempfile
 import unittest
 
 import delgunsai
-from support import EXAMPLE, FOLDER, TOP
+from support import CORE, EXAMPLE, FOLDER, TOP
 
 PIP = [sys.executable, '-m', 'pip', 'install', '--no-build-isolation', '--no-deps', '--no-index']
-CORE = os.path.abspath(os.environ.get('DELGUNSAI_CORE', os.path.join(TOP, 'crates/delgunsai_c/out/libdelgunsai_c.a')))
 
 
 class Built(unittest.TestCase):

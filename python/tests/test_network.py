@@ -1,6 +1,7 @@
 """Processes that are forked, servers that bring nothing, and answers that nobody needs."""
 import os
 import signal
+import subprocess
 import threading
 import time
 import unittest
@@ -9,7 +10,7 @@ import delgunsai
 import numpy
 from files import noise, plain
 from servers import Ends, Made, Nginx, head, served
-from support import FOLDER, TLS, needs
+from support import CORE, FOLDER, HEAP, TLS, TOP, needs
 
 SAMPLES = noise(1000)
 TEXT = plain(SAMPLES)
@@ -98,6 +99,14 @@ class Forked(unittest.TestCase):
 class Nothing(unittest.TestCase):
     """A server whose answers bring nothing is left after three of them."""
 
+    @staticmethod
+    def cut(request, _):
+        return Ends(served(request, TEXT)[:1000])
+
+    @staticmethod
+    def replaced(request, number):
+        return served(request, TEXT, b'"%d"' % number)
+
     def lost(self, answer, most, words):
         with Made(answer) as server, delgunsai.open(server.url()) as file:
             with self.assertRaises(delgunsai.Lost) as seen:
@@ -106,11 +115,22 @@ class Nothing(unittest.TestCase):
             self.assertEqual(str(seen.exception), f'{server.url()}: {words}')
 
     def test_cut_before_the_first_block(self):
-        self.lost(lambda request, _: Ends(served(request, TEXT)[:1000]), 3,
-                  'no whole answer in 3 exchanges: the last one ends before its first block')
+        self.lost(self.cut, 3, 'no whole answer in 3 exchanges: the last one ends before its first block')
 
     def test_replaced_each_time(self):
-        self.lost(lambda request, number: served(request, TEXT, b'"%d"' % number), 4 * 9, 'the file was replaced 3 times while it was read')
+        self.lost(self.replaced, 4 * 9, 'the file was replaced 3 times while it was read')
+
+    def test_example_in_c(self):
+        program, folder = os.path.join(FOLDER, 'example'), os.path.join(TOP, 'include')
+        subprocess.run(['cc', '-I' + folder, '-o', program, os.path.join(folder, 'example.c'), CORE, HEAP], check=True)
+        for answer, status, words in ((self.cut, 1, b'example: an answer ends before its first block\n'),
+                                      (self.replaced, 1, b'example: the file is replaced again and again\n'),
+                                      (lambda request, _: served(request, TEXT), 0, b'kind 1')):
+            with Made(answer) as server:
+                line = [program, server.url().replace('http://', ''), '300', '200', '500', '400', '0']
+                done = subprocess.run(line, capture_output=True, timeout=20)
+                self.assertEqual((done.returncode, done.stderr[:len(words)]), (status, words))
+                self.assertEqual(done.stdout, SAMPLES[200:600, 300:800].tobytes() if status == 0 else b'')
 
     def test_replaced_twice(self):
         with Made(lambda request, number: served(request, TEXT, b'"%d"' % min(number, 3))) as server:
