@@ -92,7 +92,8 @@ class Replaced(unittest.TestCase):
 
             def read():
                 for at in range(30):
-                    array, tag = file.read_tagged(x=at * 60, y=at * 7 % 30 * 60, width=200, height=200, **({'columns': 1} if at % 2 else {}))
+                    way = {'columns': 1} if at % 2 else {'level': 0}
+                    array, tag = file.read_tagged(x=at * 60, y=at * 7 % 30 * 60, width=200, height=200, **way)
                     seen.append((array.min(), array.max(), int(tag.strip('"'))))
             threads = [threading.Thread(target=read) for _ in range(4)]
             for thread in threads:
