@@ -12,10 +12,13 @@
  *     while ((length = cog_client_request(&client, text, sizeof text)) > 0) {
  *         ..                                   send the text to the host; then, as the answer arrives:
  *         cog_client_begin(&client);
- *         while ((got = read(socket, piece, sizeof piece)) > 0) cog_client_feed(&client, piece, got);
- *         cog_client_end(&client, &said);
+ *         fed = 0;
+ *         while (fed == 0 && (got = read(socket, piece, sizeof piece)) > 0) fed = cog_client_feed(&client, piece, got);
+ *         if (fed < 0 || cog_client_end(&client, &said) < 0) break;        no memory was left
+ *         if (said.kind == COG_IGNORED) break;                             a 404, say; where it was cut, send the request again
+ *         if (said.kind == COG_TOOK && said.number == 0) break;            cut before its first block: the same; but not for ever
  *     }
- *     cog_client_report(&client, &report, tag, sizeof tag);
+ *     if (cog_client_report(&client, &report, tag, sizeof tag) <= 0 || report.kind != COG_WINDOW) ..
  *     ..                                       pixels of report.width * report.height * report.samples * report.bits / 8 bytes
  *     cog_client_pixels(&client, pixels, pixels_length);
  *     cog_client_free(&client);

@@ -43,7 +43,8 @@ int main(int count, char **words) {
     uint8_t tag[COG_TAG_ROOM];
     unsigned short port;
     int64_t length;
-    int name = 0;
+    int name = 0, restarts = 0;
+    bool brought = true;
     need(count == 7, "example FILE|ADDRESS:PORT/NAME X Y W H LEVEL");
     FILE *file = fopen(words[1], "rb");
     if (!file) {
@@ -56,10 +57,14 @@ int main(int count, char **words) {
     need(cog_client_new((const uint8_t *)at, at_length, (const uint8_t *)of, strlen(of), 66, &client) == 0, "no client of this host and name");
     cog_client_open_window(&client, atoi(words[2]), atoi(words[3]), atoi(words[4]), atoi(words[5]), atoi(words[6]));
     while ((length = cog_client_request(&client, (uint8_t *)request, COG_REQUEST_ROOM)) > 0) {
+        need(brought, "an answer ends before its first block");
+        need(restarts < 3, "the file is replaced again and again");
         request[length] = 0;
         cog_client_begin(&client);
         if (file) answer_by_file(&client, file, request); else answer_by_host(&client, &host, request, length);
         need(cog_client_end(&client, &said) == 0 && said.kind != COG_IGNORED, "an answer isn't used");
+        brought = said.kind != COG_TOOK || said.number > 0;
+        restarts += said.kind == COG_RESTARTED;
     }
     length = cog_client_report(&client, &report, tag, sizeof tag);
     need(length > 0, "no report");

@@ -1,6 +1,7 @@
 """Compiles the shared library from the static ones with cc, or says what is missing."""
 import os
 import pathlib
+import shlex
 import shutil
 import subprocess
 
@@ -8,11 +9,25 @@ from setuptools import Distribution, setup
 from setuptools.command.build_py import build_py
 
 HERE = pathlib.Path(__file__).resolve().parent
+CRATE = HERE.parent / 'crates/delgunsai_c'
+
+
+def named(variable: str, file: str) -> pathlib.Path:
+    """The library that a variable names. It is built in another folder than the one where pip was called."""
+    path = pathlib.Path(os.environ[variable])
+    if not path.is_absolute():
+        raise SystemExit(f'{variable} is {str(path)!r}: give the whole path of {file}, from / on')
+    return path
 
 
 def core() -> pathlib.Path:
     """The proved library: DELGUNSAI_CORE, or where `rt lib` leaves it."""
-    path = pathlib.Path(os.environ.get('DELGUNSAI_CORE', HERE.parent / 'crates/delgunsai_c/out/libdelgunsai_c.a'))
+    if 'DELGUNSAI_CORE' in os.environ:
+        path = named('DELGUNSAI_CORE', 'libdelgunsai_c.a')
+    elif CRATE.is_dir():
+        path = CRATE / 'out/libdelgunsai_c.a'
+    else:
+        raise SystemExit("missing: libdelgunsai_c.a: set DELGUNSAI_CORE to the one that `rt lib` builds in Delgunsai's crates/delgunsai_c")
     if not path.is_file():
         raise SystemExit(f'missing: {path}: run `rt lib` in crates/delgunsai_c, or set DELGUNSAI_CORE to its libdelgunsai_c.a')
     return path
@@ -21,7 +36,7 @@ def core() -> pathlib.Path:
 def heap() -> pathlib.Path:
     """The kit's library of the heap: DELGUNSAI_HEAP, or beside the command rt."""
     if 'DELGUNSAI_HEAP' in os.environ:
-        path = pathlib.Path(os.environ['DELGUNSAI_HEAP'])
+        path = named('DELGUNSAI_HEAP', "the kit's c/liblibc_c.a")
     else:
         rt = shutil.which('rt')
         if rt is None:
@@ -33,16 +48,16 @@ def heap() -> pathlib.Path:
 
 
 class Build(build_py):
-    """Builds the modules, and the shared library beside them."""
+    """Builds the modules, and the shared library beside them: beside the sources where these are what is imported (pip install -e)."""
 
     def run(self) -> None:
         super().run()
-        compiler = shutil.which(os.environ.get('CC', 'cc'))
-        if compiler is None:
-            raise SystemExit('missing: cc: a C compiler, or set CC to one')
-        folder = pathlib.Path(self.build_lib) / 'delgunsai'
+        compiler = shlex.split(os.environ.get('CC') or 'cc')
+        if shutil.which(compiler[0]) is None:
+            raise SystemExit(f'missing: {compiler[0]}: a C compiler, or set CC to one')
+        folder = (HERE if self.editable_mode else pathlib.Path(self.build_lib)) / 'delgunsai'
         folder.mkdir(parents=True, exist_ok=True)
-        subprocess.run([compiler, '-shared', '-o', str(folder / 'libdelgunsai.so'), '-Wl,--whole-archive', str(core()),
+        subprocess.run([*compiler, '-shared', '-o', str(folder / 'libdelgunsai.so'), '-Wl,--whole-archive', str(core()),
                         '-Wl,--no-whole-archive', str(heap())], check=True)
 
 

@@ -4,9 +4,10 @@ from __future__ import annotations
 import ctypes
 import pathlib
 import sys
-from typing import List, Optional, Tuple, Union
+from typing import Any, List, Optional, Tuple, Union
 
 import numpy
+from numpy.typing import NDArray
 
 from ._errors import OutOfMemory
 
@@ -151,12 +152,12 @@ class Core:
         length = _checked(_library.cog_client_report(self._at, self._report_at, self._room, TAG_ROOM))
         return self._report, self._room.raw[:length]
 
-    def pixels(self, report: Report) -> numpy.ndarray:
+    def pixels(self, report: Report) -> NDArray[Any]:
         """The samples of the window that this report tells of, a row for each of its rows."""
         wide = report.bits == 16
         shape = (report.height, report.width) if report.samples == 1 else (report.height, report.width, report.samples)
-        array = numpy.empty(shape, WIDE if wide else NARROW)
-        if _checked(_library.cog_client_pixels(self._at, Front.from_buffer(array), array.nbytes)) != array.nbytes:
+        array: NDArray[Any] = numpy.empty(shape, WIDE if wide else NARROW)
+        if _checked(_library.cog_client_pixels(self._at, Front.from_buffer(array.data), array.nbytes)) != array.nbytes:
             raise RuntimeError('the core reports another number of samples')
         return array.byteswap(True) if wide and sys.byteorder == 'little' else array
 

@@ -1,11 +1,16 @@
 """Why a file isn't read."""
 from __future__ import annotations
 
-from typing import Optional
+from typing import Any, Optional, Tuple
 
 
 class Error(Exception):
-    """Why a file isn't read."""
+    """Why a file isn't read. `where` is the URL or the path of the file that was asked, and stands before the sentence."""
+    where: Optional[str] = None
+
+    def __str__(self) -> str:
+        words = super().__str__()
+        return words if self.where is None else f'{self.where}: {words}'
 
 
 class BadUrl(Error, ValueError):
@@ -16,13 +21,17 @@ class BadUrl(Error, ValueError):
         self.url = url
         self.rule = rule
 
+    def __reduce__(self) -> Tuple[Any, ...]:
+        return type(self), (self.url, self.rule), vars(self)
+
 
 class OutOfMemory(Error, MemoryError):
     """The core had no memory."""
 
 
 class Lost(Error, OSError):
-    """No answer came, or none came whole, in so many exchanges one after another."""
+    """No answer came, or none that brought anything, in three exchanges one after another; or the file was replaced three times while it
+    was read."""
 
 
 class NotUsed(Error):
@@ -41,6 +50,9 @@ class NotUsed(Error):
         self.reason = reason
         self.status = status
 
+    def __reduce__(self) -> Tuple[Any, ...]:
+        return type(self), (self.reason, self.status), vars(self)
+
 
 class FileFault(Error):
     """What is wrong with the file, or with what is asked of it.
@@ -52,6 +64,9 @@ class FileFault(Error):
         words = (self.__doc__ or '').strip()
         super().__init__(words if tag is None else f'{words} ({tag})')
         self.tag = tag
+
+    def __reduce__(self) -> Tuple[Any, ...]:
+        return type(self), (self.tag,), vars(self)
 
 
 class Header(FileFault):

@@ -6,9 +6,10 @@ import os
 import re
 import ssl
 import threading
-from typing import List, Optional, SupportsIndex, Tuple, Union
+import weakref
+from typing import Any, Callable, List, NoReturn, Optional, SupportsIndex, Tuple, TypeVar, Union
 
-import numpy
+from numpy.typing import NDArray
 
 from . import _core
 from ._core import Core, Piece
@@ -16,6 +17,7 @@ from ._errors import Error, Lost, NotUsed, fault_of
 from ._info import Info, read_info
 from ._sources import Address, Disk, Host, Source
 
+Result = TypeVar('Result')
 TRIES = 3
 EXCHANGES = 65536
 CUT, REVISION = 1, 10
@@ -25,7 +27,7 @@ GREATEST = 2 ** 32 - 1
 
 class File:
     """A file that is read by windows, each of one revision. One that was replaced is read as the new one from then on, and never mixed:
-    `tag` tells which revision was read last, and `same()` asks the server.
+    `tag` tells which revision was read last, `read_tagged()` that of an array, and `same()` asks the server.
 
     >>> with open_file('docs/example.tif') as f:                                    # doctest: +SKIP
     ...     f.read(x=24, y=30, width=16, height=4).shape
@@ -34,12 +36,18 @@ class File:
 
     def __init__(self, source: Source, host: bytes, name: bytes, blocks: int) -> None:
         self._source = source
-        self._core = Core(host, name, blocks)
+        self._client = host, name, blocks
+        self._begin()
+        self._front = b''
+        self._open = True
+        _files.add(self)
+
+    def _begin(self) -> None:
+        """As where nothing was read yet."""
+        self._core = Core(*self._client)
         self._lock = threading.Lock()
         self._tag: Optional[str] = None
         self._info: Optional[Info] = None
-        self._front = b''
-        self._open = True
 
     def __enter__(self) -> 'File':
         return self
@@ -51,6 +59,9 @@ class File:
         if getattr(self, '_open', False):
             self.close()
 
+    def __reduce__(self) -> NoReturn:
+        raise TypeError('a File is neither copied nor pickled: open its URL or path again')
+
     def close(self) -> None:
         """Ends the connection, and frees what was kept of the file."""
         with self._lock:
@@ -59,89 +70,110 @@ class File:
                 self._source.close()
                 self._core.free()
 
-    def read(self, *, x: int, y: int, width: int, height: int, level: int = 0) -> numpy.ndarray:
+    def read(self, *, x: SupportsIndex, y: SupportsIndex, width: SupportsIndex, height: SupportsIndex,
+             level: SupportsIndex = 0) -> NDArray[Any]:
         """The samples of `width` columns from `x` and `height` rows from `y`, in pixels of the level: of shape (height, width), or
         (height, width, 3) of three samples, as uint8 or uint16.
 
         >>> f.read(x=3000, y=2000, width=256, height=256).dtype                       # doctest: +SKIP
         dtype('uint8')
         """
-        window = _numbers(x=x, y=y, width=width, height=height, level=level)
-        with self._lock:
-            self._check_open()
-            self._core.open_window(*window)
-            return self._window()
+        return self._alone(self._window, self._core.open_window, _numbers(x=x, y=y, width=width, height=height, level=level))[0]
 
-    def read_columns(self, *, x: int, y: int, width: int, height: int, columns: int) -> numpy.ndarray:
+    def read_columns(self, *, x: SupportsIndex, y: SupportsIndex, width: SupportsIndex, height: SupportsIndex,
+                     columns: SupportsIndex) -> NDArray[Any]:
         """The same of a window that is given in pixels of level 0, from the smallest level in which it has at least `columns` columns.
 
         >>> f.read_columns(x=0, y=0, width=8192, height=5632, columns=512).shape      # doctest: +SKIP
         (352, 512)
         """
-        window = _numbers(x=x, y=y, width=width, height=height, columns=columns)
-        with self._lock:
-            self._check_open()
-            self._core.open_columns(*window)
-            return self._window()
+        return self._alone(self._window, self._core.open_columns, _numbers(x=x, y=y, width=width, height=height, columns=columns))[0]
+
+    def read_tagged(self, *, x: SupportsIndex, y: SupportsIndex, width: SupportsIndex, height: SupportsIndex, level: SupportsIndex = 0,
+                    columns: Optional[SupportsIndex] = None) -> Tuple[NDArray[Any], str]:
+        """What `read` gives, or with `columns` what `read_columns` does, and the tag of its revision, whatever other threads read.
+
+        >>> f.read_tagged(x=3000, y=2000, width=256, height=256)[1]                   # doctest: +SKIP
+        '"1-1"'
+        """
+        if columns is None:
+            return self._alone(self._window, self._core.open_window, _numbers(x=x, y=y, width=width, height=height, level=level))
+        return self._alone(self._window, self._core.open_columns, _numbers(x=x, y=y, width=width, height=height, columns=columns))
 
     @property
     def info(self) -> Info:
-        """What georeferences the image, of the revision that was read last: keys, scale, tiepoint and transform as numbers.
+        """What georeferences the image: keys, scale, tiepoint and transform as numbers. Where it has to be asked for it may be of a newer
+        revision than what was read before: `info.tag` tells of which, to be compared with that of `read_tagged`.
 
         >>> f.info.scale                                                               # doctest: +SKIP
         (0.01, 0.01, 0.0)
         """
-        with self._lock:
-            self._check_open()
-            if self._info is None or self._info.tag != self._tag:
-                self._core.open_info()
-                self._report()
-                self._info = read_info(self._core.info())
-            return self._info
+        return self._alone(self._read_info)
 
     @property
     def levels(self) -> List[Tuple[int, int]]:
-        """Columns and rows of each level, the largest first."""
-        return self.info.levels
+        """Columns and rows of each level, the largest first, as `info` has them."""
+        return list(self.info.levels)
 
     @property
     def tag(self) -> str:
-        """The tag of the revision that was read last, with its quotes; where nothing was read yet, the info is."""
+        """The tag of the revision that was read last, by whichever thread, with its quotes; where nothing was read yet, the info is."""
         return self._tag if self._tag is not None else self.info.tag
 
     def same(self) -> bool:
-        """Asks whether the file still is the revision that was read last."""
+        """Asks whether the file still is the revision that was read last. The connection that is kept ends with it."""
+        return self._alone(self._ask)
+
+    def _alone(self, do: Callable[..., Result], *words: Any) -> Result:
+        """What this gives, of an open file that no other thread uses meanwhile; an exception tells the place of the file."""
         with self._lock:
-            self._check_open()
-            request = self._core.check()
-            if request is None:
-                raise Error('nothing of the file was read yet')
-            for _ in range(TRIES):
-                answer = bytearray()
-                try:
-                    self._source.exchange(request, [], answer.extend)
-                except self._source.final:
-                    raise
-                except OSError:
-                    continue
-                kind, reason = self._core.current(bytes(answer))
-                if kind != _core.UNKNOWN:
-                    return kind == _core.SAME
-                if reason != CUT:
-                    raise NotUsed(reason, _status_of(bytes(answer)))
-            raise Lost(f'no answer in {TRIES} exchanges')
+            if not self._open:
+                raise ValueError('the file is closed')
+            try:
+                return do(*words)
+            except Error as error:
+                error.where = self._source.where
+                raise
 
-    def _check_open(self) -> None:
-        if not self._open:
-            raise ValueError('the file is closed')
+    def _window(self, ask: Callable[..., None], window: List[int]) -> Tuple[NDArray[Any], str]:
+        ask(*window)
+        report, tag = self._report()
+        return self._core.pixels(report), tag
 
-    def _window(self) -> numpy.ndarray:
-        return self._core.pixels(self._report())
+    def _read_info(self) -> Info:
+        if self._info is None or self._info.tag != self._tag:
+            self._core.open_info()
+            self._report()
+            self._info = read_info(self._core.info())
+        return self._info
 
-    def _report(self) -> _core.Report:
-        """Exchanges until a report stands, and gives it, or raises its fault."""
-        failed: Optional[BaseException] = None
-        failures = 0
+    def _ask(self) -> bool:
+        request = self._core.check()
+        if request is None or self._tag is None:
+            raise Error('nothing of the file was read yet')
+        if f'\r\nIf-None-Match: {self._tag}\r\n'.encode('latin-1') not in request:
+            return False                                   # the core met another revision since, in a read that was lost
+        failed: Optional[OSError] = None
+        for _ in range(TRIES):
+            answer = bytearray()
+            try:
+                self._source.exchange(request, [], answer.extend)
+            except self._source.final:
+                raise
+            except OSError as error:
+                failed = error
+                continue
+            kind, reason = self._core.current(bytes(answer))
+            if kind != _core.UNKNOWN:
+                return kind == _core.SAME
+            if reason != CUT:
+                raise NotUsed(reason, _status_of(bytes(answer)))
+        raise Lost(f'no whole answer in {TRIES} exchanges' + (f': {failed}' if failed else '')) from failed
+
+    def _report(self) -> Tuple[_core.Report, str]:
+        """Exchanges until a report stands, and gives it with its tag, or raises its fault."""
+        failed: Optional[Exception] = None
+        failures = restarts = 0
         for _ in range(EXCHANGES):
             request = self._core.request()
             if request is None:
@@ -149,23 +181,26 @@ class File:
                 self._tag = tag.decode('latin-1')
                 if report.kind == _core.FAULT:
                     raise fault_of(report.fault, report.field)
-                return report
-            failed = self._exchange(request)
-            if isinstance(failed, self._source.final):
-                raise failed
-            failures = failures + 1 if failed else 0
+                return report, self._tag
             if failures == TRIES:
-                raise Lost(f'no answer in {TRIES} exchanges: {failed}') from failed
+                raise Lost(f'no whole answer in {TRIES} exchanges: {failed}') from failed
+            if restarts == TRIES:
+                raise Lost(f'the file was replaced {TRIES} times while it was read')
+            kind, failed = self._exchange(request)
+            failures = failures + 1 if failed else 0
+            restarts += kind == _core.RESTARTED
         raise Lost(f'no report in {EXCHANGES} exchanges')
 
-    def _exchange(self, request: bytes) -> Optional[BaseException]:
-        """One exchange. Gives why it brought nothing, where another may bring more."""
+    def _exchange(self, request: bytes) -> Tuple[int, Optional[Exception]]:
+        """One exchange. Gives the kind of its answer, and why it brought nothing, where another may bring more."""
         self._front = b''
         self._core.begin()
-        lost: Optional[BaseException] = None
+        lost: Optional[Exception] = None
         ahead = False
         try:
             ahead = self._source.exchange(request, self._core.later(self._source.depth), self._feed)
+        except self._source.final:
+            raise
         except OSError as error:
             lost = error
         kind, number = self._core.end()
@@ -173,8 +208,10 @@ class File:
             refusal = NotUsed(number, _status_of(self._front))
             if number != CUT and number < REVISION and not ahead:
                 raise refusal
-            return lost or refusal
-        return lost if kind == _core.TOOK and number == 0 else None
+            return kind, lost or refusal
+        if kind == _core.TOOK and number == 0:
+            return kind, lost or EOFError('the last one ends before its first block')
+        return kind, None
 
     def _feed(self, piece: Piece) -> None:
         if len(self._front) < FRONT:
@@ -188,16 +225,35 @@ def _status_of(front: bytes) -> Optional[int]:
     return int(found[1]) if found else None
 
 
+_files: weakref.WeakSet[File] = weakref.WeakSet()
+
+
+def _forked() -> None:
+    """In a process that was forked no thread holds a lock. A client that one was calling is left as it is, and another one begins."""
+    for file in _files:
+        if file._lock.locked():
+            file._begin()
+
+
+os.register_at_fork(after_in_child=_forked)
+
+
+def _number(name: str, number: SupportsIndex, least: int, greatest: int) -> int:
+    """This number as it crosses to the core, an int, an integer of numpy or what else is one."""
+    try:
+        index = operator.index(number)
+    except TypeError:
+        raise TypeError(f'{name} is {number!r}, and no integer') from None
+    if not least <= index <= greatest:
+        raise ValueError(f'{name} is {index}, and not {least} to {greatest}')
+    return index
+
+
 def _numbers(**numbers: SupportsIndex) -> List[int]:
-    """These numbers as they cross to the core, an int, an integer of numpy or what else is one."""
-    indices = list(map(operator.index, numbers.values()))
-    if min(indices) < 0 or max(indices) > GREATEST:
-        name, number = next((name, number) for name, number in zip(numbers, indices) if not 0 <= number <= GREATEST)
-        raise ValueError(f'{name} is {number}, and not 0 to {GREATEST}')
-    return indices
+    return [_number(name, number, 0, GREATEST) for name, number in numbers.items()]
 
 
-def open(url: str, *, blocks: int = 256, timeout: float = 30.0, context: Optional[ssl.SSLContext] = None) -> File:
+def open(url: str, *, blocks: SupportsIndex = 256, timeout: float = 30.0, context: Optional[ssl.SSLContext] = None) -> File:
     """A file behind a URL of http or https. Nothing is read yet.
 
     `blocks` of 16,384 bytes, 66 to 4,096, are kept of the file; `timeout` is how many seconds a connection and each of its reads may
@@ -207,13 +263,12 @@ def open(url: str, *, blocks: int = 256, timeout: float = 30.0, context: Optiona
     ...     f.levels
     [(64, 64), (32, 32), (16, 16)]
     """
-    if not 66 <= blocks <= 4096:
-        raise ValueError(f'blocks is {blocks}, and not 66 to 4096')
+    count = _number('blocks', blocks, 66, 4096)
     address = Address(url)
-    return File(Host(address, timeout, context), address.netloc, address.name, blocks)
+    return File(Host(address, timeout, context), address.netloc, address.name, count)
 
 
-def open_file(path: Union[str, 'os.PathLike[str]'], *, blocks: int = 256) -> File:
+def open_file(path: Union[str, 'os.PathLike[str]'], *, blocks: SupportsIndex = 256) -> File:
     """A file of the disk. It is read by ranges too, and may be replaced. Where it isn't there, is a folder or may not be read, now or
     later, the exception is that of the standard `open`.
 
@@ -221,6 +276,4 @@ def open_file(path: Union[str, 'os.PathLike[str]'], *, blocks: int = 256) -> Fil
     ...     f.levels
     [(64, 64), (32, 32), (16, 16)]
     """
-    if not 66 <= blocks <= 4096:
-        raise ValueError(f'blocks is {blocks}, and not 66 to 4096')
-    return File(Disk(os.fspath(path)), b'disk', b'file', blocks)
+    return File(Disk(path), b'disk', b'file', _number('blocks', blocks, 66, 4096))

@@ -7,7 +7,7 @@ import re
 import select
 import socket
 import ssl
-from typing import Callable, Iterator, List, Optional, Protocol, Tuple, Type
+from typing import BinaryIO, Callable, Iterator, List, Optional, Protocol, Tuple, Type, Union
 from urllib.parse import urlsplit
 
 from ._core import Piece
@@ -15,8 +15,12 @@ from ._errors import BadUrl
 
 PIECE = 1 << 17
 HEAD_ROOM = 4096
+FRONT = 65536
+"""How many bytes of a file that was replaced are of use."""
+INTERIM = 16
 DEPTH = 8
 LOSSES = 3
+RANGE = re.compile(rb'\r\nRange: bytes=([0-9]+)-([0-9]+)\r\n')
 Take = Callable[[Piece], None]
 """Takes a piece, which has other bytes once the call returned."""
 
@@ -24,6 +28,8 @@ Take = Callable[[Piece], None]
 class Source(Protocol):
     """What carries a request, and hands on the bytes of the answer as they arrive."""
 
+    where: str
+    """The URL or the path."""
     depth: int
     """How many requests that will come later it takes."""
     final: Tuple[Type[OSError], ...]
@@ -48,6 +54,7 @@ class Address:
             port = parts.port
         except ValueError as error:
             raise BadUrl(url, f'it is no URL: {error}') from None
+        self.url = url
         self.secure = parts.scheme == 'https'
         if parts.scheme not in ('http', 'https'):
             raise BadUrl(url, 'its scheme is http or https')
@@ -72,7 +79,8 @@ class Address:
 
 
 class _Head:
-    """What the head of an answer says of its end (RFC 9112, section 6.3), and of the connection."""
+    """What the head of an answer says of its end (RFC 9112, section 6.3), and of the connection. Of a body that goes on behind all that can
+    be of use the end isn't waited for."""
 
     FIELDS = re.compile(rb'\r\n(content-length|transfer-encoding|connection):[ \t]*(.*?)[ \t]*(?=\r\n)')
 
@@ -80,22 +88,28 @@ class _Head:
         fields = self.FIELDS.findall((head + b'\r\n').lower())
         lengths = [value for name, value in fields if name == b'content-length']
         empty = request.startswith(b'HEAD ') or head[8:12] in (b' 204', b' 304')
-        known = len(lengths) == 1 and lengths[0].isdigit()
-        self.coded = any(name == b'transfer-encoding' for name, _ in fields)
-        self.length: Optional[int] = 0 if empty else int(lengths[0]) if known else None
-        """How many bytes follow the head; None where the end of the connection tells."""
+        known = len(lengths) == 1 and lengths[0].isdigit() and len(lengths[0]) < 20
+        coded = any(name == b'transfer-encoding' for name, _ in fields)
+        self.length: Optional[int] = None if coded else 0 if empty else int(lengths[0]) if known else None
+        """How many bytes follow the head; None where it doesn't say so, and then none is of use."""
         self.closes = not head.startswith(b'HTTP/1.1') or b'\r\nConnection: close\r\n' in request or any(
             name == b'connection' and b'close' in re.split(rb'[ \t]*,[ \t]*', value) for name, value in fields)
+        if self.length is not None and self.length > FRONT:
+            asked = RANGE.search(request) if head[8:12] in (b' 200', b' 206') else None
+            most = max(FRONT, int(asked[2]) + 1) if asked else FRONT
+            self.closes = self.closes or self.length > most
+            self.length = min(self.length, most)
 
 
 class Host:
     """A server of HTTP/1.1, with TLS or without. One connection is kept, where request and answer leave it open, and requests that will
     come later are sent on it at once (pipelining, RFC 9112, section 9.3.2), until three times in a row such ones weren't answered.
-    Redirects aren't followed: they are answers that can't be used."""
+    Redirects aren't followed: they are answers that can't be used. A process that was forked makes a connection of its own."""
 
-    final: Tuple[Type[OSError], ...] = ()
+    final: Tuple[Type[OSError], ...] = (ssl.SSLCertVerificationError,)
 
     def __init__(self, address: Address, timeout: float, context: Optional[ssl.SSLContext]) -> None:
+        self.where = address.url
         if address.secure:
             self._connection: http.client.HTTPConnection = http.client.HTTPSConnection(
                 address.host, address.port, timeout=timeout, context=context)
@@ -109,9 +123,13 @@ class Host:
         self._ahead = False
         """Whether the request that is answered was sent with an earlier one."""
         self._losses = 0
+        self._process = os.getpid()
         self.depth = DEPTH
 
     def exchange(self, request: bytes, later: List[bytes], take: Take) -> bool:
+        if self._process != os.getpid():                 # the connection stays the parent's: to close it here sends nothing, of TLS neither
+            self._process, self._sent = os.getpid(), []
+            self.close()
         goes_on = False
         self._ahead = len(self._sent) > 0
         try:
@@ -124,12 +142,13 @@ class Host:
         return self._ahead
 
     def _first(self, request: bytes, later: List[bytes]) -> memoryview:
-        """Sends the requests, and gives what comes first of the answer: once more, where a kept connection turns out to be ended."""
+        """Sends the requests, and gives what comes first of the answer: once more, where a kept connection turns out to be ended, or to
+        have been idle for too long (408)."""
         if self._is_kept(request):
             try:
                 self._send([request, *later])
                 first = self._more()
-                if first:
+                if first and first[8:12] != b' 408':
                     self._losses = 0 if self._ahead else self._losses
                     return first
             except (ConnectionError, ssl.SSLError):
@@ -173,32 +192,32 @@ class Host:
 
     def _receive(self, piece: memoryview, request: bytes, take: Take) -> bool:
         """Hands on the answer that begins with this piece, and says whether the connection can carry another one."""
-        front = b''
+        front, interim = b'', 0
         while True:
-            if not piece:
-                return False
             before = len(front)
-            front += piece[:HEAD_ROOM]
+            front += piece[:HEAD_ROOM - before]
             end = front.find(b'\r\n\r\n')
-            if end >= 0 or len(front) >= HEAD_ROOM:
+            if end >= 0 and front.startswith(b'HTTP/1.1 1') and interim < INTERIM:       # the answer follows (RFC 9110, section 15.2)
+                self._begin -= len(piece) - (end + 4 - before)
+                front, interim = b'', interim + 1
+            elif end >= 0 or len(front) == HEAD_ROOM or not piece:
                 break
-            take(piece)
             piece = self._more()
+        if before:
+            take(front[:before])
         head = _Head(front[:end], request)
-        if end < 0 or head.coded:
-            take(piece)
-            return False
-        left = None if head.length is None else end + 4 - before + head.length
-        while True:
-            own = piece if left is None else piece[:left]
+        left = None if end < 0 or head.length is None else end + 4 - before + head.length
+        while piece:
+            own = piece[:left]
             self._begin -= len(piece) - len(own)
             take(own)
-            left = None if left is None else left - len(own)
+            if left is None:
+                return False
+            left -= len(own)
             if left == 0:
                 return not head.closes
             piece = self._more()
-            if not piece:
-                return False
+        return False
 
     def close(self) -> None:
         if self._sent and (self._ahead or len(self._sent) > 1):
@@ -216,13 +235,14 @@ class Disk:
     depth = 0
     final: Tuple[Type[OSError], ...] = (FileNotFoundError, IsADirectoryError, PermissionError)
 
-    def __init__(self, path: str) -> None:
-        self._path = path
+    def __init__(self, path: Union[str, os.PathLike[str]]) -> None:
         with open(path, 'rb'):
             pass
+        name = os.fsdecode(path)
+        self.where = name if os.path.isabs(name) else os.path.join(os.getcwd(), name)
 
     def exchange(self, request: bytes, later: List[bytes], take: Take) -> bool:
-        with open(self._path, 'rb') as file:
+        with open(self.where, 'rb') as file:
             state = os.fstat(file.fileno())
             size = state.st_size
             tag = b'"%x-%x-%x"' % (state.st_ino, size, state.st_mtime_ns)
@@ -238,21 +258,21 @@ class Disk:
         pass
 
 
-def _answer(request: bytes, tag: bytes, size: int, file) -> Iterator[bytes]:
+def _answer(request: bytes, tag: bytes, size: int, file: BinaryIO) -> Iterator[bytes]:
     """The answer to a request of the core: a part, or the front of the file where it has another tag."""
     if request.startswith(b'HEAD '):
         same = b'\r\nIf-None-Match: ' + tag + b'\r\n' in request
         status = b'304 Not Modified' if same else b'200 OK'
         yield b'HTTP/1.1 %s\r\nETag: %s\r\nContent-Length: %d\r\n\r\n' % (status, tag, size)
         return
-    first, last = map(int, re.findall(rb'\r\nRange: bytes=([0-9]+)-([0-9]+)\r\n', request)[0])
+    first, last = map(int, RANGE.findall(request)[0])
     condition = re.findall(rb'\r\nIf-Range: (.*?)\r\n', request)
     if first >= size:
         yield b'HTTP/1.1 416 Range Not Satisfiable\r\nContent-Range: bytes */%d\r\nContent-Length: 0\r\n\r\n' % size
         return
     if condition and condition[0] != tag:
         yield b'HTTP/1.1 200 OK\r\nETag: %s\r\nContent-Length: %d\r\n\r\n' % (tag, size)
-        yield file.read(1 << 16)
+        yield file.read(FRONT)
         return
     last = min(last, size - 1)
     yield b'HTTP/1.1 206 Partial Content\r\nETag: %s\r\nContent-Range: bytes %d-%d/%d\r\nContent-Length: %d\r\n\r\n' % (

@@ -2,6 +2,7 @@
 import functools
 import os
 import random
+import struct
 import subprocess
 
 import numpy
@@ -75,3 +76,24 @@ def as_rasterio(path, level, window):
     with rasterio.open(path, **({'overview_level': level - 1} if level else {})) as file:
         read = file.read(window=Window(*window))
     return read[0] if len(read) == 1 else read.transpose(1, 2, 0)
+
+
+def plain(samples, side=128):
+    """The bytes of a file of one level that has these samples in plain tiles, at least two."""
+    height, width = samples.shape
+    rows, columns = -(-height // side), -(-width // side)
+    whole = numpy.zeros((rows * side, columns * side), 'uint8')
+    whole[:height, :width] = samples
+    tiles = whole.reshape(rows, side, columns, side).swapaxes(1, 2).tobytes()
+    count, arrays = rows * columns, 8 + 2 + 12 * 10 + 4
+    first = arrays + 8 * count
+    entries = [(256, 3, 1, width), (257, 3, 1, height), (258, 3, 1, 8), (259, 3, 1, 1), (262, 3, 1, 1), (277, 3, 1, 1), (322, 3, 1, side),
+               (323, 3, 1, side), (324, 4, count, arrays), (325, 4, count, arrays + 4 * count)]
+    places = [first + side * side * tile for tile in range(count)]
+    return b''.join([struct.pack('<2sHIH', b'II', 42, 8, len(entries)), *(struct.pack('<HHII', *entry) for entry in entries), bytes(4),
+                     struct.pack(f'<{2 * count}I', *places, *[side * side] * count), tiles])
+
+
+def noise(side, seed=1):
+    """A square of samples that are all different from their neighbours, as far as chance goes."""
+    return numpy.random.default_rng(seed).integers(0, 256, (side, side), 'uint8')

@@ -1,5 +1,6 @@
-"""Servers: cogserve, nginx with TLS, and one that cuts answers."""
+"""Servers: cogserve, nginx with TLS, one that cuts answers, and one whose answers a test makes."""
 import os
+import re
 import socket
 import socketserver
 import ssl
@@ -127,3 +128,68 @@ class Passing(socketserver.BaseRequestHandler):
                 raise EOFError
             text += piece
         return text, text.index(b'\r\n\r\n') + 4
+
+
+class Ends(bytes):
+    """An answer behind which the connection ends."""
+
+
+class Made(socketserver.ThreadingTCPServer):
+    """Gives the answers that `answer` makes of a request and its number, from 1 on: bytes, or a list of them that are sent apart. It counts
+    connections, requests and the bytes that were sent."""
+    daemon_threads = True
+    allow_reuse_address = True
+    request_queue_size = 64
+
+    def __init__(self, answer):
+        self.answer = answer
+        self.connections = self.requests = self.sent = 0
+        super().__init__(('127.0.0.1', 0), Making)
+        threading.Thread(target=self.serve_forever, kwargs={'poll_interval': 0.01}, daemon=True).start()
+
+    def url(self, name='a'):
+        return f'http://127.0.0.1:{self.server_address[1]}/{name}'
+
+    def __exit__(self, *words):
+        self.shutdown()
+        super().__exit__(*words)
+
+
+class Making(socketserver.BaseRequestHandler):
+    def handle(self):
+        self.server.connections += 1
+        self.request.setsockopt(socket.IPPROTO_TCP, socket.TCP_NODELAY, 1)
+        text = b''
+        try:
+            while True:
+                text, end = Passing.head_of(self.request, text)
+                self.server.requests += 1
+                answer = self.server.answer(text[:end], self.server.requests)
+                for piece in answer if isinstance(answer, list) else [answer]:
+                    for at in range(0, len(piece), 65536):
+                        self.request.sendall(piece[at:at + 65536])
+                        self.server.sent += len(piece[at:at + 65536])
+                    time.sleep(0.001 if isinstance(answer, list) else 0)
+                if isinstance(answer, Ends) or b'Connection: close' in text[:end]:
+                    return
+                text = text[end:]
+        except (EOFError, OSError):
+            pass
+
+
+def head(status, *fields):
+    return b'\r\n'.join([b'HTTP/1.1 ' + status, *fields, b'', b''])
+
+
+def served(request, text, tag=b'"1"'):
+    """The answer of a server that has this text under this tag."""
+    length = b'Content-Length: %d'
+    if request.startswith(b'HEAD '):
+        same = b'If-None-Match: ' + tag + b'\r\n' in request
+        return head(b'304 Not Modified' if same else b'200 OK', b'ETag: ' + tag, length % len(text))
+    first, last = map(int, re.search(rb'bytes=([0-9]+)-([0-9]+)', request).groups())
+    if b'If-Range: ' in request and b'If-Range: ' + tag + b'\r\n' not in request:
+        return head(b'200 OK', b'ETag: ' + tag, length % len(text)) + text
+    part = text[first:last + 1]
+    return head(b'206 Partial Content', b'ETag: ' + tag, b'Content-Range: bytes %d-%d/%d' % (first, first + len(part) - 1, len(text)),
+                length % len(part)) + part

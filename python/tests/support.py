@@ -9,6 +9,9 @@ import unittest
 
 TOP = os.path.dirname(os.path.dirname(os.path.dirname(os.path.abspath(__file__))))
 COGTOOLS = os.environ.get('COGTOOLS', os.path.join(TOP, 'crates/cogtools/out/cogtools'))
+CORE = os.path.abspath(os.environ.get('DELGUNSAI_CORE', os.path.join(TOP, 'crates/delgunsai_c/out/libdelgunsai_c.a')))
+HEAP = os.environ.get('DELGUNSAI_HEAP') or os.path.join(os.path.dirname(os.path.dirname(os.path.realpath(shutil.which('rt') or '/rt'))),
+                                                       'c/liblibc_c.a')
 EXAMPLE = os.path.join(TOP, 'docs/example.tif')
 FOLDER = tempfile.mkdtemp(prefix='delgunsai-')
 os.chmod(FOLDER, 0o755)

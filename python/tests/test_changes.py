@@ -1,6 +1,7 @@
 """Files that are replaced, and answers that are cut."""
 import contextlib
 import os
+import threading
 import time
 import unittest
 from unittest import mock
@@ -8,7 +9,8 @@ from unittest import mock
 import delgunsai
 import numpy
 from delgunsai import _sources
-from servers import Cogserve, Cutting, Nginx
+from files import plain
+from servers import Cogserve, Cutting, Made, Nginx, served
 from support import EXAMPLE, FOLDER, RASTERIO, TLS, free_port, needs
 
 
@@ -44,9 +46,10 @@ class Replaced(unittest.TestCase):
             self.write(place, new)
             self.assertFalse(file.same())
             self.assertEqual(file.tag, tag)
-            got = file.read(x=0, y=0, width=600, height=600)
-            self.assertTrue((got == 9).all() if file.tag != tag else (got == 0).all(), 'mixed')
-            self.assertNotEqual(file.tag, tag)
+            got, newer = file.read_tagged(x=0, y=0, width=600, height=600)
+            self.assertTrue((got == 9).all() if newer != tag else (got == 0).all(), 'mixed')
+            self.assertNotEqual(newer, tag)
+            self.assertEqual(file.tag, newer)
             self.assertTrue(file.same())
             self.assertEqual(file.info.tag, file.tag)
 
@@ -76,6 +79,45 @@ class Replaced(unittest.TestCase):
         with Nginx(FOLDER) as server:
             self.replaced(place, lambda: delgunsai.open(server.url('changing-tls.tif'), context=server.context()),
                           apart=1.1)                     # its tags are of seconds
+
+    def test_tags_of_threads(self):
+        """An array has the tag of its revision, whatever is read at once."""
+        texts = [plain(numpy.full((2000, 2000), revision, 'uint8')) for revision in range(2)]
+
+        def answer(request, number):
+            revision = number // 40 % 2
+            return served(request, texts[revision], b'"%d"' % revision)
+        with Made(answer) as server, delgunsai.open(server.url(), blocks=66) as file:
+            seen = []
+
+            def read():
+                for at in range(30):
+                    way = {'columns': 1} if at % 2 else {'level': 0}
+                    array, tag = file.read_tagged(x=at * 60, y=at * 7 % 30 * 60, width=200, height=200, **way)
+                    seen.append((array.min(), array.max(), int(tag.strip('"'))))
+            threads = [threading.Thread(target=read) for _ in range(4)]
+            for thread in threads:
+                thread.start()
+            for thread in threads:
+                thread.join()
+        self.assertEqual(len(seen), 120)
+        self.assertEqual(set(seen), {(0, 0, 0), (1, 1, 1)})
+
+    def test_another_folder(self):
+        """A path is of the folder where the program was when it opened the file, behind links too."""
+        folders = [os.path.join(FOLDER, name) for name in ('first/inner', 'first', 'second')]
+        for revision, folder in enumerate(folders):
+            os.makedirs(folder, exist_ok=True)
+            with open(os.path.join(folder, 'a.tif'), 'wb') as out:
+                out.write(plain(numpy.full((300, 300), revision, 'uint8')))
+        os.symlink(folders[0], os.path.join(folders[2], 'link'))
+        self.addCleanup(os.chdir, os.getcwd())
+        for path, revision in ('a.tif', 2), ('link/../a.tif', 1):
+            os.chdir(folders[2])
+            with delgunsai.open_file(path) as file:
+                os.chdir(folders[0])
+                self.assertEqual(set(file.read(x=0, y=0, width=300, height=300).flat), {revision})
+                self.assertTrue(file.same())
 
     @needs(RASTERIO, 'rasterio')
     def test_in_place(self):

@@ -1,8 +1,10 @@
 """What isn't read is told by exceptions."""
+import copy
 import os
+import pickle
 import shutil
+import ssl
 import subprocess
-import sys
 import unittest
 from unittest import mock
 
@@ -10,7 +12,7 @@ import delgunsai
 import numpy
 from files import TRANSLATE
 from servers import Cogserve, Nginx
-from support import EXAMPLE, FOLDER, GDAL, TLS, TOP, needs
+from support import EXAMPLE, FOLDER, GDAL, TLS, needs
 
 
 class Refused(unittest.TestCase):
@@ -68,8 +70,10 @@ class Refused(unittest.TestCase):
             with delgunsai.open(server.url('moved'), context=server.context()) as file, self.assertRaises(delgunsai.NotUsed) as seen:
                 file.read(x=0, y=0, width=1, height=1)
             self.assertEqual((seen.exception.reason, seen.exception.status), (3, 301))
-            with delgunsai.open(server.url('grey.tif')) as file, self.assertRaises(delgunsai.Lost):
+            with delgunsai.open(server.url('grey.tif')) as file, self.assertRaises(ssl.SSLCertVerificationError):
                 file.read(x=0, y=0, width=1, height=1)
+            with delgunsai.open(server.url('grey.tif')) as file, self.assertRaises(ssl.SSLCertVerificationError):
+                file.info
 
     def test_faults(self):
         with open(EXAMPLE, 'rb') as file:
@@ -89,13 +93,53 @@ class Refused(unittest.TestCase):
             for words in ({'x': -1, 'y': 0, 'width': 5, 'height': 1}, {'x': 0, 'y': 2 ** 32, 'width': 1, 'height': 1}):
                 with self.assertRaises(ValueError):
                     file.read(**words)
-            with self.assertRaises(TypeError):
-                file.read(x=1.5, y=0, width=1, height=1)
+            for name, number in ('x', 1.0), ('level', None), ('width', '1'), ('y', numpy.ones(2)):
+                with self.assertRaisesRegex(TypeError, f'^{name} is .*, and no integer$'):
+                    file.read(**{'x': 0, 'y': 0, 'width': 1, 'height': 1, name: number})
             self.assertEqual(file.read(x=numpy.int64(24), y=numpy.uint8(30), width=4, height=1).tolist(), [[216, 221, 226, 231]])
         with self.assertRaises(ValueError):
             file.read(x=0, y=0, width=1, height=1)
-        with self.assertRaises(ValueError):
-            delgunsai.open('http://host/a', blocks=65)
+        for blocks, error in (65, ValueError), (4097, ValueError), (256.0, TypeError), ('256', TypeError):
+            with self.assertRaisesRegex(error, '^blocks is '):
+                delgunsai.open('http://host/a', blocks=blocks)
+            with self.assertRaisesRegex(error, '^blocks is '):
+                delgunsai.open_file(EXAMPLE, blocks=blocks)
+
+    def test_places(self):
+        """An exception of a file says of which one."""
+        with Cogserve({'a': EXAMPLE}) as server:
+            for file, where in (delgunsai.open(server.url('a')), server.url('a')), (delgunsai.open_file(EXAMPLE), EXAMPLE):
+                with file, self.assertRaises(delgunsai.Outside) as seen:
+                    file.read(x=60, y=0, width=5, height=1)
+                self.assertEqual((seen.exception.where, str(seen.exception)), (where, f'{where}: {delgunsai.Outside.__doc__}'))
+                with self.assertRaises(ValueError):
+                    file.levels
+            with delgunsai.open(server.url('b')) as file:
+                with self.assertRaises(delgunsai.Error) as seen:
+                    file.same()
+                self.assertEqual(str(seen.exception), f'{server.url("b")}: nothing of the file was read yet')
+                with self.assertRaises(delgunsai.NotUsed) as seen:
+                    file.info
+                self.assertEqual(str(seen.exception), f'{server.url("b")}: its status is 404')
+
+    def test_exceptions_are_pickled(self):
+        faults = [kind(tag) for kind in delgunsai.FileFault.__subclasses__() for tag in (None, 259)]
+        for error in (delgunsai.BadUrl('http://a?b', 'it has no query'), delgunsai.NotUsed(3, 404), delgunsai.NotUsed(1),
+                      delgunsai.Lost('no'), delgunsai.OutOfMemory('no'), delgunsai.Error('no'), *faults):
+            for where in {}, {'where': 'http://a/b'}:
+                vars(error).update(where)
+                texts = [pickle.dumps(error, version) for version in range(pickle.HIGHEST_PROTOCOL + 1)]
+                for again in copy.copy(error), *map(pickle.loads, texts):
+                    self.assertEqual((type(again), str(again), again.args, vars(again)), (type(error), str(error), error.args, vars(error)))
+
+    def test_files_are_not_copied(self):
+        with delgunsai.open_file(EXAMPLE) as file:
+            for way in copy.copy, copy.deepcopy, pickle.dumps:
+                with self.assertRaisesRegex(TypeError, 'open its URL or path again'):
+                    way(file)
+            file.levels.pop()
+            self.assertEqual(file.levels, [(64, 64), (32, 32), (16, 16)])
+            self.assertEqual(file.read(x=24, y=30, width=1, height=1).tolist(), [[216]])
 
     @needs(GDAL, 'GDAL')
     def test_compression(self):
@@ -104,13 +148,3 @@ class Refused(unittest.TestCase):
         with delgunsai.open_file(place) as file, self.assertRaises(delgunsai.Unsupported) as seen:
             file.read(x=0, y=0, width=1, height=1)
         self.assertEqual(seen.exception.tag, 259)
-
-    def test_missing_library(self):
-        """pip says what is missing."""
-        source = os.path.join(FOLDER, 'source')
-        shutil.copytree(os.path.join(TOP, 'python'), source, ignore=shutil.ignore_patterns('build', '*.egg-info', '__pycache__'))
-        done = subprocess.run([sys.executable, '-m', 'pip', 'install', '--no-build-isolation', '--no-deps', '--no-index', '--target',
-                               os.path.join(FOLDER, 'nowhere'), source], capture_output=True, text=True,
-                              env={**os.environ, 'DELGUNSAI_CORE': '/nowhere/libdelgunsai_c.a'})
-        self.assertNotEqual(done.returncode, 0)
-        self.assertIn('missing: /nowhere/libdelgunsai_c.a: run `rt lib`', done.stdout + done.stderr)

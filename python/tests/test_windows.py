@@ -109,7 +109,7 @@ class Equal(unittest.TestCase):
                 for level, (x, y, w, h) in (0, (0, 100, 256, 1000)), (0, (1024, 100, 256, 1000)), (1, (0, 0, 256, 550)):
                     got = file.read(x=x, y=y, width=w, height=h, level=level)
                     self.assertTrue(numpy.array_equal(got, as_rasterio(path, level, (x, y, w, h))))
-                self.assertGreater(passing.at_once, 1)
+                self.assertIn(passing.at_once, range(2, 10))
                 self.assertEqual(passing.connections == 1, not alone)
                 self.assertEqual(file._source.depth == 0, alone)
                 passing.shutdown()

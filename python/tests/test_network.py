@@ -1,0 +1,212 @@
+"""Processes that are forked, servers that bring nothing, and answers that nobody needs."""
+import os
+import signal
+import subprocess
+import threading
+import time
+import unittest
+
+import delgunsai
+import numpy
+from files import noise, plain
+from servers import Ends, Made, Nginx, head, served
+from support import CORE, FOLDER, HEAP, TLS, TOP, needs
+
+SAMPLES = noise(1000)
+TEXT = plain(SAMPLES)
+BIG = bytes(64 << 20)
+
+
+def cut_out(x, y, side):
+    return {'x': x, 'y': y, 'width': side, 'height': side}
+
+
+def right(file, x, y, side=200):
+    """Whether the window has the samples that it should have."""
+    return numpy.array_equal(file.read(**cut_out(x, y, side)), SAMPLES[y:y + side, x:x + side])
+
+
+def as_forked(do):
+    """The process number of a child that ends with 0 where this holds in it, within 20 seconds."""
+    child = os.fork()
+    if child == 0:
+        signal.alarm(20)
+        holds = False
+        try:
+            holds = do()
+        finally:
+            os._exit(not holds)
+    return child
+
+
+class Forked(unittest.TestCase):
+    """A process that was forked reads over a connection of its own, and its parent goes on with the old one."""
+
+    def ends_well(self, child):
+        self.assertEqual(os.waitpid(child, 0)[1], 0)
+
+    def test_connections(self):
+        with Made(lambda request, _: served(request, TEXT)) as server, delgunsai.open(server.url()) as file:
+            self.assertTrue(right(file, 0, 0, 10))
+            self.ends_well(as_forked(lambda: right(file, 300, 300)))
+            self.assertEqual(server.connections, 2)
+            self.assertTrue(right(file, 700, 700))
+            self.assertEqual(server.connections, 2)
+
+    def test_at_once(self):
+        def answer(request, _):
+            text = served(request, TEXT)
+            return [text[at:at + 8192] for at in range(0, len(text), 8192)]
+        with Made(answer) as server, delgunsai.open(server.url()) as file:
+            self.assertTrue(right(file, 0, 0, 10))
+            children = [as_forked(lambda: all(right(file, x, y) for y in (100, 400, 700))) for x in (0, 250, 500, 750)]
+            self.assertTrue(all(right(file, 800 - x, x) for x in (200, 400, 600)))
+            for child in children:
+                self.ends_well(child)
+
+    @needs(TLS, 'nginx or openssl')
+    def test_tls(self):
+        with open(os.path.join(FOLDER, 'forked.tif'), 'wb') as out:
+            out.write(TEXT)
+        with Nginx(FOLDER) as server, delgunsai.open(server.url('forked.tif'), context=server.context()) as file:
+            self.assertTrue(right(file, 0, 0, 10))
+            kept = file._source._connection.sock
+            self.ends_well(as_forked(lambda: right(file, 300, 300)))
+            self.assertTrue(right(file, 700, 700))
+            self.assertIs(file._source._connection.sock, kept)
+
+    def test_while_a_thread_reads(self):
+        """A lock that a thread of the parent holds isn't held in the child."""
+        asked, goes_on = threading.Event(), threading.Event()
+
+        def answer(request, number):
+            if number == 1:
+                asked.set()
+                goes_on.wait()
+            return served(request, TEXT)
+        with Made(answer) as server, delgunsai.open(server.url()) as file:
+            seen = []
+            thread = threading.Thread(target=lambda: seen.append(right(file, 300, 300)))
+            thread.start()
+            asked.wait()
+            self.ends_well(as_forked(lambda: file.close() is None))
+            self.ends_well(as_forked(lambda: right(file, 300, 300) and file.same()))
+            goes_on.set()
+            thread.join()
+            self.assertEqual(seen, [True])
+
+
+class Nothing(unittest.TestCase):
+    """A server whose answers bring nothing is left after three of them."""
+
+    @staticmethod
+    def cut(request, _):
+        return Ends(served(request, TEXT)[:1000])
+
+    @staticmethod
+    def replaced(request, number):
+        return served(request, TEXT, b'"%d"' % number)
+
+    def lost(self, answer, most, words):
+        with Made(answer) as server, delgunsai.open(server.url()) as file:
+            with self.assertRaises(delgunsai.Lost) as seen:
+                file.read(**cut_out(0, 0, 700))
+            self.assertLessEqual(server.requests, most)
+            self.assertEqual(str(seen.exception), f'{server.url()}: {words}')
+
+    def test_cut_before_the_first_block(self):
+        self.lost(self.cut, 3, 'no whole answer in 3 exchanges: the last one ends before its first block')
+
+    def test_replaced_each_time(self):
+        self.lost(self.replaced, 4 * 9, 'the file was replaced 3 times while it was read')
+
+    def test_example_in_c(self):
+        program, folder = os.path.join(FOLDER, 'example'), os.path.join(TOP, 'include')
+        subprocess.run(['cc', '-I' + folder, '-o', program, os.path.join(folder, 'example.c'), CORE, HEAP], check=True)
+        for answer, status, words in ((self.cut, 1, b'example: an answer ends before its first block\n'),
+                                      (self.replaced, 1, b'example: the file is replaced again and again\n'),
+                                      (lambda request, _: served(request, TEXT), 0, b'kind 1')):
+            with Made(answer) as server:
+                line = [program, server.url().replace('http://', ''), '300', '200', '500', '400', '0']
+                done = subprocess.run(line, capture_output=True, timeout=20)
+                self.assertEqual((done.returncode, done.stderr[:len(words)]), (status, words))
+                self.assertEqual(done.stdout, SAMPLES[200:600, 300:800].tobytes() if status == 0 else b'')
+
+    def test_replaced_twice(self):
+        with Made(lambda request, number: served(request, TEXT, b'"%d"' % min(number, 3))) as server:
+            with delgunsai.open(server.url()) as file:
+                self.assertTrue(right(file, 300, 300, 700))
+                self.assertEqual(file.tag, '"3"')
+
+    def test_same_after_a_restart_that_was_lost(self):
+        tags = [b'"1"']
+
+        def answer(request, _):
+            return Ends() if b'If-Range: "2"' in request else served(request, TEXT, tags[-1])
+        with Made(answer) as server, delgunsai.open(server.url()) as file:
+            self.assertTrue(right(file, 0, 0, 10) and file.same())
+            tags.append(b'"2"')
+            self.assertFalse(file.same())
+            with self.assertRaises(delgunsai.Lost):
+                file.read(**cut_out(700, 700, 10))
+            self.assertEqual(file.tag, '"1"')
+            self.assertFalse(file.same())
+
+
+class Unneeded(unittest.TestCase):
+    """What of an answer isn't needed isn't waited for."""
+
+    def refused(self, answer, reason, status):
+        """The server of an answer that can't be used, as it was told twice."""
+        with Made(lambda *_: answer) as server, delgunsai.open(server.url(), timeout=5) as file:
+            for _ in range(2):
+                with self.assertRaises(delgunsai.NotUsed) as seen:
+                    file.levels
+                self.assertEqual((seen.exception.reason, seen.exception.status), (reason, status))
+        return server
+
+    def test_large_bodies(self):
+        for reason, status in (4, b'200 OK'), (3, b'404 Not Found'):
+            for length in len(BIG), 1000:
+                with self.subTest(status=status, length=length):
+                    server = self.refused(head(status, b'Content-Length: %d' % length) + BIG[:length], reason, int(status[:3]))
+                    self.assertLess(server.sent, len(BIG))
+                    self.assertEqual(server.connections, 2 if length == len(BIG) else 1)
+
+    def test_no_length(self):
+        """The connection goes on, so its end isn't waited for either."""
+        start = time.monotonic()
+        self.refused(head(b'404 Not Found', b'Transfer-Encoding: chunked') + b'0\r\n\r\n', 3, 404)
+        self.refused(head(b'404 Not Found') + b'not', 3, 404)
+        self.refused(head(b'200 OK', b'ETag: "1"') + TEXT[:1000], 8, 200)
+        self.assertLess(time.monotonic() - start, 5)
+
+    def test_length_of_many_digits(self):
+        text = head(b'206 Partial Content', b'Content-Length: ' + b'9' * 5000)
+        self.refused([text[:4000], text[4000:]], 2, 206)
+        self.refused(head(b'206 Partial Content', b'Content-Length: ' + b'9' * 2000), 4, 206)
+
+    def test_ranges_are_passed_over(self):
+        """A server that knows no ranges is read, each time as far as what was asked for."""
+        whole = head(b'200 OK', b'ETag: "1"', b'Content-Length: %d' % len(TEXT)) + TEXT
+        with Made(lambda *_: whole) as server, delgunsai.open(server.url()) as file:
+            self.assertTrue(right(file, 0, 0, 10) and right(file, 800, 800) and right(file, 300, 300))
+
+    def test_interim_answers(self):
+        """Answers of 1xx stand before the one that counts."""
+        before = head(b'103 Early Hints', b'Link: </a>; rel=preload') + head(b'100 Continue')
+        for step in 1 << 20, 1, 50:
+            def answer(request, _):
+                text = before + served(request, TEXT)
+                return [text[at:at + step] for at in range(0, 300, step)] + [text[max(300, step):]]
+            with self.subTest(step), Made(answer) as server, delgunsai.open(server.url(), timeout=5) as file:
+                self.assertTrue(right(file, 0, 0, 10) and right(file, 800, 800))
+        self.refused(head(b'103 Early Hints') * 100, 3, 103)
+
+    def test_idle_for_too_long(self):
+        """408 on a connection that was kept is no answer, and on a new one it is."""
+        late = Ends(head(b'408 Request Timeout', b'Content-Length: 0', b'Connection: close'))
+        with Made(lambda request, number: late if number == 2 else served(request, TEXT)) as server, delgunsai.open(server.url()) as file:
+            self.assertTrue(right(file, 0, 0, 10) and right(file, 800, 800))
+            self.assertEqual(server.connections, 2)
+        self.refused(late, 3, 408)
