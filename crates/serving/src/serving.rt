@@ -1,4 +1,7 @@
 //! The sockets of a server: who gets a place, whose turn it is, and how long to wait.
+ghost use Rattle.std.specs.Prelude.{◌≡◌, false, true};
+ghost use Rattle.cog_connections.specs.Table.{OthersStay};
+ghost use Rattle.serving.specs.Turns.{GivesPlace};
 use crate::answered::Audience;
 use crate::open::Open;
 use crate::turn::Turn;
@@ -52,7 +55,7 @@ pub struct Serving {
     events: Events,
     listener: TcpListener,
     limits: Limits,
-    open: Open,
+    held: Open,
     /// The numbers of those that may go on.
     ready: VecDeque<u64>,
     /// The moments at which drains end, in order, with the numbers of their connections.
@@ -78,7 +81,7 @@ impl Serving {
         poll.registry()
             .register(&mut listener, LISTENER, Interest::READABLE)?;
         let alloc = rt.alloc();
-        let Ok(open) = Open::new(alloc, limits.at_once) else {
+        let Ok(held) = Open::new(alloc, limits.at_once) else {
             return Err(io::Error::from(ErrorKind::OutOfMemory));
         };
         Ok(Serving {
@@ -86,7 +89,7 @@ impl Serving {
             events: Events::with_capacity(alloc, EVENTS)?,
             listener,
             limits,
-            open,
+            held,
             ready: VecDeque::new(alloc),
             drains: VecDeque::new(alloc),
             buffer: vec![in alloc; 0u8; MESSAGE_LIMIT]?,
@@ -98,19 +101,19 @@ impl Serving {
 
     /// How many connections have ended: all their answers are written, or they failed, or lost their place.
     pub fn ended(&self) -> u32 {
-        self.open.ended()
+        self.held.ended()
     }
 
     /// Whether all connections were accepted, and each is closed.
     pub fn is_over(&self) -> bool {
-        self.accepted >= self.limits.connections && self.open.is_empty()
+        self.accepted >= self.limits.connections && self.held.is_empty()
     }
 
     /// Accepts the newcomers that get a place, and tells how many.
     pub fn accept(&mut self, now: u64) -> Result<u32, AcceptError> {
         let before = self.accepted;
         for _ in 0..u32::MAX {
-            if !self.is_awaited() || !(self.open.has_place() || self.displace(now)) {
+            if !self.is_awaited() || !(self.held.has_place() || self.displace(now)) {
                 break;
             }
             match self.listener.accept() {
@@ -144,7 +147,7 @@ impl Serving {
             if token == LISTENER {
                 self.knocks = true;
             } else if self.ready.push_back(token.0 as u64).is_err() {
-                self.open.close(token.0 as u64);
+                self.held.close(token.0 as u64);
             }
         }
         Ok(())
@@ -156,10 +159,15 @@ impl Serving {
     }
 
     /// Makes a place for a newcomer, and says whether it did.
-    fn displace(&mut self, now: u64) -> bool {
-        match self.open.yields(now, self.limits.patience) {
+    fn displace(&mut self, now: u64) -> bool
+        ensures one { self.old.held.connections.table.cap ≡ 1 → result ≡ false }
+        ensures no { result ≡ false → self.new.held.connections ≡ self.old.held.connections }
+        ensures yes { result ≡ true → GivesPlace now self.old.limits.patience self.old.held.connections.table.entries
+            self.new.held.connections.table.entries }
+    {
+        match self.held.yields(now, self.limits.patience) {
             Some(number) => {
-                self.open.close(number);
+                self.held.close(number);
                 true
             }
             None => false,
@@ -167,7 +175,9 @@ impl Serving {
     }
 
     /// Asks the system whether a newcomer waits. Until it says so, nobody is displaced for one.
-    fn ask(&mut self) -> Result<(), AcceptError> {
+    fn ask(&mut self) -> Result<(), AcceptError>
+        ensures { self.new.held ≡ self.old.held }
+    {
         self.knocks = false;
         let registry = self.poll.registry();
         registry
@@ -176,10 +186,13 @@ impl Serving {
     }
 
     /// Gives a newcomer its place.
-    fn welcome(&mut self, stream: TcpStream, now: u64) -> Result<(), AcceptError> {
+    fn welcome(&mut self, stream: TcpStream, now: u64) -> Result<(), AcceptError>
+        ensures { OthersStay self.old.held.connections.next self.old.held.connections.table.entries
+            self.new.held.connections.table.entries }
+    {
         self.accepted = self.accepted.saturating_add(1);
-        self.open.add(&self.poll, stream, now);
-        if self.is_starved || !self.open.has_place() {
+        self.held.add(&self.poll, stream, now);
+        if self.is_starved || !self.held.has_place() {
             self.ask()?;
         }
         Ok(())
@@ -210,27 +223,31 @@ impl Serving {
     }
 
     /// A connection goes on.
-    fn turn<A: Audience>(&mut self, number: u64, server: &Server, now: u64, audience: &mut A) {
+    fn turn<A: Audience>(&mut self, number: u64, server: &Server, now: u64, audience: &mut A)
+        ensures { OthersStay number self.old.held.connections.table.entries self.new.held.connections.table.entries }
+    {
         let buffer = &mut self.buffer;
-        match self.open.turn(number, server, buffer, now, audience) {
+        match self.held.turn(number, server, buffer, now, audience) {
             Turn::Waits => {}
             Turn::GoesOn => self.make_ready(number),
             Turn::Ended => {
                 let ends = now.saturating_add(DRAIN);
-                if self.open.drain(number) && self.drains.push_back((ends, number)).is_ok() {
+                if self.held.drain(number) && self.drains.push_back((ends, number)).is_ok() {
                     self.make_ready(number);
                 } else {
-                    self.open.close(number);
+                    self.held.close(number);
                 }
             }
-            Turn::Failed => self.open.close(number),
+            Turn::Failed => self.held.close(number),
         }
     }
 
     /// A connection may go on. Without memory it is closed.
-    fn make_ready(&mut self, number: u64) {
+    fn make_ready(&mut self, number: u64)
+        ensures { OthersStay number self.old.held.connections.table.entries self.new.held.connections.table.entries }
+    {
         if self.ready.push_back(number).is_err() {
-            self.open.close(number);
+            self.held.close(number);
         }
     }
 
@@ -244,7 +261,7 @@ impl Serving {
                 return;
             }
             self.drains.pop_front();
-            self.open.close(number);
+            self.held.close(number);
         }
     }
 
@@ -255,7 +272,7 @@ impl Serving {
         }
         let drain = self.drains.front().map(|(ends, _)| *ends);
         let place = if self.is_awaited() {
-            self.open.wakes_at(self.limits.patience)
+            self.held.wakes_at(self.limits.patience)
         } else {
             None
         };
