@@ -1,9 +1,11 @@
 //! The sockets of a server: who gets a place, whose turn it is, and how long to wait.
-ghost use Rattle.std.specs.Prelude.{◌≡◌, false, true};
+ghost use Rattle.std.specs.Prelude.{◌≡◌, IfOk, OnErr, OnOk, false, true};
 ghost use Rattle.cog_connections.specs.Table.{OthersStay};
+ghost use Rattle.serving.specs.Refusals.{HasNoRoom, IsPassing};
 ghost use Rattle.serving.specs.Turns.{GivesPlace};
 use crate::answered::Audience;
 use crate::open::Open;
+use crate::refusal::{Refusal, refusal_of};
 use crate::turn::Turn;
 use cog_server::Server;
 use http_range::MESSAGE_LIMIT;
@@ -24,14 +26,6 @@ const EVENTS: usize = 1024;
 
 /// So many milliseconds a connection whose answers are written waits for its peer's end.
 const DRAIN: u64 = 2_000;
-
-/// What the system says where there is no room for a newcomer: no descriptor left to the process or to itself (`EMFILE`, `ENFILE`), or no
-/// memory (`ENOMEM`, `ENOBUFS`).
-const NO_ROOM: [i32; 4] = [24, 23, 12, 105];
-
-/// What it says where a newcomer is lost before it is accepted, and where a signal came (accept(2), "Error handling"): `ECONNABORTED`,
-/// `EPERM`, `EPROTO`, `ENOPROTOOPT`, `EOPNOTSUPP`, `ENONET`, `ENETDOWN`, `ENETUNREACH`, `EHOSTDOWN`, `EHOSTUNREACH`, `ETIMEDOUT`; `EINTR`.
-const LOST: [i32; 12] = [103, 1, 71, 92, 95, 64, 100, 101, 112, 113, 110, 4];
 
 /// How many connections there may be, and how long one keeps its place.
 #[derive(Clone, Copy, Debug, PartialEq, Eq)]
@@ -201,24 +195,30 @@ impl Serving {
     /// Whether to try again at once: where there is no room for a newcomer and another connection was displaced for it. Else no newcomer
     /// waits, or it waits until the system says so again: behind one that is lost at once, without room once a connection ends or can be
     /// displaced.
-    fn may_try_again(&mut self, error: io::Error, now: u64) -> Result<bool, AcceptError> {
-        match error.raw_os_error() {
-            _ if error.kind() == ErrorKind::WouldBlock => {
-                self.knocks = false;
-                self.is_starved = false;
-                Ok(false)
-            }
-            Some(number) if LOST.contains(&number) => {
+    fn may_try_again(&mut self, error: io::Error, now: u64) -> Result<bool, AcceptError>
+        ensures again { IfOk result (λ again. again ≡ true → HasNoRoom error
+            × GivesPlace now self.old.limits.patience self.old.held.connections.table.entries self.new.held.connections.table.entries) }
+        ensures kept { IfOk result (λ again. again ≡ false → self.new.held.connections ≡ self.old.held.connections) }
+        ensures passing { OnOk result (IsPassing error) }
+        ensures err { OnErr result (self.new.held.connections ≡ self.old.held.connections) }
+    {
+        if error.kind() == ErrorKind::WouldBlock {
+            self.knocks = false;
+            self.is_starved = false;
+            return Ok(false);
+        }
+        match error.raw_os_error().map_or(Refusal::Last, refusal_of) {
+            Refusal::Lost => {
                 self.ask()?;
                 Ok(false)
             }
-            Some(number) if NO_ROOM.contains(&number) && self.is_starved => Ok(self.displace(now)),
-            Some(number) if NO_ROOM.contains(&number) => {
+            Refusal::NoRoom if self.is_starved => Ok(self.displace(now)),
+            Refusal::NoRoom => {
                 self.is_starved = true;
                 self.ask()?;
                 Ok(false)
             }
-            _ => Err(AcceptError(error)),
+            Refusal::Last => Err(AcceptError(error)),
         }
     }
 
