@@ -29,6 +29,9 @@ impl Connections {
     pub fn new(alloc: Global, limit: NonZeroUsize) -> Result<Self, Memory>
         ensures none { IfOk result (λ c. c.table.entries ≡ []) }
         ensures limit { IfOk result (λ c. c.table.cap ≡ non_zero_usize_get limit) }
+
+        // The first number is 0.
+        ensures first { IfOk result (λ c. c.next ≡ 0) }
     {
         let table = LruCache::sparse(alloc, limit)?;
         Ok(Connections {

@@ -12,7 +12,7 @@ use Rattle.cog_server.specs.Received.{IsReceived, after_read}
 use Rattle.cog_server.specs.Run.{AreFrom, Exchange, IsAnsweredAlone, Past}
 use Rattle.cog_server.specs.Sent.{IsWritten}
 use Rattle.cog_server.specs.Status.{EndsBy, GoesOn, IsNext, Rests, Status, after_answer, after_bytes, after_message, after_write, is_closing, room_of, start}
-use Rattle.cog_server.proofs.RunLemmas.{answer_given, apart, behind, bytes_came, bytes_written, end_came, neither, none_answered, one_fewer}
+use Rattle.cog_server.proofs.RunLemmas.{answer_given, apart, bytes_came, bytes_written, end_came, neither, none_answered, one_fewer}
 
 clash : {A : Type 0} → false ≡ true → A
 clash e = let f : true ≡ false = sym e in cc

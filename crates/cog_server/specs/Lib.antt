@@ -11,3 +11,4 @@ pub mod Scripted
 pub mod Outgoing
 pub mod Status
 pub mod Run
+pub mod Limits

@@ -1,8 +1,14 @@
 //! Laws of the definitions, for the crates above. Each function does nothing: its contract is the law.
+ghost use Rattle.cog_server.specs.Limits.{ServerLimitsAre};
 ghost use Rattle.cog_server.specs.Serve.{FirstAnswersBegin};
 ghost use Rattle.cog_server.specs.Run.{RunsAreAnswered, RunsAreServed};
 
 use http_range::{answers_are_unique, messages_stay};
+
+/// The limits of names, hosts, files and of what is dropped; those of heads, tags and connections are in `limits_are` of `http_range`.
+pub fn server_limits_are()
+    ensures { ServerLimitsAre }
+{}
 
 /// The answers to the first messages of a stream begin the answers to all of them.
 pub fn first_answers_begin()

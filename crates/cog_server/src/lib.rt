@@ -24,7 +24,7 @@ mod stream;
 pub use connection::Connection;
 pub use error::PublishError;
 pub use inlet::{Failed, Inlet, Outlet};
-pub use laws::{first_answers_begin, runs_are_answered};
+pub use laws::{first_answers_begin, runs_are_answered, server_limits_are};
 pub use limits::DROP_LIMIT;
 pub use scripted::{AfterBytes, AfterPieces, ScriptedInlet, ScriptedOutlet};
 pub use served::{Ended, ServeError, Served};

@@ -2,6 +2,7 @@
 #![tactic(auto)]
 
 mod reading;
+mod stamp;
 mod watched;
 mod writing;
 

@@ -1,16 +1,12 @@
 //! A file of the disk that is published, and when it has to be read again.
-ghost use Rattle.std.specs.Prelude.{◌≡◌, ◌↔◌, IfOk, IfSome, IsTrue, None, OnErr, OnOk};
-ghost use Rattle.std.specs.Duration.{as_nanos};
+ghost use Rattle.std.specs.Prelude.{◌≡◌, IfOk, IfSome, None, OnErr, OnOk};
 ghost use Rattle.disk_files.specs.Published.{IsFileOf, IsPublished};
-ghost use Rattle.disk_files.specs.Settled.{IsSettled};
 
 use crate::reading::{has_bytes, read_file};
+use crate::stamp::{Stamp, is_unchanged, stamp_of};
 use cog_server::{PublishError, Server};
 use http_range::{Tag, publications_replace};
-use std::fs::Metadata;
-use std::os::unix::fs::MetadataExt;
 use std::rt::{Clock, Files};
-use std::time::Duration;
 use std::{fs, io};
 use thiserror::Error;
 
@@ -28,53 +24,12 @@ pub enum WatchError {
     Refused(PublishError),
 }
 
-/// What the disk says of a file without reading it: where it is, how long, and when it was modified and changed.
-#[derive(Clone, Copy, PartialEq, Eq)]
-struct Stamp {
-    device: u64,
-    inode: u64,
-    length: u64,
-    modified: (i64, i64),
-    changed: (i64, i64),
-}
-
 /// A file of the command line.
 #[derive(Drop)]
 pub struct Watched<'a> {
     pub name: &'a str,
     pub path: &'a str,
     seen: Option<Stamp>,
-}
-
-/// Whether a file that was changed then was left alone for more than two seconds; both times are since 1970.
-fn is_settled(changed: Duration, now: Duration) -> bool
-    ensures { IsTrue result ↔ IsSettled (as_nanos changed) (as_nanos now) }
-{
-    match changed.checked_add(Duration::from_secs(2)) {
-        Some(limit) => limit.as_nanos() < now.as_nanos(),
-        None => false,
-    }
-}
-
-/// The time since 1970 when a file was changed.
-fn changed(metadata: &Metadata) -> Option<Duration> {
-    let seconds = u64::try_from(metadata.ctime()).ok()?;
-    let nanos = u64::try_from(metadata.ctime_nsec()).ok()?;
-    Duration::from_secs(seconds).checked_add(Duration::from_nanos(nanos))
-}
-
-/// What the disk says of a file that was looked at then or later, where each later change of its bytes shows in it.
-fn stamp_of(metadata: &Metadata, now: Duration) -> Option<Stamp> {
-    if !is_settled(changed(metadata)?, now) {
-        return None;
-    }
-    Some(Stamp {
-        device: metadata.dev(),
-        inode: metadata.ino(),
-        length: metadata.size(),
-        modified: (metadata.mtime(), metadata.mtime_nsec()),
-        changed: (metadata.ctime(), metadata.ctime_nsec()),
-    })
 }
 
 /// Looks at a path, which is to be a file's: to open a pipe might wait for its writer.
@@ -162,7 +117,7 @@ impl<'a> Watched<'a> {
         ensures path { self.new.path ≡ self.old.path }
     {
         let seen = look(rt, self.path)?;
-        if seen.is_some() && seen == self.seen {
+        if is_unchanged(seen, self.seen) {
             return Ok(None);
         }
         if let Some(old) = server.file(self.name.as_bytes())

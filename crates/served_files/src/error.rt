@@ -14,7 +14,14 @@ pub struct NotPublished<'a> {
 }
 
 impl<'a> NotPublished<'a> {
-    pub fn new(file: &Watched<'a>, why: WatchError) -> NotPublished<'a> {
+    ghost use Rattle.std.specs.Prelude.{◌≡◌};
+
+    /// A file with its name and path, and why it isn't published.
+    pub fn new(file: &Watched<'a>, why: WatchError) -> NotPublished<'a>
+        ensures name { result.name ≡ file.now.name }
+        ensures path { result.path ≡ file.now.path }
+        ensures why { result.why ≡ why }
+    {
         NotPublished {
             name: file.name,
             path: file.path,

@@ -1,11 +1,12 @@
 //! The files that are published, and those that are published anew.
-ghost use Rattle.std.specs.Prelude.{◌<◌, length};
+ghost use Rattle.std.specs.Prelude.{◌≡◌, ◌↔◌, All, Contains, IsTrue, OnOk};
+ghost use Rattle.served_files.specs.Publishing.{IsServed, KeepsOthers, KeepsOthersThan, names};
 
 use crate::error::{NotPublished, ServeError};
 use crate::log::Log;
 use cog_server::Server;
 use disk_files::Watched;
-use http_range::Tag;
+use http_range::{Tag, publications_replace};
 use std::io;
 use std::rt::{Clock, Files};
 
@@ -15,27 +16,49 @@ fn print_published<R: Print>(rt: &R, name: &str, tag: &Tag) -> io::Result<()> {
     println!(rt; "published {name} {tag}")
 }
 
+/// Publishes a file, and tells so.
+fn publish_one<'a, R: Files + Clock + Print + Eprint + AllocGlobal>(
+    log: &Log<'_, R>,
+    server: &mut Server,
+    file: &mut Watched<'a>,
+) -> Result<(), ServeError<'a>>
+    ensures served { OnOk result (IsServed server.new file.old.name.now) }
+    ensures others { KeepsOthers file.old.name.now server.old server.new }
+    ensures name { file.new.name ≡ file.old.name }
+{
+    publications_replace();
+    match file.publish(log.rt, server) {
+        Ok(tag) => log.written(print_published(log.rt, file.name, &tag)),
+        Err(why) => Err(ServeError::NotPublished(NotPublished::new(file, why))),
+    }
+}
+
 /// Publishes the files in order.
 pub fn publish_all<'a, R: Files + Clock + Print + Eprint + AllocGlobal>(
     log: &Log<'_, R>,
     server: &mut Server,
     files: &mut [Watched<'a>],
-) -> Result<(), ServeError<'a>> {
-    for file in files.iter_mut() {
-        match file.publish(log.rt, server) {
-            Ok(tag) => log.written(print_published(log.rt, file.name, &tag))?,
-            Err(why) => return Err(ServeError::NotPublished(NotPublished::new(file, why))),
-        }
+) -> Result<(), ServeError<'a>>
+    ensures served { OnOk result (All (IsServed server.new) (names files.old)) }
+    ensures others { KeepsOthersThan (names files.old) server.old server.new }
+    ensures names { names files.new ≡ names files.old }
+{
+    for k in 0..files.len() {
+        publish_one(log, server, &mut files[k])?;
     }
     Ok(())
 }
 
-/// Whether a later file has the name of this one.
-fn is_named_again(files: &[Watched<'_>], k: usize) -> bool
-    requires { k < length files.now }
+/// Whether one of the files has this name.
+fn is_name_of_one(name: &str, files: &[Watched<'_>]) -> bool
+    ensures { IsTrue result ↔ Contains (names files.now) name.now }
 {
-    let name = files[k].name;
-    files[k + 1..].iter().any(|file| file.name == name)
+    for file in files {
+        if file.name == name {
+            return true;
+        }
+    }
+    false
 }
 
 /// Publishes a file if its bytes changed. A line that can't be written is lost: the next ones are tried.
@@ -43,7 +66,11 @@ fn look_at<R: Files + Clock + Print + Eprint + AllocGlobal>(
     log: &Log<'_, R>,
     server: &mut Server,
     file: &mut Watched<'_>,
-) {
+)
+    ensures others { KeepsOthers file.old.name.now server.old server.new }
+    ensures name { file.new.name ≡ file.old.name }
+{
+    publications_replace();
     match file.publish_changed(log.rt, server) {
         Ok(Some(tag)) => {
             let _ = print_published(log.rt, file.name, &tag);
@@ -58,9 +85,12 @@ pub fn look_again<R: Files + Clock + Print + Eprint + AllocGlobal>(
     log: &Log<'_, R>,
     server: &mut Server,
     files: &mut [Watched<'_>],
-) {
+)
+    ensures others { KeepsOthersThan (names files.old) server.old server.new }
+    ensures names { names files.new ≡ names files.old }
+{
     for k in 0..files.len() {
-        if !is_named_again(files, k) {
+        if !is_name_of_one(files[k].name, &files[k + 1..]) {
             look_at(log, server, &mut files[k]);
         }
     }

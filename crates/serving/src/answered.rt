@@ -1,4 +1,6 @@
 //! Answers that are told to who listens, each with the message that it answers.
+ghost use Rattle.std.specs.Prelude.{◌≡◌};
+
 use cog_connections::Connections;
 use http_range::{message_length, messages_stay};
 use std::alloc::Global;
@@ -84,14 +86,18 @@ pub struct Teller<'a, A> {
 
 impl<A: Audience> Teller<'_, A> {
     /// Bytes came on the connection.
-    pub fn came(&mut self, bytes: &[u8]) {
+    pub fn came(&mut self, bytes: &[u8])
+        ensures asked { self.new.asked.ghost_name ≡ self.old.asked.ghost_name }
+    {
         if self.audience.listens() {
             self.asked.keep(bytes);
         }
     }
 
     /// The next message of the connection is answered by what waits there.
-    pub fn answered(&mut self, connections: &Connections, number: u64) {
+    pub fn answered(&mut self, connections: &Connections, number: u64)
+        ensures asked { self.new.asked.ghost_name ≡ self.old.asked.ghost_name }
+    {
         if self.audience.listens() {
             tell(self.asked, self.audience, connections, number);
         }

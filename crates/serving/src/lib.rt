@@ -4,6 +4,7 @@
 
 mod answered;
 mod open;
+mod refusal;
 mod serving;
 mod socket;
 mod turn;

@@ -1,5 +1,11 @@
 //! The connections that have a place, with their sockets.
-ghost use Rattle.std.specs.Prelude.{◌↔◌, ◌<◌, IsTrue, length};
+ghost use Rattle.std.specs.Prelude.{◌≡◌, ◌≢◌, ◌⊎◌, ◌↔◌, ◌<◌, [], IfOk, IsTrue, None, length, nat_eq};
+ghost use Rattle.std.specs.Map.{remove_entry};
+ghost use Rattle.std.specs.NonZero.{non_zero_usize_get};
+ghost use Rattle.cog_connections.specs.Table.{OthersStay};
+ghost use Rattle.cog_connections.specs.Yielding.{WakesAt, Yields};
+ghost use Rattle.serving.specs.Turns.{HasEndedAt, IsDrainedAt, KeepsOthers};
+ghost use Rattle.serving.specs.declared.turn.Turn.TheVariants.{Ended};
 
 use crate::answered::{Asked, Audience, Teller};
 use crate::turn::{Turn, drain_turn, serve_turn};
@@ -34,14 +40,17 @@ fn has_place(connections: &Connections) -> bool
 #[derive(Drop)]
 pub struct Open {
     alloc: Global,
-    connections: Connections,
+    pub connections: Connections,
     sockets: HashMap<u64, Socket>,
     ended: u32,
 }
 
 impl Open {
     /// None, with so many places.
-    pub fn new(alloc: Global, places: NonZeroUsize) -> Result<Self, Memory> {
+    pub fn new(alloc: Global, places: NonZeroUsize) -> Result<Self, Memory>
+        ensures none { IfOk result (λ o. o.connections.table.entries ≡ []) }
+        ensures places { IfOk result (λ o. o.connections.table.cap ≡ non_zero_usize_get places) }
+    {
         Ok(Open {
             alloc,
             connections: Connections::new(alloc, places)?,
@@ -61,17 +70,25 @@ impl Open {
     }
 
     /// Whether there is a place.
-    pub fn has_place(&self) -> bool {
+    pub fn has_place(&self) -> bool
+        ensures { IsTrue result ↔ (length self.now.connections.table.entries < self.now.connections.table.cap) }
+    {
         has_place(&self.connections)
     }
 
-    /// The connection whose place a newcomer takes.
-    pub fn yields(&self, now: u64, patience: u64) -> Option<u64> {
+    /// The connection whose place a newcomer takes. The only one's is never taken.
+    pub fn yields(&self, now: u64, patience: u64) -> Option<u64>
+        ensures one { self.now.connections.table.cap ≡ 1 → result ≡ None }
+        ensures many { self.now.connections.table.cap ≢ 1 → Yields now patience self.now.connections.table.entries result }
+    {
         self.connections.yields(now, patience)
     }
 
     /// When the next connection may lose its place. The only one never does.
-    pub fn wakes_at(&self, patience: u64) -> Option<u64> {
+    pub fn wakes_at(&self, patience: u64) -> Option<u64>
+        ensures one { self.now.connections.table.cap ≡ 1 → result ≡ None }
+        ensures many { self.now.connections.table.cap ≢ 1 → WakesAt patience self.now.connections.table.entries result }
+    {
         if self.connections.table.cap().get() == 1 {
             None
         } else {
@@ -80,13 +97,19 @@ impl Open {
     }
 
     /// Adds a connection. One for which the system or memory has no room has ended at once.
-    pub fn add(&mut self, poll: &Poll, stream: TcpStream, now: u64) {
+    pub fn add(&mut self, poll: &Poll, stream: TcpStream, now: u64)
+        ensures others { OthersStay self.old.connections.next self.old.connections.table.entries self.new.connections.table.entries }
+        ensures cap { self.new.connections.table.cap ≡ self.old.connections.table.cap }
+    {
         if self.try_add(poll, stream, now).is_err() {
             self.ended = self.ended.saturating_add(1);
         }
     }
 
-    fn try_add(&mut self, poll: &Poll, mut stream: TcpStream, now: u64) -> io::Result<()> {
+    fn try_add(&mut self, poll: &Poll, mut stream: TcpStream, now: u64) -> io::Result<()>
+        ensures others { OthersStay self.old.connections.next self.old.connections.table.entries self.new.connections.table.entries }
+        ensures cap { self.new.connections.table.cap ≡ self.old.connections.table.cap }
+    {
         if !has_place(&self.connections) {
             return Err(io::Error::from(io::ErrorKind::Other));
         }
@@ -112,7 +135,10 @@ impl Open {
     }
 
     /// Takes a connection's place away.
-    pub fn close(&mut self, number: u64) {
+    pub fn close(&mut self, number: u64)
+        ensures kept { KeepsOthers number self.old.connections self.new.connections }
+        ensures entries { self.new.connections.table.entries ≡ remove_entry (nat_eq number) self.old.connections.table.entries }
+    {
         if let Some(socket) = self.sockets.remove(&number)
             && !socket.is_draining
         {
@@ -122,7 +148,9 @@ impl Open {
     }
 
     /// A connection whose last answer is written has ended, and its peer is told so. No, where it had before.
-    pub fn drain(&mut self, number: u64) -> bool {
+    pub fn drain(&mut self, number: u64) -> bool
+        ensures kept { self.new.connections ≡ self.old.connections }
+    {
         let Some(socket) = self.sockets.get_mut(&number) else {
             return false;
         };
@@ -142,7 +170,11 @@ impl Open {
         buffer: &mut [u8],
         now: u64,
         audience: &mut A,
-    ) -> Turn {
+    ) -> Turn
+        ensures kept { KeepsOthers number self.old.connections self.new.connections }
+        ensures ended { result ≡ Ended → HasEndedAt number self.new.connections.table.entries
+            ⊎ IsDrainedAt number self.new.connections.table.entries }
+    {
         let Some(socket) = self.sockets.get_mut(&number) else {
             return Turn::Waits;
         };

@@ -1,6 +1,11 @@
 //! The sockets of a server: who gets a place, whose turn it is, and how long to wait.
+ghost use Rattle.std.specs.Prelude.{◌≡◌, IfOk, OnErr, OnOk, false, true};
+ghost use Rattle.cog_connections.specs.Table.{OthersStay};
+ghost use Rattle.serving.specs.Refusals.{HasNoRoom, IsPassing};
+ghost use Rattle.serving.specs.Turns.{GivesPlace};
 use crate::answered::Audience;
 use crate::open::Open;
+use crate::refusal::{Refusal, refusal_of};
 use crate::turn::Turn;
 use cog_server::Server;
 use http_range::MESSAGE_LIMIT;
@@ -21,14 +26,6 @@ const EVENTS: usize = 1024;
 
 /// So many milliseconds a connection whose answers are written waits for its peer's end.
 const DRAIN: u64 = 2_000;
-
-/// What the system says where there is no room for a newcomer: no descriptor left to the process or to itself (`EMFILE`, `ENFILE`), or no
-/// memory (`ENOMEM`, `ENOBUFS`).
-const NO_ROOM: [i32; 4] = [24, 23, 12, 105];
-
-/// What it says where a newcomer is lost before it is accepted, and where a signal came (accept(2), "Error handling"): `ECONNABORTED`,
-/// `EPERM`, `EPROTO`, `ENOPROTOOPT`, `EOPNOTSUPP`, `ENONET`, `ENETDOWN`, `ENETUNREACH`, `EHOSTDOWN`, `EHOSTUNREACH`, `ETIMEDOUT`; `EINTR`.
-const LOST: [i32; 12] = [103, 1, 71, 92, 95, 64, 100, 101, 112, 113, 110, 4];
 
 /// How many connections there may be, and how long one keeps its place.
 #[derive(Clone, Copy, Debug, PartialEq, Eq)]
@@ -52,7 +49,7 @@ pub struct Serving {
     events: Events,
     listener: TcpListener,
     limits: Limits,
-    open: Open,
+    held: Open,
     /// The numbers of those that may go on.
     ready: VecDeque<u64>,
     /// The moments at which drains end, in order, with the numbers of their connections.
@@ -78,7 +75,7 @@ impl Serving {
         poll.registry()
             .register(&mut listener, LISTENER, Interest::READABLE)?;
         let alloc = rt.alloc();
-        let Ok(open) = Open::new(alloc, limits.at_once) else {
+        let Ok(held) = Open::new(alloc, limits.at_once) else {
             return Err(io::Error::from(ErrorKind::OutOfMemory));
         };
         Ok(Serving {
@@ -86,7 +83,7 @@ impl Serving {
             events: Events::with_capacity(alloc, EVENTS)?,
             listener,
             limits,
-            open,
+            held,
             ready: VecDeque::new(alloc),
             drains: VecDeque::new(alloc),
             buffer: vec![in alloc; 0u8; MESSAGE_LIMIT]?,
@@ -98,19 +95,19 @@ impl Serving {
 
     /// How many connections have ended: all their answers are written, or they failed, or lost their place.
     pub fn ended(&self) -> u32 {
-        self.open.ended()
+        self.held.ended()
     }
 
     /// Whether all connections were accepted, and each is closed.
     pub fn is_over(&self) -> bool {
-        self.accepted >= self.limits.connections && self.open.is_empty()
+        self.accepted >= self.limits.connections && self.held.is_empty()
     }
 
     /// Accepts the newcomers that get a place, and tells how many.
     pub fn accept(&mut self, now: u64) -> Result<u32, AcceptError> {
         let before = self.accepted;
         for _ in 0..u32::MAX {
-            if !self.is_awaited() || !(self.open.has_place() || self.displace(now)) {
+            if !self.is_awaited() || !(self.held.has_place() || self.displace(now)) {
                 break;
             }
             match self.listener.accept() {
@@ -144,7 +141,7 @@ impl Serving {
             if token == LISTENER {
                 self.knocks = true;
             } else if self.ready.push_back(token.0 as u64).is_err() {
-                self.open.close(token.0 as u64);
+                self.held.close(token.0 as u64);
             }
         }
         Ok(())
@@ -156,10 +153,15 @@ impl Serving {
     }
 
     /// Makes a place for a newcomer, and says whether it did.
-    fn displace(&mut self, now: u64) -> bool {
-        match self.open.yields(now, self.limits.patience) {
+    fn displace(&mut self, now: u64) -> bool
+        ensures one { self.old.held.connections.table.cap ≡ 1 → result ≡ false }
+        ensures no { result ≡ false → self.new.held.connections ≡ self.old.held.connections }
+        ensures yes { result ≡ true → GivesPlace now self.old.limits.patience self.old.held.connections.table.entries
+            self.new.held.connections.table.entries }
+    {
+        match self.held.yields(now, self.limits.patience) {
             Some(number) => {
-                self.open.close(number);
+                self.held.close(number);
                 true
             }
             None => false,
@@ -167,7 +169,9 @@ impl Serving {
     }
 
     /// Asks the system whether a newcomer waits. Until it says so, nobody is displaced for one.
-    fn ask(&mut self) -> Result<(), AcceptError> {
+    fn ask(&mut self) -> Result<(), AcceptError>
+        ensures { self.new.held ≡ self.old.held }
+    {
         self.knocks = false;
         let registry = self.poll.registry();
         registry
@@ -176,10 +180,13 @@ impl Serving {
     }
 
     /// Gives a newcomer its place.
-    fn welcome(&mut self, stream: TcpStream, now: u64) -> Result<(), AcceptError> {
+    fn welcome(&mut self, stream: TcpStream, now: u64) -> Result<(), AcceptError>
+        ensures { OthersStay self.old.held.connections.next self.old.held.connections.table.entries
+            self.new.held.connections.table.entries }
+    {
         self.accepted = self.accepted.saturating_add(1);
-        self.open.add(&self.poll, stream, now);
-        if self.is_starved || !self.open.has_place() {
+        self.held.add(&self.poll, stream, now);
+        if self.is_starved || !self.held.has_place() {
             self.ask()?;
         }
         Ok(())
@@ -188,49 +195,59 @@ impl Serving {
     /// Whether to try again at once: where there is no room for a newcomer and another connection was displaced for it. Else no newcomer
     /// waits, or it waits until the system says so again: behind one that is lost at once, without room once a connection ends or can be
     /// displaced.
-    fn may_try_again(&mut self, error: io::Error, now: u64) -> Result<bool, AcceptError> {
-        match error.raw_os_error() {
-            _ if error.kind() == ErrorKind::WouldBlock => {
-                self.knocks = false;
-                self.is_starved = false;
-                Ok(false)
-            }
-            Some(number) if LOST.contains(&number) => {
+    fn may_try_again(&mut self, error: io::Error, now: u64) -> Result<bool, AcceptError>
+        ensures again { IfOk result (λ again. again ≡ true → HasNoRoom error
+            × GivesPlace now self.old.limits.patience self.old.held.connections.table.entries self.new.held.connections.table.entries) }
+        ensures kept { IfOk result (λ again. again ≡ false → self.new.held.connections ≡ self.old.held.connections) }
+        ensures passing { OnOk result (IsPassing error) }
+        ensures err { OnErr result (self.new.held.connections ≡ self.old.held.connections) }
+    {
+        if error.kind() == ErrorKind::WouldBlock {
+            self.knocks = false;
+            self.is_starved = false;
+            return Ok(false);
+        }
+        match error.raw_os_error().map_or(Refusal::Last, refusal_of) {
+            Refusal::Lost => {
                 self.ask()?;
                 Ok(false)
             }
-            Some(number) if NO_ROOM.contains(&number) && self.is_starved => Ok(self.displace(now)),
-            Some(number) if NO_ROOM.contains(&number) => {
+            Refusal::NoRoom if self.is_starved => Ok(self.displace(now)),
+            Refusal::NoRoom => {
                 self.is_starved = true;
                 self.ask()?;
                 Ok(false)
             }
-            _ => Err(AcceptError(error)),
+            Refusal::Last => Err(AcceptError(error)),
         }
     }
 
     /// A connection goes on.
-    fn turn<A: Audience>(&mut self, number: u64, server: &Server, now: u64, audience: &mut A) {
+    fn turn<A: Audience>(&mut self, number: u64, server: &Server, now: u64, audience: &mut A)
+        ensures { OthersStay number self.old.held.connections.table.entries self.new.held.connections.table.entries }
+    {
         let buffer = &mut self.buffer;
-        match self.open.turn(number, server, buffer, now, audience) {
+        match self.held.turn(number, server, buffer, now, audience) {
             Turn::Waits => {}
             Turn::GoesOn => self.make_ready(number),
             Turn::Ended => {
                 let ends = now.saturating_add(DRAIN);
-                if self.open.drain(number) && self.drains.push_back((ends, number)).is_ok() {
+                if self.held.drain(number) && self.drains.push_back((ends, number)).is_ok() {
                     self.make_ready(number);
                 } else {
-                    self.open.close(number);
+                    self.held.close(number);
                 }
             }
-            Turn::Failed => self.open.close(number),
+            Turn::Failed => self.held.close(number),
         }
     }
 
     /// A connection may go on. Without memory it is closed.
-    fn make_ready(&mut self, number: u64) {
+    fn make_ready(&mut self, number: u64)
+        ensures { OthersStay number self.old.held.connections.table.entries self.new.held.connections.table.entries }
+    {
         if self.ready.push_back(number).is_err() {
-            self.open.close(number);
+            self.held.close(number);
         }
     }
 
@@ -244,7 +261,7 @@ impl Serving {
                 return;
             }
             self.drains.pop_front();
-            self.open.close(number);
+            self.held.close(number);
         }
     }
 
@@ -255,7 +272,7 @@ impl Serving {
         }
         let drain = self.drains.front().map(|(ends, _)| *ends);
         let place = if self.is_awaited() {
-            self.open.wakes_at(self.limits.patience)
+            self.held.wakes_at(self.limits.patience)
         } else {
             None
         };

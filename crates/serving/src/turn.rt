@@ -1,4 +1,10 @@
 //! A connection's turn: it goes on until its socket would block, and no longer than is fair to others.
+ghost use Rattle.std.specs.Prelude.{◌≡◌, ◌≢◌, ◌<◌, ◌↔◌, length, IfOk, IsSomeAnd, IsTrue, None, Some};
+ghost use Rattle.std.specs.IoError.{error_kind};
+ghost use Rattle.cog_connections.specs.Table.{timed_at};
+ghost use Rattle.std.specs.declared.io.ErrorKind.TheVariants.{Interrupted, WouldBlock};
+ghost use Rattle.serving.specs.Turns.{HasEndedAt, IsDrainedAt, KeepsOthers};
+ghost use Rattle.serving.specs.declared.turn.Turn.TheVariants.{Ended, GoesOn, Waits};
 use crate::answered::{Audience, Teller};
 use crate::socket::{answer, read_some, write_some};
 use cog_connections::Connections;
@@ -27,7 +33,9 @@ pub enum Turn {
 }
 
 /// Whether a connection has bytes to write.
-fn is_waiting(connections: &Connections, number: u64) -> bool {
+fn is_waiting(connections: &Connections, number: u64) -> bool
+    ensures { IsTrue result ↔ IsSomeAnd (timed_at number connections.now.table.entries) (λ p. 0 < length p.connection.waiting) }
+{
     let Some(timed) = connections.get(number) else {
         return false;
     };
@@ -36,7 +44,9 @@ fn is_waiting(connections: &Connections, number: u64) -> bool {
 }
 
 /// Whether all answers of a connection are written, or there is none of this number.
-fn has_ended(connections: &Connections, number: u64) -> bool {
+fn has_ended(connections: &Connections, number: u64) -> bool
+    ensures { IsTrue result → HasEndedAt number connections.now.table.entries }
+{
     match connections.get(number) {
         Some(timed) => timed.connection.ended().is_some(),
         None => true,
@@ -44,7 +54,9 @@ fn has_ended(connections: &Connections, number: u64) -> bool {
 }
 
 /// Whether nothing more may come on a connection.
-pub fn is_drained(connections: &Connections, number: u64) -> bool {
+pub fn is_drained(connections: &Connections, number: u64) -> bool
+    ensures { IsTrue result ↔ IsDrainedAt number connections.now.table.entries }
+{
     match connections.get(number) {
         Some(timed) => timed.connection.is_drained(),
         None => true,
@@ -52,7 +64,12 @@ pub fn is_drained(connections: &Connections, number: u64) -> bool {
 }
 
 /// What an error of a socket makes of a turn; none where the call is made once more.
-fn turn_of(error: &io::Error) -> Option<Turn> {
+fn turn_of(error: &io::Error) -> Option<Turn>
+    ensures again { result ≡ None ↔ (error_kind error.now ≡ Interrupted) }
+    ensures waits { result ≡ Some Waits ↔ (error_kind error.now ≡ WouldBlock) }
+    ensures goes_on { result ≢ Some GoesOn }
+    ensures ended { result ≢ Some Ended }
+{
     match error.kind() {
         ErrorKind::Interrupted => None,
         ErrorKind::WouldBlock => Some(Turn::Waits),
@@ -60,17 +77,22 @@ fn turn_of(error: &io::Error) -> Option<Turn> {
     }
 }
 
-/// Writes what waits, at most so many bytes, or answers the next message, or reads: how many bytes were written, none where all
-/// answers are.
+/// Writes what waits, at most so many bytes at a moment, or answers the next message, or reads: how many bytes were written, none where
+/// all answers are.
 fn step<A: Audience>(
     connections: &mut Connections,
     number: u64,
     stream: &TcpStream,
     server: &Server,
     buffer: &mut [u8],
-    (most, now): (usize, u64),
+    limits: (usize, u64),
     teller: &mut Teller<'_, A>,
-) -> io::Result<Option<usize>> {
+) -> io::Result<Option<usize>>
+    ensures kept { KeepsOthers number connections.old connections.new }
+    ensures ended { IfOk result (λ count. count ≡ None → HasEndedAt number connections.new.table.entries) }
+    ensures asked { teller.new.asked.ghost_name ≡ teller.old.asked.ghost_name }
+{
+    let (most, now) = limits;
     if is_waiting(connections, number) {
         return Ok(Some(write_some(connections, number, stream, most, now)?));
     }
@@ -87,6 +109,7 @@ fn step<A: Audience>(
 }
 
 /// Reads messages and writes their answers, of which the teller tells. It has ended where the last answer is written.
+#[tactic(auto, using(crate::proofs::TurnLemmas::keeps_on))]
 pub fn serve_turn<A: Audience>(
     connections: &mut Connections,
     number: u64,
@@ -95,7 +118,11 @@ pub fn serve_turn<A: Audience>(
     buffer: &mut [u8],
     now: u64,
     teller: &mut Teller<'_, A>,
-) -> Turn {
+) -> Turn
+    ensures kept { KeepsOthers number connections.old connections.new }
+    ensures ended { result ≡ Ended → HasEndedAt number connections.new.table.entries }
+    ensures asked { teller.new.asked.ghost_name ≡ teller.old.asked.ghost_name }
+{
     let mut most = WRITE_LIMIT;
     for _ in 0..STEP_LIMIT {
         let limits = (most, now);
@@ -116,12 +143,16 @@ pub fn serve_turn<A: Audience>(
 }
 
 /// Drops what still comes behind the last message. It has ended where nothing more may come.
+#[tactic(auto, using(crate::proofs::TurnLemmas::keeps_on))]
 pub fn drain_turn(
     connections: &mut Connections,
     number: u64,
     stream: &TcpStream,
     buffer: &mut [u8],
-) -> Turn {
+) -> Turn
+    ensures kept { KeepsOthers number connections.old connections.new }
+    ensures ended { result ≡ Ended → IsDrainedAt number connections.new.table.entries }
+{
     for _ in 0..STEP_LIMIT {
         if is_drained(connections, number) {
             return Turn::Ended;

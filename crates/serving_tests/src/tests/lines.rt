@@ -13,7 +13,8 @@ use std::os::fd::OwnedFd;
 use std::process::Abort;
 use std::rt::{Clock, Files};
 use std::test::Fail;
-use std::{fs, io};
+use std::time::Duration;
+use std::{fs, io, thread};
 
 const ASK: &str = "GET /a HTTP/1.1\r\nHost: h\r\nRange: bytes=1-4\r\n\r\n";
 
@@ -71,6 +72,9 @@ where
 type Turn = (Option<&'static str>, &'static str, u32, &'static str, bool);
 
 const PATH: &str = "serving_tests_served";
+
+/// A file that was left alone for so long isn't read again until the disk says something else of it.
+const SETTLED: Duration = Duration::from_millis(2_100);
 
 #[rattlefmt::skip]
 const TURNS: [Turn; 6] = [
@@ -208,6 +212,28 @@ fn looks_again_at_the_last_file_of_a_name_alone(rt: HostRuntime) -> Result<(), F
     assert_eq!(rt; capture.into_texts().0.as_slice(), b"served 1\n".as_slice());
     fs::remove_file(&rt, "serving_tests_first")?;
     fs::remove_file(&rt, "serving_tests_last")?;
+    Ok(())
+}
+
+/// A file is replaced by one of its length, and each is left alone until a change of it shows in what the disk says.
+#[test]
+fn serves_a_file_that_was_replaced_before(rt: HostRuntime) -> Result<(), Fail> {
+    let (path, other) = ("serving_tests_replaced", "serving_tests_other");
+    fs::write(&rt, path, "12345")?;
+    fs::write(&rt, other, "abcde")?;
+    thread::sleep(&rt, SETTLED);
+    let mut files = vec![in rt.alloc(); Watched::new("a", path)]?;
+    let mut server = Server::new(rt.alloc(), 7);
+    assert!(rt; is_published(&rt, &mut server, &mut files, "published a \"7-1\"\n"));
+    fs::rename(&rt, other, path)?;
+    thread::sleep(&rt, SETTLED);
+    let listener = TcpListener::bind(&rt, "127.0.0.1:0")?;
+    let capture = Capture::new(&rt);
+    let answer = answer_of(&capture, &mut server, &mut files, &listener)?;
+    fs::remove_file(&rt, path)?;
+    assert!(rt; answer.as_str().ends_with("\r\n\r\nbcde"));
+    let printed = b"published a \"7-2\"\nserved 1\n".as_slice();
+    assert_eq!(rt; capture.into_texts().0.as_slice(), printed);
     Ok(())
 }
 

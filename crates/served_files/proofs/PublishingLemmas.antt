@@ -1,0 +1,74 @@
+-- Publications one behind another.
+use Rattle.std.proofs.Common.{◌≡◌, ◌≢◌, ◌<◌, ◌+◌, ℕ, true, false, List, length, nat_eq, slice_index_or, slice_set, sym, ap, subst, ◌∙◌, inl, inr, arith}
+use Rattle.std.specs.Prelude.{IsSome}
+use Rattle.std.proofs.Math.Seq.{map-set_same}
+use Rattle.std.proofs.lemmas.Bool.{cases_Bool}
+use Rattle.std.proofs.lemmas.Bool.Decides.{nat_tests, not_from_Decides}
+use Rattle.std.proofs.lemmas.List.{get_or-map, length-map}
+use Rattle.std.proofs.lemmas.Slice.Eq.{bytes_eq-Decides}
+use Rattle.std.specs.Str.{bytes_eq}
+use Rattle.cog_server.specs.Server.{ServerState}
+use Rattle.disk_files.specs.declared.watched.Watched.{Watched}
+use Rattle.served_files.specs.Publishing.{IsServed, KeepsOthers, KeepsOthersThan, names}
+
+-- a file that keeps its name leaves the names
+pub names_set : (files : List Watched) (k : ℕ) (w d : Watched) → w.name ≡ (slice_index_or files k d).name
+    → names (slice_set files k w) ≡ names files
+names_set files k w d same = map-set_same (λ f. f.name.now) files k w d (ap (λ n. n.now) same)
+
+-- the name of a file is among the names
+pub name_there : (files : List Watched) (k : ℕ) (d : Watched) (e : List ℕ) → k < length files
+    → slice_index_or (names files) k e ≡ (slice_index_or files k d).name.now
+name_there files k d e bound = get_or-map (λ f. f.name.now) files k d e bound
+
+-- there are as many names
+pub name_below : (files : List Watched) (k : ℕ) → k < length files → k < length (names files)
+name_below files k bound = subst (λ n. k < n) (sym (length-map files (λ f. f.name.now))) bound
+
+-- what is published under the name of a file leaves every other name
+pub others_then : (files : List Watched) (k : ℕ) (d : Watched) (ns : List (List ℕ)) (s t u : ServerState) → k < length files
+    → names files ≡ ns → KeepsOthersThan ns s t → KeepsOthers (slice_index_or files k d).name.now t u → KeepsOthersThan ns s u
+others_then files k d ns s t u bound same first then =
+    subst (λ ns. KeepsOthersThan ns s t → KeepsOthersThan ns s u) same
+    (λ first other none. then other
+    (λ is. none k other (name_below files k bound) (is ∙ sym (name_there files k d other bound)))
+    ∙ first other none)
+    first
+
+-- what the server has stays, where one more name has something
+kept : (name : List ℕ) (t u : ServerState) → KeepsOthers name t u → IsServed u name → (other : List ℕ) → IsServed t other → IsServed u other
+kept name t u then served other there =
+    elim (cases_Bool (bytes_eq other name)) [
+      | inl same ↦ subst (IsServed u) (sym ((bytes_eq-Decides other name).0 same)) served
+      | inr different ↦ subst (λ p. IsSome p) (sym (then other (not_from_Decides (bytes_eq other name) (bytes_eq-Decides other name) different))) there
+    ]
+
+before : (i k : ℕ) → i < k + 1 → nat_eq i k ≡ false → i < k
+before i k below different = grind (arith, nat_tests)
+
+at : (i k : ℕ) → nat_eq i k ≡ true → k ≡ i
+at i k same = grind (arith, nat_tests)
+
+-- each name up to this one has something
+pub served_then : (files : List Watched) (k : ℕ) (d : Watched) (ns : List (List ℕ)) (t u : ServerState) → k < length files
+    → names files ≡ ns → KeepsOthers (slice_index_or files k d).name.now t u → IsServed u (slice_index_or files k d).name.now
+    → ((i : ℕ) (e : List ℕ) → i < k → IsServed t (slice_index_or ns i e))
+    → (i : ℕ) (e : List ℕ) → i < k + 1 → IsServed u (slice_index_or ns i e)
+served_then files k d ns t u bound same then served first i e below =
+    elim (cases_Bool (nat_eq i k)) [
+      | inl is ↦ subst (λ i. IsServed u (slice_index_or ns i e)) (at i k is)
+          (subst (λ ns. IsServed u (slice_index_or ns k e)) same (subst (IsServed u) (sym (name_there files k d e bound)) served))
+      | inr different ↦ kept (slice_index_or files k d).name.now t u then served (slice_index_or ns i e) (first i e (before i k below different))
+    ]
+
+-- the name is none of those up to this one
+pub none_then : (files : List Watched) (k : ℕ) (d : Watched) (name : List ℕ) → k < length files
+    → false ≡ bytes_eq (slice_index_or files k d).name.now name
+    → ((i : ℕ) → i < k → slice_index_or (names files) i name ≢ name) → (i : ℕ) → i < k + 1 → slice_index_or (names files) i name ≢ name
+none_then files k d name bound other first i below =
+    elim (cases_Bool (nat_eq i k)) [
+      | inl is ↦ subst (λ i. slice_index_or (names files) i name ≢ name) (at i k is)
+          (λ same. not_from_Decides (bytes_eq (slice_index_or files k d).name.now name) (bytes_eq-Decides (slice_index_or files k d).name.now name) (sym other)
+          (sym (name_there files k d name bound) ∙ same))
+      | inr different ↦ first i (before i k below different)
+    ]

@@ -1,0 +1,25 @@
+use Rattle.std.proofs.Common.{◌∙◌, ap, length, rules, subst, sym}
+use Rattle.std.proofs.lemmas.List.{length-set}
+use Rattle.served_files.specs.Publishing.{KeepsOthersThan, names}
+use Rattle.served_files.proofs.PublishingLemmas.{names_set, others_then}
+use Rattle.served_files.proofs.publishing.look_again.Goals as goal
+use Rattle.served_files.proofs.publishing.look_again.Goals.{then-not-is_name_of_one, else-not-is_name_of_one}
+
+pub loop-k-preserved : goal.loop-k-preserved
+loop-k-preserved g c =
+    let files = c.loop-k.files in
+    let k = c.loop-k.k in
+    let before = c.loop-k.invariant in
+    elim c.if-not-is_name_of_one.branch [
+      | then-not-is_name_of_one w ↦ record {
+        end = before.end ∙ sym (ap length w.files-is ∙ length-set files k w.look_at.new.file);
+        same = ap names w.files-is ∙ names_set files k w.look_at.new.file _ w.look_at.ensures.name ∙ before.same;
+        others = subst (KeepsOthersThan (names c.args.files.now) c.args.server.now) (sym w.server-is)
+            (others_then files k _ _ c.args.server.now c.loop-k.server w.look_at.new.server (search rules) before.same before.others w.look_at.ensures.others);
+      }
+      | else-not-is_name_of_one w ↦ record {
+        end = before.end ∙ sym (ap length w.files-is);
+        same = ap names w.files-is ∙ before.same;
+        others = subst (KeepsOthersThan (names c.args.files.now) c.args.server.now) (sym w.server-is) before.others;
+      }
+    ]

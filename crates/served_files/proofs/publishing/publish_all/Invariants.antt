@@ -1,0 +1,11 @@
+use Rattle.std.proofs.Common.{◌≡◌, ◌<◌, ℕ, List, length, slice_index_or}
+use Rattle.served_files.specs.Publishing.{IsServed, KeepsOthersThan, names}
+use Rattle.served_files.proofs.publishing.publish_all.Given as goal
+
+abbrev pub invariant-loop-k : goal.invariant-loop-k
+invariant-loop-k g l = record {
+  end : l.k-end ≡ length l.files;
+  same : names l.files ≡ names l.fn.files;
+  served : (i : ℕ) (e : List ℕ) → i < l.k → IsServed l.server (slice_index_or (names l.fn.files) i e);
+  others : KeepsOthersThan (names l.fn.files) l.fn.server l.server;
+}

@@ -1,0 +1,22 @@
+-- What a server has after files of the disk were published.
+use Rattle.std.specs.Prelude.{◌≡◌, ◌≢◌, ℕ, List, map, All, IsSome}
+use Rattle.http_range.specs.Book.{published}
+use Rattle.cog_server.specs.Server.{ServerState}
+use Rattle.disk_files.specs.declared.watched.Watched.{Watched}
+
+-- the names of the files
+abbrev pub names : List Watched → List (List ℕ)
+names files = map (λ f. f.name.now) files
+
+-- the server has a file under this name
+abbrev pub IsServed : ServerState → List ℕ → Type 0
+IsServed s name = IsSome (published name s.catalogue)
+
+-- under every name but this one the server has what it had
+abbrev pub KeepsOthers : List ℕ → ServerState → ServerState → Type 0
+KeepsOthers name old new = (other : List ℕ) → other ≢ name → published other new.catalogue ≡ published other old.catalogue
+
+-- under every name that is none of these the server has what it had
+abbrev pub KeepsOthersThan : List (List ℕ) → ServerState → ServerState → Type 0
+KeepsOthersThan names old new =
+    (other : List ℕ) → All (λ name. other ≢ name) names → published other new.catalogue ≡ published other old.catalogue

@@ -1,0 +1,27 @@
+-- What a connection's turn does, and when it comes to an end.
+use Rattle.std.specs.Prelude.{◌≡◌, ℕ, nat_eq, IfSome, IsTrue, Some}
+use Rattle.std.specs.Map.{remove_entry}
+use Rattle.cog_server.specs.Status.{EndsBy, is_drained}
+use Rattle.cog_server.specs.declared.served.Ended.{Ended}
+use Rattle.cog_connections.specs.declared.table.Connections.{Connections}
+use Rattle.cog_connections.specs.Table.{Table, OthersStay, timed_at}
+use Rattle.cog_connections.specs.Yielding.{Yields}
+
+-- every connection but k is as it was, there may be as many, and the next number is the same
+pub record KeepsOthers (k : ℕ) (old new : Connections) : Type 0 where
+  pub others : OthersStay k old.table.entries new.table.entries
+  pub cap : new.table.cap ≡ old.table.cap
+  pub next : new.next ≡ old.next
+
+-- all answers of connection k are written, and no more come; or there is no such connection
+abbrev pub HasEndedAt : ℕ → Table → Type 0
+HasEndedAt k table = IfSome (timed_at k table) (λ p. (ended : Ended) × EndsBy p.connection (Some ended))
+
+-- nothing more may come on connection k, or there is no such connection
+abbrev pub IsDrainedAt : ℕ → Table → Type 0
+IsDrainedAt k table = IfSome (timed_at k table) (λ p. IsTrue (is_drained p.connection))
+
+-- at a moment a connection whose place a newcomer takes is taken away, and no other
+abbrev pub GivesPlace : ℕ → ℕ → Table → Table → Type 0
+GivesPlace now patience old new =
+    (k : ℕ) × Yields now patience old (Some k) × (new ≡ remove_entry (nat_eq k) old)
