@@ -5,12 +5,13 @@ use Rattle.std.specs.List.{slice_index_or}
 use Rattle.std.specs.Str.{bytes_eq}
 use Rattle.std.proofs.lemmas.List.{get_or-map, length-map}
 use Rattle.clap.specs.Facts.{unwrap_or_range}
-use Rattle.clap.specs.Words.{App, IsParsedFrom, IsPlain, IsPlainArg, Row, Rule, all_of, app_of, args_of, first_of, first_value, found_of, is_simple, matched_of, one_of, one_text, raw_values, rows_of, rule_of}
+use Rattle.clap.specs.Words.{App, FailsBy, HasKind, IsParsedFrom, IsPlain, IsPlainArg, Kinds, Row, Rule, all_of, app_of, args_of, first_of, first_value, found_of, is_simple, is_simple_and_free, matched_of, one_of, one_text, raw_values, rows_of, rule_of}
 use Rattle.clap.specs.Walk.{is_empty, is_free_arg, is_simple_arg}
 use Rattle.clap.specs.declared.builder.arg.Arg.{Arg}
 use Rattle.clap.specs.declared.builder.command.Command.{Command}
 use Rattle.clap.specs.declared.builder.command.Command.TheViews.{out-Command}
 use Rattle.clap.specs.declared.builder.range.ValueRange.{ValueRange}
+use Rattle.clap.specs.declared.error.Error.{Error}
 use Rattle.clap.specs.declared.parser.matches.ArgMatches.{ArgMatches}
 use Rattle.clap.specs.declared.parser.matches.Found.{Found}
 use Rattle.clap.proofs.SimpleLemmas.{is_false, is_nil}
@@ -233,6 +234,15 @@ pub simple : is_simple serve_app ≡ true
 unfolding serve_app clap_on_literals
 simple = refl
 
+-- no argument has a rule on another
+pub world_free : is_simple_and_free world_app ≡ true
+unfolding world_app clap_on_literals
+world_free = refl
+
+pub serve_free : is_simple_and_free serve_app ≡ true
+unfolding serve_app clap_on_literals
+serve_free = refl
+
 -- the value of an option that was found is its value by the matches
 pub option_value : (f : Found) (matches : List Row) (name : List ℕ) (o : Option (Bor (List ℕ))) (v : Bor (List ℕ)) → rows_of f ≡ matches
     → option_map (λ s. s.now) o ≡ first_value f name → o ≡ Some v → first_of name matches ≡ Some v.now
@@ -264,3 +274,8 @@ some_mapped f (Some x) e = refl
 pub passed_on : {A E : Type 0} (result : Result A E) (error : E) (P : E → Type 0) → IsErrAnd result (λ e. e ≡ error) → P error → IfErr result P
 passed_on (Ok a) error P bad good = absurd bad
 passed_on (Err e) error P is good = subst P (sym is) good
+
+-- and so is its kind
+pub refused_as : {A : Type 0} (result : Result A Error) (error : Error) (kinds : Kinds) → IsErrAnd result (λ e. e ≡ error) → HasKind kinds error → FailsBy kinds result
+refused_as (Ok a) error kinds bad has = absurd bad
+refused_as (Err e) error kinds is has = subst (HasKind kinds) (sym is) has

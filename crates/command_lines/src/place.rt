@@ -1,8 +1,9 @@
 //! A server and a name as one word: `http://HOST[:PORT]/NAME`.
-ghost use Rattle.std.specs.Prelude.{◌≡◌, IfErr, IfOk, IfSome, None, Ok, OnOk, codes, drop, string_bytes};
+ghost use Rattle.std.specs.Prelude.{◌≡◌, ◌≢◌, ◌++◌, false, IfErr, IfOk, IfSome, List, MatchOption, None, Ok, OnOk, Some, codes, string_bytes, ℕ};
+ghost use Rattle.std.specs.Option.{option_copied};
 ghost use Rattle.url.specs.Parser.{parse_url};
-ghost use Rattle.url.specs.Parts.{Parts};
-ghost use Rattle.command_lines.specs.Place.{IsFrontError, IsPlaceError, server_text};
+ghost use Rattle.url.specs.Parts.{Parts, has_credentials};
+ghost use Rattle.command_lines.specs.Place.{IsFrontError, IsPlaceError, behind_first, behind_slashes, is_url, name_typed, path_typed, server_text};
 
 use itoa::Buffer;
 use std::alloc::{AllocError, Global};
@@ -48,7 +49,9 @@ impl From<AllocError> for PlaceError {
 }
 
 /// Whether a word is a URL of the web, and no server's `HOST:PORT`.
-pub fn is_url(word: &str) -> bool {
+pub fn is_url(word: &str) -> bool
+    ensures { result ≡ is_url word.now }
+{
     word.starts_with("http://") || word.starts_with("https://")
 }
 
@@ -64,14 +67,50 @@ fn parse(alloc: Global, word: &str) -> Result<Url, PlaceError>
     }
 }
 
+/// What follows a text's first colon.
+fn behind_colon(text: &str) -> Option<&str>
+    ensures { option_copied result ≡ behind_first 58 text.now }
+{
+    let (_, behind) = text.split_once(':')?;
+    Some(behind)
+}
+
+/// What follows the two slashes that a text begins with.
+fn behind_slashes(text: &str) -> Option<&str>
+    ensures { option_copied result ≡ behind_slashes text.now }
+{
+    text.strip_prefix("//")
+}
+
+/// What follows a text's first slash.
+fn behind_slash(text: &str) -> Option<&str>
+    ensures { option_copied result ≡ behind_first 47 text.now }
+{
+    let (_, behind) = text.split_once('/')?;
+    Some(behind)
+}
+
+/// The name in a URL as it was typed.
+fn typed_name(word: &str) -> Option<&str>
+    ensures { option_copied result ≡ name_typed word.now }
+{
+    behind_slash(behind_slashes(behind_colon(word)?)?)
+}
+
+/// The name that a path has behind its slash.
+fn name_of(path: &str) -> Option<&str>
+    ensures { MatchOption result ((name : List ℕ) → path.now ≢ codes "/" ++ name) (λ name. path.now ≡ codes "/" ++ name.now) }
+{
+    path.strip_prefix('/')
+}
+
 /// The name in a URL's path, where the URL as it was typed ends in that path.
 fn name_in<'a>(word: &'a str, path: &str) -> Option<&'a str>
-    ensures { IfSome result (λ name. name.now ≡ drop 1 path.now) }
+    ensures some { IfSome result (λ name. (path_typed word.now ≡ Some path.now) × (path.now ≡ codes "/" ++ name.now)) }
+    ensures none { result ≡ None → path_typed word.now ≢ Some path.now }
 {
-    let (_, behind) = word.split_once("://")?;
-    let (_, name) = behind.split_once('/')?;
-    let asked = path.strip_prefix('/')?;
-    if name != asked {
+    let name = typed_name(word)?;
+    if name_of(path)? != name {
         return None;
     }
     Some(name)
@@ -79,7 +118,7 @@ fn name_in<'a>(word: &'a str, path: &str) -> Option<&'a str>
 
 /// What is wrong with the parts of a URL in front of its path.
 fn check_front(url: &Url) -> Result<(), PlaceError>
-    ensures ok { OnOk result (url.now.scheme ≡ codes "http") }
+    ensures ok { OnOk result ((url.now.scheme ≡ codes "http") × (has_credentials url.now ≡ false)) }
     ensures err { IfErr result (IsFrontError url.now) }
 {
     match url.scheme() {
@@ -110,7 +149,8 @@ fn server_of(alloc: Global, url: &Url) -> Result<String, AllocError>
 /// or a query, is refused.
 pub fn place_of(alloc: Global, word: &str) -> Result<Place<'_>, PlaceError>
     ensures ok { IfOk result (λ place. (url : Parts) × (parse_url None word.now ≡ Ok url) × (url.scheme ≡ codes "http")
-        × (string_bytes place.server ≡ server_text url) × (place.name.now ≡ drop 1 url.path)) }
+        × (has_credentials url ≡ false) × (string_bytes place.server ≡ server_text url)
+        × (path_typed word.now ≡ Some url.path) × (url.path ≡ codes "/" ++ place.name.now)) }
     ensures err { IfErr result (IsPlaceError word.now) }
 {
     let url = parse(alloc, word)?;

@@ -1,6 +1,6 @@
 //! The command line of `cogserve`.
 ghost use Rattle.std.specs.Prelude.{◌≡◌, true, false, IfOk, IfErr, codes, map};
-ghost use Rattle.clap.specs.Words.{app_of, kind_of, matches_of, rule_of, takes};
+ghost use Rattle.clap.specs.Words.{FailsBy, app_of, fault_of, kind_of, matches_of, rule_of, takes};
 ghost use Rattle.command_lines.specs.ServeLine.{HasValues, choice, flag, option, serve_app, words as some_words};
 
 use crate::help::{SERVE_NOTES, VERSION};
@@ -124,6 +124,8 @@ fn serve_command<'a>(alloc: Global) -> Result<Command<'a>, AllocError>
 pub fn serve_line<'a, S: AsStr>(alloc: Global, words: &'a [S]) -> Result<ServeLine<'a>, Error>
     ensures ok { IfOk result (HasValues (matches_of serve_app (map S.text words.entry.now))) }
     ensures err { IfErr result (λ e. takes serve_app (map S.text words.entry.now) ≡ true → kind_of e ≡ ErrorKind.OutOfMemory) }
+    // Words that clap refuses are refused as it does.
+    ensures kinds { FailsBy (fault_of serve_app (map S.text words.entry.now)) result }
 {
     let command = serve_command(alloc)?;
     let matches = command.try_get_matches_from(words)?;

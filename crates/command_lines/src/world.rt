@@ -1,6 +1,6 @@
 //! The command line of `cogworld`.
 ghost use Rattle.std.specs.Prelude.{◌≡◌, false, true, IfErr, IfOk, codes, map};
-ghost use Rattle.clap.specs.Words.{app_of, kind_of, matches_of, rule_of, takes};
+ghost use Rattle.clap.specs.Words.{FailsBy, app_of, fault_of, kind_of, matches_of, rule_of, takes};
 ghost use Rattle.command_lines.specs.WorldLine.{HasValues, word as some_word, world_app};
 
 use crate::help::{VERSION, WORLD_NOTES};
@@ -52,6 +52,8 @@ fn world_command<'a>(alloc: Global) -> Result<Command<'a>, AllocError>
 pub fn world_line<'a, S: AsStr>(alloc: Global, words: &'a [S]) -> Result<WorldLine<'a>, Error>
     ensures ok { IfOk result (HasValues (matches_of world_app (map S.text words.entry.now))) }
     ensures err { IfErr result (λ e. takes world_app (map S.text words.entry.now) ≡ true → kind_of e ≡ ErrorKind.OutOfMemory) }
+    // Words that clap refuses are refused as it does.
+    ensures kinds { FailsBy (fault_of world_app (map S.text words.entry.now)) result }
 {
     let command = world_command(alloc)?;
     let matches = command.try_get_matches_from(words)?;

@@ -55,7 +55,7 @@ whole_told one book distinct c r i level s stands agrees is same p among tag =
 
 -- What is written of the report that stands is true of one publication of the book.
 pub true_of_book : (name : List ℕ) (book : Book) (a : Asked) (c : ClientState) (r : Report) (written : Result Text Fault) → ((p : Publication) → In p book → p.name ≡ name) → ClientAgrees c book
-    → Stands c (Some r) → AsksOf book a c → IsWritten a r.outcome written → IsTrueOfBook name book a written
+    → Stands c (Some r) → AsksOf book a c → IsWritten a r.tag r.outcome written → IsTrueOfBook name book a written
 true_of_book name book a c r written named agrees stands asks says =
     let true_of = stands.holds book agrees in
     let of = subst (λ o. IfSome o (λ r. (p : Publication) → In p book → p.tag ≡ r.tag → IfSome (query_of c) (IsFor p.file a))) (sym stands.standing) asks in

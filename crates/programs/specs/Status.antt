@@ -1,18 +1,25 @@
 -- The exit statuses of faults.
-use Rattle.std.specs.Prelude.{◌≡◌, ◌≢◌, ℕ}
+use Rattle.std.specs.Prelude.{◌≡◌, ◌⊎◌, ℕ}
 use Rattle.clap.specs.Words.{kind_of}
+use Rattle.clap.specs.declared.error.kind.ErrorKind.{ErrorKind}
 use Rattle.clap.specs.declared.error.kind.ErrorKind.TheVariants as kind
 use Rattle.scripts.specs.declared.line.ScriptError.TheVariants as script
 use Rattle.programs.specs.declared.fault.Fault.{Fault}
 use Rattle.programs.specs.declared.fault.Fault.TheVariants.{NotText, NotAProgram, CommandLine, NotANumber, NotAFile, Script}
 use Rattle.programs.specs.declared.fault.Fault.TheVariants.{RefusedClient, NotAPlace, OfFile, NoReport, CantRead, Refused, CantListen, CantAccept, CantWrite, CantWriteFile, Memory}
 
+-- 0 where help or the version is asked for, and 2 where the words aren't the program's
+abbrev pub line_status : ErrorKind → ℕ
+line_status kind.DisplayHelp = 0
+line_status kind.DisplayVersion = 0
+line_status k = 2
+
 -- 1 for files, sockets, publications and memory, 2 for the command line and scripts, 3 for a fault of the file that is read, 4
 -- where there is no report; to ask for help is no fault
 abbrev pub HasStatus : Fault → ℕ → Type 0
 HasStatus NotText n = n ≡ 2
 HasStatus (NotAProgram word) n = n ≡ 2
-HasStatus (CommandLine error) n = kind_of error ≢ kind.DisplayHelp → kind_of error ≢ kind.DisplayVersion → n ≡ 2
+HasStatus (CommandLine error) n = n ≡ line_status (kind_of error)
 HasStatus (NotANumber word) n = n ≡ 2
 HasStatus (NotAFile word) n = n ≡ 2
 HasStatus (RefusedClient refusal) n = n ≡ 2
@@ -29,3 +36,7 @@ HasStatus CantAccept n = n ≡ 1
 HasStatus CantWrite n = n ≡ 1
 HasStatus (CantWriteFile path) n = n ≡ 1
 HasStatus Memory n = n ≡ 1
+
+-- what a program ends with that has told the fault: its status, or 1 where help that was asked for can't be written
+abbrev pub EndsWith : Fault → ℕ → Type 0
+EndsWith fault n = HasStatus fault n ⊎ (HasStatus fault 0 × (n ≡ 1))

@@ -1,5 +1,5 @@
 -- What `cogread` writes of a file, and when it is true.
-use Rattle.std.specs.Prelude.{◌≡◌, ◌≤◌, ℕ, ◌⊎◌, List, ◌++◌, Option, Some, IfSome, Result, Ok, Err, ⊤}
+use Rattle.std.specs.Prelude.{◌≡◌, ◌≤◌, ℕ, ◌⊎◌, List, [], ◌++◌, Option, Some, IfSome, Result, Ok, Err, ⊤}
 use Rattle.tiff_dir.specs.declared.query.Query.{Query}
 use Rattle.tiff_dir.specs.declared.query.Query.TheVariants.{Window, Info}
 use Rattle.tiff_dir.specs.declared.query.Pick.TheVariants.{Level}
@@ -11,9 +11,10 @@ use Rattle.cog_reader.specs.declared.outcome.Outcome.{Outcome}
 use Rattle.cog_reader.specs.declared.outcome.Outcome.TheVariants as outcome
 use Rattle.cog_client.specs.declared.report.Report.{Report}
 use Rattle.cog_client.specs.Report.{IsTrueReport}
+use Rattle.report_text.specs.InfoText.{IsOfTag}
 use Rattle.report_text.specs.Netpbm.{netpbm}
 use Rattle.programs.specs.declared.fault.Fault.{Fault}
-use Rattle.programs.specs.declared.fault.Fault.TheVariants.{NoReport, OfFile}
+use Rattle.programs.specs.declared.fault.Fault.TheVariants.{NoReport, OfFile, Memory}
 use Rattle.programs.specs.declared.reading.Asked.{Asked}
 use Rattle.programs.specs.declared.reading.Asked.TheVariants as asked
 use Rattle.programs.specs.declared.text.Text.{Text}
@@ -35,17 +36,19 @@ IsFor f (asked.Query query) q = q ≡ query
 IsFor f (asked.Whole level) q = (q ≡ Info) ⊎ IsOfWhole f level q
 IsFor f (asked.Description form) q = q ≡ Info
 
--- A text, or a fault of the file, is what an outcome says: a window is written as a graymap or a pixmap, and of a whole level nothing
--- else. Of the texts of Info and of descriptions nothing is said here. That there is no report is said of a whole level alone.
-abbrev pub IsWritten : Asked → Outcome → Result Text Fault → Type 0
-IsWritten a (outcome.Window v) (Ok text) = text.head.items ++ text.samples.now ≡ netpbm v.samples v.bits v.w v.h v.pixels.items
-IsWritten (asked.Whole level) (outcome.Info i) (Ok text) = ⊥
-IsWritten a (outcome.Info i) (Ok text) = ⊤
-IsWritten a (outcome.Fault fault) (Ok text) = ⊥
-IsWritten (asked.Query query) o (Err NoReport) = ⊥
-IsWritten (asked.Description form) o (Err NoReport) = ⊥
-IsWritten a o (Err (OfFile fault)) = o ≡ outcome.Fault fault
-IsWritten a o (Err fault) = ⊤
+-- A text, or a fault of the file, is what an outcome says of the file of this tag: a window is written as a graymap or a pixmap, and of a
+-- whole level nothing else. The text of Info begins with the line of the tag, and it and a description have no samples. That there is no
+-- report is said of a whole level alone.
+abbrev pub IsWritten : Asked → (tag : List ℕ) → Outcome → Result Text Fault → Type 0
+IsWritten a tag (outcome.Window v) (Ok text) = text.head.items ++ text.samples.now ≡ netpbm v.samples v.bits v.w v.h v.pixels.items
+IsWritten (asked.Query query) tag (outcome.Info i) (Ok text) = IsOfTag tag text.head.items × (text.samples.now ≡ [])
+IsWritten (asked.Whole level) tag (outcome.Info i) (Ok text) = ⊥
+IsWritten (asked.Description form) tag (outcome.Info i) (Ok text) = text.samples.now ≡ []
+IsWritten a tag (outcome.Fault fault) (Ok text) = ⊥
+IsWritten (asked.Query query) tag o (Err NoReport) = ⊥
+IsWritten (asked.Description form) tag o (Err NoReport) = ⊥
+IsWritten a tag o (Err (OfFile fault)) = o ≡ outcome.Fault fault
+IsWritten a tag o (Err fault) = ⊤
 
 -- the query is for the whole of the level, in each file of the book that has this tag
 abbrev pub IsOfWholeBy : Book → List ℕ → ℕ → Query → Type 0
@@ -57,13 +60,20 @@ pub record IsTrueOfBook (name : List ℕ) (book : Book) (a : Asked) (written : R
   pub report : Report
   pub holds : IsTrueReport report name (Some report.query) book
   pub asked : IsFor holds.source.file a report.query
-  pub says : IsWritten a report.outcome written
+  pub says : IsWritten a report.tag report.outcome written
 
 -- it is a text, or a fault of the file
 abbrev pub IsOfFile : Result Text Fault → Type 0
 IsOfFile (Ok text) = ⊤
 IsOfFile (Err (OfFile fault)) = ⊤
 IsOfFile (Err fault) = ⊥
+
+-- why there is no text: a fault of the file, no report, or want of memory
+abbrev pub IsOfReading : Fault → Type 0
+IsOfReading (OfFile fault) = ⊤
+IsOfReading NoReport = ⊤
+IsOfReading Memory = ⊤
+IsOfReading fault = ⊥
 
 -- What is written of a file is true of one publication of the book.
 abbrev pub WritesTrue : List ℕ → Book → Asked → Result Text Fault → Type 0

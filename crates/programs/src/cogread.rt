@@ -1,6 +1,11 @@
 //! `cogread`: reads a window, the info or a description of a file over sockets.
+ghost use Rattle.std.specs.Prelude.{◌≡◌, IfErr, IfOk, Some};
+ghost use Rattle.std.specs.Option.{option_copied};
+ghost use Rattle.programs.specs.Number.{IsOfNumber, number_or};
+ghost use Rattle.programs.specs.Words.{IsAsked, IsPick, IsWindow};
+
 use crate::fault::Fault;
-use crate::number::number;
+use crate::number::{number, number_or};
 use crate::reading::{Asked, Exchanges, Telling};
 use crate::text::Text;
 use clap::error::ErrorKind;
@@ -32,28 +37,20 @@ struct Numbers {
     ahead: u32,
 }
 
-/// The number of an option, if it is there.
-fn number_or<R: AllocGlobal>(
-    rt: &R,
-    word: Option<&str>,
-    (least, greatest): (u32, u32),
-    default: u32,
-) -> Result<u32, Fault> {
-    match word {
-        Some(word) => number(rt, word, least, greatest),
-        None => Ok(default),
+fn pick<R: AllocGlobal>(rt: &R, words: &WindowWords<'_>) -> Result<Pick, Fault>
+    ensures ok { IfOk result (IsPick (option_copied words.now.level) (option_copied words.now.columns)) }
+    ensures kinds { IfErr result IsOfNumber }
+{
+    match words.columns {
+        Some(columns) => Ok(Pick::Columns(number(rt, columns, 0, u32::MAX)?)),
+        None => Ok(Pick::Level(number_or(rt, words.level, 0, u32::MAX, 0)?)),
     }
 }
 
-fn pick<R: AllocGlobal>(rt: &R, words: &WindowWords<'_>) -> Result<Pick, Fault> {
-    match (words.level, words.columns) {
-        (_, Some(columns)) => Ok(Pick::Columns(number(rt, columns, 0, u32::MAX)?)),
-        (Some(level), None) => Ok(Pick::Level(number(rt, level, 0, u32::MAX)?)),
-        (None, None) => Ok(Pick::Level(0)),
-    }
-}
-
-fn window<R: AllocGlobal>(rt: &R, words: &WindowWords<'_>) -> Result<Query, Fault> {
+fn window<R: AllocGlobal>(rt: &R, words: &WindowWords<'_>) -> Result<Query, Fault>
+    ensures ok { IfOk result (IsWindow words.now) }
+    ensures kinds { IfErr result IsOfNumber }
+{
     Ok(Query::Window {
         x: number(rt, words.x, 0, u32::MAX)?,
         y: number(rt, words.y, 0, u32::MAX)?,
@@ -63,24 +60,33 @@ fn window<R: AllocGlobal>(rt: &R, words: &WindowWords<'_>) -> Result<Query, Faul
     })
 }
 
-fn asked<R: AllocGlobal>(rt: &R, words: AskedWords<'_>) -> Result<Asked, Fault> {
+fn asked<R: AllocGlobal>(rt: &R, words: AskedWords<'_>) -> Result<Asked, Fault>
+    ensures ok { IfOk result (IsAsked words.entry) }
+    ensures kinds { IfErr result IsOfNumber }
+{
     match words {
         AskedWords::Info => Ok(Asked::Query(Query::Info)),
         AskedWords::Description { is_json: true } => Ok(Asked::Description(Form::Json)),
         AskedWords::Description { is_json: false } => Ok(Asked::Description(Form::Words)),
         AskedWords::Window(words) => Ok(Asked::Query(window(rt, &words)?)),
         AskedWords::Whole { level } => Ok(Asked::Whole {
-            level: number_or(rt, level, (0, u32::MAX), 0)?,
+            level: number_or(rt, level, 0, u32::MAX, 0)?,
         }),
     }
 }
 
-fn numbers_of<R: AllocGlobal>(rt: &R, line: &ReadLine<'_>) -> Result<Numbers, Fault> {
+fn numbers_of<R: AllocGlobal>(rt: &R, line: &ReadLine<'_>) -> Result<Numbers, Fault>
+    ensures asked { IfOk result (λ numbers. IsAsked line.now.asked numbers.asked) }
+    ensures requests { IfOk result (λ numbers. number_or 1 65536 64 (option_copied line.now.requests) ≡ Some numbers.requests) }
+    ensures blocks { IfOk result (λ numbers. number_or 66 4096 256 (option_copied line.now.blocks) ≡ Some numbers.blocks) }
+    ensures ahead { IfOk result (λ numbers. number_or 0 64 0 (option_copied line.now.ahead) ≡ Some numbers.ahead) }
+    ensures kinds { IfErr result IsOfNumber }
+{
     Ok(Numbers {
         asked: asked(rt, line.asked)?,
-        requests: number_or(rt, line.requests, (1, 65_536), 64)?,
-        blocks: number_or(rt, line.blocks, (MIN_CAPACITY, MAX_CAPACITY), 256)?,
-        ahead: number_or(rt, line.ahead, (0, 64), 0)?,
+        requests: number_or(rt, line.requests, 1, 65_536, 64)?,
+        blocks: number_or(rt, line.blocks, MIN_CAPACITY, MAX_CAPACITY, 256)?,
+        ahead: number_or(rt, line.ahead, 0, 64, 0)?,
     })
 }
 

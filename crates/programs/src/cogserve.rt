@@ -1,6 +1,13 @@
 //! `cogserve`: publishes files of the disk and serves them over many connections at once.
+ghost use Rattle.std.specs.Prelude.{◌≡◌, ◌*◌, ◌-◌, ◌^◌, ◌++◌, ◌∷◌, [], IfErr, IfOk, OnOk, Some, option_map};
+ghost use Rattle.std.specs.Int.NonZero.{non_zero_usize_get};
+ghost use Rattle.std.specs.Option.{option_copied};
+ghost use Rattle.command_lines.specs.Number.{number_from};
+ghost use Rattle.programs.specs.Files.{AreFiles, IsFile, IsOfFiles};
+ghost use Rattle.programs.specs.Number.{IsOfNumber, number_or};
+
 use crate::fault::Fault;
-use crate::number::number;
+use crate::number::{number, number_or};
 use cog_server::{PublishError, Server};
 use command_lines::{ServeLine, serve_line};
 use disk_files::{WatchError, Watched};
@@ -62,10 +69,18 @@ where
 }
 
 /// What the words say of connections: 256 at once, and a patience of 60 seconds, where they don't.
-fn limits_of<R: AllocGlobal>(rt: &R, line: &ServeLine<'_>) -> Result<Limits, Fault> {
+fn limits_of<R: AllocGlobal>(rt: &R, line: &ServeLine<'_>) -> Result<Limits, Fault>
+    ensures connections { IfOk result (λ limits. number_from 1 (2 ^ 32 - 1) line.now.connections.now ≡ Some limits.connections) }
+    ensures at_once { IfOk result (λ limits. number_or 1 10000 256 (option_copied line.now.at_once)
+        ≡ Some (non_zero_usize_get limits.at_once)) }
+    // In milliseconds.
+    ensures patience { IfOk result (λ limits. option_map (λ seconds. seconds * 1000) (number_or 1 3600 60 (option_copied line.now.patience))
+        ≡ Some limits.patience) }
+    ensures kinds { IfErr result IsOfNumber }
+{
     let connections = number(rt, line.connections, 1, u32::MAX)?;
-    let at_once = number(rt, line.at_once.unwrap_or("256"), 1, 10_000)?;
-    let patience = number(rt, line.patience.unwrap_or("60"), 1, 3_600)?;
+    let at_once = number_or(rt, line.at_once, 1, 10_000, 256)?;
+    let patience = number_or(rt, line.patience, 1, 3_600, 60)?;
     Ok(Limits {
         connections,
         at_once: NonZeroUsize::new(at_once as usize).unwrap_or(NonZeroUsize::MIN),
@@ -73,18 +88,34 @@ fn limits_of<R: AllocGlobal>(rt: &R, line: &ServeLine<'_>) -> Result<Limits, Fau
     })
 }
 
-/// The files that the words name as `NAME=PATH`, cut at the first `=`.
-fn files_of<'a, R: AllocGlobal>(rt: &R, words: &[&'a str]) -> Result<Vec<Watched<'a>>, Fault> {
+/// The file that a word names as `NAME=PATH`, cut at the first `=`.
+fn file_of<'a, R: AllocGlobal>(rt: &R, word: &'a str) -> Result<Watched<'a>, Fault>
+    ensures ok { IfOk result (IsFile word.entry.now) }
+    ensures kinds { IfErr result IsOfFiles }
+{
+    match word.split_once('=') {
+        Some((name, path)) => Ok(Watched::new(name, path)),
+        None => Err(Fault::NotAFile(String::from_str(rt.alloc(), word)?)),
+    }
+}
+
+/// The files that the words name.
+fn files_of<'a, R: AllocGlobal>(rt: &R, words: &[&'a str]) -> Result<Vec<Watched<'a>>, Fault>
+    ensures ok { IfOk result (λ files. AreFiles words.now files.items) }
+    ensures kinds { IfErr result IsOfFiles }
+{
     let mut files = Vec::new(rt.alloc());
     for word in words {
-        match word.split_once('=') {
-            Some((name, path)) => files
-                .push(Watched::new(name, path))
-                .map_err(AllocError::from)?,
-            None => return Err(Fault::NotAFile(String::from_str(rt.alloc(), word)?)),
-        }
+        add_file(&mut files, file_of(rt, word)?)?;
     }
     Ok(files)
+}
+
+/// Adds a file behind the others.
+fn add_file<'a>(files: &mut Vec<Watched<'a>>, file: Watched<'a>) -> Result<(), AllocError>
+    ensures { OnOk result (files.new.items ≡ files.old.items ++ file.entry ∷ []) }
+{
+    Ok(files.push(file)?)
 }
 
 /// The fault of a file that isn't published.

@@ -1,20 +1,40 @@
 //! `cogworld [--pieces N] SCRIPT`: runs a script and prints its log.
+ghost use Rattle.std.specs.Prelude.{[], OnErr, OnOk};
+ghost use Rattle.world.specs.Run.{IsBeginning, Runs};
+ghost use Rattle.world.specs.World.{AtEach, IsTrueEntry, start};
+
 use crate::disk::Disk;
 use crate::fault::Fault;
 use crate::number::number;
 use crate::stored;
 use command_lines::world_line;
+use http_range::Memory;
 use scripts::{Loaded, Source, log_text, script};
+use std::alloc::Global;
 use std::io::Write;
 use std::rt::Files;
 use std::{fs, io};
-use world::{Log, run, run_cut};
+use world::{Event, Log, run, run_cut};
 
 /// The most bytes of a piece: as many as the longest answer that a client takes has.
 const MOST_BYTES: u32 = 1_069_056;
 
-/// Runs a script and prints its log; want of memory ends it after the log up to there. Answers are handed over whole, or in pieces of
-/// so many bytes.
+/// The log of the events, and whether memory was wanting, which ends it. Answers are handed over whole, or in pieces of so many bytes.
+fn log_of(alloc: Global, events: &[Event], piece: Option<u32>) -> (Log, Result<(), Memory>)
+    // It is of these events, each in its turn, and each report is true of one file.
+    ensures logged { OnOk result.1 (Runs start [] events.now result.0.entries.items result.0.clients.items) }
+    ensures true_reports { OnOk result.1 (AtEach IsTrueEntry start events.now result.0.entries.items) }
+    ensures memory { OnErr result.1 (IsBeginning events.now result.0.entries.items) }
+{
+    let mut log = Log::new(alloc);
+    let ran = match piece {
+        None => run(alloc, events, &mut log),
+        Some(piece) => run_cut(alloc, events, piece as usize, &mut log),
+    };
+    (log, ran)
+}
+
+/// Runs a script and prints its log; want of memory ends it after the log up to there.
 fn run_script<R: Print + AllocGlobal, S: Source>(
     rt: &R,
     text: &[u8],
@@ -22,11 +42,7 @@ fn run_script<R: Print + AllocGlobal, S: Source>(
     piece: Option<u32>,
 ) -> Result<(), Fault> {
     let events = script(rt.alloc(), text, source)?;
-    let mut log = Log::new(rt.alloc());
-    let ran = match piece {
-        None => run(rt.alloc(), &events, &mut log),
-        Some(piece) => run_cut(rt.alloc(), &events, piece as usize, &mut log),
-    };
+    let (log, ran) = log_of(rt.alloc(), &events, piece);
     let text = log_text(rt.alloc(), &log)?;
     io::writer(rt).write_all(&text)?;
     Ok(ran?)

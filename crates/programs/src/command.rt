@@ -1,5 +1,8 @@
 //! The command and its words. It is the program that its own name names, as a link does, or else the one that its first word
 //! names.
+ghost use Rattle.std.specs.Prelude.{◌≡◌, MatchResult};
+ghost use Rattle.programs.specs.Status.{EndsWith};
+
 use crate::fault::Fault;
 use crate::{cogread, cogserve, cogworld};
 use command_lines::VERSION;
@@ -151,8 +154,16 @@ where
         + AllocGlobal
         + Net<Listener = TcpListener, Stream = TcpStream>,
 {
-    match run_words(rt, words) {
+    let ended = run_words(rt, words);
+    status_of(rt, program_of(words), &ended)
+}
+
+/// The status of a program that has ended, whose fault is told.
+fn status_of<R: Print + Eprint>(rt: &R, program: &str, ended: &Result<(), Fault>) -> u8
+    ensures { MatchResult ended.now (λ _. result ≡ 0) (λ fault. EndsWith fault result) }
+{
+    match ended {
         Ok(()) => 0,
-        Err(fault) => fault.tell(rt, program_of(words)),
+        Err(fault) => fault.tell(rt, program),
     }
 }

@@ -47,9 +47,9 @@ pub enum Fault {
 }
 
 impl Fault {
-    ghost use Rattle.programs.specs.Status.{HasStatus};
+    ghost use Rattle.programs.specs.Status.{EndsWith, HasStatus};
 
-    /// The exit status: 1 for files, sockets, publications and memory, 2 for the command line and scripts, 3 for a fault of the file
+    /// The exit status: 0 for help and the version, 1 for files, sockets, publications and memory, 2 for the command line and scripts, 3 for a fault of the file
     /// that is read, and 4 where there is no report.
     pub fn status(&self) -> u8
         ensures { HasStatus self.now result }
@@ -79,7 +79,9 @@ impl Fault {
 
     /// Prints the fault's line, as the program of this name tells it, or the help that was asked for, and gives the exit status:
     /// 1 where help can't be written.
-    pub fn tell<R: Print + Eprint>(&self, rt: &R, program: &str) -> u8 {
+    pub fn tell<R: Print + Eprint>(&self, rt: &R, program: &str) -> u8
+        ensures { EndsWith self.now result }
+    {
         match self.print(rt, program) {
             Err(error) if self.status() == 0 => {
                 let unwritten = Fault::from(error);
@@ -185,10 +187,13 @@ impl From<ScriptError> for Fault {
 }
 
 impl From<io::Error> for Fault {
-    ghost use Rattle.std.specs.Prelude.{◌≡◌, ◌⊎◌};
+    ghost use Rattle.std.specs.Prelude.{◌≡◌, ◌≢◌};
+    ghost use Rattle.std.specs.IoError.{error_kind};
+    ghost use Rattle.std.specs.declared.io.ErrorKind.TheVariants.{OutOfMemory};
     ghost use Rattle.programs.specs.declared.fault.Fault.TheVariants.{CantWrite, Memory};
 
-    ghost from_gives = { λ _ fault. (fault ≡ Memory) ⊎ (fault ≡ CantWrite) };
+    ghost from_gives = { λ error fault. (error_kind error ≡ OutOfMemory → fault ≡ Memory)
+        × (error_kind error ≢ OutOfMemory → fault ≡ CantWrite) };
 
     fn from(error: io::Error) -> Fault {
         match error.kind() {

@@ -1,7 +1,8 @@
 //! Numbers of command lines.
-ghost use Rattle.std.specs.Prelude.{◌≡◌, None, Some, IfErr, IfOk, OnErr};
+ghost use Rattle.std.specs.Prelude.{◌≡◌, ◌≤◌, ◌⊎◌, None, Some, IfErr, IfOk, OnErr};
+ghost use Rattle.std.specs.Option.{option_copied};
 ghost use Rattle.command_lines.specs.Number.{number_from};
-ghost use Rattle.programs.specs.Number.{Names};
+ghost use Rattle.programs.specs.Number.{IsOfNumber, Names, number_or};
 
 use crate::fault::Fault;
 use command_lines::number_from;
@@ -11,9 +12,29 @@ pub fn number<R: AllocGlobal>(rt: &R, word: &str, least: u32, greatest: u32) -> 
     ensures ok { IfOk result (λ n. number_from least greatest word.now ≡ Some n) }
     ensures err { OnErr result (number_from least greatest word.now ≡ None) }
     ensures told { IfErr result (Names word.now) }
+    ensures kinds { IfErr result IsOfNumber }
+    ensures low { IfOk result (λ n. least ≤ n) }
 {
     match number_from(word, least, greatest) {
         Some(n) => Ok(n),
         None => Err(Fault::NotANumber(String::from_str(rt.alloc(), word)?)),
+    }
+}
+
+/// The number of an option, or the default where it is left out.
+pub fn number_or<R: AllocGlobal>(
+    rt: &R,
+    word: Option<&str>,
+    least: u32,
+    greatest: u32,
+    default: u32,
+) -> Result<u32, Fault>
+    ensures ok { IfOk result (λ n. number_or least greatest default (option_copied word.entry) ≡ Some n) }
+    ensures kinds { IfErr result IsOfNumber }
+    ensures low { IfOk result (λ n. least ≤ n ⊎ (n ≡ default)) }
+{
+    match word {
+        Some(word) => number(rt, word, least, greatest),
+        None => Ok(default),
     }
 }

@@ -1,5 +1,5 @@
 //! How `cogread` reads: its exchanges, which are told with `--verbose` and drawn with `--progress`, and what is asked of the file.
-ghost use Rattle.std.specs.Prelude.{◌≡◌, ◌≢◌, ℕ, ◌+◌, ◌<◌, ◌≤◌, ◌^◌, ◌⊎◌, false, Err, IfSome, OnOk, Some, slice_get};
+ghost use Rattle.std.specs.Prelude.{◌≡◌, ◌≢◌, ℕ, ◌+◌, ◌<◌, ◌≤◌, ◌^◌, ◌⊎◌, false, Err, IfErr, IfSome, OnOk, Some, slice_get};
 ghost use Rattle.http_range.specs.Book.{Book, HasDistinctTags};
 ghost use Rattle.cog_client.specs.Calls.{IsIdle};
 ghost use Rattle.cog_client.specs.Client.{name_of, report_of, ClientAgrees};
@@ -8,7 +8,7 @@ ghost use Rattle.exchange_notes.specs.Noted.{source_of};
 ghost use Rattle.programs.specs.declared.fault.Fault.TheVariants.{NoReport};
 ghost use Rattle.programs.specs.declared.reading.Asked.TheVariants.{Whole};
 ghost use Rattle.programs.specs.Exchanges.{AsksOf, Ends, StillReads};
-ghost use Rattle.programs.specs.Text.{IsOfWholeBy, IsWritten, StaysWithin, WritesTrue};
+ghost use Rattle.programs.specs.Text.{IsOfReading, IsOfWholeBy, IsWritten, StaysWithin, WritesTrue};
 
 use crate::fault::Fault;
 use crate::text::Text;
@@ -155,6 +155,8 @@ impl<R: Eprint + Clock + AllocGlobal> Exchanges<'_, '_, R> {
         ensures few { StaysWithin self.now.requests (P.count (source_of noted.old)) (P.count (source_of noted.new)) }
         ensures none { ((level : ℕ) → asked ≢ Whole level) → result ≡ Err NoReport
             → self.now.requests ≤ P.count (source_of noted.new) }
+        // There is no text only for a fault of the file, for want of a report, or for want of memory.
+        ensures kinds { IfErr result IsOfReading }
     {
         let fetched = self.fetch_asked(client, noted, asked);
         self.end_line();
@@ -185,7 +187,8 @@ impl<R: Eprint + Clock + AllocGlobal> Exchanges<'_, '_, R> {
         asked: Asked,
     ) -> Result<Text<'c>, Fault>
         requires { report_of client.now ≡ Some report.now }
-        ensures { IsWritten asked report.now.outcome result }
+        ensures written { IsWritten asked report.now.tag report.now.outcome result }
+        ensures kinds { IfErr result IsOfReading }
     {
         let alloc = self.rt.alloc();
         match &report.outcome {

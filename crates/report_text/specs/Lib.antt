@@ -1,1 +1,2 @@
+pub mod InfoText
 pub mod Netpbm

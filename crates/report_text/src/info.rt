@@ -1,4 +1,7 @@
 //! The text of what Info tells.
+ghost use Rattle.std.specs.Prelude.{◌≡◌, ◌++◌, IfOk, OnOk};
+ghost use Rattle.report_text.specs.InfoText.{IsOfTag};
+
 use cog_client::{Info, Memory, Tag};
 use geokeys::{Key, KeyValue};
 use std::alloc::{AllocError, Global};
@@ -6,11 +9,21 @@ use std::alloc::{AllocError, Global};
 /// What Info tells of the file of a tag, a line for each fact: the tag, the levels with their widths and lengths, the minor
 /// revision of the keys, the keys, and the model fields that are there. Doubles are told as 16 hexadecimal digits, and bytes of a
 /// text that aren't printable, and the backslash, as `\x` and two digits.
-pub fn info_text(alloc: Global, tag: &Tag, info: &Info) -> Result<Vec<u8>, Memory> {
+pub fn info_text(alloc: Global, tag: &Tag, info: &Info) -> Result<Vec<u8>, Memory>
+    ensures { IfOk result (λ text. IsOfTag tag.now text.items) }
+{
+    let facts = facts(alloc, info)?;
     let mut text = Vec::new(alloc);
     push(&mut text, b"tag ")?;
     push(&mut text, tag.as_bytes())?;
     push(&mut text, b"\n")?;
+    push(&mut text, &facts)?;
+    Ok(text)
+}
+
+/// What Info tells, without the tag.
+fn facts(alloc: Global, info: &Info) -> Result<Vec<u8>, AllocError> {
+    let mut text = Vec::new(alloc);
     for (n, (width, length)) in info.sides.iter().enumerate() {
         push(
             &mut text,
@@ -30,7 +43,9 @@ pub fn info_text(alloc: Global, tag: &Tag, info: &Info) -> Result<Vec<u8>, Memor
     Ok(text)
 }
 
-fn push(text: &mut Vec<u8>, bytes: &[u8]) -> Result<(), AllocError> {
+fn push(text: &mut Vec<u8>, bytes: &[u8]) -> Result<(), AllocError>
+    ensures { OnOk result (text.new.items ≡ text.old.items ++ bytes.now) }
+{
     text.extend_from_slice(bytes)
 }
 

@@ -1,7 +1,7 @@
-//! The words of `cogread` and `cogserve`, and the lines that they are.
+//! The words of `cogread`, `cogserve` and `cogworld`, and the lines that they are.
 use clap::Error;
 use clap::error::ErrorKind;
-use command_lines::{AskedWords, ReadLine, WindowWords, read_line, serve_line};
+use command_lines::{AskedWords, ReadLine, WindowWords, read_line, serve_line, world_line};
 use programs_support::words_of;
 use std::alloc::{AllocError, Global};
 use std::test::Fail;
@@ -139,7 +139,7 @@ fn reads_the_options_and_files_of_cogserve_anywhere(rt: HostRuntime) -> Result<(
 
 /// Words that are refused, or ask for help, and how clap names that.
 #[rattlefmt::skip]
-const REFUSED: [(&str, ErrorKind); 31] = [
+const REFUSED: [(&str, ErrorKind); 38] = [
     ("cogread --help", ErrorKind::DisplayHelp),
     ("cogread window --help", ErrorKind::DisplayHelp),
     ("cogread info -h", ErrorKind::DisplayHelp),
@@ -171,6 +171,13 @@ const REFUSED: [(&str, ErrorKind); 31] = [
     ("cogserve --listen h:1 --listen h:2 a=p", ErrorKind::ArgumentConflict),
     ("cogserve a=p --epoch", ErrorKind::InvalidValue),
     ("cogserve --listen h:1 --epoch 1 --connections 2 --at-once 1 --at-once 2 a=p", ErrorKind::ArgumentConflict),
+    ("cogworld --help", ErrorKind::DisplayHelp),
+    ("cogworld --version", ErrorKind::DisplayVersion),
+    ("cogworld", ErrorKind::MissingRequiredArgument),
+    ("cogworld a b", ErrorKind::UnknownArgument),
+    ("cogworld --log a", ErrorKind::UnknownArgument),
+    ("cogworld a --pieces", ErrorKind::InvalidValue),
+    ("cogworld --pieces 1 --pieces 2 a", ErrorKind::ArgumentConflict),
 ];
 
 /// How clap names the refusal, if there is one.
@@ -186,6 +193,9 @@ fn refusal_of(alloc: Global, line: &str) -> Result<Option<ErrorKind>, AllocError
     let words = words_of(alloc, line)?;
     if line.starts_with("cogserve") {
         return Ok(refusal(serve_line(alloc, &words)));
+    }
+    if line.starts_with("cogworld") {
+        return Ok(refusal(world_line(alloc, &words)));
     }
     Ok(refusal(read_line(alloc, &words)))
 }

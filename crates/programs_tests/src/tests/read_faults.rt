@@ -3,7 +3,7 @@ use super::{FaultRow, expect_faults};
 use std::test::Fail;
 
 #[rattlefmt::skip]
-const FAULTS: [FaultRow<'static>; 27] = [
+const FAULTS: [FaultRow<'static>; 28] = [
     // Nobody listens there.
     ("cogread info 127.0.0.1:1 a", "cogread: no report\n", 4),
     ("cogread window 127.0.0.1:1 a 4294967295 0 1 1 --requests 2", "cogread: no report\n", 4),
@@ -30,6 +30,7 @@ const FAULTS: [FaultRow<'static>; 27] = [
     ("cogread info http://[::1]:1/a", "cogread: refused 1\n", 2),
     ("cogread describe http://127.0.0.1:1/a", "cogread: no report\n", 4),
     ("cogread info http://h/a?b", "cogread: not a place: http://h/a?b: the path isn't /NAME as it is asked for, byte for byte\n", 2),
+    ("cogread info http://h/a#b", "cogread: not a place: http://h/a#b: the path isn't /NAME as it is asked for, byte for byte\n", 2),
     ("cogread info http://h/a/../b", "cogread: not a place: http://h/a/../b: the path isn't /NAME as it is asked for, byte for byte\n", 2),
     ("cogread info http://h", "cogread: not a place: http://h: the path isn't /NAME as it is asked for, byte for byte\n", 2),
     ("cogread info http://me@h/a", "cogread: not a place: http://me@h/a: a user's name or a password\n", 2),

@@ -1,9 +1,9 @@
-use Rattle.std.proofs.Common.{◌≡◌, ◌∙◌, ap, codes, ℕ, List, Some, map, sym}
+use Rattle.std.proofs.Common.{◌≡◌, ◌∙◌, ap, codes, ℕ, List, Some, map, subst, sym}
 use Rattle.std.specs.Borrow.{Bor}
-use Rattle.clap.specs.Words.{App, found_of, is_simple, matches_of, raw_values, rows_of, takes}
+use Rattle.clap.specs.Words.{App, HasKind, fault_of, found_of, is_simple, is_simple_and_free, matches_of, raw_values, rows_of, takes}
 use Rattle.clap.proofs.CallerLemmas.{some_of_text}
 use Rattle.command_lines.specs.ServeLine.{serve_app}
-use Rattle.command_lines.proofs.LineLemmas.{all_values, choice_value, connections_there, epoch_there, files_there, flag_text, listen_there, option_value, passed_on, simple, some_mapped}
+use Rattle.command_lines.proofs.LineLemmas.{all_values, choice_value, connections_there, epoch_there, files_there, flag_text, listen_there, option_value, passed_on, refused_as, serve_free, simple, some_mapped}
 use Rattle.command_lines.proofs.serve.serve_line.Goals as goal
 
 pub unwrap-listen-requires : goal.unwrap-listen-requires
@@ -57,3 +57,16 @@ returns-clause-ok g c =
       files = all_values found matches (codes "files") c.get_strs.result c.unwrap.result rows c.get_strs.ensures c.unwrap.ensures
           ∙ ap (λ (l : List (Bor (List ℕ))). Some (map (λ (w : Bor (List ℕ)). w.now) l)) (sym c.in_ok-files.ensures.items);
     }
+
+pub returns-in_err-matches-clause-kinds : goal.returns-in_err-matches-clause-kinds
+returns-in_err-matches-clause-kinds g c =
+    let texts : List (List ℕ) = map g.S.AsStr.text c.args.words.now in
+    let is = c.in_ok-command.ensures in
+    refused_as c.from_residual-in_err-matches.result c.in_err-matches.field-0.0 _ c.from_residual-in_err-matches.ensures.1
+    (subst (λ (a : App). HasKind (fault_of a texts) c.in_err-matches.field-0.0) is (c.in_err-matches.ensures.kinds (ap is_simple_and_free is ∙ serve_free)))
+
+pub returns-clause-kinds : goal.returns-clause-kinds
+returns-clause-kinds g c =
+    let texts : List (List ℕ) = map g.S.AsStr.text c.args.words.now in
+    let is = c.in_ok-command.ensures in
+    ap (λ (a : App). fault_of a texts) (sym is) ∙ c.in_ok-matches.ensures.kinds (ap is_simple_and_free is ∙ serve_free)

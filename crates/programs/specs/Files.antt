@@ -1,0 +1,24 @@
+-- The files that the words of `cogserve` name.
+use Rattle.std.specs.Prelude.{◌≡◌, ◌<◌, ◌==◌, ℕ, List, [], ◌∷◌, length, ⊤}
+use Rattle.std.specs.Borrow.{Bor}
+use Rattle.std.specs.List.{after_first, before_first, position_or_len}
+use Rattle.disk_files.specs.declared.watched.Watched.{Watched}
+use Rattle.programs.specs.declared.fault.Fault.{Fault}
+use Rattle.programs.specs.declared.fault.Fault.TheVariants.{NotAFile, Memory}
+
+-- the word has a `=` (61), and the file has the name before its first one and the path behind it
+abbrev pub IsFile : List ℕ → Watched → Type 0
+IsFile word file = (position_or_len (λ b. b == 61) word < length word)
+    × (file.name.now ≡ before_first (λ b. b == 61) word) × (file.path.now ≡ after_first (λ b. b == 61) word)
+
+-- these are the files of the words, one for each, in their order
+abbrev pub AreFiles : List (Bor (List ℕ)) → List Watched → Type 0
+AreFiles [] [] = ⊤
+AreFiles (word ∷ words) (file ∷ files) = IsFile word.now file × AreFiles words files
+AreFiles words files = ⊥
+
+-- a word names no file, or memory is wanting
+abbrev pub IsOfFiles : Fault → Type 0
+IsOfFiles (NotAFile told) = ⊤
+IsOfFiles Memory = ⊤
+IsOfFiles fault = ⊥
