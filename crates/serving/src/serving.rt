@@ -3,6 +3,7 @@ ghost use Rattle.std.specs.Prelude.{◌≡◌, IfOk, OnErr, OnOk, false, true};
 ghost use Rattle.cog_connections.specs.Table.{OthersStay};
 ghost use Rattle.serving.specs.Refusals.{HasNoRoom, IsPassing};
 ghost use Rattle.serving.specs.Turns.{GivesPlace};
+
 use crate::answered::Audience;
 use crate::open::Open;
 use crate::refusal::{Refusal, refusal_of};

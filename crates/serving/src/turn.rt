@@ -5,6 +5,7 @@ ghost use Rattle.cog_connections.specs.Table.{timed_at};
 ghost use Rattle.std.specs.declared.io.ErrorKind.TheVariants.{Interrupted, WouldBlock};
 ghost use Rattle.serving.specs.Turns.{HasEndedAt, IsDrainedAt, KeepsOthers};
 ghost use Rattle.serving.specs.declared.turn.Turn.TheVariants.{Ended, GoesOn, Waits};
+
 use crate::answered::{Audience, Teller};
 use crate::socket::{answer, read_some, write_some};
 use cog_connections::Connections;
