@@ -6,6 +6,7 @@ use Rattle.cog_reader.specs.declared.outcome.Outcome.{Outcome}
 use Rattle.cog_reader.specs.declared.outcome.Outcome.TheVariants.{Window, Info, Fault}
 use Rattle.cog_client.specs.declared.report.Report.{Report}
 use Rattle.cog_client.specs.Client.{ClientState, report_of}
+use Rattle.report_text.specs.InfoText.{IsOfTag}
 use Rattle.delgunsai_c.specs.declared.failure.Failure.TheVariants.{Memory, NoReport, OtherReport}
 use Rattle.delgunsai_c.specs.declared.reports.Told.{Told}
 use Rattle.delgunsai_c.specs.Failure.{code_of}
@@ -50,18 +51,19 @@ TellsPixelsBy (Some r) room left told = TellsPixelsOf r.outcome room left told
 abbrev pub TellsPixels : ClientState → List ℕ → List ℕ → ℤ → Type 0
 TellsPixels c = TellsPixelsBy (report_of c)
 
--- a text, if there was memory for it
-abbrev pub TellsText : List ℕ → List ℕ → ℤ → Type 0
-TellsText room left told = ((text : List ℕ) × Lays text room left told) ⊎ Leaves room left told (code_of Memory)
+-- a text that begins with the line of the tag, if there was memory for it
+abbrev pub TellsText : (tag : List ℕ) → List ℕ → List ℕ → ℤ → Type 0
+TellsText tag room left told =
+    ((text : List ℕ) × IsOfTag tag text × Lays text room left told) ⊎ Leaves room left told (code_of Memory)
 
-abbrev pub TellsInfoOf : Outcome → List ℕ → List ℕ → ℤ → Type 0
-TellsInfoOf (Window v) room left told = Leaves room left told (code_of OtherReport)
-TellsInfoOf (Info i) room left told = TellsText room left told
-TellsInfoOf (Fault fault) room left told = Leaves room left told (code_of OtherReport)
+abbrev pub TellsInfoOf : (tag : List ℕ) → Outcome → List ℕ → List ℕ → ℤ → Type 0
+TellsInfoOf tag (Window v) room left told = Leaves room left told (code_of OtherReport)
+TellsInfoOf tag (Info i) room left told = TellsText tag room left told
+TellsInfoOf tag (Fault fault) room left told = Leaves room left told (code_of OtherReport)
 
 abbrev pub TellsInfoBy : Option Report → List ℕ → List ℕ → ℤ → Type 0
 TellsInfoBy None room left told = Leaves room left told (code_of NoReport)
-TellsInfoBy (Some r) room left told = TellsInfoOf r.outcome room left told
+TellsInfoBy (Some r) room left told = TellsInfoOf r.tag r.outcome room left told
 
 -- The text of the Info that is reported.
 abbrev pub TellsInfo : ClientState → List ℕ → List ℕ → ℤ → Type 0
