@@ -73,8 +73,8 @@ type Turn = (Option<&'static str>, &'static str, u32, &'static str, bool);
 
 const PATH: &str = "serving_tests_served";
 
-/// A file that was left alone for so long isn't read again until the disk says something else of it.
-const SETTLED: Duration = Duration::from_millis(2_100);
+/// A file that was left alone for so many milliseconds isn't read again until the disk says something else of it.
+const SETTLED: u64 = 2_100;
 
 #[rattlefmt::skip]
 const TURNS: [Turn; 6] = [
@@ -221,12 +221,12 @@ fn serves_a_file_that_was_replaced_before(rt: HostRuntime) -> Result<(), Fail> {
     let (path, other) = ("serving_tests_replaced", "serving_tests_other");
     fs::write(&rt, path, "12345")?;
     fs::write(&rt, other, "abcde")?;
-    thread::sleep(&rt, SETTLED);
+    thread::sleep(&rt, Duration::from_millis(SETTLED));
     let mut files = vec![in rt.alloc(); Watched::new("a", path)]?;
     let mut server = Server::new(rt.alloc(), 7);
     assert!(rt; is_published(&rt, &mut server, &mut files, "published a \"7-1\"\n"));
     fs::rename(&rt, other, path)?;
-    thread::sleep(&rt, SETTLED);
+    thread::sleep(&rt, Duration::from_millis(SETTLED));
     let listener = TcpListener::bind(&rt, "127.0.0.1:0")?;
     let capture = Capture::new(&rt);
     let answer = answer_of(&capture, &mut server, &mut files, &listener)?;
