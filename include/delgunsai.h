@@ -135,12 +135,13 @@ struct cog_said {
 enum {
     COG_TOOK = 1,      /* it was taken; the number is of the blocks that were stored */
     COG_RESTARTED = 2, /* it was a whole file of another revision, which is read from now on */
-    COG_IGNORED = 3    /* it changed nothing, for the reason of this number: docs/PROFILE.md, 1 to 12; 3 is another status */
+    COG_IGNORED = 3    /* it changed nothing, but for one whose rest was dropped (cog_client_end); the reason has this number:
+                        * docs/PROFILE.md, 1 to 12; 3 is another status */
 };
 
 /* cog_client_end: ends the answer, whole or cut, and goes on as far as the known bytes reach. The caller's said is written where the result
- * is 0. Of an answer whose rest was dropped it says COG_IGNORED, 1 (cut), though blocks of it may be stored. Gives 0, COG_MEMORY or
- * COG_NO_CLIENT. */
+ * is 0. Of an answer whose rest was dropped it says COG_IGNORED, 1 (cut), though blocks of it may be stored, and its revision may be the
+ * one that is read from now on. Gives 0, COG_MEMORY or COG_NO_CLIENT. */
 int32_t cog_client_end(struct cog_client *client, struct cog_said *said);
 
 /* What a report tells; 0 in what isn't of its kind. */

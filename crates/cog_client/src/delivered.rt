@@ -8,7 +8,7 @@ pub enum Delivered {
     Took(u32),
     /// It was a whole file of another revision, which the client reads from now on.
     Restarted,
-    /// It changed nothing.
+    /// It changed nothing; but where its rest was dropped for want of memory, its revision may be read and blocks of it be stored.
     Ignored(Ignored),
 }
 

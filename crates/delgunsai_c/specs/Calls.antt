@@ -3,6 +3,7 @@ use Rattle.std.specs.Prelude.{◌≡◌, ◌⊎◌, ℕ, ℤ, pos, List, ◌++�
 use Rattle.cog_client.specs.declared.error.ClientError.{ClientError}
 use Rattle.cog_client.specs.Calls.{Starts}
 use Rattle.cog_client.specs.Check.{check_of}
+use Rattle.cog_client.specs.Arrival.{IsBounded}
 use Rattle.cog_client.specs.Client.{ClientState, IsClientRefusal, client_refusal, feed_of}
 use Rattle.cog_client.specs.FedClient.{Fed}
 use Rattle.cog_client.specs.Feeding.{rest_dropped}
@@ -111,10 +112,12 @@ ForetellsOr index room left told old new = Foretells index room left told old ne
 
 -- ---- an answer
 
--- These are the next bytes of whatever answer this is. Of one whose rest is dropped they change nothing.
+-- These are the next bytes of whatever answer this is, of which no more is kept than a head or a block. Of one whose rest is dropped they
+-- change nothing.
 pub record Feeds (piece : List ℕ) (old new : ClientState) : Type 0 where
   pub fed : (s : ClientState) (p : List ℕ) → Fed s p old → Fed s (p ++ piece) new
   pub dropped : feed_of old ≡ rest_dropped → new ≡ old
+  pub bounded : IsBounded (feed_of new)
 
 -- Memory was wanting for them: the rest of the answer is dropped.
 pub record StopsFeeding (piece : List ℕ) (old new : ClientState) : Type 0 where

@@ -6,6 +6,7 @@ use Rattle.cog_reader.specs.declared.outcome.Outcome.{Outcome}
 use Rattle.cog_reader.specs.declared.outcome.Outcome.TheVariants.{Window, Info, Fault}
 use Rattle.cog_client.specs.declared.report.Report.{Report}
 use Rattle.cog_client.specs.Client.{ClientState, report_of}
+use Rattle.cog_client.specs.Keeps.{Stands}
 use Rattle.report_text.specs.InfoText.{IsOfTag}
 use Rattle.delgunsai_c.specs.declared.failure.Failure.TheVariants.{Memory, NoReport, OtherReport}
 use Rattle.delgunsai_c.specs.declared.reports.Told.{Told}
@@ -34,9 +35,9 @@ abbrev pub TellsReportOf : Option Report → Told → Told → List ℕ → List
 TellsReportOf None out left tag new told = (left ≡ out) × Leaves tag new told (pos 0)
 TellsReportOf (Some r) out left tag new told = (left ≡ told_of r.outcome) × Lays r.tag tag new told
 
--- The numbers of the report and the tag of its file; 0 where none stands.
+-- The numbers of the report and the tag of its file; 0 where none stands. It is true for each book that the client agrees with.
 abbrev pub TellsReport : ClientState → Told → Told → List ℕ → List ℕ → ℤ → Type 0
-TellsReport c = TellsReportOf (report_of c)
+TellsReport c out left tag new told = Stands c (report_of c) × TellsReportOf (report_of c) out left tag new told
 
 abbrev pub TellsPixelsOf : Outcome → List ℕ → List ℕ → ℤ → Type 0
 TellsPixelsOf (Window v) room left told = Lays v.pixels.items room left told
@@ -47,9 +48,9 @@ abbrev pub TellsPixelsBy : Option Report → List ℕ → List ℕ → ℤ → T
 TellsPixelsBy None room left told = Leaves room left told (code_of NoReport)
 TellsPixelsBy (Some r) room left told = TellsPixelsOf r.outcome room left told
 
--- The samples of the window that is reported.
+-- The samples of the window that is reported, which is true.
 abbrev pub TellsPixels : ClientState → List ℕ → List ℕ → ℤ → Type 0
-TellsPixels c = TellsPixelsBy (report_of c)
+TellsPixels c room left told = Stands c (report_of c) × TellsPixelsBy (report_of c) room left told
 
 -- a text that begins with the line of the tag, if there was memory for it
 abbrev pub TellsText : (tag : List ℕ) → List ℕ → List ℕ → ℤ → Type 0
@@ -65,6 +66,6 @@ abbrev pub TellsInfoBy : Option Report → List ℕ → List ℕ → ℤ → Typ
 TellsInfoBy None room left told = Leaves room left told (code_of NoReport)
 TellsInfoBy (Some r) room left told = TellsInfoOf r.tag r.outcome room left told
 
--- The text of the Info that is reported.
+-- The text of the Info that is reported, which is true.
 abbrev pub TellsInfo : ClientState → List ℕ → List ℕ → ℤ → Type 0
-TellsInfo c = TellsInfoBy (report_of c)
+TellsInfo c room left told = Stands c (report_of c) × TellsInfoBy (report_of c) room left told

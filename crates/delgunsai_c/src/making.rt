@@ -51,7 +51,7 @@ pub extern "C" fn cog_client_new(
     }
 }
 
-/// Drops everything but host, name and query.
+/// Drops everything but host, name, query, and how it asks.
 #[unsafe(no_mangle)]
 pub extern "C" fn cog_client_forget(alloc: Global, client: &mut Handle) -> i32
     ensures { Calls (λ s t. Done (Forgets s t) result) (client_of client.old) (client_of client.new) result }

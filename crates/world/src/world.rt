@@ -26,8 +26,8 @@ use http_range::{
 use std::alloc::Global;
 use tiff_dir::one_window;
 
-/// Runs the events in order and logs each. Want of memory ends the run: then the log is that of the events
-/// before the one that met it.
+/// Runs the events in order and logs each. Want of memory ends the run: then the log has the entries of as many first events, not of
+/// all, and of the clients that it leaves nothing is said.
 ///
 /// ```
 /// let events = vec![in rt.alloc(); Event::Epoch(1), Event::Publish { name, file }]?;

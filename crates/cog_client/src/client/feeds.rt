@@ -27,8 +27,8 @@ impl Client {
     }
 
     /// Takes the next bytes of an answer, and stores the blocks that become whole. After `Memory`, the only error, the rest of
-    /// the answer is dropped: what is fed of it changes nothing, and its end tells that it is cut, though some of its blocks may be
-    /// stored. Without `begin` an answer begins here.
+    /// the answer is dropped: what is fed of it changes nothing, and its end tells that it is cut, though its revision may be read and
+    /// some of its blocks be stored. Where no answer is unfinished, one begins here without `begin`.
     pub fn feed(&mut self, piece: &[u8]) -> Result<(), Memory>
         ensures ok { OnOk result ((s : ClientState) (p : List ℕ) → Fed s p self.old → Fed s (p ++ piece.now) self.new) }
         ensures err { OnErr result ((s : ClientState) (p : List ℕ) → Fed s p self.old → StopsDelivery s (p ++ piece.now) self.new) }
@@ -67,7 +67,7 @@ impl Client {
 
     /// Takes an answer, or a front of one, and goes on as far as the blocks reach. Says what the answer did: it was ignored and
     /// changed nothing, so many blocks of it were stored, or another revision is read from now on. After `Memory`, the only
-    /// error, some of its blocks may be stored.
+    /// error, its revision may be the one that is read, and some of its blocks may be stored.
     pub fn deliver(&mut self, answer: &[u8]) -> Result<Delivered, Memory>
         ensures ok { IfOk result (λ what. DeliversKeeping self.old answer.now what self.new) }
         ensures err { OnErr result (StopsDelivery self.old answer.now self.new) }
