@@ -192,13 +192,13 @@ class File:
         raise Lost(f'no report in {EXCHANGES} exchanges')
 
     def _exchange(self, request: bytes) -> Tuple[int, Optional[Exception]]:
-        """One exchange. Gives the kind of its answer, and why it brought nothing, where another may bring more."""
+        """One exchange. Gives the kind of its answer, and why it brought nothing, where another may bring more: a refusal of requests that
+        were sent at once may be of their number."""
         self._front = b''
         self._core.begin()
         lost: Optional[Exception] = None
-        ahead = False
         try:
-            ahead = self._source.exchange(request, self._core.later(self._source.depth), self._feed)
+            self._source.exchange(request, self._core.later(self._source.depth), self._feed)
         except self._source.final:
             raise
         except OSError as error:
@@ -206,7 +206,7 @@ class File:
         kind, number = self._core.end()
         if kind == _core.IGNORED:
             refusal = NotUsed(number, _status_of(self._front))
-            if number != CUT and number < REVISION and not ahead:
+            if number != CUT and number < REVISION and not self._source.shared:
                 raise refusal
             return kind, lost or refusal
         if kind == _core.TOOK and number == 0:

@@ -21,6 +21,8 @@ INTERIM = 16
 DEPTH = 8
 LOSSES = 3
 RANGE = re.compile(rb'\r\nRange: bytes=([0-9]+)-([0-9]+)\r\n')
+CLOSE = b'\r\nConnection: close\r\n'
+LATE = (socket.timeout, TimeoutError)                    # one class from Python 3.10 on
 Take = Callable[[Piece], None]
 """Takes a piece, which has other bytes once the call returned."""
 
@@ -32,12 +34,14 @@ class Source(Protocol):
     """The URL or the path."""
     depth: int
     """How many requests that will come later it takes."""
+    shared: bool
+    """Whether the last request was sent with others."""
     final: Tuple[Type[OSError], ...]
     """After which errors no other exchange is tried."""
 
-    def exchange(self, request: bytes, later: List[bytes], take: Take) -> bool:
+    def exchange(self, request: bytes, later: List[bytes], take: Take) -> None:
         """Hands each piece of the answer to `take`, in order; an OSError where the rest of the answer is lost. Requests that will come
-        later may be sent at once; gives whether this one was, with an earlier one."""
+        later may be sent at once."""
 
     def close(self) -> None:
         """Ends what is open."""
@@ -92,7 +96,7 @@ class _Head:
         coded = any(name == b'transfer-encoding' for name, _ in fields)
         self.length: Optional[int] = None if coded else 0 if empty else int(lengths[0]) if known else None
         """How many bytes follow the head; None where it doesn't say so, and then none is of use."""
-        self.closes = not head.startswith(b'HTTP/1.1') or b'\r\nConnection: close\r\n' in request or any(
+        self.closes = not head.startswith(b'HTTP/1.1') or CLOSE in request or any(
             name == b'connection' and b'close' in re.split(rb'[ \t]*,[ \t]*', value) for name, value in fields)
         if self.length is not None and self.length > FRONT:
             asked = RANGE.search(request) if head[8:12] in (b' 200', b' 206') else None
@@ -103,12 +107,12 @@ class _Head:
 
 class Host:
     """A server of HTTP/1.1, with TLS or without. One connection is kept, where request and answer leave it open, and requests that will
-    come later are sent on it at once (pipelining, RFC 9112, section 9.3.2), until three times in a row such ones weren't answered.
-    Redirects aren't followed: they are answers that can't be used. A process that was forked makes a connection of its own."""
+    come later are sent on it at once (pipelining, RFC 9112, section 9.3.2), until three times in a row such ones weren't answered, or once
+    not in time. Redirects aren't followed: they are answers that can't be used. A process that was forked makes a connection of its own."""
 
     final: Tuple[Type[OSError], ...] = (ssl.SSLCertVerificationError,)
 
-    def __init__(self, address: Address, timeout: float, context: Optional[ssl.SSLContext]) -> None:
+    def __init__(self, address: Address, timeout: Optional[float], context: Optional[ssl.SSLContext]) -> None:
         self.where = address.url
         if address.secure:
             self._connection: http.client.HTTPConnection = http.client.HTTPSConnection(
@@ -120,31 +124,41 @@ class Host:
         """Where in the room the bytes are that were read and aren't taken."""
         self._sent: List[bytes] = []
         """What was sent on this connection and isn't answered."""
-        self._ahead = False
-        """Whether the request that is answered was sent with an earlier one."""
+        self._ahead = self.shared = False
+        """Whether the request that is answered was sent with an earlier one; with others."""
+        self._well = True
+        """Whether the last exchange left the connection open, or as the request has it, ended."""
         self._losses = 0
         self._process = os.getpid()
         self.depth = DEPTH
 
-    def exchange(self, request: bytes, later: List[bytes], take: Take) -> bool:
-        if self._process != os.getpid():                 # the connection stays the parent's: to close it here sends nothing, of TLS neither
-            self._process, self._sent = os.getpid(), []
+    def exchange(self, request: bytes, later: List[bytes], take: Take) -> None:
+        well, self._well = self._well, False
+        if not well or self._process != os.getpid() or self._sent[:1] not in ([], [request]):
+            self._process = os.getpid()                  # the connection stays the parent's: to close it here sends nothing, of TLS neither
             self.close()
+            later = []                                   # not at once after a failure (RFC 9112, section 9.3.2), nor after others
+        self._ahead = self.shared = len(self._sent) > 0
         goes_on = False
-        self._ahead = len(self._sent) > 0
         try:
             goes_on = self._receive(self._first(request, later), request, take)
-        finally:
             if goes_on:
                 self._sent.pop(0)
             else:
+                self._lose()
+            self._well = goes_on or CLOSE in request
+        except OSError as error:
+            self._lose(late=isinstance(error, LATE))
+            raise
+        finally:
+            if not goes_on:
                 self.close()
-        return self._ahead
 
     def _first(self, request: bytes, later: List[bytes]) -> memoryview:
         """Sends the requests, and gives what comes first of the answer: once more, where a kept connection turns out to be ended, or to
         have been idle for too long (408)."""
-        if self._is_kept(request):
+        if self._is_kept():
+            late = False
             try:
                 self._send([request, *later])
                 first = self._more()
@@ -153,29 +167,39 @@ class Host:
                     return first
             except (ConnectionError, ssl.SSLError):
                 pass
-            except (socket.timeout, TimeoutError):       # one class from Python 3.10 on
+            except LATE:
                 if not self._ahead:
                     raise
+                late = True
+            self._lose(late)
+            later = []
+        self._ahead = self.shared = False
         self.close()
         self._connection.connect()
-        self._send([request] if self._ahead else [request, *later])
-        self._ahead = False
+        self._send([request, *later])
         return self._more()
+
+    def _lose(self, late: bool = False) -> None:
+        """Counts that the server left requests unanswered, or this one in part, where it was sent with others."""
+        if self.shared:
+            self._losses += 1
+            self.depth = 0 if late or self._losses >= LOSSES else self.depth
 
     def _send(self, requests: List[bytes]) -> None:
         """Sends those of the requests that weren't sent."""
         count = len(self._sent)
         if requests[:count] == self._sent and len(requests) > count:
             self._sent = requests
+            self.shared = len(requests) > 1
             self._connection.sock.sendall(b''.join(requests[count:]))
 
-    def _is_kept(self, request: bytes) -> bool:
+    def _is_kept(self) -> bool:
         """Whether a connection is open on which the request was sent already, or on which nothing came behind the last answer, neither
         its end nor bytes that weren't asked for."""
         if self._connection.sock is None:
             return False
         if self._sent:
-            return self._sent[0] == request
+            return True
         if self._begin < self._end:
             return False
         poll = select.poll()
@@ -220,9 +244,6 @@ class Host:
         return False
 
     def close(self) -> None:
-        if self._sent and (self._ahead or len(self._sent) > 1):
-            self._losses += 1
-            self.depth = 0 if self._losses == LOSSES else self.depth
         self._sent = []
         self._begin = self._end = 0
         self._connection.close()
@@ -232,7 +253,7 @@ class Disk:
     """A file of the disk, which answers by ranges as a server would. Its tag is of its place, its length and its last change. An answer
     is handed on only where the file didn't change while it was read."""
 
-    depth = 0
+    depth, shared = 0, False
     final: Tuple[Type[OSError], ...] = (FileNotFoundError, IsADirectoryError, PermissionError)
 
     def __init__(self, path: Union[str, os.PathLike[str]]) -> None:
@@ -241,7 +262,7 @@ class Disk:
         name = os.fsdecode(path)
         self.where = name if os.path.isabs(name) else os.path.join(os.getcwd(), name)
 
-    def exchange(self, request: bytes, later: List[bytes], take: Take) -> bool:
+    def exchange(self, request: bytes, later: List[bytes], take: Take) -> None:
         with open(self.where, 'rb') as file:
             state = os.fstat(file.fileno())
             size = state.st_size
@@ -252,7 +273,6 @@ class Disk:
                 raise OSError('the file changed while it was read')
         for piece in pieces:
             take(piece)
-        return False
 
     def close(self) -> None:
         pass

@@ -4,6 +4,7 @@ import re
 import socket
 import socketserver
 import ssl
+import struct
 import subprocess
 import sys
 import tempfile
@@ -134,17 +135,22 @@ class Ends(bytes):
     """An answer behind which the connection ends."""
 
 
+class Resets(bytes):
+    """An answer behind which the connection is reset."""
+
+
 class Made(socketserver.ThreadingTCPServer):
     """Gives the answers that `answer` makes of a request and its number, from 1 on: bytes, or a list of them that are sent apart. It counts
-    connections, requests and the bytes that were sent."""
+    connections, requests and the bytes that were sent. With `Batching` the number is of the requests that came at once, of which the first
+    is answered alone."""
     daemon_threads = True
     allow_reuse_address = True
     request_queue_size = 64
 
-    def __init__(self, answer):
+    def __init__(self, answer, handler=None):
         self.answer = answer
         self.connections = self.requests = self.sent = 0
-        super().__init__(('127.0.0.1', 0), Making)
+        super().__init__(('127.0.0.1', 0), handler or Making)
         threading.Thread(target=self.serve_forever, kwargs={'poll_interval': 0.01}, daemon=True).start()
 
     def url(self, name='a'):
@@ -174,6 +180,25 @@ class Making(socketserver.BaseRequestHandler):
                     return
                 text = text[end:]
         except (EOFError, OSError):
+            pass
+
+
+class Batching(socketserver.BaseRequestHandler):
+    def handle(self):
+        self.server.connections += 1
+        try:
+            while self.request.recv(1, socket.MSG_PEEK):
+                time.sleep(0.02)
+                text = self.request.recv(65536)
+                answer = self.server.answer(text[:text.index(b'\r\n\r\n') + 4], text.count(b'\r\n\r\n'))
+                self.request.sendall(answer)
+                if isinstance(answer, Resets):
+                    time.sleep(0.02)
+                    self.request.setsockopt(socket.SOL_SOCKET, socket.SO_LINGER, struct.pack('ii', 1, 0))
+                    self.request.close()
+                if isinstance(answer, (Ends, Resets)):
+                    return
+        except OSError:
             pass
 
 

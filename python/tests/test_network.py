@@ -8,8 +8,9 @@ import unittest
 
 import delgunsai
 import numpy
+from delgunsai import _sources
 from files import noise, plain
-from servers import Ends, Made, Nginx, head, served
+from servers import Batching, Ends, Made, Nginx, Resets, head, served
 from support import CORE, FOLDER, HEAP, TLS, TOP, needs
 
 SAMPLES = noise(1000)
@@ -24,6 +25,15 @@ def cut_out(x, y, side):
 def right(file, x, y, side=200):
     """Whether the window has the samples that it should have."""
     return numpy.array_equal(file.read(**cut_out(x, y, side)), SAMPLES[y:y + side, x:x + side])
+
+
+def tall(file, x):
+    """The same of a window over all rows of tiles, whose requests are sent at once."""
+    return numpy.array_equal(file.read(x=x, y=0, width=200, height=1000), SAMPLES[:, x:x + 200])
+
+
+def of_bytes(first):
+    return b'GET /a HTTP/1.1\r\nHost: a\r\nRange: bytes=%d-%d\r\n\r\n' % (first, first + 9)
 
 
 def as_forked(do):
@@ -94,6 +104,77 @@ class Forked(unittest.TestCase):
             goes_on.set()
             thread.join()
             self.assertEqual(seen, [True])
+
+
+
+class Interrupted(unittest.TestCase):
+    """Calls that a signal interrupts."""
+
+    def test_interrupted(self):
+        """Where the program gives an answer up, the server left no request unanswered."""
+        def interrupted(_):
+            raise KeyboardInterrupt
+        with Made(lambda request, _: served(request, TEXT)) as server:
+            host, answer = _sources.Host(_sources.Address(server.url()), 5, None), bytearray()
+            for first in range(0, 2000, 100):
+                with self.assertRaises(KeyboardInterrupt):
+                    host.exchange(of_bytes(first), [of_bytes(first + 10)], interrupted)
+            self.assertGreater(host.depth, 0)
+            host.exchange(of_bytes(0), [], answer.extend)
+            self.assertTrue(answer.endswith(b'\r\n\r\n' + TEXT[:10]))
+            host.close()
+
+
+class AtOnce(unittest.TestCase):
+    """Requests that are sent at once, and servers that don't take them."""
+
+    def test_one_at_a_time(self):
+        close = b'\r\nConnection: close\r\n\r\n'
+        refused = Ends(head(b'400 Bad Request', b'Content-Length: 0', b'Connection: close'))
+        for name, alone, others in (('reset', Ends, lambda _: Resets()), ('reset in the body', Ends, lambda text: Resets(text[:14000])),
+                                    ('refused', bytes, lambda _: refused), ('dropped', bytes, bytes)):
+            def answer(request, count):
+                text = served(request, TEXT)
+                text = text if alone is bytes else text.replace(b'\r\n\r\n', close, 1)
+                return alone(text) if count == 1 else others(text)
+            with self.subTest(name), Made(answer, Batching) as server, delgunsai.open(server.url(), timeout=1) as file:
+                self.assertTrue(all(tall(file, x) for x in (0, 300, 600)))
+                if name == 'dropped':
+                    self.assertEqual(server.connections, 2, 'one time-out is enough')
+
+    def test_refused_alone_too(self):
+        gone = []
+
+        def answer(request, _):
+            return head(b'404 Not Found', b'Content-Length: 0') if gone else served(request, TEXT)
+        with Made(answer) as server, delgunsai.open(server.url()) as file:
+            self.assertTrue(tall(file, 0))
+            gone.append(True)
+            with self.assertRaises(delgunsai.NotUsed) as seen:
+                tall(file, 600)
+            self.assertEqual((seen.exception.status, server.connections), (404, 2))
+
+    def test_others(self):
+        """Where a request comes in the place of one that was sent, the server left none unanswered."""
+        with Made(lambda request, _: served(request, TEXT)) as server:
+            host, answer = _sources.Host(_sources.Address(server.url()), 5, None), bytearray()
+            for first in range(0, 2000, 100):
+                answer.clear()
+                host.exchange(of_bytes(first), [of_bytes(first + 10)], answer.extend)
+                self.assertTrue(answer.endswith(b'\r\n\r\n' + TEXT[first:first + 10]))
+            self.assertGreater(host.depth, 0)
+            host.close()
+
+    def test_after_same(self):
+        """The connection that `same` ends isn't lost: the next requests are sent at once."""
+        counts = []
+
+        def answer(request, count):
+            counts.append(count)
+            return served(request, TEXT)
+        with Made(answer, Batching) as server, delgunsai.open(server.url(), timeout=1) as file:
+            self.assertTrue(right(file, 0, 0, 10) and file.same() and tall(file, 300))
+            self.assertGreater(counts[2], 1)
 
 
 class Nothing(unittest.TestCase):
