@@ -45,7 +45,8 @@ class File:
     def _begin(self) -> None:
         """As where nothing was read yet."""
         self._core = Core(*self._client)
-        self._lock = threading.Lock()
+        self._lock = threading.RLock()
+        self._busy = False
         self._tag: Optional[str] = None
         self._info: Optional[Info] = None
 
@@ -63,8 +64,9 @@ class File:
         raise TypeError('a File is neither copied nor pickled: open its URL or path again')
 
     def close(self) -> None:
-        """Ends the connection, and frees what was kept of the file."""
+        """Ends the connection, and frees what was kept of the file. Another thread that reads it is waited for."""
         with self._lock:
+            self._check_idle()
             if self._open:
                 self._open = False
                 self._source.close()
@@ -127,13 +129,22 @@ class File:
     def _alone(self, do: Callable[..., Result], *words: Any) -> Result:
         """What this gives, of an open file that no other thread uses meanwhile; an exception tells the place of the file."""
         with self._lock:
+            self._check_idle()
             if not self._open:
                 raise ValueError('the file is closed')
+            self._busy = True
             try:
                 return do(*words)
             except Error as error:
                 error.where = self._source.where
                 raise
+            finally:
+                self._busy = False
+
+    def _check_idle(self) -> None:
+        """The lock lets a signal handler in, whose thread has it in the call that was interrupted."""
+        if self._busy:
+            raise RuntimeError('a signal handler uses the File that the interrupted call is using')
 
     def _window(self, ask: Callable[..., None], window: List[int]) -> Tuple[NDArray[Any], str]:
         ask(*window)
@@ -231,8 +242,10 @@ _files: weakref.WeakSet[File] = weakref.WeakSet()
 def _forked() -> None:
     """In a process that was forked no thread holds a lock. A client that one was calling is left as it is, and another one begins."""
     for file in _files:
-        if file._lock.locked():
+        if file._busy or not file._lock.acquire(blocking=False):
             file._begin()
+        else:
+            file._lock.release()
 
 
 os.register_at_fork(after_in_child=_forked)

@@ -1,6 +1,7 @@
 """Where answers come from: a host, or a file of the disk."""
 from __future__ import annotations
 
+import encodings.idna                                    # which connect() imports: half done at a fork it would hang the child
 import http.client
 import os
 import re

@@ -2,6 +2,7 @@
 import os
 import signal
 import subprocess
+import sys
 import threading
 import time
 import unittest
@@ -11,7 +12,7 @@ import numpy
 from delgunsai import _sources
 from files import noise, plain
 from servers import Batching, Ends, Made, Nginx, Resets, head, served
-from support import CORE, FOLDER, HEAP, TLS, TOP, needs
+from support import CORE, EXAMPLE, FOLDER, HEAP, TLS, TOP, needs
 
 SAMPLES = noise(1000)
 TEXT = plain(SAMPLES)
@@ -106,9 +107,53 @@ class Forked(unittest.TestCase):
             self.assertEqual(seen, [True])
 
 
+    def test_while_two_threads_read(self):
+        """Neither does one that a thread of the parent is about to have."""
+        with delgunsai.open_file(EXAMPLE) as file:
+            ended = threading.Event()
+
+            def read():
+                while not ended.is_set():
+                    file.read(**cut_out(0, 0, 64))
+            threads = [threading.Thread(target=read) for _ in range(2)]
+            for thread in threads:
+                thread.start()
+            try:
+                for _ in range(100):
+                    self.ends_well(as_forked(lambda: file.read(**cut_out(0, 0, 64)).shape == (64, 64)))
+            finally:
+                ended.set()
+                for thread in threads:
+                    thread.join()
+
+    def test_imports(self):
+        """What the first connection would import is there, whole, before another thread forks."""
+        program = 'import delgunsai, sys; sys.exit("encodings.idna" not in sys.modules)'
+        folder = os.path.dirname(os.path.dirname(delgunsai.__file__))
+        self.assertEqual(subprocess.run([sys.executable, '-c', program], env={**os.environ, 'PYTHONPATH': folder}).returncode, 0)
+
 
 class Interrupted(unittest.TestCase):
     """Calls that a signal interrupts."""
+
+    def test_signal_handlers(self):
+        """A signal handler that uses the file of the call that it interrupts is refused; the call goes on."""
+        def answer(request, _):
+            time.sleep(0.3)
+            return served(request, TEXT)
+        for use in lambda file: right(file, 0, 0, 10), lambda file: file.close(), lambda file: file.same():
+            def read():
+                refused = []
+
+                def handle(*_):
+                    with self.assertRaises(RuntimeError):
+                        use(file)
+                    refused.append(True)
+                signal.signal(signal.SIGUSR1, handle)
+                threading.Timer(0.1, os.kill, (os.getpid(), signal.SIGUSR1)).start()
+                return right(file, 0, 0, 10) and refused == [True]
+            with Made(answer) as server, delgunsai.open(server.url()) as file:
+                self.assertEqual(os.waitpid(as_forked(read), 0)[1], 0)
 
     def test_interrupted(self):
         """Where the program gives an answer up, the server left no request unanswered."""
