@@ -85,9 +85,9 @@ class Address:
 
 class _Head:
     """What the head of an answer says of its end (RFC 9112, section 6.3), and of the connection. Of a body that goes on behind all that can
-    be of use the end isn't waited for."""
+    be of use the end isn't waited for: of another revision than that of If-Range its front is."""
 
-    FIELDS = re.compile(rb'\r\n(content-length|transfer-encoding|connection):[ \t]*(.*?)[ \t]*(?=\r\n)')
+    FIELDS = re.compile(rb'\r\n(content-length|transfer-encoding|connection|etag):[ \t]*(.*?)[ \t]*(?=\r\n)')
 
     def __init__(self, head: bytes, request: bytes) -> None:
         fields = self.FIELDS.findall((head + b'\r\n').lower())
@@ -100,7 +100,9 @@ class _Head:
         self.closes = not head.startswith(b'HTTP/1.1') or CLOSE in request or any(
             name == b'connection' and b'close' in re.split(rb'[ \t]*,[ \t]*', value) for name, value in fields)
         if self.length is not None and self.length > FRONT:
-            asked = RANGE.search(request) if head[8:12] in (b' 200', b' 206') else None
+            tag = re.search(rb'\r\nIf-Range: (.*)\r\n', request)
+            other = tag is not None and (b'etag', tag[1].lower()) not in fields
+            asked = RANGE.search(request) if head[8:12] in (b' 200', b' 206') and not other else None
             most = max(FRONT, int(asked[2]) + 1) if asked else FRONT
             self.closes = self.closes or self.length > most
             self.length = min(self.length, most)

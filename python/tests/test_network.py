@@ -299,6 +299,17 @@ class Unneeded(unittest.TestCase):
                     self.assertLess(server.sent, len(BIG))
                     self.assertEqual(server.connections, 2 if length == len(BIG) else 1)
 
+    def test_front_of_another_file(self):
+        """Of a file that was replaced its front is taken, and not all up to the window."""
+        text, tags = plain(numpy.zeros((4000, 8000), 'uint8'), 256), [b'"1"']
+        with Made(lambda request, _: served(request, text, tags[-1])) as server, delgunsai.open(server.url()) as file:
+            file.read(**cut_out(0, 0, 10))
+            tags.append(b'"2"')
+            before = server.sent
+            file.read(**cut_out(7900, 3900, 10))
+            self.assertEqual(file.tag, '"2"')
+            self.assertLess(server.sent - before, len(text) // 2)
+
     def test_no_length(self):
         """The connection goes on, so its end isn't waited for either."""
         start = time.monotonic()
