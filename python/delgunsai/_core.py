@@ -97,6 +97,9 @@ class Core:
         _checked(_library.cog_client_keep_open(self._at))
         _checked(_library.cog_client_look_ahead(self._at, AHEAD))
 
+    def forget(self) -> None:
+        _checked(_library.cog_client_forget(self._at))
+
     def free(self) -> None:
         _library.cog_client_free(self._at)
 

@@ -20,7 +20,7 @@ from ._sources import Address, Disk, Host, Source
 Result = TypeVar('Result')
 TRIES = 3
 EXCHANGES = 65536
-CUT, REVISION = 1, 10
+CUT, REVISION, LENGTH = 1, 10, 11
 FRONT = 16
 GREATEST = 2 ** 32 - 1
 
@@ -160,9 +160,9 @@ class File:
 
     def _ask(self) -> bool:
         request = self._core.check()
-        if request is None or self._tag is None:
+        if self._tag is None:
             raise Error('nothing of the file was read yet')
-        if f'\r\nIf-None-Match: {self._tag}\r\n'.encode('latin-1') not in request:
+        if request is None or f'\r\nIf-None-Match: {self._tag}\r\n'.encode('latin-1') not in request:
             return False                                   # the core met another revision since, in a read that was lost
         failed: Optional[OSError] = None
         for _ in range(TRIES):
@@ -193,6 +193,10 @@ class File:
                 if report.kind == _core.FAULT:
                     raise fault_of(report.fault, report.field)
                 return report, self._tag
+            if failures == TRIES and isinstance(failed, NotUsed) and failed.reason in (REVISION, LENGTH):
+                self._core.forget()                        # the server passes If-Range over, or gives one tag to two files
+                self._info, failures, restarts = None, 0, restarts + 1
+                continue
             if failures == TRIES:
                 raise Lost(f'no whole answer in {TRIES} exchanges: {failed}') from failed
             if restarts == TRIES:

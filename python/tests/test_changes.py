@@ -1,6 +1,7 @@
 """Files that are replaced, and answers that are cut."""
 import contextlib
 import os
+import re
 import threading
 import time
 import unittest
@@ -147,6 +148,46 @@ class Replaced(unittest.TestCase):
             self.assertEqual(pieces, [])
         disk.exchange(b'GET /file HTTP/1.1\r\nHost: disk\r\nRange: bytes=0-2999\r\n\r\n', [], pieces.append)
         self.assertTrue(b''.join(pieces).endswith(b'\r\n\r\n' + b'new' * 1000))
+
+
+class Unconditional(unittest.TestCase):
+    """A server that passes If-Range over, or gives one tag to two files, is asked anew."""
+
+    @staticmethod
+    def whole(revision):
+        return plain(numpy.full((600, 600), revision, 'uint8'))
+
+    @contextlib.contextmanager
+    def replaced(self, *states):
+        """A file that is read of the first of these texts, each with its tag, and is replaced by the second."""
+        states = list(states)
+        with Made(lambda request, _: served(re.sub(rb'If-Range: .*?\r\n', b'', request), *states[0])) as server:
+            with delgunsai.open(server.url()) as file:
+                self.assertTrue((file.read(x=0, y=0, width=10, height=10) == 0).all())
+                self.assertEqual(file.levels, [(600, 600)])
+                states.pop(0)
+                yield file
+
+    def test_other_revision(self):
+        with self.replaced((self.whole(0), b'"1"'), (self.whole(9), b'"2"')) as file:
+            self.assertTrue((file.read(x=100, y=100, width=500, height=500) == 9).all())
+            self.assertEqual((file.tag, file.info.tag, file.same()), ('"2"', '"2"', True))
+
+    def test_other_length(self):
+        with self.replaced((self.whole(0), b'"1"'), (plain(numpy.full((300, 900), 9, 'uint8')), b'"1"')) as file:
+            self.assertTrue((file.read(x=200, y=100, width=300, height=200) == 9).all())
+            self.assertEqual(file.levels, [(900, 300)])
+
+    def test_each_time(self):
+        def answer(request, number):
+            return served(re.sub(rb'If-Range: .*?\r\n', b'', request), self.whole(0), b'"%d"' % number)
+        with Made(answer) as server, delgunsai.open(server.url()) as file:
+            file.levels
+            tag = file.tag
+            with self.assertRaisesRegex(delgunsai.Lost, 'replaced 3 times'):
+                file.read(x=0, y=0, width=600, height=600)
+            self.assertLess(server.requests, 60)
+            self.assertEqual((file.tag, file.same()), (tag, False))
 
 
 class Cut(unittest.TestCase):
