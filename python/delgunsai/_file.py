@@ -172,7 +172,7 @@ class File:
             except self._source.final:
                 raise
             except OSError as error:
-                failed = error
+                failed = error.with_traceback(None)            # whose frames hold it, and this File
                 continue
             kind, reason = self._core.current(bytes(answer))
             if kind != _core.UNKNOWN:
@@ -217,7 +217,7 @@ class File:
         except self._source.final:
             raise
         except OSError as error:
-            lost = error
+            lost = error.with_traceback(None)
         kind, number = self._core.end()
         if kind == _core.IGNORED:
             refusal = NotUsed(number, _status_of(self._front))

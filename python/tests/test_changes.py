@@ -1,17 +1,19 @@
 """Files that are replaced, and answers that are cut."""
 import contextlib
+import gc
 import os
 import re
 import threading
 import time
 import unittest
+import weakref
 from unittest import mock
 
 import delgunsai
 import numpy
 from delgunsai import _sources
 from files import plain
-from servers import Cogserve, Cutting, Made, Nginx, served
+from servers import Batching, Cogserve, Cutting, Made, Nginx, Resets, served
 from support import EXAMPLE, FOLDER, RASTERIO, TLS, free_port, needs
 
 
@@ -202,6 +204,20 @@ class Cut(unittest.TestCase):
                     self.assertTrue(numpy.array_equal(got, wanted), cut)
                     self.assertEqual(passing.cuts, 1)
                     passing.shutdown()
+
+    def test_last_name(self):
+        """A file that isn't closed ends with its last name, after an exchange that was lost too."""
+        resets = [Resets()]
+        self.addCleanup(gc.enable)
+        gc.disable()
+        with open(EXAMPLE, 'rb') as example:
+            text = example.read()
+        with Made(lambda request, _: resets.pop() if resets else served(request, text), Batching) as server:
+            file = delgunsai.open(server.url())
+            self.assertEqual((file.levels[0], resets), ((64, 64), []))
+            there = weakref.ref(file)
+            del file
+            self.assertIsNone(there())
 
     def test_no_server(self):
         with delgunsai.open(f'http://127.0.0.1:{free_port()}/a', timeout=2) as file:
