@@ -1,6 +1,7 @@
 """A file that is read by windows."""
 from __future__ import annotations
 
+import numbers
 import operator
 import os
 import re
@@ -23,6 +24,7 @@ EXCHANGES = 65536
 CUT, REVISION, LENGTH = 1, 10, 11
 FRONT = 16
 GREATEST = 2 ** 32 - 1
+LONGEST = 2 ** 31 // 1000                               # seconds that poll() takes
 
 
 class File:
@@ -93,11 +95,14 @@ class File:
 
     def read_tagged(self, *, x: SupportsIndex, y: SupportsIndex, width: SupportsIndex, height: SupportsIndex, level: SupportsIndex = 0,
                     columns: Optional[SupportsIndex] = None) -> Tuple[NDArray[Any], str]:
-        """What `read` gives, or with `columns` what `read_columns` does, and the tag of its revision, whatever other threads read.
+        """What `read` gives, or with `columns`, and no level, what `read_columns` does, and the tag of its revision, whatever other threads
+        read.
 
         >>> f.read_tagged(x=3000, y=2000, width=256, height=256)[1]                   # doctest: +SKIP
         '"1-1"'
         """
+        if columns is not None and level != 0:
+            raise TypeError('level or columns, and not both')
         if columns is None:
             return self._alone(self._window, self._core.open_window, _numbers(x=x, y=y, width=width, height=height, level=level))
         return self._alone(self._window, self._core.open_columns, _numbers(x=x, y=y, width=width, height=height, columns=columns))
@@ -270,11 +275,21 @@ def _numbers(**numbers: SupportsIndex) -> List[int]:
     return [_number(name, number, 0, GREATEST) for name, number in numbers.items()]
 
 
-def open(url: str, *, blocks: SupportsIndex = 256, timeout: float = 30.0, context: Optional[ssl.SSLContext] = None) -> File:
+def _seconds(timeout: float) -> float:
+    """A timeout as sockets take it."""
+    if not isinstance(timeout, numbers.Real):
+        raise TypeError(f'timeout is {timeout!r}, and no number')
+    if not 0 < timeout <= LONGEST:
+        raise ValueError(f'timeout is {timeout!r}, and not above 0 and at most {LONGEST}')
+    return float(timeout)
+
+
+def open(url: str, *, blocks: SupportsIndex = 256, timeout: Optional[float] = 30.0,
+         context: Optional[ssl.SSLContext] = None) -> File:
     """A file behind a URL of http or https. Nothing is read yet.
 
     `blocks` of 16,384 bytes, 66 to 4,096, are kept of the file; `timeout` is how many seconds a connection and each of its reads may
-    take; `context` says which certificates are trusted, those of the system without it.
+    take, None for ever; `context` says which certificates are trusted, those of the system without it. Proxies aren't used.
 
     >>> with open('http://127.0.0.1:8080/a.tif') as f:                              # doctest: +SKIP
     ...     f.levels
@@ -282,7 +297,7 @@ def open(url: str, *, blocks: SupportsIndex = 256, timeout: float = 30.0, contex
     """
     count = _number('blocks', blocks, 66, 4096)
     address = Address(url)
-    return File(Host(address, timeout, context), address.netloc, address.name, count)
+    return File(Host(address, None if timeout is None else _seconds(timeout), context), address.netloc, address.name, count)
 
 
 def open_file(path: Union[str, 'os.PathLike[str]'], *, blocks: SupportsIndex = 256) -> File:

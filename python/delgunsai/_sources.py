@@ -119,7 +119,7 @@ class Host:
         self.where = address.url
         if address.secure:
             self._connection: http.client.HTTPConnection = http.client.HTTPSConnection(
-                address.host, address.port, timeout=timeout, context=context)
+                address.host.rstrip('.'), address.port, timeout=timeout, context=context)
         else:
             self._connection = http.client.HTTPConnection(address.host, address.port, timeout=timeout)
         self._room = memoryview(bytearray(PIECE))
@@ -257,7 +257,7 @@ class Disk:
     is handed on only where the file didn't change while it was read."""
 
     depth, shared = 0, False
-    final: Tuple[Type[OSError], ...] = (FileNotFoundError, IsADirectoryError, PermissionError)
+    final: Tuple[Type[OSError], ...] = (FileNotFoundError, IsADirectoryError, NotADirectoryError, PermissionError)
 
     def __init__(self, path: Union[str, os.PathLike[str]]) -> None:
         with open(path, 'rb'):

@@ -57,6 +57,14 @@ class Refused(unittest.TestCase):
             os.remove(place)
             with self.assertRaises(FileNotFoundError):
                 file.read(x=0, y=0, width=1, height=1)
+        folder = os.path.join(FOLDER, 'removed')
+        os.mkdir(folder)
+        place = shutil.copy(EXAMPLE, folder)
+        with delgunsai.open_file(place) as file:
+            shutil.rmtree(folder)
+            shutil.copy(EXAMPLE, folder)
+            with self.assertRaises(NotADirectoryError):
+                file.read(x=0, y=0, width=1, height=1)
 
     def test_status_and_redirect(self):
         with Cogserve({'a': EXAMPLE}) as server, delgunsai.open(server.url('b')) as file:
@@ -74,6 +82,10 @@ class Refused(unittest.TestCase):
                 file.read(x=0, y=0, width=1, height=1)
             with delgunsai.open(server.url('grey.tif')) as file, self.assertRaises(ssl.SSLCertVerificationError):
                 file.info
+            with open(os.path.join(FOLDER, 'dotted.tif'), 'wb') as out, open(EXAMPLE, 'rb') as example:
+                out.write(example.read())
+            with delgunsai.open(server.url('dotted.tif').replace('localhost', 'localhost.'), context=server.context()) as file:
+                self.assertEqual(file.levels[0], (64, 64))
 
     def test_faults(self):
         with open(EXAMPLE, 'rb') as file:
@@ -96,6 +108,8 @@ class Refused(unittest.TestCase):
             for name, number in ('x', 1.0), ('level', None), ('width', '1'), ('y', numpy.ones(2)):
                 with self.assertRaisesRegex(TypeError, f'^{name} is .*, and no integer$'):
                     file.read(**{'x': 0, 'y': 0, 'width': 1, 'height': 1, name: number})
+            with self.assertRaisesRegex(TypeError, 'level or columns'):
+                file.read_tagged(x=0, y=0, width=16, height=16, level=2, columns=16)
             self.assertEqual(file.read(x=numpy.int64(24), y=numpy.uint8(30), width=4, height=1).tolist(), [[216, 221, 226, 231]])
         with self.assertRaises(ValueError):
             file.read(x=0, y=0, width=1, height=1)
@@ -104,6 +118,12 @@ class Refused(unittest.TestCase):
                 delgunsai.open('http://host/a', blocks=blocks)
             with self.assertRaisesRegex(error, '^blocks is '):
                 delgunsai.open_file(EXAMPLE, blocks=blocks)
+        for timeout, error in (0, ValueError), (-1.0, ValueError), (float('nan'), ValueError), (1e10, ValueError), ('5', TypeError):
+            with self.assertRaisesRegex(error, '^timeout is '):
+                delgunsai.open('http://host/a', timeout=timeout)
+        for timeout in None, 1, numpy.float32(0.5):
+            with Cogserve({'a': EXAMPLE}) as server, delgunsai.open(server.url('a'), timeout=timeout) as file:
+                self.assertEqual(file.levels[0], (64, 64))
 
     def test_places(self):
         """An exception of a file says of which one."""
