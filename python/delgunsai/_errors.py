@@ -54,6 +54,12 @@ class NotUsed(Error):
         return type(self), (self.reason, self.status), vars(self)
 
 
+NAMES = {254: 'NewSubfileType', 256: 'ImageWidth', 257: 'ImageLength', 258: 'BitsPerSample', 259: 'Compression',
+         262: 'PhotometricInterpretation', 277: 'SamplesPerPixel', 284: 'PlanarConfiguration', 322: 'TileWidth', 323: 'TileLength',
+         324: 'TileOffsets', 325: 'TileByteCounts', 339: 'SampleFormat', 33550: 'ModelPixelScale', 33922: 'ModelTiepoint',
+         34264: 'ModelTransformation', 34735: 'GeoKeyDirectory', 34736: 'GeoDoubleParams', 34737: 'GeoAsciiParams'}
+
+
 class FileFault(Error):
     """What is wrong with the file, or with what is asked of it.
 
@@ -62,7 +68,7 @@ class FileFault(Error):
 
     def __init__(self, tag: Optional[int] = None) -> None:
         words = (self.__doc__ or '').strip()
-        super().__init__(words if tag is None else f'{words} ({tag})')
+        super().__init__(words if tag is None else f"{words.rstrip('.')}: {NAMES.get(tag, 'tag')} ({tag})")
         self.tag = tag
 
     def __reduce__(self) -> Tuple[Any, ...]:

@@ -58,6 +58,9 @@ class File:
     def __exit__(self, *_: object) -> None:
         self.close()
 
+    def __repr__(self) -> str:
+        return f'<delgunsai.File {self._source.where!r}' + (', closed>' if self.closed else '>')
+
     def __del__(self) -> None:
         if getattr(self, '_open', False):
             self.close()
@@ -74,10 +77,15 @@ class File:
                 self._source.close()
                 self._core.free()
 
+    @property
+    def closed(self) -> bool:
+        """Whether it was closed."""
+        return not self._open
+
     def read(self, *, x: SupportsIndex, y: SupportsIndex, width: SupportsIndex, height: SupportsIndex,
              level: SupportsIndex = 0) -> NDArray[Any]:
         """The samples of `width` columns from `x` and `height` rows from `y`, in pixels of the level: of shape (height, width), or
-        (height, width, 3) of three samples, as uint8 or uint16.
+        (height, width, 3) of three samples, as uint8 or uint16. They are at most 4,194,304, as 2048 by 2048 of one sample are.
 
         >>> f.read(x=3000, y=2000, width=256, height=256).dtype                       # doctest: +SKIP
         dtype('uint8')

@@ -15,18 +15,20 @@ class Info:
 
     tag: str
     """The tag of the file that this is of."""
-    levels: List[Tuple[int, int]]
+    levels: Tuple[Tuple[int, int], ...]
     """Columns and rows of each level, the largest first."""
     minor: int
     """The minor revision of the keys."""
-    keys: Dict[int, Value]
+    keys: Dict[int, Value] = dataclasses.field(hash=False)
     """The keys by their numbers: a number, numbers, or a text as it stands, with its `|`."""
     scale: Optional[Tuple[float, ...]]
     """The numbers of ModelPixelScale, where it is there."""
     tiepoint: Optional[Tuple[float, ...]]
     """The numbers of ModelTiepoint."""
     transform: Optional[Tuple[float, ...]]
-    """The numbers of ModelTransformation."""
+    """The 16 numbers of ModelTransformation, row by row. It is in few files, and isn't what rasterio calls transform: that is
+    `Affine(scale[0], 0, tiepoint[3] - tiepoint[0] * scale[0], 0, -scale[1], tiepoint[4] + tiepoint[1] * scale[1])`, or of this one, where
+    it is there, `Affine(*transform[0:2], *transform[3:6], transform[7])`; where key 1025 is 2, both are of the middles of pixels."""
 
 
 def _doubles(words: List[str]) -> Tuple[float, ...]:
@@ -69,4 +71,4 @@ def read_info(text: str) -> Info:
             keys[int(number)] = _value(kind, value[0] if value else '')
         else:
             fields[word] = _doubles(rest.split())
-    return Info(tag, levels, minor, keys, fields.get('scale'), fields.get('tiepoint'), fields.get('transform'))
+    return Info(tag, tuple(levels), minor, keys, fields.get('scale'), fields.get('tiepoint'), fields.get('transform'))

@@ -159,7 +159,14 @@ class Refused(unittest.TestCase):
                     way(file)
             file.levels.pop()
             self.assertEqual(file.levels, [(64, 64), (32, 32), (16, 16)])
+            self.assertEqual(hash(file.info), hash(copy.deepcopy(file.info)))
             self.assertEqual(file.read(x=24, y=30, width=1, height=1).tolist(), [[216]])
+
+    def test_open_and_closed(self):
+        for opened, where in (delgunsai.open_file, EXAMPLE), (delgunsai.open, 'http://host/a'):
+            with opened(where) as file:
+                self.assertEqual((repr(file), file.closed), (f'<delgunsai.File {where!r}>', False))
+            self.assertEqual((repr(file), file.closed), (f'<delgunsai.File {where!r}, closed>', True))
 
     @needs(GDAL, 'GDAL')
     def test_compression(self):
@@ -168,3 +175,4 @@ class Refused(unittest.TestCase):
         with delgunsai.open_file(place) as file, self.assertRaises(delgunsai.Unsupported) as seen:
             file.read(x=0, y=0, width=1, height=1)
         self.assertEqual(seen.exception.tag, 259)
+        self.assertTrue(str(seen.exception).endswith('outside the profile: Compression (259)'))

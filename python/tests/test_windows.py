@@ -24,6 +24,7 @@ class Equal(unittest.TestCase):
 
     def compare_info(self, file, path):
         import rasterio
+        from rasterio.transform import Affine
         with rasterio.open(path) as source:
             info, transform = file.info, source.transform
             self.assertEqual(info.levels[0], (source.width, source.height))
@@ -33,9 +34,12 @@ class Equal(unittest.TestCase):
             if info.transform is not None:
                 self.assertEqual(info.transform[0:2] + info.transform[3:6] + info.transform[7:8],
                                  (transform.a, transform.b, transform.c, transform.d, transform.e, transform.f))
+                self.assertEqual(Affine(*info.transform[0:2], *info.transform[3:6], info.transform[7]), transform)
             else:
                 self.assertEqual((info.scale[0], -info.scale[1]), (transform.a, transform.e))
                 self.assertEqual(info.tiepoint, (0, 0, 0, transform.c, transform.f, 0))
+                scale, tie = info.scale, info.tiepoint
+                self.assertEqual(Affine(scale[0], 0, tie[3] - tie[0] * scale[0], 0, -scale[1], tie[4] + tie[1] * scale[1]), transform)
             self.assertIn(source.crs.to_epsg(), info.keys.values())
             self.assertEqual(info.keys[1024], 1 if source.crs.is_projected else 2)
 
