@@ -78,22 +78,28 @@ fn turn_of(error: &io::Error) -> Option<Turn>
     }
 }
 
-/// Writes what waits, at most so many bytes at a moment, or answers the next message, or reads: how many bytes were written, none where
-/// all answers are.
+/// How many bytes a step writes at most, and its moment in milliseconds.
+#[derive(Clone, Copy)]
+struct Bounds {
+    most: usize,
+    now: u64,
+}
+
+/// Writes what waits, or answers the next message, or reads: how many bytes were written, none where all answers are.
 fn step<A: Audience>(
     connections: &mut Connections,
     number: u64,
     stream: &TcpStream,
     server: &Server,
     buffer: &mut [u8],
-    limits: (usize, u64),
+    bounds: Bounds,
     teller: &mut Teller<'_, A>,
 ) -> io::Result<Option<usize>>
     ensures kept { KeepsOthers number connections.old connections.new }
     ensures ended { IfOk result (λ count. count ≡ None → HasEndedAt number connections.new.table.entries) }
     ensures asked { teller.new.asked.ghost_name ≡ teller.old.asked.ghost_name }
 {
-    let (most, now) = limits;
+    let Bounds { most, now } = bounds;
     if is_waiting(connections, number) {
         return Ok(Some(write_some(connections, number, stream, most, now)?));
     }
@@ -126,8 +132,8 @@ pub fn serve_turn<A: Audience>(
 {
     let mut most = WRITE_LIMIT;
     for _ in 0..STEP_LIMIT {
-        let limits = (most, now);
-        match step(connections, number, stream, server, buffer, limits, teller) {
+        let bounds = Bounds { most, now };
+        match step(connections, number, stream, server, buffer, bounds, teller) {
             Ok(Some(n)) => most = most.saturating_sub(n),
             Ok(None) => return Turn::Ended,
             Err(error) => {
