@@ -4,7 +4,8 @@ use Rattle.std.proofs.lemmas.Bool.Decides.{eqb_tells}
 use Rattle.std.specs.Prelude.{IfSome, IsSome, IsSomeAnd, OnErr}
 use Rattle.tiff_dir.specs.declared.query.Query.{Query}
 use Rattle.tiff_dir.specs.declared.span.Span.{Span}
-use Rattle.tiff_dir.specs.Needs.{Extent, IsEndOf, bytes_in, max_range_bytes}
+use Rattle.tiff_dir.specs.declared.limits.TheConstants.{MAX_RANGE_BYTES}
+use Rattle.tiff_dir.specs.Needs.{Extent, IsEndOf, bytes_in}
 use Rattle.range_cache.specs.Cache.{Blocks, Holds, block_at, numbers}
 use Rattle.tiff_dir.specs.Block.{first_block, blocks}
 use Rattle.range_cache.specs.Numbers.{has, IsGap, IsLed}
@@ -170,7 +171,7 @@ some_blocks first len some = elim (eqb_tells len 0) [
   | inr e ↦ ap (λ t. cond t 0 ((first + len - 1) / 16384 - first / 16384 + 1)) e.0
 ]
 
-pub lacking : RunsAreMissing → MissingIsFew → (old new : Blocks) (complete len : ℕ) (r : Extent) (missing : Missing) (span : Span) → len ≡ r.len → 0 < r.len → r.first + r.len ≤ complete → r.len ≤ max_range_bytes → 66 ≤ new.capacity
+pub lacking : RunsAreMissing → MissingIsFew → (old new : Blocks) (complete len : ℕ) (r : Extent) (missing : Missing) (span : Span) → len ≡ r.len → 0 < r.len → r.first + r.len ≤ complete → r.len ≤ MAX_RANGE_BYTES → 66 ≤ new.capacity
     → ((k : ℕ) → has k (numbers new.entries) ≡ has k (numbers old.entries)) → IsFirstGap old complete r.first len missing
     → IsLed (numbers new.entries) (first_block r.first) (blocks r.first len) → span.first ≡ missing.first → span.last ≡ missing.last
     → IsMissing new complete r 0 span

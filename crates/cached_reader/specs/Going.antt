@@ -1,9 +1,11 @@
 -- Going on: the reader is given what the cache has, and what is missing then.
+use Rattle.cached_reader.specs.declared.ahead.TheConstants.{MAX_BLOCKS}
 use Rattle.std.specs.Prelude.{◌≡◌, ℕ, ◌+◌, ◌-◌, ◌*◌, ◌<◌, ◌≤◌, false, List, Option, Some, None, IsSome, IsSomeAnd, ◌⊎◌, slice_get}
 use Rattle.tiff_dir.specs.declared.query.Query.{Query}
 use Rattle.tiff_dir.specs.declared.span.Span.{Span}
-use Rattle.tiff_dir.specs.Needs.{Extent, IsEndOf, max_range_bytes}
-use Rattle.tiff_dir.specs.Block.{block_size, end_of, first_block, blocks}
+use Rattle.tiff_dir.specs.declared.limits.TheConstants.{BLOCK_SIZE, MAX_RANGE_BYTES}
+use Rattle.tiff_dir.specs.Needs.{Extent, IsEndOf}
+use Rattle.tiff_dir.specs.Block.{end_of, first_block, blocks}
 use Rattle.range_cache.specs.Cache.{Blocks, Holds, block_at, numbers}
 use Rattle.range_cache.specs.Numbers.{has, missing as absent, IsLed}
 use Rattle.range_cache.specs.Missing.{IsFirstGap}
@@ -51,18 +53,14 @@ OneTouches rs k = (place : ℕ) × IsSomeAnd (slice_get rs place) (λ r. Touches
 
 -- each block that begins in the span is touched by one of these ranges
 abbrev pub AreTouched : List Extent → Span → Type 0
-AreTouched rs s = (k : ℕ) → s.first ≤ k * block_size → k * block_size ≤ s.last → OneTouches rs k
-
--- no more than 65 blocks are asked for
-abbrev pub max_blocks : ℕ
-max_blocks = 65
+AreTouched rs s = (k : ℕ) → s.first ≤ k * BLOCK_SIZE → k * BLOCK_SIZE ≤ s.last → OneTouches rs k
 
 -- Of a range these are the bytes of the first run of missing blocks, and behind it of at most so many more, none of which is there:
 -- 65 blocks at most in all, which have room beside those of the range that are there and lead.
 pub record IsMissing (b : Blocks) (complete : ℕ) (r : Extent) (ahead : ℕ) (span : Span) : Type 0 where
   pub some : 0 < r.len
   pub within : r.first + r.len ≤ complete
-  pub small : r.len ≤ max_range_bytes
+  pub small : r.len ≤ MAX_RANGE_BYTES
   pub missing : Missing
   pub lacks : IsFirstGap b complete r.first r.len missing
   pub first : span.first ≡ missing.first
@@ -70,8 +68,8 @@ pub record IsMissing (b : Blocks) (complete : ℕ) (r : Extent) (ahead : ℕ) (s
   pub last : span.last + 1 ≡ end_of complete (to - 1)
   pub on : lacks.to ≤ to
   pub near : to ≤ lacks.to + ahead
-  pub few : to ≤ lacks.from + max_blocks
-  pub inside : to * block_size < complete + block_size
+  pub few : to ≤ lacks.from + MAX_BLOCKS
+  pub inside : to * BLOCK_SIZE < complete + BLOCK_SIZE
   pub gone : (k : ℕ) → lacks.from ≤ k → k < to → has k (numbers b.entries) ≡ false
   pub led : IsLed (numbers b.entries) (first_block r.first) (blocks r.first r.len)
   pub room : blocks r.first r.len - absent (numbers b.entries) (first_block r.first) (blocks r.first r.len) + (to - lacks.from) ≤ b.capacity

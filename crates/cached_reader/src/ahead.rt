@@ -1,6 +1,6 @@
 //! Looking ahead: behind what is missing of the range that is needed next, the blocks that follow it may be asked for too.
 ghost use Rattle.std.specs.Prelude.{◌≡◌, ◌+◌, ◌*◌, ◌/◌, ◌<◌, ◌≤◌, ℕ, List, Some, false, slice_get};
-ghost use Rattle.tiff_dir.specs.Block.{block_size};
+ghost use Rattle.tiff_dir.specs.declared.limits.TheConstants.{BLOCK_SIZE};
 ghost use Rattle.tiff_dir.specs.Walk.{extent_of_span};
 ghost use Rattle.range_cache.specs.Numbers.{has};
 ghost use Rattle.range_cache.specs.Cache.{numbers};
@@ -13,7 +13,7 @@ use tiff_dir::Span;
 use tiff_dir::limits::BLOCK_SIZE;
 
 /// The most blocks that one request asks for.
-pub(crate) const MAX_BLOCKS: u64 = 65;
+pub const MAX_BLOCKS: u64 = 65;
 
 /// Where a run of missing blocks ends that goes on in a range, before a limit.
 fn reach_in(cache: &Cache, range: Span, from: u64, limit: u64) -> u64
@@ -22,7 +22,7 @@ fn reach_in(cache: &Cache, range: Span, from: u64, limit: u64) -> u64
     ensures high { result ≤ limit }
     ensures gone { (k : ℕ) → from ≤ k → k < result → has k (numbers cache.now.entries) ≡ false }
     ensures touches { (k : ℕ) → from ≤ k → k < result → Touches (extent_of_span range) k }
-    ensures within { from < result → result ≤ range.last / block_size + 1 }
+    ensures within { from < result → result ≤ range.last / BLOCK_SIZE + 1 }
 {
     let to = (range.last / BLOCK_SIZE + 1).min(limit);
     if range.first / BLOCK_SIZE > from || to <= from {
@@ -34,10 +34,10 @@ fn reach_in(cache: &Cache, range: Span, from: u64, limit: u64) -> u64
 /// Where a run of missing blocks ends that goes on in the ranges that are known to be needed later, before a limit.
 pub(crate) fn reach(reader: &Reader, cache: &Cache, from: u64, limit: u64) -> u64
     requires low { from ≤ limit }
-    requires inside { from * block_size < complete_of reader.now + block_size }
+    requires inside { from * BLOCK_SIZE < complete_of reader.now + BLOCK_SIZE }
     ensures low { from ≤ result }
     ensures high { result ≤ limit }
-    ensures inside { result * block_size < complete_of reader.now + block_size }
+    ensures inside { result * BLOCK_SIZE < complete_of reader.now + BLOCK_SIZE }
     ensures gone { (k : ℕ) → from ≤ k → k < result → has k (numbers cache.now.entries) ≡ false }
     ensures needed { (f : List ℕ) → ReaderAgrees reader.now f → (k : ℕ) → from ≤ k → k < result → OneTouches (to_come reader.now f) k }
 {

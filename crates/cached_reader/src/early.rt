@@ -1,7 +1,8 @@
 //! Asking early: what is asked for next, and then next again, where the answers before come whole.
 ghost use Rattle.std.specs.Prelude.{◌≡◌, ◌+◌, ◌-◌, ◌*◌, ◌/◌, ◌<◌, ◌≤◌, ◌^◌, ℕ, List, Some, IfOk, IfSome, length, slice_get};
 ghost use Rattle.std.specs.List.{All};
-ghost use Rattle.tiff_dir.specs.Block.{block_size, end_of};
+ghost use Rattle.tiff_dir.specs.declared.limits.TheConstants.{BLOCK_SIZE};
+ghost use Rattle.tiff_dir.specs.Block.{end_of};
 ghost use Rattle.tiff_dir.specs.Walk.{extent_of_span};
 ghost use Rattle.cog_reader.specs.Reader.{complete_of, to_come, ReaderAgrees};
 ghost use Rattle.cached_reader.specs.Going.{work};
@@ -32,8 +33,8 @@ fn run_in(
     index: u32,
 ) -> Option<Run>
     requires within { range.last < complete_of reader.now }
-    requires begins { range.first / block_size ≤ from }
-    requires ends { from ≤ range.last / block_size }
+    requires begins { range.first / BLOCK_SIZE ≤ from }
+    requires ends { from ≤ range.last / BLOCK_SIZE }
     requires more { index + 1 < 2 ^ 32 }
     requires comes { (f : List ℕ) → ReaderAgrees reader.now f → slice_get (to_come reader.now f) (index + 1) ≡ Some (extent_of_span range) }
     ensures needed { IfSome result (λ run. AreNeededLater (work reader.now cache.now) run.from run.to) }
@@ -94,8 +95,8 @@ fn next_run(reader: &Reader, cache: &Cache, last: Run, ahead: u32) -> Option<Run
 /// The span of a run.
 fn span_of(run: Run, complete: u64) -> Span
     requires some { run.from < run.to }
-    requires inside { run.to * block_size < complete + block_size }
-    ensures first { result.first ≡ run.from * block_size }
+    requires inside { run.to * BLOCK_SIZE < complete + BLOCK_SIZE }
+    ensures first { result.first ≡ run.from * BLOCK_SIZE }
     ensures last { result.last + 1 ≡ end_of complete (run.to - 1) }
 {
     Span {

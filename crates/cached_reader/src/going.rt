@@ -1,6 +1,6 @@
 //! Going on: the reader is given what the cache has.
 ghost use Rattle.std.specs.Prelude.{◌≡◌, ◌+◌, ◌<◌, ◌≤◌, ◌^◌, Some, IfOk, OnErr, OnOk, length};
-ghost use Rattle.tiff_dir.specs.Needs.{max_range_bytes};
+ghost use Rattle.tiff_dir.specs.declared.limits.TheConstants.{MAX_RANGE_BYTES};
 ghost use Rattle.tiff_dir.specs.Walk.{extent_of_span};
 ghost use Rattle.cog_reader.specs.Reader.{complete_of, wanted, IsWanted, Takes};
 ghost use Rattle.range_cache.specs.Cache.{bytes_at};
@@ -67,7 +67,7 @@ fn give_next(
 ) -> Result<Option<Span>, Memory>
     requires wanted { wanted reader.old ≡ Some (extent_of_span span) }
     requires inside { span.last < complete }
-    requires small { span.last + 1 ≤ span.first + max_range_bytes }
+    requires small { span.last + 1 ≤ span.first + MAX_RANGE_BYTES }
     requires complete { complete_of reader.old ≡ complete }
     ensures goes { ReaderGoesOn (work reader.old cache.old) (work reader.new cache.new) }
     ensures given { IfOk result (IsGiven (extent_of_span span) (work reader.old cache.old) (work reader.new cache.new)) }

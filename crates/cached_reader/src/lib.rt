@@ -10,4 +10,4 @@ mod laws;
 
 pub use early::early_spans;
 pub use going::fill;
-pub use laws::looks_at_one_range;
+pub use laws::{looks_at_one_range, most_blocks_are};

@@ -1,6 +1,6 @@
 -- What is kept of an answer between two of its pieces, in two rooms, and what a piece makes of it.
 use Rattle.std.specs.Prelude.{◌≡◌, ◌⊎◌, ℕ, ◌-◌, ◌<◌, List, [], ◌++◌, length, take, Option, Some, None, Err, ⊤}
-use Rattle.tiff_dir.specs.Block.{block_size}
+use Rattle.tiff_dir.specs.declared.limits.TheConstants.{BLOCK_SIZE}
 use Rattle.tiff_dir.specs.declared.span.Span.{Span}
 use Rattle.http_range.specs.declared.reading.Why.{Why}
 use Rattle.http_range.specs.Announced.{Announced, announced}
@@ -36,7 +36,7 @@ IsSoundFeeding (kept.Follows found case body) head = IsSoundBody body
 -- The rooms hold a head and a block.
 pub record IsArrival (feeding : Feeding) (head part : List ℕ) : Type 0 where
   pub head_room : length head ≡ head_limit
-  pub part_room : length part ≡ block_size
+  pub part_room : length part ≡ BLOCK_SIZE
   pub sound : IsSoundFeeding feeding head
 
 -- No more is kept of an answer than fewer bytes than a head may have, or the room of a block.
@@ -44,7 +44,7 @@ abbrev pub IsBounded : Feed → Type 0
 IsBounded (waits bytes) = length bytes < head_limit
 IsBounded (unused why) = ⊤
 IsBounded (passed why) = ⊤
-IsBounded (follows head case body part) = length part ≡ block_size
+IsBounded (follows head case body part) = length part ≡ BLOCK_SIZE
 
 -- ---- the head
 

@@ -1,7 +1,8 @@
 -- The body of an answer that comes in pieces, between two of them.
 use Rattle.std.specs.Prelude.{if◌then◌else◌, ◌/◌, [], ◌≡◌, ◌⊎◌, ℕ, ◌+◌, ◌-◌, ◌*◌, ◌<◌, ◌≤◌, true, false, List, ◌++◌, length, take, drop}
 use Rattle.tiff_dir.specs.declared.span.Span.{Span}
-use Rattle.tiff_dir.specs.Block.{block_size, end_of}
+use Rattle.tiff_dir.specs.declared.limits.TheConstants.{BLOCK_SIZE}
+use Rattle.tiff_dir.specs.Block.{end_of}
 use Rattle.http_range.specs.Announced.{Announced}
 use Rattle.range_cache.specs.Cache.{Block, Blocks, stored}
 use Rattle.range_cache.specs.Laws.{begun}
@@ -22,27 +23,27 @@ pub record IsSoundBody (b : Body) : Type 0 where
 
 -- Of block n the bytes so far are kept at the front of the part: it begins in the body, isn't whole yet, and is wanted.
 pub record KeepsPart (head : Announced) (body : List ℕ) (b : Body) (part : List ℕ) (now : Blocks) (n : ℕ) : Type 0 where
-  pub begins : head.first ≤ n * block_size
-  pub some : n * block_size < b.next
+  pub begins : head.first ≤ n * BLOCK_SIZE
+  pub some : n * BLOCK_SIZE < b.next
   pub lacks : b.next < end_of head.complete n
   pub wanted : is_wanted now head.complete b.span n ≡ true
-  pub bytes : take (b.next - n * block_size) part ≡ begun head.first body n
+  pub bytes : take (b.next - n * BLOCK_SIZE) part ≡ begun head.first body n
 
 -- None of block n is kept: none came of it, it is whole, it began before the body, or it isn't wanted.
 abbrev pub KeepsNone : Announced → Body → Blocks → ℕ → Type 0
 KeepsNone head b now n =
-    (b.next ≡ n * block_size) ⊎ ((head.complete ≤ b.next) ⊎ ((n * block_size < head.first)
+    (b.next ≡ n * BLOCK_SIZE) ⊎ ((head.complete ≤ b.next) ⊎ ((n * BLOCK_SIZE < head.first)
     ⊎ (is_wanted now head.complete b.span n ≡ false)))
 
 -- the bytes that are kept in the part
 abbrev pub kept_of : Body → List ℕ → List ℕ
-kept_of b part = if b.keeps then take (b.next - b.next / block_size * block_size) part else []
+kept_of b part = if b.keeps then take (b.next - b.next / BLOCK_SIZE * BLOCK_SIZE) part else []
 
 -- the block in which the body ends so far, and what is kept of it
 pub record IsCutAt (head : Announced) (body : List ℕ) (b : Body) (part : List ℕ) (now : Blocks) : Type 0 where
   pub block : ℕ
-  pub begins : block * block_size ≤ b.next
-  pub ends : b.next < block * block_size + block_size
+  pub begins : block * BLOCK_SIZE ≤ b.next
+  pub ends : b.next < block * BLOCK_SIZE + BLOCK_SIZE
   pub kept : b.keeps ≡ true → KeepsPart head body b part now block
   pub none : b.keeps ≡ false → KeepsNone head b now block
 
@@ -74,22 +75,22 @@ Stops old part before more after =
 
 -- a block begins at the place, or nothing follows
 abbrev pub IsSeam : ℕ → List ℕ → Type 0
-IsSeam at more = ((n : ℕ) × (at ≡ n * block_size)) ⊎ (length more ≡ 0)
+IsSeam at more = ((n : ℕ) × (at ≡ n * BLOCK_SIZE)) ⊎ (length more ≡ 0)
 
 -- the last of the bytes are kept, which stand in block n
 pub record KeepsOf (bytes : List ℕ) (b : Body) (part : List ℕ) (now : Blocks) (n : ℕ) : Type 0 where
-  pub some : n * block_size < b.next
+  pub some : n * BLOCK_SIZE < b.next
   pub lacks : b.next < b.complete
   pub wanted : is_wanted now b.complete b.span n ≡ true
-  pub tail : take (b.next - n * block_size) part ≡ drop (length bytes - (b.next - n * block_size)) bytes
+  pub tail : take (b.next - n * BLOCK_SIZE) part ≡ drop (length bytes - (b.next - n * BLOCK_SIZE)) bytes
 
 -- Of bytes that begin at a block's edge those are kept that follow the last whole block, where that block is wanted.
 pub record KeepsTail (bytes : List ℕ) (b : Body) (part : List ℕ) (now : Blocks) : Type 0 where
   pub block : ℕ
-  pub begins : block * block_size ≤ b.next
-  pub ends : b.next < block * block_size + block_size
+  pub begins : block * BLOCK_SIZE ≤ b.next
+  pub ends : b.next < block * BLOCK_SIZE + BLOCK_SIZE
   pub kept : b.keeps ≡ true → KeepsOf bytes b part now block
-  pub none : b.keeps ≡ false → (b.next ≡ block * block_size)
+  pub none : b.keeps ≡ false → (b.next ≡ block * BLOCK_SIZE)
       ⊎ ((b.complete ≤ b.next) ⊎ (is_wanted now b.complete b.span block ≡ false))
 
 -- What is kept is the part of the definition: the bytes so far of a wanted block that isn't whole yet.

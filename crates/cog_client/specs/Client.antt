@@ -1,4 +1,5 @@
 -- The words for what callers know of a client, and when what it holds is of a published file.
+use Rattle.cached_reader.specs.declared.ahead.TheConstants.{MAX_BLOCKS}
 use Rattle.std.specs.Prelude.{◌≡◌, ℕ, ◌+◌, ◌*◌, ◌<◌, Bool, not, ◌||◌, nat_lt, IsTrue, if◌then◌else◌, List, [], length, Option, Some, None, IfSome, IsSomeAnd, is_some, ⊤}
 use Rattle.std.specs.Option.{option_map, option_map_or}
 use Rattle.tiff_dir.specs.declared.query.Query.{Query}
@@ -6,8 +7,9 @@ use Rattle.tiff_dir.specs.declared.span.Span.{Span}
 use Rattle.tiff_dir.specs.Needs.{Extent}
 use Rattle.http_range.specs.Names.{is_host, is_name}
 use Rattle.http_range.specs.Book.{Publication, Book, In}
-use Rattle.tiff_dir.specs.Block.{block_size}
-use Rattle.range_cache.specs.Cache.{Blocks, Holds, max_capacity, min_capacity}
+use Rattle.range_cache.specs.declared.cache.TheConstants.{MAX_CAPACITY, MIN_CAPACITY}
+use Rattle.tiff_dir.specs.declared.limits.TheConstants.{BLOCK_SIZE}
+use Rattle.range_cache.specs.Cache.{Blocks, Holds}
 use Rattle.cog_reader.specs.Outcome.{IsTrueOf}
 use Rattle.cog_reader.specs.Reader as reader
 use Rattle.cog_client.specs.declared.asking.Asking.{Asking}
@@ -33,7 +35,7 @@ abbrev pub client_refusal : List ℕ → List ℕ → ℕ → Option ClientError
 client_refusal host name blocks =
     if not (is_host host) then Some Host
     else if not (is_name name) then Some Name
-    else if nat_lt blocks min_capacity || nat_lt max_capacity blocks then Some BadBlocks
+    else if nat_lt blocks MIN_CAPACITY || nat_lt MAX_CAPACITY blocks then Some BadBlocks
     else None
 
 -- The client is refused for this, and for want of memory only where nothing else stands against it.
@@ -140,11 +142,8 @@ abbrev pub IsStanding : Option Query → Option Span → Report → Type 0
 IsStanding q a r = (q ≡ Some r.query) × (a ≡ None)
 
 -- no more than 65 blocks are asked for
-abbrev pub max_blocks : ℕ
-max_blocks = 65
-
 abbrev pub IsFew : Span → Type 0
-IsFew s = s.last < s.first + max_blocks * block_size
+IsFew s = s.last < s.first + MAX_BLOCKS * BLOCK_SIZE
 
 pub record IsClient (c : ClientState) : Type 0 where
   pub hosted : IsTrue (is_host c.host)

@@ -2,7 +2,8 @@
 use Rattle.std.specs.Prelude.{◌≡◌, ◌≢◌, ◌⊎◌, ℕ, ◌+◌, ◌*◌, ◌/◌, ◌≤◌, not, ◌==◌, ◌&&◌, nat_le, nat_lt, min, max, Bool, if◌then◌else◌, true, List, [], ◌++◌, length, take as front, drop, Option, Some, None, IfSome, Ok, ⊤}
 use Rattle.std.specs.Str.{bytes_eq}
 use Rattle.tiff_dir.specs.declared.span.Span.{Span}
-use Rattle.tiff_dir.specs.Block.{block_size, end_of}
+use Rattle.tiff_dir.specs.declared.limits.TheConstants.{BLOCK_SIZE}
+use Rattle.tiff_dir.specs.Block.{end_of}
 use Rattle.http_range.specs.declared.reading.Why.{Why}
 use Rattle.http_range.specs.declared.reading.Why.TheVariants.{Cut, Head}
 use Rattle.http_range.specs.Piece.{SeenPiece}
@@ -62,7 +63,7 @@ abbrev pub CutsAreStored : Type 0
 CutsAreStored = (head : Announced) (body more : List ℕ) (span : Span) (b : Blocks) (n : ℕ) →
     IsCutIn head.complete head.first body more n →
     let m = lacking head.complete head.first body n in
-    let cut = piece_at head (n * block_size) (begun head.first body n ++ front m more) in
+    let cut = piece_at head (n * BLOCK_SIZE) (begun head.first body n ++ front m more) in
     let rest = piece_at head (end_of head.complete n) (drop m more) in
     let before = stored_of (piece_with head body) span b in
     (stored_of (piece_with head (body ++ more)) span b ≡ stored_of rest span (stored_of cut span before))
@@ -89,13 +90,13 @@ PartsAreNotStored = (head : Announced) (place : ℕ) (bytes : List ℕ) (span : 
 
 -- the block in which the bytes end that came so far
 abbrev pub cut_block : Announced → List ℕ → ℕ
-cut_block head body = (head.first + length body) / block_size
+cut_block head body = (head.first + length body) / BLOCK_SIZE
 
 -- the bytes so far of a block that begins in the body, isn't whole yet, and is wanted
 abbrev pub part_of : Announced → Blocks → Span → List ℕ → List ℕ
 part_of head blocks span body =
     let n = cut_block head body in
-    if nat_le head.first (n * block_size) && nat_lt (head.first + length body) (end_of head.complete n)
+    if nat_le head.first (n * BLOCK_SIZE) && nat_lt (head.first + length body) (end_of head.complete n)
     && is_wanted blocks head.complete span n
     then begun head.first body n else []
 

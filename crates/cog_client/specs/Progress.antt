@@ -11,7 +11,8 @@ use Rattle.http_range.specs.Book.{Publication, Book, Catalogue, HasDistinctTags,
 use Rattle.http_range.specs.Piece.{SeenPiece}
 use Rattle.http_range.specs.Reading.{ReadsAnswer}
 use Rattle.http_range.specs.Response.{Response, IsAnswer, is_current, text_of}
-use Rattle.tiff_dir.specs.Block.{block_size, first_block, blocks, end_of}
+use Rattle.tiff_dir.specs.declared.limits.TheConstants.{BLOCK_SIZE}
+use Rattle.tiff_dir.specs.Block.{first_block, blocks, end_of}
 use Rattle.range_cache.specs.Numbers.{has, missing}
 use Rattle.range_cache.specs.Cache.{numbers}
 use Rattle.cached_reader.specs.Going.{AreTouched}
@@ -83,7 +84,7 @@ pub record IsOfNeeded (f : List ℕ) (q : Query) (s : Span) : Type 0 where
   pub needed : IsAmong (needs f q) range
   pub from : ℕ
   pub to : ℕ
-  pub first : s.first ≡ from * block_size
+  pub first : s.first ≡ from * BLOCK_SIZE
   pub last : s.last + 1 ≡ end_of (length f) (to - 1)
   pub begins : first_block range.first ≤ from
   pub some : from < to
@@ -91,7 +92,7 @@ pub record IsOfNeeded (f : List ℕ) (q : Query) (s : Span) : Type 0 where
 
 -- no block that begins in the span is there
 abbrev pub IsGone : List ℕ → Span → Type 0
-IsGone there s = (k : ℕ) → s.first ≤ k * block_size → k * block_size ≤ s.last → has k there ≡ false
+IsGone there s = (k : ℕ) → s.first ≤ k * BLOCK_SIZE → k * BLOCK_SIZE ≤ s.last → has k there ≡ false
 
 -- What a client with a revision asks for are blocks each of which touches a range that it needs, and none of them is there.
 abbrev pub NeededAreAsked : Type 0

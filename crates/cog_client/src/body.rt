@@ -1,6 +1,6 @@
 //! The body of an answer that comes in pieces: its blocks are stored as they become whole.
 ghost use Rattle.std.specs.Prelude.{◌≡◌, ◌+◌, ◌-◌, ◌*◌, ◌<◌, ◌≤◌, ◌++◌, ℕ, List, [], IfOk, OnOk, OnErr, length, drop, take};
-ghost use Rattle.tiff_dir.specs.Block.{block_size};
+ghost use Rattle.tiff_dir.specs.declared.limits.TheConstants.{BLOCK_SIZE};
 ghost use Rattle.http_range.specs.Announced.{announced, FitsFile};
 ghost use Rattle.range_cache.specs.Cache.{stores, Blocks};
 ghost use Rattle.range_cache.specs.Piece.{whole_blocks};
@@ -95,10 +95,10 @@ impl Body {
     ) -> Result<&'b [u8], Memory>
         requires sound { IsSoundBody self.old }
         requires all { length bytes.now ≤ self.old.left }
-        requires room { length part.old ≡ block_size }
+        requires room { length part.old ≡ BLOCK_SIZE }
         ensures sound { IsSoundBody self.new }
         ensures span { self.new.span ≡ self.old.span }
-        ensures room { length part.new ≡ block_size }
+        ensures room { length part.new ≡ BLOCK_SIZE }
         ensures ok { IfOk result (λ rest. (m : ℕ) × (rest.now ≡ drop m bytes.now) × (length rest.now ≤ self.new.left) × IsSeam self.new.next rest.now
             × Extends self.old part.old cache.old (take m bytes.now) self.new part.new cache.new) }
         ensures err { OnErr result (Stops self.old part.old cache.old bytes.now cache.new) }
@@ -139,11 +139,11 @@ impl Body {
     fn go_on(&mut self, part: &mut [u8], cache: &mut Cache, bytes: &[u8]) -> Result<(), Memory>
         requires sound { IsSoundBody self.old }
         requires all { length bytes.now ≤ self.old.left }
-        requires room { length part.old ≡ block_size }
+        requires room { length part.old ≡ BLOCK_SIZE }
         requires seam { IsSeam self.old.next bytes.now }
         ensures sound { IsSoundBody self.new }
         ensures span { self.new.span ≡ self.old.span }
-        ensures room { length part.new ≡ block_size }
+        ensures room { length part.new ≡ BLOCK_SIZE }
         ensures ok { OnOk result (Extends self.old part.old cache.old bytes.now self.new part.new cache.new) }
         ensures err { OnErr result (Stops self.old part.old cache.old bytes.now cache.new) }
     {
@@ -163,9 +163,9 @@ impl Body {
 
     /// Keeps the bytes of the block in which the body ends so far, if it is wanted and isn't whole.
     fn keep(&mut self, part: &mut [u8], cache: &Cache, bytes: &[u8])
-        requires room { length part.old ≡ block_size }
-        requires edge { (n : ℕ) × (self.old.next ≡ n * block_size + length bytes.now) }
-        ensures room { length part.new ≡ block_size }
+        requires room { length part.old ≡ BLOCK_SIZE }
+        requires edge { (n : ℕ) × (self.old.next ≡ n * BLOCK_SIZE + length bytes.now) }
+        ensures room { length part.new ≡ BLOCK_SIZE }
         ensures same { self.new ≡ record self.old { keeps = self.new.keeps } }
         ensures tail { KeepsTail bytes.now self.new part.new cache.now }
     {
@@ -182,10 +182,10 @@ impl Body {
     /// block that is cut. After `Memory`, the only error, a beginning of the blocks is stored.
     pub fn take(&mut self, part: &mut [u8], cache: &mut Cache, bytes: &[u8]) -> Result<(), Memory>
         requires sound { IsSoundBody self.old }
-        requires room { length part.old ≡ block_size }
+        requires room { length part.old ≡ BLOCK_SIZE }
         ensures sound { IsSoundBody self.new }
         ensures span { self.new.span ≡ self.old.span }
-        ensures room { length part.new ≡ block_size }
+        ensures room { length part.new ≡ BLOCK_SIZE }
         ensures ok { OnOk result (Extends self.old part.old cache.old (take self.old.left bytes.now) self.new part.new cache.new) }
         ensures err { OnErr result (Stops self.old part.old cache.old (take self.old.left bytes.now) cache.new) }
     {

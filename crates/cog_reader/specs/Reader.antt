@@ -9,7 +9,8 @@ use Rattle.tiff_dir.specs.declared.fault.FileFault.{FileFault}
 use Rattle.tiff_dir.specs.Fault.{IsFaultOfDirectories}
 use Rattle.tiff_dir.specs.File.{◌>>=◌}
 use Rattle.tiff_dir.specs.WalkState.{WalkState}
-use Rattle.tiff_dir.specs.Needs.{Extent, extent_of_place, IsEndOf, max_range_bytes}
+use Rattle.tiff_dir.specs.declared.limits.TheConstants.{MAX_RANGE_BYTES}
+use Rattle.tiff_dir.specs.Needs.{Extent, extent_of_place, IsEndOf}
 use Rattle.tiff_dir.specs.Query.{needs_of_query, rectangle, is_refused}
 use Rattle.tiff_dir.specs.Walk as walk
 use Rattle.tiff_dir.specs.Walk.{HasEnded, bytes_in, given_of, levels_of, extent_of_span}
@@ -186,7 +187,7 @@ IsWantedOf f r bytes = IsSomeAnd (wanted r) (λ w. bytes ≡ bytes_in f w)
 abbrev pub Wants : ReaderState → Option Span → Type 0
 Wants r None = (wanted r ≡ None) × (query_of r ≡ None ⊎ IsSome (outcome_of r))
 Wants r (Some span) =
-    (wanted r ≡ Some (extent_of_span span)) × (span.last < complete_of r) × (span.last + 1 ≤ span.first + max_range_bytes)
+    (wanted r ≡ Some (extent_of_span span)) × (span.last < complete_of r) × (span.last + 1 ≤ span.first + MAX_RANGE_BYTES)
     × (outcome_of r ≡ None)
 
 -- No such range is known that ends in the file, or it is this one.

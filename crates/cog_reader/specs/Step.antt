@@ -6,7 +6,7 @@ use Rattle.tiff_dir.specs.Faulty.{IsFaulty}
 use Rattle.tiff_dir.specs.declared.query.Query.TheVariants as query
 use Rattle.tiff_dir.specs.WalkState.{WalkState}
 use Rattle.tiff_dir.specs.Needs.{Extent}
-use Rattle.tiff_dir.specs.Needs.{max_range_bytes}
+use Rattle.tiff_dir.specs.declared.limits.TheConstants.{MAX_RANGE_BYTES}
 use Rattle.tiff_dir.specs.Walk as walk
 use Rattle.tiff_dir.specs.Walk.{extent_of_span}
 use Rattle.tiff_dir.specs.declared.fault.WalkError.{WalkError}
@@ -38,7 +38,7 @@ pub record Becomes (complete : ℕ) (w : WalkState) (k : Kept) (q : Query) (old 
 pub record IsFair (complete : ℕ) (r : Extent) : Type 0 where
   pub some : 0 < r.len
   pub inside : r.first + r.len ≤ complete
-  pub few : r.len ≤ max_range_bytes
+  pub few : r.len ≤ MAX_RANGE_BYTES
 
 -- the state wants this range, which can be given, and which is the first of those that are still to come
 pub record IsWantedBy (complete : ℕ) (w : WalkState) (k : Kept) (state : State) (r : Extent) : Type 0 where

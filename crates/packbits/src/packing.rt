@@ -1,19 +1,18 @@
 //! Packets of a row.
 ghost use Rattle.std.specs.Prelude.{◌≡◌, ◌<◌, ◌≤◌, IfOk, length, take, replicate, slice_index};
-ghost use Rattle.tiff_dir.specs.Packets.{max_packet_bytes, Packs};
+ghost use Rattle.tiff_dir.specs.declared.limits.TheConstants.{MAX_PACKET_BYTES};
+ghost use Rattle.tiff_dir.specs.Packets.{Packs};
 ghost use Rattle.packbits.specs.Adding.{Adds};
 
 use std::alloc::Global;
 use tiff_dir::Memory;
-
-/// The most bytes that a packet stands for.
-const MAX_PACKET_BYTES: usize = 128;
+use tiff_dir::limits::MAX_PACKET_BYTES;
 
 /// How many equal bytes the row begins with, up to 128.
 fn run_len(bytes: &[u8]) -> usize
     requires { 0 < length bytes.now }
     ensures some { 1 ≤ result }
-    ensures few { result ≤ max_packet_bytes }
+    ensures few { result ≤ MAX_PACKET_BYTES }
     ensures within { result ≤ length bytes.now }
     ensures equal { take result bytes.now ≡ replicate result (slice_index bytes.now 0) }
 {
@@ -31,7 +30,7 @@ fn run_len(bytes: &[u8]) -> usize
 fn copy_len(bytes: &[u8]) -> usize
     requires { 0 < length bytes.now }
     ensures some { 1 ≤ result }
-    ensures few { result ≤ max_packet_bytes }
+    ensures few { result ≤ MAX_PACKET_BYTES }
     ensures within { result ≤ length bytes.now }
 {
     let most = bytes.len().min(MAX_PACKET_BYTES);

@@ -9,7 +9,8 @@ use Rattle.std.specs.Global.{Vec}
 use Rattle.std.specs.List.{All, range_with_len, slice_range}
 use Rattle.std.specs.Map.{lookup, lookup_entry}
 use Rattle.std.specs.Option.{option_map_or}
-use Rattle.tiff_dir.specs.Block.{block_size, block_of, first_block, blocks}
+use Rattle.tiff_dir.specs.declared.limits.TheConstants.{BLOCK_SIZE}
+use Rattle.tiff_dir.specs.Block.{block_of, first_block, blocks}
 use Rattle.range_cache.specs.Numbers.{has, AreThere}
 use Rattle.range_cache.specs.Cache.{Block, block_at, blocks_in, byte_at, left_in, numbers}
 use Rattle.range_cache.proofs.Entries.{block, is_some-lookup_entry, number_of_entry}
@@ -89,7 +90,7 @@ found_byte n g (e ∷ es) =
       | false ↦ found_byte n g es
     ]
 
-pub byte_found : (n j k : ℕ) (es : List (ℕ × Vec ℕ)) (o : Option (Vec ℕ)) → o ≡ lookup (nat_eq n) es → j < block_size → k ≡ n * block_size + j →
+pub byte_found : (n j k : ℕ) (es : List (ℕ × Vec ℕ)) (o : Option (Vec ℕ)) → o ≡ lookup (nat_eq n) es → j < BLOCK_SIZE → k ≡ n * BLOCK_SIZE + j →
     byte_at (blocks_in es) k ≡ option_map_or (λ (v : Vec ℕ). get_or v.items j 0) o 0
 byte_found n j k es o is less k_is =
     let number : k / 16384 ≡ n = omega arith in
@@ -99,10 +100,10 @@ byte_found n j k es o is less k_is =
     ∙ found_byte n (λ l. get_or l j 0) es ∙ ap (λ p. option_map_or (λ (v : Vec ℕ). get_or v.items j 0) p 0) (sym is)
 
 pub left_found : (n at len : ℕ) (es : List (ℕ × Vec ℕ)) (o : Option (Vec ℕ)) → o ≡ lookup (nat_eq n) es →
-    left_in (block_at n (blocks_in es)) at len ≡ option_map_or (λ (v : Vec ℕ). min len (min block_size (length v.items) - at)) o 0
+    left_in (block_at n (blocks_in es)) at len ≡ option_map_or (λ (v : Vec ℕ). min len (min BLOCK_SIZE (length v.items) - at)) o 0
 left_found n at len es o is =
-    found_byte n (λ l. min len (min block_size (length l) - at)) es
-    ∙ ap (λ p. option_map_or (λ (v : Vec ℕ). min len (min block_size (length v.items) - at)) p 0) (sym is)
+    found_byte n (λ l. min len (min BLOCK_SIZE (length l) - at)) es
+    ∙ ap (λ p. option_map_or (λ (v : Vec ℕ). min len (min BLOCK_SIZE (length v.items) - at)) p 0) (sym is)
 
 -- a byte of a file, in a block that is there
 

@@ -1,11 +1,13 @@
 -- What a contract sees of a cache: its blocks, the most recently used first, and how many it may have.
+use Rattle.range_cache.specs.declared.cache.TheConstants.{MAX_CAPACITY, MIN_CAPACITY}
 use Rattle.std.specs.Prelude.{◌≡◌, ℕ, ◌+◌, ◌-◌, ◌/◌, ◌%◌, ◌≤◌, min, not, ◌==◌, nat_eq, if◌then◌else◌, List, [], ◌∷◌, ◌++◌, length, take, map, reverse, slice_index, Option}
 use Rattle.std.specs.List.{All, filter, filter_map, fold, range_with_len, IsDistinct}
 use Rattle.std.specs.Map.{lookup_entry}
 use Rattle.std.specs.Option.{option_map_or}
 use Rattle.std.specs.Global.{Vec}
 use Rattle.lru.specs.LruCache.{LruCache}
-use Rattle.tiff_dir.specs.Block.{block_size, block_of}
+use Rattle.tiff_dir.specs.declared.limits.TheConstants.{BLOCK_SIZE}
+use Rattle.tiff_dir.specs.Block.{block_of}
 use Rattle.range_cache.specs.Numbers.{has}
 
 -- a block's number and its bytes
@@ -26,19 +28,12 @@ kept_blocks c = record { entries = blocks_in c.entries; capacity = c.cap }
 abbrev pub numbers : List Block → List ℕ
 numbers bs = map (λ b. b.0) bs
 
--- how few and how many blocks a cache may have
-abbrev pub min_capacity : ℕ
-min_capacity = 66
-
-abbrev pub max_capacity : ℕ
-max_capacity = 4096
-
 -- no block twice, no more than there may be, and 66 to 4,096 may be there
 pub record IsSound (c : Blocks) : Type 0 where
   pub distinct : IsDistinct ◌==◌ (numbers c.entries)
   pub room : length c.entries ≤ c.capacity
-  pub least : min_capacity ≤ c.capacity
-  pub most : c.capacity ≤ max_capacity
+  pub least : MIN_CAPACITY ≤ c.capacity
+  pub most : c.capacity ≤ MAX_CAPACITY
 
 -- each block is f's at its place
 unfoldable pub Holds : List ℕ → Blocks → Type 0
@@ -50,7 +45,7 @@ block_at n bs = lookup_entry (nat_eq n) bs
 
 -- byte k of the file, as the blocks have it: 0 where they don't
 abbrev pub byte_at : List Block → ℕ → ℕ
-byte_at bs k = option_map_or (λ b. slice_index b.1 (k % block_size)) (block_at (k / block_size) bs) 0
+byte_at bs k = option_map_or (λ b. slice_index b.1 (k % BLOCK_SIZE)) (block_at (k / BLOCK_SIZE) bs) 0
 
 -- len bytes from first on, as the blocks have them
 unfoldable pub bytes_at : Blocks → ℕ → ℕ → List ℕ
@@ -58,7 +53,7 @@ bytes_at c first len = map (byte_at c.entries) (range_with_len first len)
 
 -- how many of len bytes a block has from a place in it on: none where it isn't there
 abbrev pub left_in : Option Block → ℕ → ℕ → ℕ
-left_in b at len = option_map_or (λ b. min len (min block_size (length b.1) - at)) b 0
+left_in b at len = option_map_or (λ b. min len (min BLOCK_SIZE (length b.1) - at)) b 0
 
 -- those of the blocks ns that are there, in their order
 abbrev pub present : List ℕ → List Block → List Block

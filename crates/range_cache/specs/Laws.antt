@@ -1,7 +1,8 @@
 -- Laws of these definitions, for the crates above.
 use Rattle.std.specs.Prelude.{◌≡◌, ◌⊎◌, ℕ, ◌+◌, ◌-◌, ◌*◌, ◌<◌, ◌≤◌, true, false, List, [], ◌++◌, length, take, drop, min, max, is_some}
 use Rattle.tiff_dir.specs.declared.span.Span.{Span}
-use Rattle.tiff_dir.specs.Block.{block_size, end_of}
+use Rattle.tiff_dir.specs.declared.limits.TheConstants.{BLOCK_SIZE}
+use Rattle.tiff_dir.specs.Block.{end_of}
 use Rattle.range_cache.specs.Numbers.{has, missing, AreGone, AreKept, IsGap, IsLed, Stays}
 use Rattle.range_cache.specs.Cache.{Block, Blocks, block_at, numbers, stored, stores, Holds}
 use Rattle.range_cache.specs.Piece.{is_brought, is_wanted, whole_blocks, IsPieceOf}
@@ -75,7 +76,7 @@ OnlyWholeAreBrought = (complete first : ℕ) (bytes : List ℕ) (wanted : Span) 
 -- what is wanted is no longer than n blocks: a piece brings n at most
 abbrev pub WholeAreFew : Type 0
 WholeAreFew = (complete first : ℕ) (bytes : List ℕ) (wanted : Span) (n : ℕ) →
-    wanted.last < wanted.first + n * block_size → length (whole_blocks complete first bytes wanted) ≤ n
+    wanted.last < wanted.first + n * BLOCK_SIZE → length (whole_blocks complete first bytes wanted) ≤ n
 
 -- a piece of a file brings blocks of that file: blocks of it stay so where they are stored
 abbrev pub StoredHolds : Type 0
@@ -93,7 +94,7 @@ FrontHolds = (f : List ℕ) (c : Blocks) (complete first : ℕ) (bytes : List �
 
 -- no block is cut here: one begins, or the file ends
 abbrev pub IsEdge : ℕ → ℕ → Type 0
-IsEdge complete at = (at ≡ complete) ⊎ ((n : ℕ) × (at ≡ n * block_size))
+IsEdge complete at = (at ≡ complete) ⊎ ((n : ℕ) × (at ≡ n * BLOCK_SIZE))
 
 -- a piece that is cut at such a place brings the blocks of the first part, and then those of the second
 abbrev pub EdgesPart : Type 0
@@ -103,9 +104,9 @@ EdgesPart = (complete first : ℕ) (front rest : List ℕ) (wanted : Span) → I
 
 -- The places from first up to end lie in block n, and are not all of it.
 pub record IsPartOf (complete first end n : ℕ) : Type 0 where
-  pub begins : n * block_size ≤ first
+  pub begins : n * BLOCK_SIZE ≤ first
   pub ends : end ≤ end_of complete n
-  pub lacks : (n * block_size < first) ⊎ (end < end_of complete n)
+  pub lacks : (n * BLOCK_SIZE < first) ⊎ (end < end_of complete n)
 
 -- a part of a block brings none
 abbrev pub PartsBringNone : Type 0
@@ -119,14 +120,14 @@ BesideBringNone = (complete first : ℕ) (bytes : List ℕ) (wanted : Span) →
 
 -- A piece is cut inside block n, which begins in the front and ends in the rest.
 pub record IsCutIn (complete first : ℕ) (front rest : List ℕ) (n : ℕ) : Type 0 where
-  pub begins : first ≤ n * block_size
-  pub reached : n * block_size ≤ first + length front
+  pub begins : first ≤ n * BLOCK_SIZE
+  pub reached : n * BLOCK_SIZE ≤ first + length front
   pub cut : first + length front < end_of complete n
   pub ends : end_of complete n ≤ first + length front + length rest
 
 -- the part of block n in the front, and how many bytes of it stand in the rest
 abbrev pub begun : ℕ → List ℕ → ℕ → List ℕ
-begun first front n = drop (n * block_size - first) front
+begun first front n = drop (n * BLOCK_SIZE - first) front
 
 abbrev pub lacking : ℕ → ℕ → List ℕ → ℕ → ℕ
 lacking complete first front n = end_of complete n - (first + length front)
@@ -137,7 +138,7 @@ CutsPart = (complete first : ℕ) (front rest : List ℕ) (wanted : Span) (n : �
     let m = lacking complete first front n in
     whole_blocks complete first (front ++ rest) wanted
     ≡ whole_blocks complete first front wanted
-    ++ (whole_blocks complete (n * block_size) (begun first front n ++ take m rest) wanted
+    ++ (whole_blocks complete (n * BLOCK_SIZE) (begun first front n ++ take m rest) wanted
     ++ whole_blocks complete (end_of complete n) (drop m rest) wanted)
 
 -- blocks of two lists are stored one list after the other, and counted so
@@ -152,6 +153,6 @@ StoresJoin = (capacity : ℕ) (new later bs : List Block) →
 -- bytes of a block that isn't wanted change nothing
 abbrev pub UnwantedStay : Type 0
 UnwantedStay = (c : Blocks) (complete : ℕ) (bytes : List ℕ) (wanted : Span) (n : ℕ) →
-    is_wanted c complete wanted n ≡ false → n * block_size + length bytes ≤ end_of complete n →
-    let new = whole_blocks complete (n * block_size) bytes wanted in
+    is_wanted c complete wanted n ≡ false → n * BLOCK_SIZE + length bytes ≤ end_of complete n →
+    let new = whole_blocks complete (n * BLOCK_SIZE) bytes wanted in
     (stored c.capacity new c.entries ≡ c.entries) × (stores c.capacity new c.entries ≡ 0)

@@ -1,7 +1,8 @@
 -- The bytes that a cache lacks.
 use Rattle.std.specs.Prelude.{◌≡◌, ℕ, ◌+◌, ◌-◌, ◌*◌}
 use Rattle.range_cache.specs.declared.missing.Missing.{Missing}
-use Rattle.tiff_dir.specs.Block.{block_size, first_block, blocks, end_of}
+use Rattle.tiff_dir.specs.declared.limits.TheConstants.{BLOCK_SIZE}
+use Rattle.tiff_dir.specs.Block.{first_block, blocks, end_of}
 use Rattle.range_cache.specs.Numbers.{IsGap}
 use Rattle.range_cache.specs.Cache.{Blocks, numbers}
 
@@ -11,5 +12,5 @@ pub record IsFirstGap (c : Blocks) (complete first len : ℕ) (m : Missing) : Ty
   pub from : ℕ
   pub to : ℕ
   pub gap : IsGap (numbers c.entries) (first_block first) (blocks first len) from to
-  pub first_is : m.first ≡ from * block_size
+  pub first_is : m.first ≡ from * BLOCK_SIZE
   pub last_is : m.last + 1 ≡ end_of complete (to - 1)

@@ -2,13 +2,14 @@
 use Rattle.std.specs.Prelude.{◌≡◌, ℕ, ◌+◌, ◌-◌, ◌*◌, Bool, not, ◌&&◌, List, length, map, slice_range}
 use Rattle.std.specs.List.{filter, range_with_len}
 use Rattle.tiff_dir.specs.declared.span.Span.{Span}
-use Rattle.tiff_dir.specs.Block.{block_size, end_of, block_count, is_whole}
+use Rattle.tiff_dir.specs.declared.limits.TheConstants.{BLOCK_SIZE}
+use Rattle.tiff_dir.specs.Block.{end_of, block_count, is_whole}
 use Rattle.range_cache.specs.Numbers.{has}
 use Rattle.range_cache.specs.Cache.{Block, Blocks, numbers}
 
 -- block n of a piece that begins at first
 abbrev pub block_in : ℕ → ℕ → List ℕ → ℕ → Block
-block_in complete first bytes n = (n, slice_range bytes (n * block_size - first) (end_of complete n - first))
+block_in complete first bytes n = (n, slice_range bytes (n * BLOCK_SIZE - first) (end_of complete n - first))
 
 -- the blocks that lie wholly in a piece of so many bytes from first and wholly in what is wanted
 abbrev pub is_brought : ℕ → ℕ → ℕ → Span → ℕ → Bool

@@ -1,7 +1,8 @@
 //! Work on the blocks of a cache, by their numbers.
 ghost use Rattle.std.specs.Prelude.{◌≡◌, false, ℕ, List, ◌+◌, ◌-◌, ◌*◌, ◌/◌, ◌%◌, ◌<◌, ◌≤◌, ◌^◌, ◌==◌, EachIndex, IfOk, OnErr, MatchOption, length, map, slice_index, if◌then◌else◌};
 ghost use Rattle.std.specs.List.{IsDistinct, filter, range_with_len};
-ghost use Rattle.tiff_dir.specs.Block.{block_size, block_count, end_of};
+ghost use Rattle.tiff_dir.specs.declared.limits.TheConstants.{BLOCK_SIZE};
+ghost use Rattle.tiff_dir.specs.Block.{block_count, end_of};
 ghost use Rattle.range_cache.specs.Numbers.{has, missing, AreThere, IsRunEnd};
 ghost use Rattle.range_cache.specs.Cache.{block_at, blocks_in, byte_at, left_in, numbers, brought, put_one, stored, stores};
 ghost use Rattle.range_cache.specs.Piece.{block_in, is_brought};
@@ -12,7 +13,7 @@ use tiff_dir::{Memory, Span};
 
 /// The last place of a block of a file of this length.
 pub fn last_of(number: u64, complete: u64) -> u64
-    requires { number * block_size < complete }
+    requires { number * BLOCK_SIZE < complete }
     ensures { result + 1 ≡ end_of complete number }
 {
     (number * BLOCK_SIZE + (BLOCK_SIZE - 1)).min(complete - 1)
@@ -84,9 +85,9 @@ fn copy_part(block: &[u8], skip: usize, out: &mut [u8])
 
 /// Copies the bytes from a place in a block on, as the blocks have them.
 fn copy_block(blocks: &LruCache<u64, Vec<u8>>, number: u64, skip: usize, out: &mut [u8])
-    requires { skip + length out.old ≤ block_size }
+    requires { skip + length out.old ≤ BLOCK_SIZE }
     ensures { out.new
-        ≡ map (byte_at (blocks_in blocks.now.entries)) (range_with_len (number * block_size + skip) (length out.old)) }
+        ≡ map (byte_at (blocks_in blocks.now.entries)) (range_with_len (number * BLOCK_SIZE + skip) (length out.old)) }
 {
     match blocks.peek(&number) {
         Some(block) => copy_part(block, skip, out),
@@ -116,7 +117,7 @@ pub fn copy(blocks: &LruCache<u64, Vec<u8>>, first: u64, out: &mut [u8])
 pub fn piece(blocks: &LruCache<u64, Vec<u8>>, first: u64, len: usize) -> &[u8]
     requires { first + len < 2 ^ 64 }
     ensures few { length result.now ≤ len }
-    ensures long { length result.now ≡ left_in (block_at (first / block_size) (blocks_in blocks.now.entries)) (first % block_size) len }
+    ensures long { length result.now ≡ left_in (block_at (first / BLOCK_SIZE) (blocks_in blocks.now.entries)) (first % BLOCK_SIZE) len }
     ensures piece { result.now
         ≡ map (byte_at (blocks_in blocks.now.entries)) (range_with_len first (length result.now)) }
 {
@@ -150,8 +151,8 @@ pub fn whole_run(complete: u64, first: u64, len: u64, wanted: Span) -> (u64, u64
     requires { first + len ≤ complete }
     ensures run { filter (is_brought complete first len wanted) (range_with_len 0 (block_count complete))
         ≡ range_with_len result.0 (result.1 - result.0) }
-    ensures starts { first ≤ result.0 * block_size }
-    ensures inside { result.1 * block_size < complete + block_size }
+    ensures starts { first ≤ result.0 * BLOCK_SIZE }
+    ensures inside { result.1 * BLOCK_SIZE < complete + BLOCK_SIZE }
     ensures ends { result.0 < result.1 → end_of complete (result.1 - 1) ≤ first + len }
 {
     let end = (first + len).min(wanted.last.saturating_add(1));
@@ -173,8 +174,8 @@ pub fn store(
     from: u64,
     to: u64,
 ) -> Result<u32, Memory>
-    requires starts { first ≤ from * block_size }
-    requires inside { to * block_size < complete + block_size }
+    requires starts { first ≤ from * BLOCK_SIZE }
+    requires inside { to * BLOCK_SIZE < complete + BLOCK_SIZE }
     requires ends { from < to → end_of complete (to - 1) ≤ first + length bytes.now }
     requires counted { stores blocks.old.cap (map (block_in complete first bytes.now) (range_with_len from (to - from)))
         (blocks_in blocks.old.entries) < 2 ^ 32 }

@@ -1,9 +1,11 @@
 //! The cache and its calls.
 ghost use Rattle.std.specs.Prelude.{◌≡◌, ◌+◌, ◌-◌, ◌*◌, ◌/◌, ◌%◌, ◌<◌, ◌≤◌, ◌^◌, ℕ, List, [], IfOk, OnOk, OnErr, IsErrOf, MatchResult, length, take};
 ghost use Rattle.std.specs.List.{range_with_len, slice_range};
-ghost use Rattle.tiff_dir.specs.Block.{block_size, first_block, blocks};
+ghost use Rattle.tiff_dir.specs.declared.limits.TheConstants.{BLOCK_SIZE};
+ghost use Rattle.tiff_dir.specs.Block.{first_block, blocks};
 ghost use Rattle.range_cache.specs.Numbers.{has, missing, AreGone, AreThere, IsLed, IsRunEnd, Stays};
-ghost use Rattle.range_cache.specs.Cache.{Blocks, block_at, bytes_at, left_in, max_capacity, min_capacity, numbers, Holds, IsSound, brought, stored, stores};
+ghost use Rattle.range_cache.specs.declared.cache.TheConstants.{MAX_CAPACITY, MIN_CAPACITY};
+ghost use Rattle.range_cache.specs.Cache.{Blocks, block_at, bytes_at, left_in, numbers, Holds, IsSound, brought, stored, stores};
 ghost use Rattle.range_cache.specs.Piece.{whole_blocks, IsPieceOf, is_wanted};
 ghost use Rattle.range_cache.specs.Missing.{IsFirstGap};
 
@@ -39,13 +41,14 @@ pub struct Cache {
 
 impl Model for Cache {
     ghost use Rattle.std.specs.Prelude.{◌≤◌};
-    ghost use Rattle.range_cache.specs.Cache.{Blocks, kept_blocks, max_capacity, min_capacity};
+    ghost use Rattle.range_cache.specs.declared.cache.TheConstants.{MAX_CAPACITY, MIN_CAPACITY};
+    ghost use Rattle.range_cache.specs.Cache.{Blocks, kept_blocks};
 
     ghost Value = { Blocks };
 
     ghost view = { λ c. kept_blocks c.blocks };
 
-    ghost invariant = { λ c. (min_capacity ≤ c.blocks.cap) × (c.blocks.cap ≤ max_capacity) };
+    ghost invariant = { λ c. (MIN_CAPACITY ≤ c.blocks.cap) × (c.blocks.cap ≤ MAX_CAPACITY) };
 }
 
 impl Cache {
@@ -62,9 +65,9 @@ impl Cache {
     /// ```
     pub fn new(alloc: Global, blocks: u32) -> Result<Cache, CacheError>
         ensures made { IfOk result (λ c. c ≡ record { entries = []; capacity = blocks }) }
-        ensures fits { OnOk result ((min_capacity ≤ blocks) × (blocks ≤ max_capacity)) }
-        ensures refused { IsErrOf result CacheError.Blocks → min_capacity ≤ blocks → max_capacity < blocks }
-        ensures memory { IsErrOf result CacheError.Memory → (min_capacity ≤ blocks) × (blocks ≤ max_capacity) }
+        ensures fits { OnOk result ((MIN_CAPACITY ≤ blocks) × (blocks ≤ MAX_CAPACITY)) }
+        ensures refused { IsErrOf result CacheError.Blocks → MIN_CAPACITY ≤ blocks → MAX_CAPACITY < blocks }
+        ensures memory { IsErrOf result CacheError.Memory → (MIN_CAPACITY ≤ blocks) × (blocks ≤ MAX_CAPACITY) }
     {
         if !(MIN_CAPACITY..=MAX_CAPACITY).contains(&blocks) {
             return Err(CacheError::Blocks);
@@ -131,7 +134,7 @@ impl Cache {
     pub fn piece_at(&self, first: u64, len: usize) -> &[u8]
         requires { first + len < 2 ^ 64 }
         ensures few { length result.now ≤ len }
-        ensures long { length result.now ≡ left_in (block_at (first / block_size) self.now.entries) (first % block_size) len }
+        ensures long { length result.now ≡ left_in (block_at (first / BLOCK_SIZE) self.now.entries) (first % BLOCK_SIZE) len }
         ensures piece { result.now ≡ bytes_at self.now first (length result.now) }
     {
         piece(&self.blocks, first, len)

@@ -1,5 +1,13 @@
 //! Laws of the definitions, which upper crates rest on. Each function does nothing: its contract is the law.
+ghost use Rattle.std.specs.Prelude.{◌≡◌};
+ghost use Rattle.range_cache.specs.declared.cache.TheConstants.{MAX_CAPACITY, MIN_CAPACITY};
 ghost use Rattle.range_cache.specs.Laws.{BesideBringNone, CutsPart, EdgesPart, FoundAreThere, FrontHolds, GapsAreUnique, MissingIsSame, MissingIsFew, MissingIsFewer, MissingIsLess, MissingIsSome, OnlyWholeAreBrought, PartsBringNone, RunsAreMissing, StoredHolds, StoredJoin, StoredStay, StoresAreFew, StoresAreSome, StoresJoin, UnwantedStay, WholeAreBrought, WholeAreFew};
+
+/// How few and how many blocks a cache may have, in numbers.
+pub fn capacities_are()
+    ensures least { MIN_CAPACITY ≡ 66 }
+    ensures most { MAX_CAPACITY ≡ 4096 }
+{}
 
 /// What is missing is said by which blocks are there alone.
 pub fn missing_is_exact()

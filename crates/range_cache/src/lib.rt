@@ -8,7 +8,7 @@ mod missing;
 
 pub use cache::{Cache, CacheError, MAX_CAPACITY, MIN_CAPACITY};
 pub use laws::{
-    missing_is_exact, parts_bring_blocks, pieces_bring_blocks, stored_are_held, stored_stay,
-    stores_are_counted,
+    capacities_are, missing_is_exact, parts_bring_blocks, pieces_bring_blocks, stored_are_held,
+    stored_stay, stores_are_counted,
 };
 pub use missing::Missing;

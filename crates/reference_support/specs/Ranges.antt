@@ -1,4 +1,5 @@
 -- Ranges as the definitions see them.
+use Rattle.tiff_dir.specs.declared.limits.TheConstants.{MAX_RANGE_BYTES}
 use Rattle.std.specs.Prelude.{ℕ, ◌+◌, Bool, ◌&&◌, ◌==◌, nat_lt, nat_le, if◌then◌else◌, List, [], ◌∷◌, ◌++◌, map, Option, Some, None}
 use Rattle.std.specs.Option.{option_to_list}
 use Rattle.tiff_dir.specs.Needs as need
@@ -17,7 +18,7 @@ abbrev pub Ranged : Type 0
 Ranged = Option need.Extent
 
 abbrev pub may_join : need.Extent → need.Extent → Bool
-may_join g r = (r.first == g.first + g.len) && nat_le (g.len + r.len) need.max_range_bytes
+may_join g r = (r.first == g.first + g.len) && nat_le (g.len + r.len) MAX_RANGE_BYTES
 
 abbrev pub with_range : need.Extent → need.Extent → need.Extent
 with_range g r = record { first = g.first; len = g.len + r.len }

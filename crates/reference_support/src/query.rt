@@ -3,7 +3,8 @@ ghost use Rattle.std.specs.Prelude.{◌≡◌, ◌<◌, ◌≤◌, ◌^◌, ◌+
 ghost use Rattle.std.specs.Option.{option_map, option_map_or};
 ghost use Rattle.tiff_dir.specs.Profile.{tiles_along};
 ghost use Rattle.tiff_dir.specs.Level.{across as across_of, tile_total};
-ghost use Rattle.tiff_dir.specs.Query.{is_outside, is_outside_level, is_refused, is_too_large, max_window_samples, meets, overlap, passes, tiles_in, window_tiles};
+ghost use Rattle.tiff_dir.specs.declared.limits.TheConstants.{MAX_WINDOW_SAMPLES};
+ghost use Rattle.tiff_dir.specs.Query.{is_outside, is_outside_level, is_refused, is_too_large, meets, overlap, passes, tiles_in, window_tiles};
 ghost use Rattle.reference_support.specs.Modest.{grid_of, is_modest_grid};
 ghost use Rattle.reference_support.specs.Asked.{rectangle_of, HasNoModestLevel};
 
@@ -61,7 +62,7 @@ pub fn is_outside(alloc: Global, file: &[u8], query: Query) -> Result<bool, Allo
 
 /// Whether so many columns and rows of so many samples are more than 4,194,304 samples.
 fn exceeds(width: u128, height: u128, samples: u64) -> bool
-    ensures { result ≡ nat_lt max_window_samples (width * height * samples) }
+    ensures { result ≡ nat_lt MAX_WINDOW_SAMPLES (width * height * samples) }
 {
     if width == 0 || height == 0 || samples == 0 {
         return false;

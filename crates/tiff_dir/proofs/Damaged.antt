@@ -1,5 +1,6 @@
 -- The faults of small files with one value wrong, by computation, and none of them in the file without.
 use Rattle.tiff_dir.specs.declared.tags.TheConstants.{BITS_PER_SAMPLE, COMPRESSION, TILE_BYTE_COUNTS, TILE_LENGTH, TILE_WIDTH}
+use Rattle.tiff_dir.specs.declared.limits.TheConstants.{MAX_TILE_BYTES}
 use Rattle.std.proofs.Common.{◌≡◌, ℕ, zero, suc, ◌+◌, ◌==◌, ◌⊎◌, true, false, List, [], ◌∷◌, ◌++◌, take, drop, Some, None, ◌∙◌, refl, sym, ap, subst, Option, arith, inl, inr}
 use Rattle.std.specs.List.{list_any, range_with_len, IsAmong}
 use Rattle.std.specs.Prelude.{nat_lt, nat_le, IsSomeAnd}
@@ -13,7 +14,7 @@ use Rattle.tiff_dir.specs.declared.order.Order.TheVariants.{Little}
 use Rattle.tiff_dir.specs.Number.{number_in}
 use Rattle.tiff_dir.specs.File.{order_of, number, directory, has_directory, directories, entry_count, field_at, fields_from, fields, has_all_tags, field, values_at, field_value, value}
 use Rattle.tiff_dir.specs.Level.{is_level, level_directories, place_of, grid_at, layout_at, level_directory, level_grid, level_value, depth_at, plain_size_at}
-use Rattle.tiff_dir.specs.Profile.{accepts, is_tile_side, max_tile_bytes}
+use Rattle.tiff_dir.specs.Profile.{accepts, is_tile_side}
 use Rattle.tiff_dir.specs.Needs.{count_range, table_range, field_range, outside_range, ranges_of_directory, needs_of_directories, ends_past, outside_ranges}
 use Rattle.tiff_dir.specs.Query.{Rectangle, rectangle, is_outside, is_too_large, tiles_in, window_tiles, array_range, tile_range, grouped_after, grouped, groups, array_ranges, tile_ranges}
 use Rattle.tiff_dir.specs.Fault.{IsUnsupported, IsFaultOfLevel, IsFaultOfDirectories}
@@ -151,7 +152,7 @@ plain-size = refl
 good-sides : IsFaultOfLevel good 0 TileSize → ⊥
 good-sides (inl bad) = let wrong : is_tile_side 16 ≡ false = subst (λ o. IsSomeAnd o (λ side. is_tile_side side ≡ false)) tile-width bad in cc
 good-sides (inr (inl bad)) = let wrong : is_tile_side 16 ≡ false = subst (λ o. IsSomeAnd o (λ side. is_tile_side side ≡ false)) tile-length bad in cc
-good-sides (inr (inr bad)) = let wrong : nat_le 256 max_tile_bytes ≡ false = subst (λ o. IsSomeAnd o (λ n. nat_le n max_tile_bytes ≡ false)) plain-size bad in cc
+good-sides (inr (inr bad)) = let wrong : nat_le 256 MAX_TILE_BYTES ≡ false = subst (λ o. IsSomeAnd o (λ n. nat_le n MAX_TILE_BYTES ≡ false)) plain-size bad in cc
 
 only-tile : window_tiles good first_sample ≡ 0 ∷ []
 unfolding number_in order_of number directory has_directory directories entry_count field_at fields_from fields has_all_tags field values_at field_value value is_level level_directories place_of grid_at depth_at layout_at level_directory level_grid level_value count_range table_range field_range outside_range ranges_of_directory outside_ranges needs_of_directories rectangle is_outside is_too_large tiles_in window_tiles array_range tile_range grouped_after grouped groups array_ranges tile_ranges

@@ -1,5 +1,6 @@
 -- The end of a level: its shape, and the level itself.
 use Rattle.tiff_dir.specs.declared.tags.TheConstants.{BITS_PER_SAMPLE, COMPRESSION, IMAGE_LENGTH, IMAGE_WIDTH, PHOTOMETRIC_INTERPRETATION, SAMPLES_PER_PIXEL, SAMPLE_FORMAT, TILE_BYTE_COUNTS, TILE_LENGTH, TILE_OFFSETS, TILE_WIDTH}
+use Rattle.tiff_dir.specs.declared.limits.TheConstants.{MAX_TILES, MAX_TILE_BYTES}
 use Rattle.std.proofs.Common.{◌≡◌, ℕ, ◌+◌, ◌*◌, ◌%◌, ◌≤◌, ◌≢◌, inl, inr, Bool, true, false, ◌&&◌, ◌==◌, if◌then◌else◌, nat_lt, nat_le, List, get_or, Option, Some, None, IsSomeAnd, refl, sym, subst, ap, ◌∙◌, arith, lit<, add-one}
 use Rattle.std.proofs.lemmas.Option.{same_Some, none-some}
 use Rattle.std.proofs.lemmas.Bool.{and_parts, and_cases, eqb-true, ltb-true, ltb-false, cases_eq, false≢true}
@@ -21,7 +22,7 @@ use Rattle.tiff_dir.specs.declared.stage.Stage.{Stage}
 use Rattle.tiff_dir.specs.declared.fault.FileFault.{FileFault}
 use Rattle.tiff_dir.specs.declared.fault.FileFault.TheVariants.{Missing, FieldType, Unsupported, LevelShape, TileSize, TileArray}
 use Rattle.tiff_dir.specs.File.{◌>>=◌, Field, kind_of, size_of, values_at, field, value}
-use Rattle.tiff_dir.specs.Profile.{subfile_rule, profile, samples_fit, is_depth, accepts, is_tile_side, tile_bytes, max_tile_bytes, max_tiles}
+use Rattle.tiff_dir.specs.Profile.{subfile_rule, profile, samples_fit, is_depth, accepts, is_tile_side, tile_bytes}
 use Rattle.tiff_dir.specs.Described.{described, layout_of}
 use Rattle.tiff_dir.specs.Level.{Grid, Layout, grid_at, previous_level, place_of, compression_of, layout_at, depth_at, plain_size_at}
 use Rattle.tiff_dir.specs.Fault.{is_smaller, sides, directory_tiles, IsUnsupported, IsNotSmaller, IsNoTileArray, IsFaultOfLevel, IsFaultAt}
@@ -157,25 +158,25 @@ plain_drafted : (f : List ℕ) (k : ℕ) (d : Draft) (bits : ℕ) → IsDrafted 
 unfolding plain_size_at
 plain_drafted f k d bits is told = rw (is.tile_width, is.tile_length, is.samples, told) refl
 
-pub tiles_parts : (d : Draft) (bits : ℕ) → has_tiles d bits ≡ true → (is_tile_side d.tile_width ≡ true) × (is_tile_side d.tile_length ≡ true) × (nat_le (tile_bytes d.tile_width d.tile_length d.samples bits) max_tile_bytes ≡ true)
+pub tiles_parts : (d : Draft) (bits : ℕ) → has_tiles d bits ≡ true → (is_tile_side d.tile_width ≡ true) × (is_tile_side d.tile_length ≡ true) × (nat_le (tile_bytes d.tile_width d.tile_length d.samples bits) MAX_TILE_BYTES ≡ true)
 tiles_parts d bits good =
-    let one = and_parts (is_tile_side d.tile_width) (is_tile_side d.tile_length && nat_le (tile_bytes d.tile_width d.tile_length d.samples bits) max_tile_bytes) good in
-    let two = and_parts (is_tile_side d.tile_length) (nat_le (tile_bytes d.tile_width d.tile_length d.samples bits) max_tile_bytes) one.1 in
+    let one = and_parts (is_tile_side d.tile_width) (is_tile_side d.tile_length && nat_le (tile_bytes d.tile_width d.tile_length d.samples bits) MAX_TILE_BYTES) good in
+    let two = and_parts (is_tile_side d.tile_length) (nat_le (tile_bytes d.tile_width d.tile_length d.samples bits) MAX_TILE_BYTES) one.1 in
     (one.0, two.0, two.1)
 
 pub tiles_fault : (f : List ℕ) (k : ℕ) (d : Draft) (bits : ℕ) → IsDrafted f k d → depth_at f k ≡ Some bits → has_tiles d bits ≡ false → IsFaultOfLevel f k TileSize
-tiles_fault f k d bits is told bad = elim (and_cases (is_tile_side d.tile_width) (is_tile_side d.tile_length && nat_le (tile_bytes d.tile_width d.tile_length d.samples bits) max_tile_bytes) bad) [
+tiles_fault f k d bits is told bad = elim (and_cases (is_tile_side d.tile_width) (is_tile_side d.tile_length && nat_le (tile_bytes d.tile_width d.tile_length d.samples bits) MAX_TILE_BYTES) bad) [
   | inl h ↦ inl (some_and_from (value f k TILE_WIDTH 0) (λ s. is_tile_side s ≡ false) d.tile_width is.tile_width h)
-  | inr h ↦ elim (and_cases (is_tile_side d.tile_length) (nat_le (tile_bytes d.tile_width d.tile_length d.samples bits) max_tile_bytes) h) [
+  | inr h ↦ elim (and_cases (is_tile_side d.tile_length) (nat_le (tile_bytes d.tile_width d.tile_length d.samples bits) MAX_TILE_BYTES) h) [
     | inl g ↦ inr (inl (some_and_from (value f k TILE_LENGTH 0) (λ s. is_tile_side s ≡ false) d.tile_length is.tile_length g))
-    | inr g ↦ inr (inr (some_and_from (plain_size_at f k) (λ n. nat_le n max_tile_bytes ≡ false) _ (plain_drafted f k d bits is told) g))
+    | inr g ↦ inr (inr (some_and_from (plain_size_at f k) (λ n. nat_le n MAX_TILE_BYTES ≡ false) _ (plain_drafted f k d bits is told) g))
   ]
 ]
 
 no_tiles_fault : (f : List ℕ) (k : ℕ) (d : Draft) (bits : ℕ) → IsDrafted f k d → depth_at f k ≡ Some bits → has_tiles d bits ≡ true → IsFaultOfLevel f k TileSize → ⊥
 no_tiles_fault f k d bits is told good (inl bad) = false≢true (sym (some_and_at (value f k TILE_WIDTH 0) (λ s. is_tile_side s ≡ false) d.tile_width is.tile_width bad) ∙ (tiles_parts d bits good).0)
 no_tiles_fault f k d bits is told good (inr (inl bad)) = false≢true (sym (some_and_at (value f k TILE_LENGTH 0) (λ s. is_tile_side s ≡ false) d.tile_length is.tile_length bad) ∙ (tiles_parts d bits good).1)
-no_tiles_fault f k d bits is told good (inr (inr bad)) = false≢true (sym (some_and_at (plain_size_at f k) (λ n. nat_le n max_tile_bytes ≡ false) _ (plain_drafted f k d bits is told) bad) ∙ (tiles_parts d bits good).2)
+no_tiles_fault f k d bits is told good (inr (inr bad)) = false≢true (sym (some_and_at (plain_size_at f k) (λ n. nat_le n MAX_TILE_BYTES ≡ false) _ (plain_drafted f k d bits is told) bad) ∙ (tiles_parts d bits good).2)
 
 side_some : (side : ℕ) → is_tile_side side ≡ true → nat_lt 0 side ≡ true
 side_some side good = (and_parts (nat_lt 0 side) (side % 16 == 0) good).0
@@ -202,9 +203,9 @@ place_count : (f : List ℕ) (o : Option Field) (p : Place) → (o >>= place_of 
 place_count f None p told = absurd (none-some p told)
 place_count f (Some e) p told = place_parts f e p told
 
-pub arrays_parts : (d : Draft) → has_arrays d ≡ true → (nat_le (draft_tiles d) max_tiles ≡ true) × ((draft_tiles d == d.offsets.count) ≡ true) × ((draft_tiles d == d.counts.count) ≡ true)
+pub arrays_parts : (d : Draft) → has_arrays d ≡ true → (nat_le (draft_tiles d) MAX_TILES ≡ true) × ((draft_tiles d == d.offsets.count) ≡ true) × ((draft_tiles d == d.counts.count) ≡ true)
 arrays_parts d good =
-    let one = and_parts (nat_le (draft_tiles d) max_tiles) ((draft_tiles d == d.offsets.count) && (draft_tiles d == d.counts.count)) good in
+    let one = and_parts (nat_le (draft_tiles d) MAX_TILES) ((draft_tiles d == d.offsets.count) && (draft_tiles d == d.counts.count)) good in
     let two = and_parts (draft_tiles d == d.offsets.count) (draft_tiles d == d.counts.count) one.1 in
     (one.0, two.0, two.1)
 
@@ -220,8 +221,8 @@ no_array_fault f k tag d bits p is tiles there good bad =
     false≢true (sym two ∙ good)
 
 pub arrays_fault : (f : List ℕ) (k : ℕ) (d : Draft) (bits : ℕ) → IsDrafted f k d → has_tiles d bits ≡ true → has_arrays d ≡ false → IsFaultOfLevel f k TileArray
-arrays_fault f k d bits is tiles bad = elim (and_cases (nat_le (draft_tiles d) max_tiles) ((draft_tiles d == d.offsets.count) && (draft_tiles d == d.counts.count)) bad) [
-  | inl h ↦ inl (some_and_from (directory_tiles f k) (λ n. nat_le n max_tiles ≡ false) _ (count_drafted f k d bits is tiles) h)
+arrays_fault f k d bits is tiles bad = elim (and_cases (nat_le (draft_tiles d) MAX_TILES) ((draft_tiles d == d.offsets.count) && (draft_tiles d == d.counts.count)) bad) [
+  | inl h ↦ inl (some_and_from (directory_tiles f k) (λ n. nat_le n MAX_TILES ≡ false) _ (count_drafted f k d bits is tiles) h)
   | inr h ↦ elim (and_cases (draft_tiles d == d.offsets.count) (draft_tiles d == d.counts.count) h) [
     | inl g ↦ inr (inl (array_fault f k TILE_OFFSETS d bits d.offsets is tiles is.offsets g))
     | inr g ↦ inr (inr (array_fault f k TILE_BYTE_COUNTS d bits d.counts is tiles is.counts g))
@@ -229,7 +230,7 @@ arrays_fault f k d bits is tiles bad = elim (and_cases (nat_le (draft_tiles d) m
 ]
 
 no_arrays_fault : (f : List ℕ) (k : ℕ) (d : Draft) (bits : ℕ) → IsDrafted f k d → has_tiles d bits ≡ true → has_arrays d ≡ true → IsFaultOfLevel f k TileArray → ⊥
-no_arrays_fault f k d bits is tiles good (inl bad) = false≢true (sym (some_and_at (directory_tiles f k) (λ n. nat_le n max_tiles ≡ false) _ (count_drafted f k d bits is tiles) bad) ∙ (arrays_parts d good).0)
+no_arrays_fault f k d bits is tiles good (inl bad) = false≢true (sym (some_and_at (directory_tiles f k) (λ n. nat_le n MAX_TILES ≡ false) _ (count_drafted f k d bits is tiles) bad) ∙ (arrays_parts d good).0)
 no_arrays_fault f k d bits is tiles good (inr (inl bad)) = no_array_fault f k TILE_OFFSETS d bits d.offsets is tiles is.offsets (arrays_parts d good).1 bad
 no_arrays_fault f k d bits is tiles good (inr (inr bad)) = no_array_fault f k TILE_BYTE_COUNTS d bits d.counts is tiles is.counts (arrays_parts d good).2 bad
 

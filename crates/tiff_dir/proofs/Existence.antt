@@ -1,5 +1,6 @@
 -- Where no fault stands for a window, the file has one.
 use Rattle.tiff_dir.specs.declared.tags.TheConstants.{SAMPLES_PER_PIXEL, TILE_BYTE_COUNTS, TILE_OFFSETS}
+use Rattle.tiff_dir.specs.declared.limits.TheConstants.{MAX_TILES}
 use Rattle.std.proofs.Common.{◌≡◌, ℕ, zero, suc, ◌+◌, ◌-◌, ◌*◌, ◌/◌, ◌%◌, ◌<◌, ◌≤◌, ◌⊎◌, inr, true, false, List, [], ◌∷◌, length, drop, Option, Some, None, refl, sym, subst, ap, ◌∙◌, arith}
 use Rattle.std.specs.Prelude.{◌==◌, ◌&&◌, nat_le, slice_range, slice_index}
 use Rattle.std.specs.Option.{option_to_list}
@@ -20,7 +21,7 @@ use Rattle.tiff_dir.specs.declared.fault.FileFault.{FileFault}
 use Rattle.tiff_dir.specs.declared.fault.FileFault.TheVariants.{TileSize, Packet}
 use Rattle.tiff_dir.specs.Number.{number_in}
 use Rattle.tiff_dir.specs.File.{◌>>=◌, Field, kind_of, size_of, values_at, field, value}
-use Rattle.tiff_dir.specs.Profile.{sample_bytes, accepts, max_tiles}
+use Rattle.tiff_dir.specs.Profile.{sample_bytes, accepts}
 use Rattle.tiff_dir.specs.Level.{Layout, place_of, level_value, plain_size, plain_row, plain_size_at, tile_total}
 use Rattle.tiff_dir.specs.Needs.{Extent, extent_of_place}
 use Rattle.tiff_dir.specs.Walk.{bytes_in}
@@ -71,7 +72,7 @@ pub record HasBytes (f : List ℕ) (n t : ℕ) : Type 0 where
 
 as_many : (d : Draft) → has_arrays d ≡ true → (draft_tiles d ≡ d.offsets.count) × (draft_tiles d ≡ d.counts.count)
 as_many d good =
-    let (few, same) = and_parts (nat_le (draft_tiles d) max_tiles) ((draft_tiles d == d.offsets.count) && (draft_tiles d == d.counts.count)) good in
+    let (few, same) = and_parts (nat_le (draft_tiles d) MAX_TILES) ((draft_tiles d == d.offsets.count) && (draft_tiles d == d.counts.count)) good in
     let (offsets, counts) = and_parts (draft_tiles d == d.offsets.count) (draft_tiles d == d.counts.count) same in
     (eqb-true (draft_tiles d) d.offsets.count offsets, eqb-true (draft_tiles d) d.counts.count counts)
 

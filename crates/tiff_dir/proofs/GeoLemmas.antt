@@ -20,7 +20,8 @@ use Rattle.tiff_dir.specs.declared.stage.Stage.TheVariants.{Table}
 use Rattle.tiff_dir.specs.declared.fault.FileFault.{FileFault}
 use Rattle.tiff_dir.specs.declared.fault.FileFault.TheVariants.{FieldType, TooLarge}
 use Rattle.tiff_dir.specs.File.{◌>>=◌, kind_of, size_of, field}
-use Rattle.tiff_dir.specs.Profile.{subfile_rule, geo_profile, geo_rule, max_geo_bytes, has_typing, is_multiple}
+use Rattle.tiff_dir.specs.declared.limits.TheConstants.{MAX_GEO_BYTES}
+use Rattle.tiff_dir.specs.Profile.{subfile_rule, geo_profile, geo_rule, has_typing, is_multiple}
 use Rattle.tiff_dir.specs.Level.{place_of}
 use Rattle.tiff_dir.specs.Geo.{field_len, geo_place, IsLargeField, IsGeoFault}
 use Rattle.tiff_dir.specs.Fault.{IsRuleFault}
@@ -47,22 +48,22 @@ geo_taken f bytes stage o k at n g is first are len here part =
 -- what a place that is found tells of its entry
 record IsPlaced (r : Rule) (e : Entry) (p : Option Place) : Type 0 where
   allowed : allows r e ≡ true
-  short : nat_lt max_geo_bytes (len_of e) ≡ false
+  short : nat_lt MAX_GEO_BYTES (len_of e) ≡ false
   place : p ≡ Some (place_in e)
 
 placed : (r : Rule) (e : Entry) (p : Option Place) → place_by r (Some e) ≡ Ok p → IsPlaced r e p
-placed r e p is = at (allows r e) refl (nat_lt max_geo_bytes (len_of e)) refl is where
-  at : (a : Bool) → allows r e ≡ a → (b : Bool) → nat_lt max_geo_bytes (len_of e) ≡ b → (if not a then Err (FieldType r.tag) else if b then Err TooLarge else Ok (Some (place_in e))) ≡ Ok p → IsPlaced r e p
+placed r e p is = at (allows r e) refl (nat_lt MAX_GEO_BYTES (len_of e)) refl is where
+  at : (a : Bool) → allows r e ≡ a → (b : Bool) → nat_lt MAX_GEO_BYTES (len_of e) ≡ b → (if not a then Err (FieldType r.tag) else if b then Err TooLarge else Ok (Some (place_in e))) ≡ Ok p → IsPlaced r e p
   at true yes_allowed false fits same = record { allowed = yes_allowed; short = fits; place = cc }
   at true yes_allowed true long same = absurd (cc)
   at false wrong b is_b same = absurd (cc)
 
 -- and what a fault tells
 refused : (r : Rule) (e : Entry) (fault : FileFault) → place_by r (Some e) ≡ Err fault
-    → ((allows r e ≡ false) × (fault ≡ FieldType r.tag)) ⊎ ((allows r e ≡ true) × (nat_lt max_geo_bytes (len_of e) ≡ true) × (fault ≡ TooLarge))
-refused r e fault is = at (allows r e) refl (nat_lt max_geo_bytes (len_of e)) refl is where
-  at : (a : Bool) → allows r e ≡ a → (b : Bool) → nat_lt max_geo_bytes (len_of e) ≡ b → (if not a then Err (FieldType r.tag) else if b then Err TooLarge else Ok (Some (place_in e))) ≡ Err fault
-      → ((allows r e ≡ false) × (fault ≡ FieldType r.tag)) ⊎ ((allows r e ≡ true) × (nat_lt max_geo_bytes (len_of e) ≡ true) × (fault ≡ TooLarge))
+    → ((allows r e ≡ false) × (fault ≡ FieldType r.tag)) ⊎ ((allows r e ≡ true) × (nat_lt MAX_GEO_BYTES (len_of e) ≡ true) × (fault ≡ TooLarge))
+refused r e fault is = at (allows r e) refl (nat_lt MAX_GEO_BYTES (len_of e)) refl is where
+  at : (a : Bool) → allows r e ≡ a → (b : Bool) → nat_lt MAX_GEO_BYTES (len_of e) ≡ b → (if not a then Err (FieldType r.tag) else if b then Err TooLarge else Ok (Some (place_in e))) ≡ Err fault
+      → ((allows r e ≡ false) × (fault ≡ FieldType r.tag)) ⊎ ((allows r e ≡ true) × (nat_lt MAX_GEO_BYTES (len_of e) ≡ true) × (fault ≡ TooLarge))
   at true yes_allowed false fits same = absurd (cc)
   at true yes_allowed true long same = inr (yes_allowed, long, cc)
   at false wrong b is_b same = inl (wrong, cc)
@@ -100,12 +101,12 @@ met es r p optional is = at (entry_with_tag r.tag es) refl is where
 
 not_large : (f : List ℕ) (es : List Entry) (r : Rule) (p : Option Place) → HasTable f 0 es → place_by r (entry_with_tag r.tag es) ≡ Ok p → IsLargeField f r → ⊥
 not_large f es r p has is bad = at (entry_with_tag r.tag es) is (rw (field_told f 0 es r.tag has) at bad) where
-  at : (o : Option Entry) → place_by r o ≡ Ok p → IsSomeAnd (option_map field_of o) (λ e. IsSomeAnd (field_len e) (λ n. nat_le n max_geo_bytes ≡ false)) → ⊥
+  at : (o : Option Entry) → place_by r o ≡ Ok p → IsSomeAnd (option_map field_of o) (λ e. IsSomeAnd (field_len e) (λ n. nat_le n MAX_GEO_BYTES ≡ false)) → ⊥
   at None is bad = bad
   at (Some e) is bad =
       let h = placed r e p is in
-      let long = some_and_at (field_len (field_of e)) (λ n. nat_le n max_geo_bytes ≡ false) (len_of e) (len_known e (entry_kind r e h.allowed)) bad in
-      let fits : nat_le (len_of e) max_geo_bytes ≡ true = le-leb (len_of e) max_geo_bytes (ltb-false max_geo_bytes (len_of e) h.short) in
+      let long = some_and_at (field_len (field_of e)) (λ n. nat_le n MAX_GEO_BYTES ≡ false) (len_of e) (len_known e (entry_kind r e h.allowed)) bad in
+      let fits : nat_le (len_of e) MAX_GEO_BYTES ≡ true = le-leb (len_of e) MAX_GEO_BYTES (ltb-false MAX_GEO_BYTES (len_of e) h.short) in
       false≢true (sym long ∙ fits)
 
 -- ---- all of them
@@ -158,11 +159,11 @@ fault_at f es j fault inside has is = at (entry_with_tag (geo_rule j).tag es) re
   wrong : (e : Entry) → entry_with_tag (geo_rule j).tag es ≡ Some e → allows (geo_rule j) e ≡ false → IsRuleFault f 0 (geo_rule j) (FieldType (geo_rule j).tag)
   wrong e there bad = rule_fault f 0 es (geo_rule j) (FieldType (geo_rule j).tag) has (refl, some_and_from (entry_with_tag (geo_rule j).tag es) (λ x. allows (geo_rule j) x ≡ false) e there bad)
 
-  large : (e : Entry) → entry_with_tag (geo_rule j).tag es ≡ Some e → allows (geo_rule j) e ≡ true → nat_lt max_geo_bytes (len_of e) ≡ true → IsLargeField f (geo_rule j)
+  large : (e : Entry) → entry_with_tag (geo_rule j).tag es ≡ Some e → allows (geo_rule j) e ≡ true → nat_lt MAX_GEO_BYTES (len_of e) ≡ true → IsLargeField f (geo_rule j)
   large e there ok long =
-      let past : nat_le (len_of e) max_geo_bytes ≡ false = (let h = ltb-true max_geo_bytes (len_of e) long in grind (arith, nat_tests)) in
-      some_and_from (field f 0 (geo_rule j).tag) (λ x. IsSomeAnd (field_len x) (λ n. nat_le n max_geo_bytes ≡ false)) (field_of e) (field_told f 0 es (geo_rule j).tag has ∙ rw there refl)
-      (some_and_from (field_len (field_of e)) (λ n. nat_le n max_geo_bytes ≡ false) (len_of e) (len_known e (entry_kind (geo_rule j) e ok)) past)
+      let past : nat_le (len_of e) MAX_GEO_BYTES ≡ false = (let h = ltb-true MAX_GEO_BYTES (len_of e) long in grind (arith, nat_tests)) in
+      some_and_from (field f 0 (geo_rule j).tag) (λ x. IsSomeAnd (field_len x) (λ n. nat_le n MAX_GEO_BYTES ≡ false)) (field_of e) (field_told f 0 es (geo_rule j).tag has ∙ rw there refl)
+      (some_and_from (field_len (field_of e)) (λ n. nat_le n MAX_GEO_BYTES ≡ false) (len_of e) (len_known e (entry_kind (geo_rule j) e ok)) past)
 
   at : (o : Option Entry) → entry_with_tag (geo_rule j).tag es ≡ o → place_by (geo_rule j) o ≡ Err fault → IsGeoFault f fault
   at None there is = absurd (cc)
@@ -203,7 +204,7 @@ typed_by r k (Some e) p kind some is near =
     let first : (place_in e).first < 2 ^ 33 = subst Q h.place near in
     let len : 0 < len_of e = mul-pos (some e.count parts.1) (size_some e.kind (entry_kind r e h.allowed)) in
     let size : len_of e ≡ e.count * size_of k = ap (λ x. e.count * size_of x) (kind e.kind parts.0) in
-    subst P (sym h.place) (kind e.kind parts.0, size, len, ltb-false max_geo_bytes (len_of e) h.short, first)
+    subst P (sym h.place) (kind e.kind parts.0, size, len, ltb-false MAX_GEO_BYTES (len_of e) h.short, first)
 
 pub is_double : (n : ℕ) → (n == 12) ≡ true → kind_in n ≡ kinds.Double
 is_double n is = let e = eqb-true n 12 is in rw e refl

@@ -1,6 +1,7 @@
 -- What is wrong with a file's directories: the faults that stand for every query. A condition on a value
 -- that isn't there doesn't hold.
 use Rattle.tiff_dir.specs.declared.tags.TheConstants.{BITS_PER_SAMPLE, IMAGE_LENGTH, IMAGE_WIDTH, NEW_SUBFILE_TYPE, PHOTOMETRIC_INTERPRETATION, PLANAR_CONFIGURATION, SAMPLES_PER_PIXEL, TILE_BYTE_COUNTS, TILE_LENGTH, TILE_OFFSETS, TILE_WIDTH}
+use Rattle.tiff_dir.specs.declared.limits.TheConstants.{MAX_DIRECTORIES, MAX_TILES, MAX_TILE_BYTES}
 use Rattle.std.specs.Prelude.{◌≡◌, ◌≢◌, ℕ, ◌%◌, ◌<◌, ◌≤◌, ◌⊎◌, Bool, true, false, ◌&&◌, ◌||◌, nat_lt, nat_le, ◌==◌, if◌then◌else◌, List, [], ◌∷◌, length, Option, Some, None, IsSomeAnd}
 use Rattle.std.specs.List.{Any, list_any}
 use Rattle.tiff_dir.specs.declared.rule.Rule.{Rule}
@@ -8,8 +9,8 @@ use Rattle.tiff_dir.specs.declared.rule.Count.{Count}
 use Rattle.tiff_dir.specs.declared.rule.Count.TheVariants.{One, Samples, Tiles, Exactly, Multiple}
 use Rattle.tiff_dir.specs.declared.fault.FileFault.{FileFault}
 use Rattle.tiff_dir.specs.declared.fault.FileFault.TheVariants.{Header, PastEnd, DirPlace, DirCount, TagOrder, TooManyDirs, Missing, FieldType, Unsupported, LevelShape, TileArray, TileSize}
-use Rattle.tiff_dir.specs.File.{max_directories, ◌>>=◌, order_of, number, directory, has_directory, entry_count, Field, fields, has_all_tags, field, value}
-use Rattle.tiff_dir.specs.Profile.{subfile_rule, profile, has_typing, is_multiple, accepts, samples_fit, planes_fit, is_tile_side, max_tile_bytes, max_tiles}
+use Rattle.tiff_dir.specs.File.{◌>>=◌, order_of, number, directory, has_directory, entry_count, Field, fields, has_all_tags, field, value}
+use Rattle.tiff_dir.specs.Profile.{subfile_rule, profile, has_typing, is_multiple, accepts, samples_fit, planes_fit, is_tile_side}
 use Rattle.tiff_dir.specs.Level.{is_level, previous_level, grid_at, plain_size_at, tile_total}
 use Rattle.tiff_dir.specs.Needs.{is_entry_count, ends_past, needs_of_directories}
 
@@ -107,9 +108,9 @@ IsFaultOfLevel f k (FieldType tag) = Any (λ rule. IsRuleFault f k rule (FieldTy
 IsFaultOfLevel f k (Unsupported tag) = IsUnsupported f k tag
 IsFaultOfLevel f k LevelShape = HasNoSide f k IMAGE_WIDTH ⊎ (HasNoSide f k IMAGE_LENGTH ⊎ IsNotSmaller f k)
 IsFaultOfLevel f k TileSize =
-    IsNoTileSide f k TILE_WIDTH ⊎ (IsNoTileSide f k TILE_LENGTH ⊎ IsSomeAnd (plain_size_at f k) (λ n. nat_le n max_tile_bytes ≡ false))
+    IsNoTileSide f k TILE_WIDTH ⊎ (IsNoTileSide f k TILE_LENGTH ⊎ IsSomeAnd (plain_size_at f k) (λ n. nat_le n MAX_TILE_BYTES ≡ false))
 IsFaultOfLevel f k TileArray =
-    IsSomeAnd (directory_tiles f k) (λ n. nat_le n max_tiles ≡ false) ⊎ (IsNoTileArray f k TILE_OFFSETS ⊎ IsNoTileArray f k TILE_BYTE_COUNTS)
+    IsSomeAnd (directory_tiles f k) (λ n. nat_le n MAX_TILES ≡ false) ⊎ (IsNoTileArray f k TILE_OFFSETS ⊎ IsNoTileArray f k TILE_BYTE_COUNTS)
 IsFaultOfLevel f k _ = ⊥
 
 -- A fault of the file that is none of one directory alone.
@@ -117,7 +118,7 @@ abbrev pub IsFaultOfChain : List ℕ → FileFault → Type 0
 IsFaultOfChain f Header = IsBadHeader f
 IsFaultOfChain f PastEnd = list_any (ends_past f) (needs_of_directories f) ≡ true
 -- the place after as many directories as a file may have isn't 0
-IsFaultOfChain f TooManyDirs = has_directory f max_directories ≡ true
+IsFaultOfChain f TooManyDirs = has_directory f MAX_DIRECTORIES ≡ true
 IsFaultOfChain f _ = ⊥
 
 abbrev pub IsFaultAt : List ℕ → ℕ → FileFault → Type 0
@@ -126,4 +127,4 @@ IsFaultAt f k fault = IsFaultOfDirectory f k fault ⊎ ((is_level f k ≡ true) 
 -- A fault of the file's directories: of their chain, or of directory k of the file.
 unfoldable pub IsFaultOfDirectories : List ℕ → FileFault → Type 0
 IsFaultOfDirectories f fault =
-    IsFaultOfChain f fault ⊎ ((k : ℕ) × ((k < max_directories) × (has_directory f k ≡ true)) × IsFaultAt f k fault)
+    IsFaultOfChain f fault ⊎ ((k : ℕ) × ((k < MAX_DIRECTORIES) × (has_directory f k ≡ true)) × IsFaultAt f k fault)

@@ -1,5 +1,6 @@
 -- What is wrong with a file for a query, and what its window is.
 use Rattle.tiff_dir.specs.declared.tags.TheConstants.{COMPRESSION, TILE_BYTE_COUNTS}
+use Rattle.tiff_dir.specs.declared.limits.TheConstants.{MAX_TILE_BYTES}
 use Rattle.std.specs.Prelude.{◌≡◌, ℕ, ◌⊎◌, Bool, true, false, ◌&&◌, nat_lt, nat_le, ◌==◌, List, ◌++◌, Option, Some, IsSomeAnd}
 use Rattle.std.specs.List.{list_any, IsAmong}
 use Rattle.tiff_dir.specs.declared.level.Compression.{Compression}
@@ -9,7 +10,6 @@ use Rattle.tiff_dir.specs.declared.query.Query.TheVariants.{Window, Info}
 use Rattle.tiff_dir.specs.declared.fault.FileFault.{FileFault}
 use Rattle.tiff_dir.specs.declared.fault.FileFault.TheVariants.{PastEnd, TileSize, Packet, Outside, TooLarge}
 use Rattle.tiff_dir.specs.File.{◌>>=◌}
-use Rattle.tiff_dir.specs.Profile.{max_tile_bytes}
 use Rattle.tiff_dir.specs.Level.{Layout, compression_of, level_directory, level_layout, level_value, plain_size_at}
 use Rattle.tiff_dir.specs.Needs.{ends_past}
 use Rattle.tiff_dir.specs.Geo.{IsGeoFault, geo_ranges, key_source}
@@ -34,7 +34,7 @@ level_plain_size f n = level_directory f n >>= plain_size_at f
 
 -- a tile may have so many bytes
 abbrev pub is_byte_count : ℕ → Bool
-is_byte_count n = nat_lt 0 n && nat_le n max_tile_bytes
+is_byte_count n = nat_lt 0 n && nat_le n MAX_TILE_BYTES
 
 -- a plain tile has another number of bytes than its samples
 abbrev pub IsNotPlainSize : List ℕ → ℕ → ℕ → Type 0

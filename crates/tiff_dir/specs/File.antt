@@ -1,5 +1,6 @@
 -- What a file's bytes say: its numbers, directories, fields and values (TIFF 6.0, section 2).
 use Rattle.tiff_dir.specs.declared.tags.TheConstants.{NEW_SUBFILE_TYPE, PLANAR_CONFIGURATION, SAMPLES_PER_PIXEL, SAMPLE_FORMAT}
+use Rattle.tiff_dir.specs.declared.limits.TheConstants.{MAX_DIRECTORIES}
 use Rattle.std.specs.Prelude.{ℕ, zero, suc, ◌+◌, ◌*◌, Bool, true, false, ◌&&◌, ◌||◌, nat_eq, nat_lt, nat_le, ◌==◌, if◌then◌else◌, List, [], ◌∷◌, length, codes, slice_get, Option, Some, None, unwrap_or}
 use Rattle.std.specs.Option.{option_map_or}
 use Rattle.std.specs.List.{cons_option, filter, find, range_with_len, starts_with}
@@ -38,12 +39,9 @@ unfoldable pub has_directory : List ℕ → ℕ → Bool
 has_directory f zero = true
 has_directory f (suc k) = has_directory f k && option_map_or (nat_lt 0) (directory f (suc k)) false
 
-abbrev pub max_directories : ℕ
-max_directories = 16
-
 -- the file's directories, by their numbers: 16 at most
 unfoldable pub directories : List ℕ → List ℕ
-directories f = filter (has_directory f) (range_with_len 0 max_directories)
+directories f = filter (has_directory f) (range_with_len 0 MAX_DIRECTORIES)
 
 -- how many entries directory k has
 unfoldable pub entry_count : List ℕ → ℕ → Option ℕ

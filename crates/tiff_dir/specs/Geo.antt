@@ -1,6 +1,7 @@
 -- The fields that georeference an image: where they stand, and what is wrong with them (OGC 19-008, sections 7 and 8).
 -- They are looked at in the first directory, for the query Info alone.
 use Rattle.tiff_dir.specs.declared.tags.TheConstants.{GEO_KEY_DIRECTORY}
+use Rattle.tiff_dir.specs.declared.limits.TheConstants.{MAX_GEO_BYTES}
 use Rattle.std.specs.Prelude.{◌≡◌, ℕ, ◌*◌, false, nat_le, if◌then◌else◌, List, Option, Some, None, IsSomeAnd}
 use Rattle.std.specs.Option.{option_map_or}
 use Rattle.std.specs.List.{Any, filter_map}
@@ -9,7 +10,7 @@ use Rattle.tiff_dir.specs.declared.level.Place.{Place}
 use Rattle.tiff_dir.specs.declared.fault.FileFault.{FileFault}
 use Rattle.tiff_dir.specs.declared.fault.FileFault.TheVariants.{FieldType, TooLarge}
 use Rattle.tiff_dir.specs.File.{◌>>=◌, Field, kind_of, size_of, has_all_tags, field, value}
-use Rattle.tiff_dir.specs.Profile.{geo_profile, max_geo_bytes}
+use Rattle.tiff_dir.specs.Profile.{geo_profile}
 use Rattle.tiff_dir.specs.Level.{place_of}
 use Rattle.tiff_dir.specs.Needs.{Extent, field_range}
 use Rattle.tiff_dir.specs.Fault.{IsRuleFault}
@@ -32,7 +33,7 @@ field_len e = do
 
 -- the rule's field has more bytes than a geo field may have
 abbrev pub IsLargeField : List ℕ → Rule → Type 0
-IsLargeField f rule = IsSomeAnd (field f 0 rule.tag) (λ e. IsSomeAnd (field_len e) (λ n. nat_le n max_geo_bytes ≡ false))
+IsLargeField f rule = IsSomeAnd (field f 0 rule.tag) (λ e. IsSomeAnd (field_len e) (λ n. nat_le n MAX_GEO_BYTES ≡ false))
 
 -- A geo field has another type or count than it may have, or too many bytes.
 abbrev pub IsGeoFault : List ℕ → FileFault → Type 0

@@ -1,5 +1,6 @@
 -- The entries of the geo fields in a table, and what they say by the rules for them.
 use Rattle.tiff_dir.specs.declared.tags.TheConstants.{GEO_ASCII_PARAMS, GEO_DOUBLE_PARAMS, GEO_KEY_DIRECTORY, MODEL_PIXEL_SCALE, MODEL_TIEPOINT, MODEL_TRANSFORMATION}
+use Rattle.tiff_dir.specs.declared.limits.TheConstants.{MAX_GEO_BYTES}
 use Rattle.std.specs.Prelude.{◌≡◌, ◌+◌, ◌<◌, ◌^◌, ◌⊎◌, ⊤, not, nat_lt, if◌then◌else◌, List, Option, Some, None, Result, Ok, Err}
 use Rattle.tiff_dir.specs.declared.table.Entry.{Entry}
 use Rattle.tiff_dir.specs.declared.geo.GeoEntries.{GeoEntries}
@@ -8,7 +9,7 @@ use Rattle.tiff_dir.specs.declared.level.Place.{Place}
 use Rattle.tiff_dir.specs.declared.rule.Rule.{Rule}
 use Rattle.tiff_dir.specs.declared.fault.FileFault.{FileFault}
 use Rattle.tiff_dir.specs.declared.fault.FileFault.TheVariants.{FieldType, TooLarge}
-use Rattle.tiff_dir.specs.Profile.{geo_rule, max_geo_bytes}
+use Rattle.tiff_dir.specs.Profile.{geo_rule}
 use Rattle.tiff_dir.specs.Table.{allows, entry_with_tag, len_of, place_in}
 
 -- those among the entries of a table
@@ -27,7 +28,7 @@ abbrev pub place_by : Rule → Option Entry → Result (Option Place) FileFault
 place_by r None = Ok None
 place_by r (Some e) =
     if not (allows r e) then Err (FieldType r.tag)
-    else if nat_lt max_geo_bytes (len_of e) then Err TooLarge
+    else if nat_lt MAX_GEO_BYTES (len_of e) then Err TooLarge
     else Ok (Some (place_in e))
 
 pub record ArePlacesBy (g : GeoEntries) (p : GeoPlaces) : Type 0 where

@@ -1,5 +1,6 @@
 -- The bytes of a file that its reader needs: those of its directories, which every query needs.
 use Rattle.tiff_dir.specs.declared.tags.TheConstants.{BITS_PER_SAMPLE, SAMPLE_FORMAT}
+use Rattle.tiff_dir.specs.declared.limits.TheConstants.{MAX_ENTRIES}
 use Rattle.std.specs.Prelude.{◌≡◌, ℕ, ◌+◌, ◌*◌, Bool, ◌&&◌, nat_lt, nat_le, if◌then◌else◌, List, [], ◌∷◌, ◌++◌, length, slice_range, Option, Some, None}
 use Rattle.std.specs.List.{flat_map}
 use Rattle.std.specs.Option.{option_to_list}
@@ -16,19 +17,12 @@ pub record Extent : Type 0 where
 abbrev pub bytes_in : List ℕ → Extent → List ℕ
 bytes_in f r = slice_range f r.first (r.first + r.len)
 
--- the greatest number of bytes of a range that is asked for
-abbrev pub max_range_bytes : ℕ
-max_range_bytes = 1048576
-
 abbrev pub ends_past : List ℕ → Extent → Bool
 ends_past f r = nat_lt (length f) (r.first + r.len)
 
-abbrev pub max_entries : ℕ
-max_entries = 256
-
 -- a directory has 1 to 256 entries
 abbrev pub is_entry_count : ℕ → Bool
-is_entry_count n = nat_lt 0 n && nat_le n max_entries
+is_entry_count n = nat_lt 0 n && nat_le n MAX_ENTRIES
 
 -- the count of directory k
 unfoldable pub count_range : List ℕ → ℕ → Option Extent

@@ -1,4 +1,5 @@
 -- PackBits (TIFF 6.0, section 9).
+use Rattle.tiff_dir.specs.declared.limits.TheConstants.{MAX_PACKET_BYTES}
 use Rattle.std.specs.Prelude.{◌≡◌, ℕ, ◌+◌, ◌-◌, ◌%◌, ◌≤◌, List, [], ◌∷◌, ◌++◌, length, replicate, ⊤}
 use Rattle.std.specs.List.{flat_map, AllByRecursion}
 
@@ -10,14 +11,10 @@ pub data Packet : Type 0 where
   -- nothing
   Passed : Packet
 
--- the most bytes that a packet stands for
-abbrev pub max_packet_bytes : ℕ
-max_packet_bytes = 128
-
 -- a signed byte n from 0 to 127 copies n + 1 bytes, one from -127 to -1 repeats a byte 1 - n times
 abbrev pub IsPacket : Packet → Type 0
-IsPacket (Copied bytes) = (1 ≤ length bytes) × (length bytes ≤ max_packet_bytes)
-IsPacket (Repeated times byte) = (2 ≤ times) × (times ≤ max_packet_bytes)
+IsPacket (Copied bytes) = (1 ≤ length bytes) × (length bytes ≤ MAX_PACKET_BYTES)
+IsPacket (Repeated times byte) = (2 ≤ times) × (times ≤ MAX_PACKET_BYTES)
 IsPacket Passed = ⊤
 
 -- how a packet is written

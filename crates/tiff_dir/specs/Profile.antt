@@ -54,10 +54,6 @@ geo_profile =
 abbrev pub geo_rule : ℕ → Rule
 geo_rule j = get_or geo_profile j subfile_rule
 
--- the greatest number of bytes of one of them
-abbrev pub max_geo_bytes : ℕ
-max_geo_bytes = 65536
-
 -- a sample has one byte or two
 abbrev pub is_depth : ℕ → Bool
 is_depth bits = bits == 8 || bits == 16
@@ -100,10 +96,3 @@ tiles_along side tile_side = (side + tile_side - 1) / tile_side
 -- how many tiles a level of these sides has
 abbrev pub tile_count : ℕ → ℕ → ℕ → ℕ → ℕ
 tile_count width length tile_width tile_length = tiles_along width tile_width * tiles_along length tile_length
-
--- the greatest number of bytes of a tile, and of tiles of a level
-abbrev pub max_tile_bytes : ℕ
-max_tile_bytes = 1048576
-
-abbrev pub max_tiles : ℕ
-max_tiles = 65536

@@ -1,5 +1,6 @@
 -- What a query asks for, and which bytes of the file it needs.
 use Rattle.tiff_dir.specs.declared.tags.TheConstants.{IMAGE_LENGTH, IMAGE_WIDTH, SAMPLES_PER_PIXEL, TILE_BYTE_COUNTS, TILE_OFFSETS}
+use Rattle.tiff_dir.specs.declared.limits.TheConstants.{MAX_RANGE_BYTES, MAX_WINDOW_SAMPLES}
 use Rattle.std.specs.Prelude.{ℕ, ◌+◌, ◌-◌, ◌*◌, ◌/◌, ◌%◌, Bool, false, not, ◌&&◌, ◌||◌, nat_lt, nat_le, ◌==◌, if◌then◌else◌, List, [], ◌∷◌, ◌++◌, length, map, Option, Some, None, is_none, unwrap_or}
 use Rattle.std.specs.List.{filter, filter_map, last_or, range_with_len, sum_by}
 use Rattle.std.specs.Option.{option_map_or, option_to_list}
@@ -9,7 +10,7 @@ use Rattle.tiff_dir.specs.declared.query.Pick.TheVariants as pick
 use Rattle.tiff_dir.specs.Block.{blocks}
 use Rattle.tiff_dir.specs.File.{◌>>=◌}
 use Rattle.tiff_dir.specs.Level.{Grid, level_directories, level_directory, level_grid, level_value, across, tile_total}
-use Rattle.tiff_dir.specs.Needs.{Extent, bytes_in, ends_past, field_range, needs_of_directories, max_range_bytes}
+use Rattle.tiff_dir.specs.Needs.{Extent, bytes_in, ends_past, field_range, needs_of_directories}
 use Rattle.tiff_dir.specs.Geo.{geo_ranges}
 
 -- columns from left and rows from top, in the samples of a level
@@ -78,15 +79,12 @@ is_outside f (Window x y w h (pick.Level n)) = is_outside_level f n x y w h
 is_outside f (Window x y w h (pick.Columns columns)) = (columns == 0) || is_outside_level f 0 x y w h
 is_outside f Info = false
 
-abbrev pub max_window_samples : ℕ
-max_window_samples = 4194304
-
 -- The window has more than 4,194,304 samples.
 unfoldable pub is_too_large : List ℕ → Query → Bool
 is_too_large f q = unwrap_or (do
   r ← rectangle f q
   samples ← level_value f r.level SAMPLES_PER_PIXEL 0
-  Some (nat_lt max_window_samples (r.width * r.height * samples))) false
+  Some (nat_lt MAX_WINDOW_SAMPLES (r.width * r.height * samples))) false
 
 abbrev pub is_refused : List ℕ → Query → Bool
 is_refused f q = is_outside f q || is_too_large f q
@@ -145,7 +143,7 @@ pub record Group : Type 0 where
 
 -- the range begins where the group's last tile ends, and the group with it isn't too long
 abbrev pub joins : Group → Extent → Bool
-joins g r = (r.first == g.range.first + g.range.len) && nat_le (g.range.len + r.len) max_range_bytes
+joins g r = (r.first == g.range.first + g.range.len) && nat_le (g.range.len + r.len) MAX_RANGE_BYTES
 
 abbrev pub alone : ℕ → Extent → Group
 alone t r = record { tiles = t ∷ []; range = r }

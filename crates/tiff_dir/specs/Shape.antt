@@ -8,7 +8,8 @@ use Rattle.tiff_dir.specs.declared.stage.Step.{Step}
 use Rattle.tiff_dir.specs.declared.stage.Stage.{Stage}
 use Rattle.tiff_dir.specs.declared.fault.FileFault.{FileFault}
 use Rattle.tiff_dir.specs.declared.fault.FileFault.TheVariants.{LevelShape, TileSize, TileArray}
-use Rattle.tiff_dir.specs.Profile.{is_tile_side, tile_bytes, tile_count, max_tile_bytes, max_tiles}
+use Rattle.tiff_dir.specs.declared.limits.TheConstants.{MAX_TILES, MAX_TILE_BYTES}
+use Rattle.tiff_dir.specs.Profile.{is_tile_side, tile_bytes, tile_count}
 use Rattle.tiff_dir.specs.Fault.{is_smaller}
 use Rattle.tiff_dir.specs.Level.{Layout}
 use Rattle.tiff_dir.specs.Stage.{index_of, is_past_first, is_first_table, IsKept}
@@ -26,7 +27,7 @@ fits_under (Some p) d = has_sides d && is_smaller (d.width, d.length) (p.width, 
 abbrev pub has_tiles : Draft → ℕ → Bool
 has_tiles d bits =
     is_tile_side d.tile_width && (is_tile_side d.tile_length
-    && nat_le (tile_bytes d.tile_width d.tile_length d.samples bits) max_tile_bytes)
+    && nat_le (tile_bytes d.tile_width d.tile_length d.samples bits) MAX_TILE_BYTES)
 
 -- how many tiles the draft has
 abbrev pub draft_tiles : Draft → ℕ
@@ -34,7 +35,7 @@ draft_tiles d = tile_count d.width d.length d.tile_width d.tile_length
 
 -- there are not too many tiles, and as many offsets and byte counts
 abbrev pub has_arrays : Draft → Bool
-has_arrays d = nat_le (draft_tiles d) max_tiles && ((draft_tiles d == d.offsets.count) && (draft_tiles d == d.counts.count))
+has_arrays d = nat_le (draft_tiles d) MAX_TILES && ((draft_tiles d == d.offsets.count) && (draft_tiles d == d.counts.count))
 
 -- the draft passes all three tests
 pub record IsShaped (previous : Option Level) (d : Draft) (bits : ℕ) : Type 0 where

@@ -1,5 +1,6 @@
 -- What is known of a file at each stage of a walk over its directories.
 use Rattle.tiff_dir.specs.declared.tags.TheConstants.{BITS_PER_SAMPLE, COMPRESSION, IMAGE_LENGTH, IMAGE_WIDTH, SAMPLES_PER_PIXEL, SAMPLE_FORMAT, TILE_BYTE_COUNTS, TILE_LENGTH, TILE_OFFSETS, TILE_WIDTH}
+use Rattle.tiff_dir.specs.declared.limits.TheConstants.{MAX_DIRECTORIES, MAX_ENTRIES}
 use Rattle.std.specs.Prelude.{◌≡◌, ◌≢◌, ℕ, suc, ◌+◌, ◌-◌, ◌*◌, ◌<◌, ◌≤◌, ◌^◌, ⊤, Bool, true, false, ◌&&◌, ◌==◌, nat_lt, if◌then◌else◌, List, [], ◌∷◌, ◌++◌, map, Option, Some, None, IfSome}
 use Rattle.std.specs.Option.{option_map, option_to_list}
 use Rattle.std.specs.List.{filter, flat_map, range_with_len}
@@ -16,11 +17,11 @@ use Rattle.tiff_dir.specs.declared.stage.Step.{Step}
 use Rattle.tiff_dir.specs.declared.stage.Stage.{Stage}
 use Rattle.tiff_dir.specs.declared.stage.Stage.TheVariants.{Header, Count, Table, Bits, Formats, Ended}
 use Rattle.tiff_dir.specs.Number.{number_in}
-use Rattle.tiff_dir.specs.File.{max_directories, ◌>>=◌, order_of, number, directory, has_directory, has_all_tags, fields, field, value, size_of}
+use Rattle.tiff_dir.specs.File.{◌>>=◌, order_of, number, directory, has_directory, has_all_tags, fields, field, value, size_of}
 use Rattle.tiff_dir.specs.Profile.{accepts, is_depth}
 use Rattle.tiff_dir.specs.Level.{Layout, is_level, previous_level, place_of, layout_at, compression_of}
 use Rattle.tiff_dir.specs.Described.{described}
-use Rattle.tiff_dir.specs.Needs.{Extent, bytes_in, max_entries, is_entry_count, outside_ranges, ranges_of_directory}
+use Rattle.tiff_dir.specs.Needs.{Extent, bytes_in, is_entry_count, outside_ranges, ranges_of_directory}
 use Rattle.tiff_dir.specs.Fault.{is_directory_place, IsUnsupported, IsFaultAt, IsFaultOfDirectory, IsFaultOfLevel}
 use Rattle.tiff_dir.specs.Table.{field_of, entry_with_tag}
 
@@ -68,7 +69,7 @@ IsBefore f k previous = option_map (layout_at f) (previous_level f k) ≡ option
 
 -- what the directories from k on need
 unfoldable pub ranges_from : List ℕ → ℕ → List Extent
-ranges_from f k = flat_map (ranges_of_directory f) (filter (has_directory f) (range_with_len k (max_directories - k)))
+ranges_from f k = flat_map (ranges_of_directory f) (filter (has_directory f) (range_with_len k (MAX_DIRECTORIES - k)))
 
 -- three numbers of two bytes
 abbrev pub three_shorts : ℕ → Extent
@@ -94,14 +95,14 @@ pub record IsWalked (f : List ℕ) (order : Order) (k : ℕ) : Type 0 where
 -- the directories below k are there, and at is what is told of the place of directory k
 pub record Follows (f : List ℕ) (order : Order) (k at : ℕ) : Type 0 where
   pub walked : IsWalked f order k
-  pub few : k ≤ max_directories
+  pub few : k ≤ MAX_DIRECTORIES
   pub before : (j : ℕ) → k ≡ suc j → has_directory f j ≡ true
   pub place : directory f k ≡ Some at
 
 -- directory k is there and begins at a lawful place
 pub record Reaches (f : List ℕ) (order : Order) (k at : ℕ) : Type 0 where
   pub walked : IsWalked f order k
-  pub few : k < max_directories
+  pub few : k < MAX_DIRECTORIES
   pub there : has_directory f k ≡ true
   pub place : directory f k ≡ Some at
   pub good : is_directory_place at ≡ true
@@ -130,7 +131,7 @@ pub record IsDrafted (f : List ℕ) (k : ℕ) (d : Draft) : Type 0 where
 -- directory k is a level that is read but for the values of 258 and 339, and next is told of the place behind it
 pub record IsPending (f : List ℕ) (p : Pending) : Type 0 where
   pub walked : IsWalked f p.order p.index
-  pub few : p.index < max_directories
+  pub few : p.index < MAX_DIRECTORIES
   pub there : has_directory f p.index ≡ true
   pub next : directory f (suc p.index) ≡ Some p.next
   pub level : is_level f p.index ≡ true
@@ -218,12 +219,12 @@ pub record IsDraft (d : Draft) : Type 0 where
 -- how many ranges a walk has taken at most, and that it is at one of the directories that a file may have
 abbrev pub IsKept : Stage → ℕ → Type 0
 IsKept Header given = given ≤ 0
-IsKept (Count order index at) given = (index < max_directories) × (given ≤ 1 + 4 * index)
-IsKept (Table order index at n) given = (index < max_directories) × (given ≤ 2 + 4 * index) × (n ≤ max_entries)
-IsKept (Bits p first formats) given = (p.index < max_directories) × (given ≤ 3 + 4 * p.index) × IsDraft p.draft
+IsKept (Count order index at) given = (index < MAX_DIRECTORIES) × (given ≤ 1 + 4 * index)
+IsKept (Table order index at n) given = (index < MAX_DIRECTORIES) × (given ≤ 2 + 4 * index) × (n ≤ MAX_ENTRIES)
+IsKept (Bits p first formats) given = (p.index < MAX_DIRECTORIES) × (given ≤ 3 + 4 * p.index) × IsDraft p.draft
 IsKept (Formats p first bits) given =
-    (p.index < max_directories) × (given ≤ 4 + 4 * p.index) × IsDraft p.draft × IfSome bits (λ n. is_depth n ≡ true)
-IsKept (Ended order index) given = (0 < index) × (index ≤ max_directories) × (given ≤ 1 + 4 * index)
+    (p.index < MAX_DIRECTORIES) × (given ≤ 4 + 4 * p.index) × IsDraft p.draft × IfSome bits (λ n. is_depth n ≡ true)
+IsKept (Ended order index) given = (0 < index) × (index ≤ MAX_DIRECTORIES) × (given ≤ 1 + 4 * index)
 
 -- the table of directory k, with what each entry holds in itself
 pub record HasTable (f : List ℕ) (k : ℕ) (es : List Entry) : Type 0 where

@@ -1,5 +1,6 @@
 -- The words for what callers see of a walk over a file's directories, which is given one range of the file after another.
 use Rattle.tiff_dir.specs.declared.tags.TheConstants.{BITS_PER_SAMPLE, GEO_ASCII_PARAMS, GEO_DOUBLE_PARAMS, GEO_KEY_DIRECTORY, IMAGE_LENGTH, IMAGE_WIDTH, MODEL_PIXEL_SCALE, MODEL_TIEPOINT, MODEL_TRANSFORMATION, SAMPLES_PER_PIXEL, TILE_BYTE_COUNTS, TILE_LENGTH, TILE_OFFSETS, TILE_WIDTH}
+use Rattle.tiff_dir.specs.declared.limits.TheConstants.{MAX_GEO_BYTES, MAX_RANGE_BYTES}
 use Rattle.std.specs.Prelude.{◌≡◌, ℕ, ◌+◌, ◌-◌, ◌*◌, ◌<◌, ◌≤◌, ◌^◌, ⊤, true, List, drop, Option, Some, None, Result, Ok, Err, IsSomeAnd}
 use Rattle.tiff_dir.specs.declared.level.Level.{Level}
 use Rattle.tiff_dir.specs.declared.level.Place.{Place}
@@ -14,10 +15,9 @@ use Rattle.tiff_dir.specs.File.{field, has_all_tags, size_of}
 use Rattle.tiff_dir.specs.Level.{level_grid, level_layout, level_value, plain_size}
 use Rattle.tiff_dir.specs.Described.{grid_of, layout_of}
 use Rattle.tiff_dir.specs.Faulty.{level_compression, level_plain_size}
-use Rattle.tiff_dir.specs.Needs.{Extent, extent_of_place, max_range_bytes, needs_of_directories}
+use Rattle.tiff_dir.specs.Needs.{Extent, extent_of_place, needs_of_directories}
 pub use Rattle.tiff_dir.specs.Needs.{bytes_in}
 use Rattle.tiff_dir.specs.Query.{array_range}
-use Rattle.tiff_dir.specs.Profile.{max_geo_bytes}
 use Rattle.tiff_dir.specs.Geo.{geo_place, IsGeoFault}
 use Rattle.tiff_dir.specs.Stage.{range_of}
 use Rattle.tiff_dir.specs.WalkState.{WalkState, IsTold}
@@ -60,7 +60,7 @@ extent_of_span s = record { first = s.first; len = s.last + 1 - s.first }
 abbrev pub Wants : WalkState → ℕ → Option Span → Type 0
 Wants w complete None = HasEnded w
 Wants w complete (Some span) =
-    (wanted w ≡ Some (extent_of_span span)) × (span.last < complete) × (span.last + 1 ≤ span.first + max_range_bytes)
+    (wanted w ≡ Some (extent_of_span span)) × (span.last < complete) × (span.last + 1 ≤ span.first + MAX_RANGE_BYTES)
 
 -- what level n of the file says of itself is what this level has
 pub record IsDescribed (f : List ℕ) (n : ℕ) (l : Level) : Type 0 where
@@ -108,7 +108,7 @@ pub record AreGeoPlaces (f : List ℕ) (p : GeoPlaces) : Type 0 where
 abbrev pub IsGeoPlace : Kind → Option Place → Type 0
 IsGeoPlace k None = ⊤
 IsGeoPlace k (Some p) =
-    (p.kind ≡ k) × (p.len ≡ p.count * size_of k) × (0 < p.len) × (p.len ≤ max_geo_bytes) × (p.first < 2 ^ 33)
+    (p.kind ≡ k) × (p.len ≡ p.count * size_of k) × (0 < p.len) × (p.len ≤ MAX_GEO_BYTES) × (p.first < 2 ^ 33)
 
 pub record AreTyped (p : GeoPlaces) : Type 0 where
   pub directory : IsGeoPlace kind.Short p.directory

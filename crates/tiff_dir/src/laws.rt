@@ -1,5 +1,6 @@
 //! Laws of the definitions, which upper crates rest on. Each function does nothing: its contract is the law.
 ghost use Rattle.std.specs.Prelude.{◌≡◌, ℕ, List, [], Some, slice_get};
+ghost use Rattle.tiff_dir.specs.declared.limits.TheConstants.{BLOCK_SIZE, MAX_DIRECTORIES, MAX_ENTRIES, MAX_GEO_BYTES, MAX_PACKET_BYTES, MAX_RANGE_BYTES, MAX_TILES, MAX_TILE_BYTES, MAX_WINDOW_SAMPLES};
 ghost use Rattle.tiff_dir.specs.declared.query.Query.{Query};
 ghost use Rattle.tiff_dir.specs.declared.query.Query.TheVariants.{Window};
 ghost use Rattle.tiff_dir.specs.declared.query.Pick.{Pick};
@@ -12,6 +13,19 @@ ghost use Rattle.tiff_dir.specs.Needs.{needs_of_directories, IsEndOf};
 ghost use Rattle.tiff_dir.specs.Walk.{to_come, WalkAgrees, HasEnded, IsDescribed};
 ghost use Rattle.tiff_dir.specs.Packets.{PacketsAreApart, TextsAreUnique};
 ghost use Rattle.tiff_dir.specs.Faulty.{IsFaulty, IsWindow};
+
+/// The limits of the profile, in numbers.
+pub fn profile_limits_are()
+    ensures directories { MAX_DIRECTORIES ≡ 16 }
+    ensures entries { MAX_ENTRIES ≡ 256 }
+    ensures tiles { MAX_TILES ≡ 65536 }
+    ensures tile { MAX_TILE_BYTES ≡ 1048576 }
+    ensures range { MAX_RANGE_BYTES ≡ 1048576 }
+    ensures geo { MAX_GEO_BYTES ≡ 65536 }
+    ensures window { MAX_WINDOW_SAMPLES ≡ 4194304 }
+    ensures packet { MAX_PACKET_BYTES ≡ 128 }
+    ensures block { BLOCK_SIZE ≡ 16384 }
+{}
 
 /// A file has one window for a query.
 pub fn one_window()

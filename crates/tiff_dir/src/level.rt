@@ -2,8 +2,9 @@
 ghost use Rattle.std.specs.Prelude.{◌≡◌, ◌≢◌, ◌*◌, ◌<◌, ◌≤◌, ◌^◌, ◌&&◌, IsTrue};
 ghost use Rattle.tiff_dir.specs.declared.level.Kind.TheVariants as kind;
 ghost use Rattle.tiff_dir.specs.declared.tags.TheConstants.{SAMPLES_PER_PIXEL};
+ghost use Rattle.tiff_dir.specs.declared.limits.TheConstants.{MAX_TILES, MAX_TILE_BYTES};
 ghost use Rattle.tiff_dir.specs.File.{size_of};
-ghost use Rattle.tiff_dir.specs.Profile.{accepts, is_depth, is_tile_side, max_tile_bytes, max_tiles, tile_bytes, tile_count, tiles_along};
+ghost use Rattle.tiff_dir.specs.Profile.{accepts, is_depth, is_tile_side, tile_bytes, tile_count, tiles_along};
 
 /// The type of a field's values (TIFF 6.0, section 2), in the order of the types' numbers.
 #[derive(Clone, Copy, Debug, PartialEq, Eq)]
@@ -77,8 +78,8 @@ pub struct Level {
     ghost tile_sides: { IsTrue (is_tile_side tile_width) × IsTrue (is_tile_side tile_length) },
     ghost one_or_three: { IsTrue (accepts SAMPLES_PER_PIXEL samples) },
     ghost depth: { IsTrue (is_depth bits) },
-    ghost plain: { tile_bytes tile_width tile_length samples bits ≤ max_tile_bytes },
-    ghost tiles: { tile_count width length tile_width tile_length ≤ max_tiles },
+    ghost plain: { tile_bytes tile_width tile_length samples bits ≤ MAX_TILE_BYTES },
+    ghost tiles: { tile_count width length tile_width tile_length ≤ MAX_TILES },
     ghost offset_of_each: { offsets.count ≡ tile_count width length tile_width tile_length },
     ghost count_of_each: { counts.count ≡ tile_count width length tile_width tile_length },
     ghost kinds: { (offsets.kind ≡ kind.Long) × (counts.kind ≢ kind.Short → counts.kind ≡ kind.Long) },
@@ -128,7 +129,7 @@ impl Level {
     /// How many bytes a tile has when it is unpacked.
     pub fn plain_size(&self) -> usize
         ensures size { result ≡ plain_size (layout_of self.now) }
-        ensures few { result ≤ max_tile_bytes }
+        ensures few { result ≤ MAX_TILE_BYTES }
     {
         self.tile_length as usize * self.plain_row()
     }

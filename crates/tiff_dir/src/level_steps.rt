@@ -2,7 +2,8 @@
 ghost use Rattle.std.specs.Prelude.{◌≡◌, ℕ, ◌+◌, ◌*◌, ◌<◌, ◌≤◌, ◌%◌, ◌&&◌, ◌||◌, ◌==◌, List, true, false, Some, IfOk, length, MatchResult};
 ghost use Rattle.std.specs.Option.{ForSome};
 ghost use Rattle.tiff_dir.specs.Number.{number_in};
-ghost use Rattle.tiff_dir.specs.File.{max_directories, value};
+ghost use Rattle.tiff_dir.specs.declared.limits.TheConstants.{MAX_DIRECTORIES};
+ghost use Rattle.tiff_dir.specs.File.{value};
 ghost use Rattle.tiff_dir.specs.Fault.{IsFaultOfDirectories, IsFaultOfDirectory};
 ghost use Rattle.tiff_dir.specs.Level.{is_level};
 ghost use Rattle.tiff_dir.specs.Described.{layout_of};
@@ -72,7 +73,7 @@ pub(crate) fn after_level(
     table: &Table<'_>,
     previous: Option<Level>,
 ) -> Result<Step, FileFault>
-    requires few { index < max_directories }
+    requires few { index < MAX_DIRECTORIES }
     ensures next { IfOk result (IsNext (Stage.Table table.now.order index table.now.at table.now.entries) (3 + 4 * index)) }
     ensures agrees { (f : List ℕ) → IsTableOf f table.now.order index table.now.at table.now.entries table.now.bytes.now → is_level f index ≡ true
         → ((fault : Fault) → IsFaultOfDirectory f index fault → ⊥) → IsBefore f index previous
@@ -145,7 +146,7 @@ pub(crate) fn after_bits(
     bytes: &[u8],
     previous: Option<Level>,
 ) -> Result<Step, FileFault>
-    requires few { pending.index < max_directories }
+    requires few { pending.index < MAX_DIRECTORIES }
     requires draft { IsDraft pending.draft }
     requires whole { length bytes.now ≡ 6 }
     ensures next { IfOk result (IsNext (Stage.Bits pending first formats) (4 + 4 * pending.index)) }
@@ -176,7 +177,7 @@ pub(crate) fn after_formats(
     bytes: &[u8],
     previous: Option<Level>,
 ) -> Result<Step, FileFault>
-    requires few { pending.index < max_directories }
+    requires few { pending.index < MAX_DIRECTORIES }
     requires draft { IsDraft pending.draft }
     requires whole { length bytes.now ≡ 6 }
     requires depth { ForSome bits (λ n. is_depth n ≡ true) }
@@ -218,7 +219,7 @@ fn level_of(draft: Draft, bits: u16) -> Level
 
 /// Ends a level whose values are all read, and goes to the next directory.
 fn finish(pending: Pending, bits: u16, previous: Option<Level>) -> Result<Step, FileFault>
-    requires few { pending.index < max_directories }
+    requires few { pending.index < MAX_DIRECTORIES }
     requires draft { IsDraft pending.draft }
     requires depth { is_depth bits ≡ true }
     ensures end { IfOk result (IsEnd pending.index) }

@@ -25,7 +25,9 @@ mod walk;
 
 pub use fault::{FileFault, WalkError};
 pub use geo::GeoPlaces;
-pub use laws::{levels_are_described, one_text, one_window, some_window, what_comes};
+pub use laws::{
+    levels_are_described, one_text, one_window, profile_limits_are, some_window, what_comes,
+};
 pub use level::{Compression, Kind, Level, Place};
 pub use memory::Memory;
 pub use order::Order;

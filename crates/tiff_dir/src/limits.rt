@@ -14,5 +14,7 @@ pub const MAX_RANGE_BYTES: u64 = 1_048_576;
 pub const MAX_GEO_BYTES: u64 = 65_536;
 /// The most samples of a window.
 pub const MAX_WINDOW_SAMPLES: u64 = 4_194_304;
+/// The most bytes that a packet stands for (TIFF 6.0, section 9).
+pub const MAX_PACKET_BYTES: usize = 128;
 /// The bytes of a block of a file, in which it is kept.
 pub const BLOCK_SIZE: u64 = 16_384;

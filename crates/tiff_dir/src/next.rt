@@ -1,6 +1,6 @@
 //! From one directory to the next.
 ghost use Rattle.std.specs.Prelude.{◌≡◌, ℕ, ◌+◌, ◌*◌, ◌<◌, ◌≤◌, List, true, IfOk, MatchResult};
-ghost use Rattle.tiff_dir.specs.File.{max_directories};
+ghost use Rattle.tiff_dir.specs.declared.limits.TheConstants.{MAX_DIRECTORIES};
 ghost use Rattle.tiff_dir.specs.Fault.{IsFaultOfDirectories};
 ghost use Rattle.tiff_dir.specs.Stage.{index_of, is_past_first, Follows, IsAt, IsKept};
 
@@ -10,7 +10,7 @@ use crate::{FileFault, Order};
 
 /// Goes to directory `index`, of which `at` is told, or to the end.
 pub(crate) fn next(order: Order, index: u32, at: u32) -> Result<Stage, FileFault>
-    requires { index ≤ max_directories }
+    requires { index ≤ MAX_DIRECTORIES }
     ensures index { IfOk result (λ stage. index_of stage ≡ index) }
     ensures kept { IfOk result (λ stage. IsKept stage (1 + 4 * index)) }
     ensures begins { IfOk result (λ stage. is_past_first stage ≡ true → 0 < index) }

@@ -1,6 +1,7 @@
 //! Whether the sides of a level, its tiles and their arrays are those of the profile.
 ghost use Rattle.std.specs.Prelude.{◌≡◌, ◌*◌, ◌<◌, ◌≤◌, true, false, nat_le, MatchOption, MatchResult};
-ghost use Rattle.tiff_dir.specs.Profile.{is_tile_side, max_tile_bytes, max_tiles, tile_bytes};
+ghost use Rattle.tiff_dir.specs.declared.limits.TheConstants.{MAX_TILES, MAX_TILE_BYTES};
+ghost use Rattle.tiff_dir.specs.Profile.{is_tile_side, tile_bytes};
 ghost use Rattle.tiff_dir.specs.Shape.{fits_under, has_arrays, has_sides, has_tiles, IsShaped, IsShapeFault};
 
 use crate::level::tiles_along;
@@ -40,7 +41,7 @@ fn product(a: u32, b: u32) -> u64
 fn is_small(width: u32, length: u32, samples: u16, bits: u16) -> bool
     requires samples { 0 < samples }
     requires bits { 8 ≤ bits }
-    ensures { result ≡ nat_le (tile_bytes width length samples bits) max_tile_bytes }
+    ensures { result ≡ nat_le (tile_bytes width length samples bits) MAX_TILE_BYTES }
 {
     let area = product(width, length);
     area <= MAX_TILE_BYTES && area * u64::from(samples) * u64::from(bits / 8) <= MAX_TILE_BYTES

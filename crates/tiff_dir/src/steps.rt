@@ -1,9 +1,10 @@
 //! One step of the walk for each range that it wants.
 ghost use Rattle.std.specs.Prelude.{◌≡◌, ℕ, ◌+◌, ◌*◌, ◌<◌, ◌≤◌, ◌^◌, List, true, false, IsSomeAnd, IfSome, IfOk, length, MatchResult};
 ghost use Rattle.std.specs.Option.{option_map};
-ghost use Rattle.tiff_dir.specs.File.{max_directories, order_of};
+ghost use Rattle.tiff_dir.specs.declared.limits.TheConstants.{MAX_DIRECTORIES, MAX_ENTRIES, MAX_RANGE_BYTES};
+ghost use Rattle.tiff_dir.specs.File.{order_of};
 ghost use Rattle.tiff_dir.specs.Fault.{IsFaultOfDirectories};
-ghost use Rattle.tiff_dir.specs.Needs.{bytes_in, max_entries, max_range_bytes};
+ghost use Rattle.tiff_dir.specs.Needs.{bytes_in};
 ghost use Rattle.tiff_dir.specs.GeoEntries.{AreNear};
 ghost use Rattle.tiff_dir.specs.Walk.{extent_of_span};
 ghost use Rattle.tiff_dir.specs.WalkState.{HasGeo};
@@ -51,7 +52,7 @@ fn after_header(bytes: &[u8]) -> Result<Step, FileFault>
 
 /// The first two bytes of a directory tell how many entries it has.
 fn after_count(order: Order, index: u32, at: u32, bytes: &[u8]) -> Result<Step, FileFault>
-    requires few { index < max_directories }
+    requires few { index < MAX_DIRECTORIES }
     requires whole { length bytes.now ≡ 2 }
     ensures next { IfOk result (IsNext (Stage.Count order index at) (2 + 4 * index)) }
     ensures agrees { (f : List ℕ) → AgreesAt f (Stage.Count order index at) → bytes.now ≡ bytes_in f (record { first = at; len = 2 })
@@ -79,8 +80,8 @@ fn after_table(
     bytes: &[u8],
     previous: Option<Level>,
 ) -> Result<Step, FileFault>
-    requires few { index < max_directories }
-    requires short { entries ≤ max_entries }
+    requires few { index < MAX_DIRECTORIES }
+    requires short { entries ≤ MAX_ENTRIES }
     requires whole { length bytes.now ≡ 12 * entries + 4 }
     ensures next { IfOk result (IsNext (Stage.Table order index at entries) (3 + 4 * index)) }
     ensures agrees { (f : List ℕ) → IsTableOf f order index at entries bytes.now → IsBefore f index previous
@@ -164,9 +165,9 @@ pub(crate) fn geo_after(stage: Stage, bytes: &[u8], geo: GeoEntries) -> GeoEntri
 fn span(first: u64, len: u64) -> Span
     requires near { first < 2 ^ 33 }
     requires some { 0 < len }
-    requires small { len ≤ max_range_bytes }
+    requires small { len ≤ MAX_RANGE_BYTES }
     ensures extent { extent_of_span result ≡ record { first = first; len = len } }
-    ensures small { result.last + 1 ≤ result.first + max_range_bytes }
+    ensures small { result.last + 1 ≤ result.first + MAX_RANGE_BYTES }
 {
     Span {
         first,
@@ -176,7 +177,7 @@ fn span(first: u64, len: u64) -> Span
 
 /// The range that a walk wants.
 pub(crate) fn range(stage: Stage) -> Option<Span>
-    ensures small { IfSome result (λ s. s.last + 1 ≤ s.first + max_range_bytes) }
+    ensures small { IfSome result (λ s. s.last + 1 ≤ s.first + MAX_RANGE_BYTES) }
     ensures wanted { range_of stage ≡ option_map extent_of_span result }
 {
     match stage {

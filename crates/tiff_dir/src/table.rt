@@ -1,6 +1,6 @@
 //! The entries in the bytes of a directory's table.
 ghost use Rattle.std.specs.Prelude.{◌≡◌, ◌+◌, ◌*◌, ◌≤◌, length};
-ghost use Rattle.tiff_dir.specs.Needs.{max_entries};
+ghost use Rattle.tiff_dir.specs.declared.limits.TheConstants.{MAX_ENTRIES};
 
 use crate::Order;
 
@@ -24,7 +24,7 @@ pub struct Table<'b> {
     pub at: u32,
     pub entries: u16,
     pub bytes: &'b [u8],
-    ghost few: { entries ≤ max_entries },
+    ghost few: { entries ≤ MAX_ENTRIES },
     ghost whole: { length bytes.now ≡ 12 * entries + 4 },
 }
 

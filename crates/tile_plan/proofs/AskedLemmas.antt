@@ -18,7 +18,8 @@ use Rattle.tiff_dir.specs.File.{◌>>=◌, value}
 use Rattle.tiff_dir.specs.Level.{layouts, layout_at, level_directories, level_directory, level_value}
 use Rattle.tiff_dir.specs.Described.{described}
 use Rattle.tiff_dir.specs.Query as asked
-use Rattle.tiff_dir.specs.Query.{max_window_samples, scaled_down, scaled_up, scaled, rectangle, smallest_level, passes, is_outside_level, is_outside, is_too_large, is_refused}
+use Rattle.tiff_dir.specs.declared.limits.TheConstants.{MAX_WINDOW_SAMPLES}
+use Rattle.tiff_dir.specs.Query.{scaled_down, scaled_up, scaled, rectangle, smallest_level, passes, is_outside_level, is_outside, is_too_large, is_refused}
 use Rattle.tile_plan.specs.declared.asked.Rectangle.{Rectangle}
 use Rattle.tile_plan.specs.Levels.{HasLevels, rectangle_of, is_inside, has_columns, last_with_columns, outwards, IsSmall, IsAsked, IsRefusedBy}
 use Rattle.tile_plan.proofs.RectLemmas.{last_more}
@@ -124,7 +125,7 @@ inside_level f ls n x y w h l has is good = outside_level f ls n x y w h l has i
 
 -- ---- too large
 
-large_is : (f : List ℕ) (ls : List Level) (q : Query) (r : asked.Rectangle) (l : Level) → HasLevels f ls → slice_get ls r.level ≡ Some l → rectangle f q ≡ Some r → is_too_large f q ≡ nat_lt max_window_samples (r.width * r.height * l.samples)
+large_is : (f : List ℕ) (ls : List Level) (q : Query) (r : asked.Rectangle) (l : Level) → HasLevels f ls → slice_get ls r.level ≡ Some l → rectangle f q ≡ Some r → is_too_large f q ≡ nat_lt MAX_WINDOW_SAMPLES (r.width * r.height * l.samples)
 unfolding is_too_large
 large_is f ls q r l has is there = rw (there, (has.each r.level l is).samples) refl
 
@@ -132,7 +133,7 @@ both_false : (a b : Bool) → a ≡ false → b ≡ false → (a || b) ≡ false
 both_false a b x y = rw (x, y) refl
 
 -- the rectangle of a query in a level
-in_level : (ls : List Level) (q : Query) (r : Rectangle) (l : Level) → slice_get ls r.level ≡ Some l → IsTrue (is_inside l r.x r.y r.w r.h) → nat_lt max_window_samples (r.w * r.h * l.samples) ≡ false
+in_level : (ls : List Level) (q : Query) (r : Rectangle) (l : Level) → slice_get ls r.level ≡ Some l → IsTrue (is_inside l r.x r.y r.w r.h) → nat_lt MAX_WINDOW_SAMPLES (r.w * r.h * l.samples) ≡ false
     → ((f : List ℕ) → HasLevels f ls → is_outside f q ≡ false) → ((f : List ℕ) → HasLevels f ls → rectangle f q ≡ Some (rectangle_of r)) → IsAsked ls q r
 in_level ls q r l is inside few within there = record {
   rectangle = there;
@@ -142,22 +143,22 @@ in_level ls q r l is inside few within there = record {
   some_and : (ls : List Level) (r : Rectangle) (l : Level) → slice_get ls r.level ≡ Some l → IsSmall l r → IsSomeAnd (slice_get ls r.level) (λ l. IsSmall l r)
   some_and ls r l is small = rw is small
 
-  within_few : (n : ℕ) → nat_lt max_window_samples n ≡ false → n ≤ max_window_samples
-  within_few n few = elim (cases_lt max_window_samples n) [ inl more ↦ absurd (false≢true (sym few ∙ lt-ltb max_window_samples n more)) | inr fits ↦ fits ]
+  within_few : (n : ℕ) → nat_lt MAX_WINDOW_SAMPLES n ≡ false → n ≤ MAX_WINDOW_SAMPLES
+  within_few n few = elim (cases_lt MAX_WINDOW_SAMPLES n) [ inl more ↦ absurd (false≢true (sym few ∙ lt-ltb MAX_WINDOW_SAMPLES n more)) | inr fits ↦ fits ]
 
-too_large : (ls : List Level) (q : Query) (r : Rectangle) (l : Level) → slice_get ls r.level ≡ Some l → nat_lt max_window_samples (r.w * r.h * l.samples) ≡ true
+too_large : (ls : List Level) (q : Query) (r : Rectangle) (l : Level) → slice_get ls r.level ≡ Some l → nat_lt MAX_WINDOW_SAMPLES (r.w * r.h * l.samples) ≡ true
     → ((f : List ℕ) → HasLevels f ls → rectangle f q ≡ Some (rectangle_of r)) → IsRefusedBy ls q TooLarge
 too_large ls q r l is many there f has = large_is f ls q (rectangle_of r) l has is (there f has) ∙ many
 
 pub asked_by : (ls : List Level) (q : Query) (r : Rectangle) (l : Level) (result : Result Rectangle FileFault) → slice_get ls r.level ≡ Some l → IsTrue (is_inside l r.x r.y r.w r.h)
     → ((f : List ℕ) → HasLevels f ls → is_outside f q ≡ false) → ((f : List ℕ) → HasLevels f ls → rectangle f q ≡ Some (rectangle_of r))
-    → IfOk result (λ s. (s ≡ r) × (nat_lt max_window_samples (r.w * r.h * l.samples) ≡ false)) → IfOk result (IsAsked ls q)
+    → IfOk result (λ s. (s ≡ r) × (nat_lt MAX_WINDOW_SAMPLES (r.w * r.h * l.samples) ≡ false)) → IfOk result (IsAsked ls q)
 asked_by ls q r l (Ok s) is inside within there (same, few) = subst (IsAsked ls q) (sym same) (in_level ls q r l is inside few within there)
 asked_by ls q r l (Err e) is inside within there good = tt
 
 pub refused_by : (ls : List Level) (q : Query) (r : Rectangle) (l : Level) (result : Result Rectangle FileFault) → slice_get ls r.level ≡ Some l
     → ((f : List ℕ) → HasLevels f ls → rectangle f q ≡ Some (rectangle_of r))
-    → IfErr result (λ fault. (fault ≡ TooLarge) × (nat_lt max_window_samples (r.w * r.h * l.samples) ≡ true)) → IfErr result (IsRefusedBy ls q)
+    → IfErr result (λ fault. (fault ≡ TooLarge) × (nat_lt MAX_WINDOW_SAMPLES (r.w * r.h * l.samples) ≡ true)) → IfErr result (IsRefusedBy ls q)
 refused_by ls q r l (Ok s) is there bad = tt
 refused_by ls q r l (Err e) is there (same, many) = subst (IsRefusedBy ls q) (sym same) (too_large ls q r l is many there)
 

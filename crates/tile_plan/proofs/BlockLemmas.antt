@@ -9,7 +9,8 @@ use Rattle.std.proofs.lemmas.List.{get_or_append_left}
 use Rattle.std.proofs.Math.Seq.{get_or-append_seam}
 use Rattle.tiff_dir.specs.Window.{tile_at}
 use Rattle.std.proofs.lemmas.List.FromFn.{map-range_with_len_more}
-use Rattle.tiff_dir.specs.Profile.{max_tiles, tiles_along}
+use Rattle.tiff_dir.specs.declared.limits.TheConstants.{MAX_TILES}
+use Rattle.tiff_dir.specs.Profile.{tiles_along}
 use Rattle.tiff_dir.specs.Level.{Grid, across, tile_total}
 use Rattle.tiff_dir.specs.declared.level.Level.{Level}
 use Rattle.tile_plan.specs.declared.asked.Rectangle.{Rectangle as Window}
@@ -258,7 +259,7 @@ in_level l r inside =
     }
 
 -- the last row's tiles are few
-pub block_few : (l : Level) (top R : ℕ) → top + R ≤ tiles_along l.length l.tile_length → (top + R) * tiles_along l.width l.tile_width ≤ max_tiles
+pub block_few : (l : Level) (top R : ℕ) → top + R ≤ tiles_along l.length l.tile_length → (top + R) * tiles_along l.width l.tile_width ≤ MAX_TILES
 block_few l top R tall = omega (arith, l.tiles, mul-le-mul_right (tiles_along l.width l.tile_width) tall)
 
 -- ---- the tile of a pixel

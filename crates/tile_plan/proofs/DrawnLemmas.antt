@@ -10,7 +10,7 @@ use Rattle.tiff_dir.specs.declared.fault.FileFault.{FileFault}
 use Rattle.tiff_dir.specs.declared.fault.FileFault.TheVariants.{Outside, TooLarge}
 use Rattle.tiff_dir.specs.File.{◌>>=◌}
 use Rattle.tiff_dir.specs.Query as asked
-use Rattle.tiff_dir.specs.Query.{max_window_samples}
+use Rattle.tiff_dir.specs.declared.limits.TheConstants.{MAX_WINDOW_SAMPLES}
 use Rattle.tile_plan.specs.declared.asked.Rectangle.{Rectangle}
 use Rattle.tile_plan.specs.Levels.{rectangle_of, is_inside, last_with_columns, outwards}
 use Rattle.tile_plan.specs.Drawn.{given_in, lies_inside, picked, drawn, is_large, IsDrawn, IsRefusal}
@@ -55,16 +55,16 @@ columns_drawn ls columns n x y w h first l r is smallest there same =
     ∙ ap (λ (o : Option Level). o >>= λ here. Some (outwards n first here x y w h)) there
     ∙ ap Some (sym same)
 
-large_by : (ls : List Level) (r : Rectangle) (l : Level) (large : Bool) → slice_get ls r.level ≡ Some l → nat_lt max_window_samples (r.w * r.h * l.samples) ≡ large → is_large ls (rectangle_of r) ≡ large
+large_by : (ls : List Level) (r : Rectangle) (l : Level) (large : Bool) → slice_get ls r.level ≡ Some l → nat_lt MAX_WINDOW_SAMPLES (r.w * r.h * l.samples) ≡ large → is_large ls (rectangle_of r) ≡ large
 large_by ls r l large is said = rw is said
 
 pub drawn_by : (ls : List Level) (q : Query) (r : Rectangle) (l : Level) (result : Result Rectangle FileFault) → slice_get ls r.level ≡ Some l → lies_inside ls q ≡ true → drawn ls q ≡ Some (rectangle_of r)
-    → IfOk result (λ s. (s ≡ r) × (nat_lt max_window_samples (r.w * r.h * l.samples) ≡ false)) → IfOk result (IsDrawn ls q)
+    → IfOk result (λ s. (s ≡ r) × (nat_lt MAX_WINDOW_SAMPLES (r.w * r.h * l.samples) ≡ false)) → IfOk result (IsDrawn ls q)
 drawn_by ls q r l (Ok s) is inside there (same, few) = subst (IsDrawn ls q) (sym same) (record { inside = inside; rectangle = there; few = large_by ls r l false is few })
 drawn_by ls q r l (Err e) is inside there good = tt
 
 pub refusal_by : (ls : List Level) (q : Query) (r : Rectangle) (l : Level) (result : Result Rectangle FileFault) → slice_get ls r.level ≡ Some l → lies_inside ls q ≡ true → drawn ls q ≡ Some (rectangle_of r)
-    → IfErr result (λ fault. (fault ≡ TooLarge) × (nat_lt max_window_samples (r.w * r.h * l.samples) ≡ true)) → IfErr result (IsRefusal ls q)
+    → IfErr result (λ fault. (fault ≡ TooLarge) × (nat_lt MAX_WINDOW_SAMPLES (r.w * r.h * l.samples) ≡ true)) → IfErr result (IsRefusal ls q)
 refusal_by ls q r l (Ok s) is inside there bad = tt
 refusal_by ls q r l (Err e) is inside there (same, many) =
     let large : IsSomeAnd (drawn ls q) (λ r. is_large ls r ≡ true) = subst (λ o. IsSomeAnd o (λ r. is_large ls r ≡ true)) (sym there) (large_by ls r l true is many) in

@@ -1,4 +1,5 @@
 -- What a query asks for by the levels that it is given, whether a file has them or not.
+use Rattle.tiff_dir.specs.declared.limits.TheConstants.{MAX_WINDOW_SAMPLES}
 use Rattle.std.specs.Prelude.{◌≡◌, ℕ, ◌*◌, Bool, true, false, ◌==◌, nat_lt, if◌then◌else◌, List, length, slice_get, Option, Some, None, IsSomeAnd}
 use Rattle.std.specs.Option.{option_map_or}
 use Rattle.tiff_dir.specs.declared.level.Level.{Level}
@@ -38,7 +39,7 @@ drawn ls Info = None
 
 -- a rectangle has more samples than a window may have
 abbrev pub is_large : List Level → asked.Rectangle → Bool
-is_large ls r = option_map_or (λ l. nat_lt asked.max_window_samples (r.width * r.height * l.samples)) (slice_get ls r.level) false
+is_large ls r = option_map_or (λ l. nat_lt MAX_WINDOW_SAMPLES (r.width * r.height * l.samples)) (slice_get ls r.level) false
 
 -- the rectangle is what the query asks for
 pub record IsDrawn (ls : List Level) (q : Query) (r : Rectangle) : Type 0 where

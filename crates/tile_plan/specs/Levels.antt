@@ -1,4 +1,5 @@
 -- The levels of a file as they were read, and a window of one of them.
+use Rattle.tiff_dir.specs.declared.limits.TheConstants.{MAX_WINDOW_SAMPLES}
 use Rattle.std.specs.Prelude.{◌≡◌, ℕ, ◌+◌, ◌-◌, ◌*◌, ◌≤◌, Bool, false, ◌&&◌, nat_lt, nat_le, List, slice_get, Some, None, unwrap_or, IsTrue, IsSomeAnd}
 use Rattle.std.specs.Option.{option_map_or}
 use Rattle.std.specs.List.{filter, last_or, range_with_len}
@@ -48,7 +49,7 @@ outwards n first here x y w h =
 -- the rectangle lies in the level, and has no more samples than a window may have
 pub record IsSmall (l : Level) (r : Rectangle) : Type 0 where
   pub inside : IsTrue (is_inside l r.x r.y r.w r.h)
-  pub few : r.w * r.h * l.samples ≤ asked.max_window_samples
+  pub few : r.w * r.h * l.samples ≤ MAX_WINDOW_SAMPLES
 
 -- the rectangle is what the query asks for, and it isn't refused
 pub record IsAsked (ls : List Level) (q : Query) (r : Rectangle) : Type 0 where

@@ -1,5 +1,6 @@
 -- The groups of a window's tiles, by the bytes of the two arrays of its level.
 use Rattle.tiff_dir.specs.declared.tags.TheConstants.{TILE_BYTE_COUNTS, TILE_OFFSETS}
+use Rattle.tiff_dir.specs.declared.limits.TheConstants.{MAX_RANGE_BYTES}
 use Rattle.std.specs.Prelude.{◌≡◌, ℕ, ◌+◌, ◌*◌, ◌<◌, ◌≤◌, ◌⊎◌, true, false, ⊤, nat_lt, ◌==◌, List, [], ◌∷◌, length, map, Some}
 use Rattle.std.specs.List.{flat_map, list_any, All, IsAmong}
 use Rattle.tiff_dir.specs.declared.order.Order.{Order}
@@ -11,7 +12,7 @@ use Rattle.tiff_dir.specs.declared.fault.FileFault.TheVariants.{PastEnd, TileSiz
 use Rattle.tiff_dir.specs.Number.{number_in}
 use Rattle.tiff_dir.specs.File.{order_of, size_of}
 use Rattle.tiff_dir.specs.Level.{level_layout, level_value, plain_size, tile_total}
-use Rattle.tiff_dir.specs.Needs.{Extent, ends_past, max_range_bytes}
+use Rattle.tiff_dir.specs.Needs.{Extent, ends_past}
 use Rattle.tiff_dir.specs.Described.{grid_of, layout_of}
 use Rattle.tiff_dir.specs.Walk.{IsArrayOf, IsDescribed, extent_of_span}
 use Rattle.tiff_dir.specs.Faulty.{HasBadTile, is_byte_count, IsFaultOfWindow}
@@ -62,7 +63,7 @@ Adjoin range at (t ∷ ts) end = ((range t).first ≡ at) × Adjoin range (at + 
 pub record IsGroup (range : ℕ → Extent) (l : Level) (complete : ℕ) (g : asked.Group) : Type 0 where
   pub tiles : All (λ t. t < tile_total (grid_of l)) g.tiles
   pub adjoin : Adjoin range g.range.first g.tiles (g.range.first + g.range.len)
-  pub few : g.range.len ≤ max_range_bytes
+  pub few : g.range.len ≤ MAX_RANGE_BYTES
   pub inside : g.range.first + g.range.len ≤ complete
 
 -- These are the groups of the rectangle's tiles, of which none has a fault.

@@ -2,7 +2,8 @@
 ghost use Rattle.std.specs.Prelude.{◌≡◌, ◌<◌, ◌≤◌, ◌*◌, ◌⊎◌, true, false, Some, nat_lt, IfOk, IfErr, IfSome, IsTrue, length, slice_get};
 ghost use Rattle.tiff_dir.specs.declared.query.Query.TheVariants.{Window, Info};
 ghost use Rattle.tiff_dir.specs.declared.query.Pick.TheVariants as pick;
-ghost use Rattle.tiff_dir.specs.Query.{max_window_samples, scaled_down, scaled_up};
+ghost use Rattle.tiff_dir.specs.declared.limits.TheConstants.{MAX_WINDOW_SAMPLES};
+ghost use Rattle.tiff_dir.specs.Query.{scaled_down, scaled_up};
 ghost use Rattle.tile_plan.specs.Levels.{rectangle_of, is_inside, has_columns, last_with_columns, outwards, IsAsked, IsRefusedBy};
 ghost use Rattle.tile_plan.specs.Drawn.{IsDrawn, IsRefusal};
 
@@ -111,7 +112,7 @@ fn level_of(levels: &[Level], n: usize, x: u32, y: u32, w: u32, h: u32) -> Resul
 
 /// Whether so many pixels have more samples than a window may have.
 fn exceeds(pixels: u64, samples: u16) -> bool
-    ensures { result ≡ nat_lt max_window_samples (pixels * samples) }
+    ensures { result ≡ nat_lt MAX_WINDOW_SAMPLES (pixels * samples) }
 {
     match pixels.checked_mul(u64::from(samples)) {
         Some(n) => n > MAX_WINDOW_SAMPLES,
@@ -121,9 +122,9 @@ fn exceeds(pixels: u64, samples: u16) -> bool
 
 /// The rectangle, where it has no more samples than a window may have.
 fn limited(rect: Rectangle, level: &Level) -> Result<Rectangle, FileFault>
-    ensures good { IfOk result (λ r. (r ≡ rect) × (nat_lt max_window_samples (rect.w * rect.h * level.now.samples) ≡ false)) }
+    ensures good { IfOk result (λ r. (r ≡ rect) × (nat_lt MAX_WINDOW_SAMPLES (rect.w * rect.h * level.now.samples) ≡ false)) }
     ensures large { IfErr result (λ fault. (fault ≡ FileFault.TooLarge)
-        × (nat_lt max_window_samples (rect.w * rect.h * level.now.samples) ≡ true)) }
+        × (nat_lt MAX_WINDOW_SAMPLES (rect.w * rect.h * level.now.samples) ≡ true)) }
 {
     if exceeds(product(rect.w, rect.h), level.samples) {
         return Err(FileFault::TooLarge);

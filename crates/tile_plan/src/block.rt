@@ -2,7 +2,7 @@
 ghost use Rattle.std.specs.Prelude.{◌≡◌, ℕ, ◌<◌, ◌≤◌, ◌+◌, ◌-◌, ◌*◌, ◌/◌, ◌^◌, IsTrue, map};
 ghost use Rattle.tiff_dir.specs.Described.{grid_of};
 ghost use Rattle.tiff_dir.specs.Level.{tile_total};
-ghost use Rattle.tiff_dir.specs.Profile.{max_tiles};
+ghost use Rattle.tiff_dir.specs.declared.limits.TheConstants.{MAX_TILES};
 ghost use Rattle.std.specs.List.{range_with_len};
 ghost use Rattle.tile_plan.specs.Levels.{is_inside};
 ghost use Rattle.tile_plan.specs.Plan.{tiles_of};
@@ -20,7 +20,7 @@ pub struct Block {
     rows: u32,
     ghost some: { (0 < columns) × (0 < rows) },
     ghost side: { left + columns ≤ across },
-    ghost few: { (top + rows) * across ≤ max_tiles },
+    ghost few: { (top + rows) * across ≤ MAX_TILES },
 }
 
 /// The first tile along a side that has one of `len` pixels from `at`, and how many have.

@@ -1,5 +1,5 @@
 use Rattle.std.proofs.Common.{◌≡◌, ℕ, List, ◌+◌, ◌*◌, ◌<◌, ◌≤◌, false}
-use Rattle.tiff_dir.specs.Block.{block_size}
+use Rattle.tiff_dir.specs.declared.limits.TheConstants.{BLOCK_SIZE}
 use Rattle.range_cache.specs.Cache.{numbers}
 use Rattle.range_cache.specs.Numbers.{has}
 use Rattle.cog_reader.specs.Reader.{complete_of, to_come, ReaderAgrees}
@@ -10,7 +10,7 @@ abbrev pub invariant-loop-index : goal.invariant-loop-index
 invariant-loop-index l = record {
   low : l.from ≤ l.end;
   high : l.end ≤ l.limit;
-  inside : l.end * block_size < complete_of l.reader + block_size;
+  inside : l.end * BLOCK_SIZE < complete_of l.reader + BLOCK_SIZE;
   gone : (k : ℕ) → l.from ≤ k → k < l.end → has k (numbers l.cache.entries) ≡ false;
   needed : (f : List ℕ) → ReaderAgrees l.reader f → (k : ℕ) → l.from ≤ k → k < l.end → OneTouches (to_come l.reader f) k;
 }

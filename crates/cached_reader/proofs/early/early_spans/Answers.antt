@@ -1,7 +1,8 @@
 use Rattle.std.proofs.Common.{◌-◌, ◌*◌, [], ◌∷◌, arith, length, length-append, sym, ap, ◌∙◌, subst}
 use Rattle.std.specs.List.{All}
 use Rattle.std.proofs.lemmas.List.Elements.{All-push}
-use Rattle.tiff_dir.specs.Block.{block_size, end_of}
+use Rattle.tiff_dir.specs.declared.limits.TheConstants.{BLOCK_SIZE}
+use Rattle.tiff_dir.specs.Block.{end_of}
 use Rattle.cached_reader.specs.Going.{work}
 use Rattle.cached_reader.specs.Early.{AreApart, IsEarly}
 use Rattle.cached_reader.proofs.EarlyLemmas.{AreBefore, one_apart, one_before}
@@ -35,9 +36,9 @@ loop-preserved c =
     } in
     record {
       early = subst (All IsOne) (sym pushed) (All-push IsOne spans span l.invariant.early one);
-      apart = subst AreApart (sym pushed) (one_apart spans span (l.last.to * block_size) l.invariant.before (omega (arith, later, first)) l.invariant.apart);
-      before = subst (AreBefore (run.to * block_size)) (sym pushed)
-          (one_before spans span (l.last.to * block_size) (run.to * block_size) l.invariant.before (omega (arith, later, some)) (omega (arith, some, last)));
+      apart = subst AreApart (sym pushed) (one_apart spans span (l.last.to * BLOCK_SIZE) l.invariant.before (omega (arith, later, first)) l.invariant.apart);
+      before = subst (AreBefore (run.to * BLOCK_SIZE)) (sym pushed)
+          (one_before spans span (l.last.to * BLOCK_SIZE) (run.to * BLOCK_SIZE) l.invariant.before (omega (arith, later, some)) (omega (arith, some, last)));
       few = omega (arith, few, ap length pushed, length-append spans (span ∷ []));
       behind = omega (arith, behind, later, some);
       small = omega (arith, inside, complete, fits);

@@ -1,7 +1,8 @@
 use Rattle.std.proofs.Common.{◌≡◌, ◌<◌, ◌≤◌, ◌+◌, ◌*◌, ◌/◌, ◌%◌, sym, arith, subst, map}
 use Rattle.std.specs.List.{range_with_len}
 use Rattle.tiff_dir.specs.Level.{across}
-use Rattle.tiff_dir.specs.Profile.{max_tiles, tiles_along}
+use Rattle.tiff_dir.specs.declared.limits.TheConstants.{MAX_TILES}
+use Rattle.tiff_dir.specs.Profile.{tiles_along}
 use Rattle.tiff_dir.specs.Described.{grid_of}
 use Rattle.tile_plan.specs.Levels.{rectangle_of}
 use Rattle.tile_plan.specs.Plan.{tiles_of}
@@ -25,7 +26,7 @@ invariant_of-result c =
     record {
       some = (room.some, room.more);
       side = omega (arith, room.wide, c.tiles_across-across.ensures.count);
-      few = subst (λ A. (top + R) * A ≤ max_tiles) (sym c.tiles_across-across.ensures.count) (block_few l top R room.tall);
+      few = subst (λ A. (top + R) * A ≤ MAX_TILES) (sym c.tiles_across-across.ensures.count) (block_few l top R room.tall);
     }
 
 pub returns-clause-tiles : goal.returns-clause-tiles
