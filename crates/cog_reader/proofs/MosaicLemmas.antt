@@ -48,7 +48,7 @@ tiles_more gs i g is =
 pub found : (gs ys : List Group) (i : ℕ) (g : Group) → ys ≡ gs → true ≡ nat_lt i (length ys) → g ≡ get_or ys i g → slice_get gs i ≡ Some g
 found gs ys i g same less is = ap (λ l. slice_get l i) (sym same) ∙ slice_get_read ys (length ys) i g refl (ltb-true i (length ys) (sym less)) is
 
-here_and : {X : Type 0} (o : Option X) (x : X) (P : X → Type 0) → o ≡ Some x → IsSomeAnd o P → P x
+pub here_and : {X : Type 0} (o : Option X) (x : X) (P : X → Type 0) → o ≡ Some x → IsSomeAnd o P → P x
 here_and None x P is some = absurd (none-some x is)
 here_and (Some y) x P is some = (let same : y ≡ x = cc in subst P same some)
 
@@ -117,14 +117,6 @@ pub damaged : (f : List ℕ) (q : Query) (a : Arrays) (w : MosaicState) (g : Gro
 damaged f q a w g ts fault u is same bad =
     let p = u.planned in
     let among = subst (λ l. IsAmong l bad.tile) (u.are.tiles ∙ sym (window_is f q a w.picture.rectangle p)) (among_group w.groups w.given g bad.tile is (subst (λ l. IsAmong l bad.tile) same bad.among)) in
-    let found : HasBadPackets f q = record {
-      level = w.picture.rectangle.level;
-      tile = bad.tile;
-      of_window = record { asked = rectangle_of w.picture.rectangle; asked_is = p.rectangle_is; level_is = refl; among = among };
-      layout = layout_of a.level;
-      layout_is = p.layout_is;
-      bytes = bad.bytes;
-      bytes_are = bad.bytes_are;
-      wrong = bad.wrong;
-    } in
+    let (i, (less, is)) = among in
+    let found : HasBadPackets f q = rw p.rectangle_is (i, bad.tile, less, sym is, rw (p.layout_is, bad.bytes_are) bad.wrong) in
     subst (IsFaultOfWindow f q) (sym bad.packet) found

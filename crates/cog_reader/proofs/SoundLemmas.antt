@@ -1,7 +1,7 @@
 -- No fault stands for a window of which all tiles are on the picture.
 use Rattle.std.proofs.Common.{◌≡◌, ℕ, ◌+◌, ◌++◌, ◌-◌, ◌*◌, ◌%◌, ◌<◌, inl, inr, Bool, true, false, List, length, take, drop, min, Option, Some, None, refl, sym, subst, ap, ◌∙◌, arith, length-drop}
-use Rattle.std.specs.Prelude.{◌||◌, ◌==◌, nat_lt}
-use Rattle.std.specs.List.{list_any, IsAmong}
+use Rattle.std.specs.Prelude.{◌||◌, ◌==◌, nat_lt, IsSomeAnd}
+use Rattle.std.specs.List.{list_any, Any, IsAmong}
 use Rattle.std.proofs.Math.Nat.{mul-le-mul_left}
 use Rattle.std.proofs.lemmas.Bool.{le-ltb, ltb-true, and_parts, false≢true}
 use Rattle.std.proofs.lemmas.Nat.{le-div}
@@ -25,14 +25,13 @@ use Rattle.tiff_dir.specs.Described.{layout_of}
 use Rattle.tiff_dir.specs.Walk.{IsArrayOf}
 use Rattle.tiff_dir.specs.Fault.{IsFaultOfDirectories}
 use Rattle.tiff_dir.specs.Faulty.{HasBadPackets, IsFaultOfWindow, IsFaulty, IsWindow}
-use Rattle.tiff_dir.specs.Query as queries
-use Rattle.tiff_dir.specs.Query.{array_range, array_ranges, tile_ranges, rectangle, is_outside, is_too_large, segment}
+use Rattle.tiff_dir.specs.Query.{array_range, array_ranges, tile_ranges, rectangle, window_tiles, is_outside, is_too_large, segment}
 use Rattle.tiff_dir.specs.Window.{HasSamples, IsUnpacked}
 use Rattle.tile_plan.specs.Levels.{rectangle_of}
 use Rattle.tile_plan.specs.Plan.{tiles_of}
 use Rattle.cog_reader.specs.declared.arrays.Arrays.{Arrays}
 use Rattle.cog_reader.specs.Mosaic.{MosaicState, IsPainted, IsUnderway}
-use Rattle.cog_reader.proofs.MosaicLemmas.{window_is}
+use Rattle.cog_reader.proofs.MosaicLemmas.{window_is, here_and}
 
 -- ---- the arrays are in the file
 
@@ -130,15 +129,12 @@ no_damage : (f : List ℕ) (q : Query) (a : Arrays) (w : MosaicState) → IsUnde
 no_damage f q a w u painted h =
     let r = w.picture.rectangle in
     let l = a.level in
-    let asked_same : h.of_window.asked ≡ rectangle_of r = cc (h.of_window.asked_is, u.planned.rectangle_is) in
-    let level : h.level ≡ r.level = sym h.of_window.level_is ∙ ap (λ (s : queries.Rectangle). s.level) asked_same in
-    let among = subst (λ ts. IsAmong ts h.tile) (window_is f q a r u.planned) h.of_window.among in
-    let here = painted h.tile among in
-    let bytes_are = subst (λ n. segment f n h.tile ≡ Some h.bytes) level h.bytes_are in
-    let bytes : here.bytes ≡ h.bytes = cc (here.bytes_are, bytes_are) in
-    let layout : layout_of l ≡ h.layout = cc (u.planned.layout_is, subst (λ n. level_layout f n ≡ Some h.layout) level h.layout_is) in
-    let unpacked = subst (λ m. IsUnpacked (layout_of m) here.bytes here.plain) u.level here.unpacked in
-    h.wrong here.plain (subst (λ b. IsUnpacked h.layout b here.plain) bytes (subst (λ m. IsUnpacked m here.bytes here.plain) layout unpacked))
+    let Packed = λ (m : Layout) (bytes : List ℕ). (plain : List ℕ) → IsUnpacked m bytes plain → ⊥ in
+    let (i, t, less, is, bad) = here_and (rectangle f q) (rectangle_of r) (λ s. Any (λ t. IsSomeAnd (level_layout f s.level) (λ m. IsSomeAnd (segment f s.level t) (Packed m))) (window_tiles f q)) u.planned.rectangle_is h in
+    let here = painted t (subst (λ ts. IsAmong ts t) (window_is f q a r u.planned) (i, (less, sym is))) in
+    let laid = here_and (level_layout f r.level) (layout_of l) (λ m. IsSomeAnd (segment f r.level t) (Packed m)) u.planned.layout_is bad in
+    let none = here_and (segment f r.level t) here.bytes (Packed (layout_of l)) here.bytes_are laid in
+    none here.plain (subst (λ m. IsUnpacked (layout_of m) here.bytes here.plain) u.level here.unpacked)
 
 no_fault_of_window : (f : List ℕ) (q : Query) (a : Arrays) (w : MosaicState) (fault : FileFault) → IsUnderway f q a w
     → ((t : ℕ) → IsAmong (tiles_of a.level w.picture.rectangle) t → IsPainted f w.picture.rectangle.level w.picture t) → IsFaultOfWindow f q fault → ⊥

@@ -12,13 +12,13 @@ use Rattle.tiff_dir.specs.declared.query.Query.TheVariants.{Window}
 use Rattle.tiff_dir.specs.declared.query.Pick.TheVariants as pick
 use Rattle.tiff_dir.specs.declared.order.Order.TheVariants.{Little}
 use Rattle.tiff_dir.specs.Number.{number_in}
-use Rattle.tiff_dir.specs.File.{order_of, number, directory, has_directory, directories, entry_count, field_at, fields_from, fields, has_all_tags, field, values_at, field_value, value}
+use Rattle.tiff_dir.specs.File.{◌>>=◌, order_of, number, directory, has_directory, directories, entry_count, field_at, fields_from, fields, has_all_tags, field, values_at, field_value, value}
 use Rattle.tiff_dir.specs.Level.{is_level, level_directories, place_of, grid_at, layout_at, level_directory, level_grid, level_value, depth_at, plain_size_at}
 use Rattle.tiff_dir.specs.Profile.{accepts, is_tile_side}
 use Rattle.tiff_dir.specs.Needs.{count_range, table_range, field_range, outside_range, ranges_of_directory, needs_of_directories, ends_past, outside_ranges}
-use Rattle.tiff_dir.specs.Query.{Rectangle, rectangle, is_outside, is_too_large, tiles_in, window_tiles, array_range, tile_range, grouped_after, grouped, groups, array_ranges, tile_ranges}
+use Rattle.tiff_dir.specs.Query.{rectangle, is_outside, is_too_large, tiles_in, window_tiles, array_range, tile_range, grouped_after, grouped, groups, array_ranges, tile_ranges}
 use Rattle.tiff_dir.specs.Fault.{IsUnsupported, IsFaultOfLevel, IsFaultOfDirectories}
-use Rattle.tiff_dir.specs.Faulty.{is_byte_count, level_plain_size, IsNotPlainSize, HasBadTile, IsFaulty}
+use Rattle.tiff_dir.specs.Faulty.{is_byte_count, IsNotPlainSize, HasBadTile, IsFaulty}
 use Rattle.tiff_dir.proofs.Fixtures.{header, one_directory, one_tile}
 
 -- the first sample
@@ -49,22 +49,12 @@ abbrev with_count : ℕ → ℕ → List ℕ
 with_count compression count = header Little ++ one_directory Little 8 compression count ++ range_with_len 0 256
 
 count-too-small : IsFaulty (with_count 1 255) first_sample TileSize
-unfolding IsFaulty level_plain_size depth_at plain_size_at number_in order_of number directory has_directory directories entry_count field_at fields_from fields has_all_tags field values_at field_value value is_level level_directories place_of grid_at layout_at level_directory level_grid level_value count_range table_range field_range outside_range ranges_of_directory outside_ranges needs_of_directories rectangle is_outside is_too_large tiles_in window_tiles array_range tile_range grouped_after grouped groups array_ranges tile_ranges
-count-too-small = inr (record {
-  level = 0;
-  tile = 0;
-  of_window = record { asked = record { level = 0; left = 0; top = 0; width = 1; height = 1 }; asked_is = refl; level_is = refl; among = (0, (omega arith, refl)) };
-  wrong = inr (refl, refl);
-})
+unfolding IsFaulty depth_at plain_size_at number_in order_of number directory has_directory directories entry_count field_at fields_from fields has_all_tags field values_at field_value value is_level level_directories place_of grid_at layout_at level_directory level_grid level_value count_range table_range field_range outside_range ranges_of_directory outside_ranges needs_of_directories rectangle is_outside is_too_large tiles_in window_tiles array_range tile_range grouped_after grouped groups array_ranges tile_ranges
+count-too-small = inr (0, 0, omega arith, refl, inr (refl, refl))
 
 no-bytes : IsFaulty (with_count 5 0) first_sample TileSize
 unfolding IsFaulty number_in order_of number directory has_directory directories entry_count field_at fields_from fields has_all_tags field values_at field_value value is_level level_directories place_of grid_at depth_at layout_at level_directory level_grid level_value count_range table_range field_range outside_range ranges_of_directory outside_ranges needs_of_directories rectangle is_outside is_too_large tiles_in window_tiles array_range tile_range grouped_after grouped groups array_ranges tile_ranges
-no-bytes = inr (record {
-  level = 0;
-  tile = 0;
-  of_window = record { asked = record { level = 0; left = 0; top = 0; width = 1; height = 1 }; asked_is = refl; level_is = refl; among = (0, (omega arith, refl)) };
-  wrong = inl refl;
-})
+no-bytes = inr (0, 0, omega arith, refl, inl refl)
 
 -- 12 bits a sample
 odd-depth : IsFaulty (header Little ++ one_directory Little 12 1 512 ++ range_with_len 0 256) first_sample (Unsupported BITS_PER_SAMPLE)
@@ -158,8 +148,8 @@ only-tile : window_tiles good first_sample ≡ 0 ∷ []
 unfolding number_in order_of number directory has_directory directories entry_count field_at fields_from fields has_all_tags field values_at field_value value is_level level_directories place_of grid_at depth_at layout_at level_directory level_grid level_value count_range table_range field_range outside_range ranges_of_directory outside_ranges needs_of_directories rectangle is_outside is_too_large tiles_in window_tiles array_range tile_range grouped_after grouped groups array_ranges tile_ranges
 only-tile = refl
 
-size-is : level_plain_size good 0 ≡ Some 256
-unfolding level_plain_size depth_at plain_size_at number_in order_of number directory has_directory directories entry_count field_at fields_from fields has_all_tags field values_at field_value value is_level level_directories place_of grid_at layout_at level_directory level_grid level_value count_range table_range field_range outside_range ranges_of_directory outside_ranges needs_of_directories rectangle is_outside is_too_large tiles_in window_tiles array_range tile_range grouped_after grouped groups array_ranges tile_ranges
+size-is : (level_directory good 0 >>= plain_size_at good) ≡ Some 256
+unfolding depth_at plain_size_at number_in order_of number directory has_directory directories entry_count field_at fields_from fields has_all_tags field values_at field_value value is_level level_directories place_of grid_at layout_at level_directory level_grid level_value count_range table_range field_range outside_range ranges_of_directory outside_ranges needs_of_directories rectangle is_outside is_too_large tiles_in window_tiles array_range tile_range grouped_after grouped groups array_ranges tile_ranges
 size-is = refl
 
 count-is : level_value good 0 TILE_BYTE_COUNTS 0 ≡ Some 256
@@ -173,16 +163,13 @@ first-of t among =
 
 good-tile : HasBadTile good first_sample → ⊥
 unfolding rectangle
-good-tile bad =
-    let w = bad.of_window in
-    let asked = same_Some _ _ w.asked_is in
-    let level : 0 ≡ bad.level = ap (λ (r : Rectangle). r.level) asked ∙ w.level_is in
-    let tile : bad.tile ≡ 0 = first-of bad.tile (subst (λ ts. IsAmong ts bad.tile) only-tile w.among) in
-    let count : level_value good bad.level TILE_BYTE_COUNTS bad.tile ≡ Some 256 = ap (λ m. level_value good m TILE_BYTE_COUNTS bad.tile) (sym level) ∙ ap (level_value good 0 TILE_BYTE_COUNTS) tile ∙ count-is in
-    let size : level_plain_size good bad.level ≡ Some 256 = ap (level_plain_size good) (sym level) ∙ size-is in
-    elim (subst (λ o. IsSomeAnd o (λ n. (is_byte_count n ≡ false) ⊎ IsNotPlainSize good bad.level n)) count bad.wrong) [
+good-tile (k, t, less, is, bad) =
+    let among : IsAmong (window_tiles good first_sample) t = (k, (less, sym is)) in
+    let tile : t ≡ 0 = first-of t (subst (λ ts. IsAmong ts t) only-tile among) in
+    let count : level_value good 0 TILE_BYTE_COUNTS t ≡ Some 256 = ap (level_value good 0 TILE_BYTE_COUNTS) tile ∙ count-is in
+    elim (subst (λ o. IsSomeAnd o (λ n. (is_byte_count n ≡ false) ⊎ IsNotPlainSize good 0 n)) count bad) [
       | inl wrong ↦ (let right : is_byte_count 256 ≡ true = refl in cc)
-      | inr wrong ↦ (let other : (256 == 256) ≡ false = subst (λ o. IsSomeAnd o (λ n. (256 == n) ≡ false)) size wrong.1 in let same : (256 == 256) ≡ true = refl in cc)
+      | inr wrong ↦ (let other : (256 == 256) ≡ false = subst (λ o. IsSomeAnd o (λ n. (256 == n) ≡ false)) size-is wrong.1 in let same : (256 == 256) ≡ true = refl in cc)
     ]
 
 -- a tile's side or byte count that is wrong

@@ -1,8 +1,9 @@
 -- Where no fault stands for a window, the file has one.
-use Rattle.tiff_dir.specs.declared.tags.TheConstants.{SAMPLES_PER_PIXEL, TILE_BYTE_COUNTS, TILE_OFFSETS}
+use Rattle.tiff_dir.specs.declared.tags.TheConstants.{COMPRESSION, SAMPLES_PER_PIXEL, TILE_BYTE_COUNTS, TILE_OFFSETS}
 use Rattle.tiff_dir.specs.declared.limits.TheConstants.{MAX_TILES}
 use Rattle.std.proofs.Common.{◌≡◌, ℕ, zero, suc, ◌+◌, ◌-◌, ◌*◌, ◌/◌, ◌%◌, ◌<◌, ◌≤◌, ◌⊎◌, inr, true, false, List, [], ◌∷◌, length, drop, Option, Some, None, refl, sym, subst, ap, ◌∙◌, arith}
-use Rattle.std.specs.Prelude.{◌==◌, ◌&&◌, nat_le, slice_range, slice_index}
+use Rattle.std.specs.Prelude.{◌==◌, ◌&&◌, nat_le, slice_range, slice_index, IsSomeAnd}
+use Rattle.std.specs.List.{Any}
 use Rattle.std.specs.Option.{option_to_list}
 use Rattle.std.proofs.lemmas.Bool.{and_parts, eqb-true, ltb-true, le-leb, le-ltb, false≢true}
 use Rattle.std.proofs.lemmas.List.{length-take, length-drop}
@@ -22,19 +23,19 @@ use Rattle.tiff_dir.specs.declared.fault.FileFault.TheVariants.{TileSize, Packet
 use Rattle.tiff_dir.specs.Number.{number_in}
 use Rattle.tiff_dir.specs.File.{◌>>=◌, Field, kind_of, size_of, values_at, field, value}
 use Rattle.tiff_dir.specs.Profile.{sample_bytes, accepts}
-use Rattle.tiff_dir.specs.Level.{Layout, place_of, level_value, plain_size, plain_row, plain_size_at, tile_total}
+use Rattle.tiff_dir.specs.Level.{Layout, place_of, level_directory, level_layout, level_value, plain_size, plain_row, plain_size_at, tile_total}
 use Rattle.tiff_dir.specs.Needs.{Extent, extent_of_place}
 use Rattle.tiff_dir.specs.Walk.{bytes_in}
-use Rattle.tiff_dir.specs.Query.{Rectangle, tile_range, array_range, window_tiles, segment}
+use Rattle.tiff_dir.specs.Query.{Rectangle, rectangle, tile_range, array_range, window_tiles, segment}
 use Rattle.tiff_dir.specs.Window.{IsUnpackedBy, IsUnpacked, tile_at, place_in_tile, sample_in, IsSample}
-use Rattle.tiff_dir.specs.Faulty.{IsTileOfWindow, level_compression, level_plain_size, is_byte_count, IsNotPlainSize, IsFaulty, IsWindow}
+use Rattle.tiff_dir.specs.Faulty.{HasTile, is_byte_count, IsNotPlainSize, IsFaulty, IsWindow}
 use Rattle.tiff_dir.specs.Shape.{draft_tiles, has_arrays}
 use Rattle.tiff_dir.proofs.Chain.{some_and_from}
 use Rattle.tiff_dir.proofs.Clean.{In, in_left, in_right, in_option, named, not_false}
 use Rattle.tiff_dir.proofs.Covered.{IsPixelOf, tile_inside, pixel_tile, among_in}
 use Rattle.tiff_dir.proofs.Clear.{IsLaidLevel, layout_of_level, layout_there, IsAsked, asked, IsClear, clear, not_outside, tiles_are, arrays_inside, bytes_inside}
 use Rattle.tiff_dir.proofs.Told.{offsets_at, counts_at}
-use Rattle.tiff_dir.proofs.TileValues.{offset_told, count_told}
+use Rattle.tiff_dir.proofs.TileValues.{offset_told, count_told, plain_number}
 
 -- ---- the bytes of a tile
 
@@ -115,16 +116,18 @@ segment_there f n t b = rw (range_there f n t b.first b.count b.first_is b.count
 
 -- ---- its bytes unpacked
 
-compression_there : (f : List ℕ) (n : ℕ) (l : IsLaidLevel f n) → level_compression f n ≡ Some l.laid.draft.compression
+compression_there : (f : List ℕ) (n : ℕ) (l : IsLaidLevel f n) → l.laid.draft.compression ≡ Plain → level_value f n COMPRESSION 0 ≡ Some 1
 unfolding level_value
-compression_there f n l = rw l.there l.laid.drafted.compression
+compression_there f n l plain = rw l.there (plain_number (value f l.directory COMPRESSION 0) (l.laid.drafted.compression ∙ ap Some plain))
 
-size_there : (f : List ℕ) (n : ℕ) (l : IsLaidLevel f n) → level_plain_size f n ≡ Some (plain_size (layout_of_level f n l))
-unfolding level_plain_size plain_size_at
+size_there : (f : List ℕ) (n : ℕ) (l : IsLaidLevel f n) → (level_directory f n >>= plain_size_at f) ≡ Some (plain_size (layout_of_level f n l))
+unfolding plain_size_at
 size_there f n l = rw l.there (rw (l.laid.drafted.tile_width, l.laid.drafted.tile_length, l.laid.drafted.samples, l.laid.told) refl)
 
-tile_of_window : (f : List ℕ) (q : Query) (t : ℕ) (a : IsAsked f q) → In t (window_tiles f q) → IsTileOfWindow f q a.asked.level t
-tile_of_window f q t a there = record { asked = a.asked; asked_is = a.asked_is; level_is = refl; among = among_in t (window_tiles f q) there }
+has_tile : (f : List ℕ) (q : Query) (t : ℕ) (a : IsAsked f q) (P : ℕ → ℕ → Type 0) → In t (window_tiles f q) → P a.asked.level t → HasTile f q P
+has_tile f q t a P there holds =
+    let (k, (less, is)) = among_in t (window_tiles f q) there in
+    some_and_from (rectangle f q) (λ r. Any (P r.level) (window_tiles f q)) a.asked a.asked_is (k, t, less, sym is, holds)
 
 -- a plain tile has as many bytes as it is long
 plain_count : (f : List ℕ) (q : Query) (t : ℕ) (c : IsClear f q) (a : IsAsked f q) (b : HasBytes f a.asked.level t) → In t (window_tiles f q) → a.placed.level.laid.draft.compression ≡ Plain
@@ -133,13 +136,9 @@ plain_count f q t c a b there plain =
     let n = a.asked.level in
     let size = plain_size (layout_of_level f n a.placed.level) in
     eqb-true b.count size (not_false (b.count == size) (λ other.
-    let wrong : IsNotPlainSize f n b.count = (compression_there f n a.placed.level ∙ ap Some plain, some_and_from (level_plain_size f n) (λ s. (b.count == s) ≡ false) size (size_there f n a.placed.level) other) in
-    c.own TileSize (record {
-      level = n;
-      tile = t;
-      of_window = tile_of_window f q t a there;
-      wrong = some_and_from (level_value f n TILE_BYTE_COUNTS t) (λ count. (is_byte_count count ≡ false) ⊎ IsNotPlainSize f n count) b.count b.count_is (inr wrong);
-    })))
+    let wrong : IsNotPlainSize f n b.count = (compression_there f n a.placed.level plain, some_and_from (level_directory f n >>= plain_size_at f) (λ s. (b.count == s) ≡ false) size (size_there f n a.placed.level) other) in
+    c.own TileSize (has_tile f q t a (λ n t. IsSomeAnd (level_value f n TILE_BYTE_COUNTS t) (λ count. (is_byte_count count ≡ false) ⊎ IsNotPlainSize f n count)) there
+    (some_and_from (level_value f n TILE_BYTE_COUNTS t) (λ count. (is_byte_count count ≡ false) ⊎ IsNotPlainSize f n count) b.count b.count_is (inr wrong)))))
 
 -- a tile unpacked
 record IsPlainOf (f : List ℕ) (n t : ℕ) (l : Layout) (bytes plain : List ℕ) : Type 0 where
@@ -166,19 +165,14 @@ plain_there f q t c a b there none = at a.placed.level.laid.draft.compression re
     size = bytes_len f n t b ∙ plain_count f q t c a b there is;
     unpacked = subst (λ (how : Compression). IsUnpackedBy how (plain_row l) (plain_size l) bytes bytes) (sym is) refl;
   })
-  at PackBits is = c.own Packet (record {
-    level = n;
-    tile = t;
-    of_window = tile_of_window f q t a there;
-    layout = l;
-    layout_is = layout_there f n a.placed.level;
-    bytes = bytes;
-    bytes_are = segment_there f n t b;
-    wrong = λ plain unpacked. none plain (record {
-      size = (subst (λ (how : Compression). IsUnpackedBy how (plain_row l) (plain_size l) bytes plain) is unpacked).0;
-      unpacked = unpacked;
-    });
-  })
+  at PackBits is =
+      let wrong : (plain : List ℕ) → IsUnpacked l bytes plain → ⊥ = λ plain unpacked. none plain (record {
+        size = (subst (λ (how : Compression). IsUnpackedBy how (plain_row l) (plain_size l) bytes plain) is unpacked).0;
+        unpacked = unpacked;
+      }) in
+      let bad = some_and_from (segment f n t) (λ bytes. (plain : List ℕ) → IsUnpacked l bytes plain → ⊥) bytes (segment_there f n t b) wrong in
+      c.own Packet (has_tile f q t a (λ n t. IsSomeAnd (level_layout f n) (λ l. IsSomeAnd (segment f n t) (λ bytes. (plain : List ℕ) → IsUnpacked l bytes plain → ⊥))) there
+      (some_and_from (level_layout f n) (λ l. IsSomeAnd (segment f n t) (λ bytes. (plain : List ℕ) → IsUnpacked l bytes plain → ⊥)) l (layout_there f n a.placed.level) bad))
 
 -- ---- its samples
 

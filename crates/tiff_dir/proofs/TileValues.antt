@@ -1,19 +1,20 @@
 -- The values of a level's arrays, by their bytes.
 use Rattle.tiff_dir.specs.declared.tags.TheConstants.{BITS_PER_SAMPLE, COMPRESSION, IMAGE_LENGTH, IMAGE_WIDTH, SAMPLES_PER_PIXEL, TILE_BYTE_COUNTS, TILE_LENGTH, TILE_OFFSETS, TILE_WIDTH}
-use Rattle.std.proofs.Common.{◌≡◌, ℕ, ◌+◌, ◌*◌, ◌<◌, ◌≤◌, List, length, Option, Some, None, refl, subst, ◌∙◌, arith}
+use Rattle.std.proofs.Common.{◌≡◌, ℕ, ◌+◌, ◌*◌, ◌<◌, ◌≤◌, ◌==◌, inl, inr, Bool, true, false, List, length, Option, Some, None, refl, sym, ap, subst, ◌∙◌, arith}
 use Rattle.std.proofs.Math.Nat.{mul-le-mul_right}
 use Rattle.std.proofs.lemmas.Option.{same_Some, none-some}
-use Rattle.std.proofs.lemmas.Bool.{lt-ltb}
+use Rattle.std.proofs.lemmas.Bool.{lt-ltb, cases_Bool, eqb-true, false≢true}
 use Rattle.std.specs.Option.{option_map_or}
 use Rattle.tiff_dir.specs.declared.order.Order.{Order}
 use Rattle.tiff_dir.specs.declared.level.Level.{Level}
 use Rattle.tiff_dir.specs.declared.level.Place.{Place}
+use Rattle.tiff_dir.specs.declared.level.Compression.{Compression}
+use Rattle.tiff_dir.specs.declared.level.Compression.TheVariants.{Plain, PackBits}
 use Rattle.tiff_dir.specs.declared.level.Kind.{Kind}
 use Rattle.tiff_dir.specs.declared.level.Kind.TheVariants as kind
 use Rattle.tiff_dir.specs.Number.{number_in}
 use Rattle.tiff_dir.specs.File.{◌>>=◌, Field, order_of, number, kind_of, size_of, values_at, field, field_value, value, absent_value}
 use Rattle.tiff_dir.specs.Described.{grid_of, layout_of}
-use Rattle.tiff_dir.specs.Faulty.{level_compression, level_plain_size}
 use Rattle.tiff_dir.specs.Level.{Layout, place_of, compression_of, grid_at, level_directory, level_grid, level_layout, level_value, plain_size, depth_at, plain_size_at}
 use Rattle.tiff_dir.specs.Walk.{IsArrayOf, IsDescribed}
 use Rattle.tiff_dir.proofs.Parts.{number_part}
@@ -98,13 +99,29 @@ grid_of_level : (f : List ℕ) (n k : ℕ) (l : Level) → level_directory f n �
 unfolding level_grid
 grid_of_level f n k l there told = rw there told
 
-compression_of_level : (f : List ℕ) (n k : ℕ) (l : Level) → level_directory f n ≡ Some k → (value f k COMPRESSION 0 >>= compression_of) ≡ Some l.compression → level_compression f n ≡ Some l.compression
+pub plain_number : (o : Option ℕ) → (o >>= compression_of) ≡ Some Plain → o ≡ Some 1
+plain_number None is = absurd (none-some Plain is)
+plain_number (Some n) is = elim (cases_Bool (n == 1)) [
+  | inl one ↦ ap Some (eqb-true n 1 one)
+  | inr other ↦ elim (cases_Bool (n == 32773)) [
+    | inl packed ↦ (let wrong : Some PackBits ≡ Some Plain = (rw (other, packed) at is) in absurd (other_kind (same_Some PackBits Plain wrong)))
+    | inr none ↦ (let wrong : None ≡ Some Plain = (rw (other, none) at is) in absurd (none-some Plain wrong))
+  ]
+] where
+  is_plain : Compression → Bool
+  is_plain Plain = true
+  is_plain PackBits = false
+
+  other_kind : PackBits ≡ Plain → ⊥
+  other_kind same = false≢true (ap is_plain same)
+
+compression_of_level : (f : List ℕ) (n k : ℕ) (l : Level) → level_directory f n ≡ Some k → (value f k COMPRESSION 0 >>= compression_of) ≡ Some l.compression → (level_value f n COMPRESSION 0 >>= compression_of) ≡ Some l.compression
 unfolding level_value
 compression_of_level f n k l there told = rw there told
 
 size_of_level : (f : List ℕ) (n k : ℕ) (l : Level) → level_directory f n ≡ Some k → value f k TILE_WIDTH 0 ≡ Some l.tile_width → value f k TILE_LENGTH 0 ≡ Some l.tile_length → value f k SAMPLES_PER_PIXEL 0 ≡ Some l.samples → depth_at f k ≡ Some l.bits
-    → level_plain_size f n ≡ Some (plain_size (layout_of l))
-unfolding level_plain_size plain_size_at
+    → (level_directory f n >>= plain_size_at f) ≡ Some (plain_size (layout_of l))
+unfolding plain_size_at
 size_of_level f n k l there width length samples bits = rw there (rw (width, length, samples, bits) refl)
 
 pub described_by : (f : List ℕ) (n : ℕ) (l : Level) → level_layout f n ≡ Some (layout_of l) → IsDescribed f n l

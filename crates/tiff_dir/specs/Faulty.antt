@@ -1,16 +1,14 @@
 -- What is wrong with a file for a query, and what its window is.
 use Rattle.tiff_dir.specs.declared.tags.TheConstants.{COMPRESSION, TILE_BYTE_COUNTS}
 use Rattle.tiff_dir.specs.declared.limits.TheConstants.{MAX_TILE_BYTES}
-use Rattle.std.specs.Prelude.{◌≡◌, ℕ, ◌⊎◌, Bool, true, false, ◌&&◌, nat_lt, nat_le, ◌==◌, List, ◌++◌, Option, Some, IsSomeAnd}
-use Rattle.std.specs.List.{list_any, IsAmong}
-use Rattle.tiff_dir.specs.declared.level.Compression.{Compression}
-use Rattle.tiff_dir.specs.declared.level.Compression.TheVariants.{Plain}
+use Rattle.std.specs.Prelude.{◌≡◌, ℕ, ◌⊎◌, Bool, true, false, ◌&&◌, nat_lt, nat_le, ◌==◌, List, ◌++◌, Some, IsSomeAnd}
+use Rattle.std.specs.List.{Any, list_any}
 use Rattle.tiff_dir.specs.declared.query.Query.{Query}
 use Rattle.tiff_dir.specs.declared.query.Query.TheVariants.{Window, Info}
 use Rattle.tiff_dir.specs.declared.fault.FileFault.{FileFault}
 use Rattle.tiff_dir.specs.declared.fault.FileFault.TheVariants.{PastEnd, TileSize, Packet, Outside, TooLarge}
 use Rattle.tiff_dir.specs.File.{◌>>=◌}
-use Rattle.tiff_dir.specs.Level.{Layout, compression_of, level_directory, level_layout, level_value, plain_size_at}
+use Rattle.tiff_dir.specs.Level.{level_directory, level_layout, level_value, plain_size_at}
 use Rattle.tiff_dir.specs.Needs.{ends_past}
 use Rattle.tiff_dir.specs.Geo.{IsGeoFault, geo_ranges, key_source}
 use Rattle.tiff_dir.specs.Keys.{IsFaultOfKeys}
@@ -18,46 +16,28 @@ use Rattle.tiff_dir.specs.Fault.{IsFaultOfDirectories}
 use Rattle.tiff_dir.specs.Query.{Rectangle, rectangle, is_outside, is_too_large, window_tiles, array_ranges, tile_ranges, segment}
 use Rattle.tiff_dir.specs.Window.{HasSamples, IsUnpacked}
 
--- tile t is one of the window's, in level n
-pub record IsTileOfWindow (f : List ℕ) (q : Query) (n t : ℕ) : Type 0 where
-  pub asked : Rectangle
-  pub asked_is : rectangle f q ≡ Some asked
-  pub level_is : asked.level ≡ n
-  pub among : IsAmong (window_tiles f q) t
-
--- how the tiles of level n are packed, and how many bytes one has when it is unpacked
-abbrev pub level_compression : List ℕ → ℕ → Option Compression
-level_compression f n = level_value f n COMPRESSION 0 >>= compression_of
-
-unfoldable pub level_plain_size : List ℕ → ℕ → Option ℕ
-level_plain_size f n = level_directory f n >>= plain_size_at f
+-- this holds of a tile of the window, by the number of its level and its own
+abbrev pub HasTile : List ℕ → Query → (ℕ → ℕ → Type 0) → Type 0
+HasTile f q P = IsSomeAnd (rectangle f q) (λ r. Any (P r.level) (window_tiles f q))
 
 -- a tile may have so many bytes
 abbrev pub is_byte_count : ℕ → Bool
 is_byte_count n = nat_lt 0 n && nat_le n MAX_TILE_BYTES
 
--- a plain tile has another number of bytes than its samples
+-- a tile that isn't compressed has another number of bytes than its samples (Compression, section 8)
 abbrev pub IsNotPlainSize : List ℕ → ℕ → ℕ → Type 0
 IsNotPlainSize f n count =
-    (level_compression f n ≡ Some Plain) × IsSomeAnd (level_plain_size f n) (λ size. (count == size) ≡ false)
+    (level_value f n COMPRESSION 0 ≡ Some 1) × IsSomeAnd (level_directory f n >>= plain_size_at f) (λ s. (count == s) ≡ false)
 
 -- the byte count of a tile of the window is wrong
-pub record HasBadTile (f : List ℕ) (q : Query) : Type 0 where
-  pub level : ℕ
-  pub tile : ℕ
-  pub of_window : IsTileOfWindow f q level tile
-  pub wrong : IsSomeAnd (level_value f level TILE_BYTE_COUNTS tile) (λ count. (is_byte_count count ≡ false) ⊎ IsNotPlainSize f level count)
+abbrev pub HasBadTile : List ℕ → Query → Type 0
+HasBadTile f q = HasTile f q (λ n t.
+    IsSomeAnd (level_value f n TILE_BYTE_COUNTS t) (λ count. (is_byte_count count ≡ false) ⊎ IsNotPlainSize f n count))
 
 -- no list is unpacked from the bytes of a tile of the window: they are no packets that fill it
-pub record HasBadPackets (f : List ℕ) (q : Query) : Type 0 where
-  pub level : ℕ
-  pub tile : ℕ
-  pub of_window : IsTileOfWindow f q level tile
-  pub layout : Layout
-  pub layout_is : level_layout f level ≡ Some layout
-  pub bytes : List ℕ
-  pub bytes_are : segment f level tile ≡ Some bytes
-  pub wrong : (plain : List ℕ) → IsUnpacked layout bytes plain → ⊥
+abbrev pub HasBadPackets : List ℕ → Query → Type 0
+HasBadPackets f q = HasTile f q (λ n t.
+    IsSomeAnd (level_layout f n) (λ l. IsSomeAnd (segment f n t) (λ bytes. (plain : List ℕ) → IsUnpacked l bytes plain → ⊥)))
 
 -- A fault of a window's own.
 abbrev pub IsFaultOfWindow : List ℕ → Query → FileFault → Type 0

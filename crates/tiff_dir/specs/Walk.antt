@@ -1,5 +1,5 @@
 -- The words for what callers see of a walk over a file's directories, which is given one range of the file after another.
-use Rattle.tiff_dir.specs.declared.tags.TheConstants.{BITS_PER_SAMPLE, GEO_ASCII_PARAMS, GEO_DOUBLE_PARAMS, GEO_KEY_DIRECTORY, IMAGE_LENGTH, IMAGE_WIDTH, MODEL_PIXEL_SCALE, MODEL_TIEPOINT, MODEL_TRANSFORMATION, SAMPLES_PER_PIXEL, TILE_BYTE_COUNTS, TILE_LENGTH, TILE_OFFSETS, TILE_WIDTH}
+use Rattle.tiff_dir.specs.declared.tags.TheConstants.{BITS_PER_SAMPLE, COMPRESSION, GEO_ASCII_PARAMS, GEO_DOUBLE_PARAMS, GEO_KEY_DIRECTORY, IMAGE_LENGTH, IMAGE_WIDTH, MODEL_PIXEL_SCALE, MODEL_TIEPOINT, MODEL_TRANSFORMATION, SAMPLES_PER_PIXEL, TILE_BYTE_COUNTS, TILE_LENGTH, TILE_OFFSETS, TILE_WIDTH}
 use Rattle.tiff_dir.specs.declared.limits.TheConstants.{MAX_GEO_BYTES, MAX_RANGE_BYTES}
 use Rattle.std.specs.Prelude.{◌≡◌, ℕ, ◌+◌, ◌-◌, ◌*◌, ◌<◌, ◌≤◌, ◌^◌, ⊤, true, List, drop, Option, Some, None, Result, Ok, Err, IsSomeAnd}
 use Rattle.tiff_dir.specs.declared.level.Level.{Level}
@@ -11,10 +11,9 @@ use Rattle.tiff_dir.specs.declared.span.Span.{Span}
 use Rattle.tiff_dir.specs.declared.fault.FileFault.{FileFault}
 use Rattle.tiff_dir.specs.declared.fault.WalkError.{WalkError}
 use Rattle.tiff_dir.specs.declared.fault.WalkError.TheVariants as errors
-use Rattle.tiff_dir.specs.File.{field, has_all_tags, size_of}
-use Rattle.tiff_dir.specs.Level.{level_grid, level_layout, level_value, plain_size}
+use Rattle.tiff_dir.specs.File.{◌>>=◌, field, has_all_tags, size_of}
+use Rattle.tiff_dir.specs.Level.{compression_of, level_directory, level_grid, level_layout, level_value, plain_size, plain_size_at}
 use Rattle.tiff_dir.specs.Described.{grid_of, layout_of}
-use Rattle.tiff_dir.specs.Faulty.{level_compression, level_plain_size}
 use Rattle.tiff_dir.specs.Needs.{Extent, extent_of_place, needs_of_directories}
 pub use Rattle.tiff_dir.specs.Needs.{bytes_in}
 use Rattle.tiff_dir.specs.Query.{array_range}
@@ -71,8 +70,8 @@ pub record IsDescribed (f : List ℕ) (n : ℕ) (l : Level) : Type 0 where
   pub samples : level_value f n SAMPLES_PER_PIXEL 0 ≡ Some l.samples
   pub bits : level_value f n BITS_PER_SAMPLE 0 ≡ Some l.bits
   pub grid : level_grid f n ≡ Some (grid_of l)
-  pub compression : level_compression f n ≡ Some l.compression
-  pub plain_size : level_plain_size f n ≡ Some (plain_size (layout_of l))
+  pub compression : (level_value f n COMPRESSION 0 >>= compression_of) ≡ Some l.compression
+  pub plain_size : (level_directory f n >>= plain_size_at f) ≡ Some (plain_size (layout_of l))
   pub layout : level_layout f n ≡ Some (layout_of l)
   pub offsets : array_range f n TILE_OFFSETS ≡ Some (extent_of_place l.offsets)
   pub counts : array_range f n TILE_BYTE_COUNTS ≡ Some (extent_of_place l.counts)

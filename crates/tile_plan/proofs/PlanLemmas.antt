@@ -1,23 +1,25 @@
 -- The groups of a window in a file.
+use Rattle.tiff_dir.specs.declared.tags.TheConstants.{COMPRESSION, TILE_BYTE_COUNTS}
 use Rattle.std.proofs.Common.{◌≡◌, ℕ, zero, suc, ◌+◌, ◌<◌, ◌≤◌, ◌⊎◌, inl, inr, Bool, true, false, List, [], ◌∷◌, length, get_or, map, Option, Some, None, refl, sym, subst, ap, ◌∙◌, arith}
 use Rattle.std.specs.Prelude.{◌||◌, nat_lt, nat_le, ◌==◌, IsSomeAnd}
-use Rattle.std.specs.List.{AllByRecursion, IsAmong, cons_option, filter_map, list_any, range_with_len}
-use Rattle.std.proofs.lemmas.Bool.{and_parts, cases_Bool, leb-true, lt-ltb, le-ltb, cases_lt}
+use Rattle.std.specs.List.{AllByRecursion, Any, IsAmong, cons_option, filter_map, list_any, range_with_len}
+use Rattle.std.proofs.lemmas.Bool.{and_parts, cases_Bool, eqb-true, false≢true, leb-true, lt-ltb, le-ltb, cases_lt}
 use Rattle.std.proofs.lemmas.List.Elements.{All-from_recursion}
 use Rattle.std.proofs.lemmas.List.Folds.{list_any-append}
-use Rattle.std.proofs.lemmas.Option.{none-some}
+use Rattle.std.proofs.lemmas.Option.{none-some, same_Some}
 use Rattle.tiff_dir.specs.declared.order.Order.{Order}
 use Rattle.tiff_dir.specs.declared.level.Level.{Level}
-use Rattle.tiff_dir.specs.declared.level.Compression.TheVariants.{Plain}
+use Rattle.tiff_dir.specs.declared.level.Compression.{Compression}
+use Rattle.tiff_dir.specs.declared.level.Compression.TheVariants.{Plain, PackBits}
 use Rattle.tiff_dir.specs.declared.query.Query.{Query}
 use Rattle.tiff_dir.specs.declared.fault.FileFault.{FileFault}
 use Rattle.tiff_dir.specs.declared.fault.FileFault.TheVariants.{PastEnd, TileSize}
-use Rattle.tiff_dir.specs.File.{order_of}
-use Rattle.tiff_dir.specs.Level.{level_layout, level_value, plain_size, tile_total}
+use Rattle.tiff_dir.specs.File.{◌>>=◌, order_of}
+use Rattle.tiff_dir.specs.Level.{compression_of, level_directory, level_layout, level_value, plain_size, plain_size_at, tile_total}
 use Rattle.tiff_dir.specs.Needs.{Extent, ends_past}
 use Rattle.tiff_dir.specs.Described.{grid_of, layout_of}
 use Rattle.tiff_dir.specs.Walk.{IsArrayOf, IsDescribed}
-use Rattle.tiff_dir.specs.Faulty.{HasBadTile, IsTileOfWindow, IsNotPlainSize, IsFaultOfWindow, is_byte_count, level_plain_size}
+use Rattle.tiff_dir.specs.Faulty.{HasTile, HasBadTile, IsNotPlainSize, IsFaultOfWindow, is_byte_count}
 use Rattle.tiff_dir.specs.Query as asked
 use Rattle.tiff_dir.specs.Query.{joins, with_tile, alone, grouped_after, grouped, tile_range, tiles_in, window_tiles, rectangle, is_refused, array_ranges}
 use Rattle.tile_plan.specs.declared.asked.Rectangle.{Rectangle}
@@ -110,29 +112,39 @@ among_past p range (u ∷ ts) (suc i) t r less at is far = go (range u) (among_p
 
 -- ---- a fault of a tile is one of the query
 
-of_window : (f : List ℕ) (q : Query) (order : Order) (l : Level) (r : Rectangle) (complete : ℕ) (offsets counts : List ℕ) (t : ℕ) → IsPlanned f q order l r complete offsets counts → IsAmong (tiles_of l r) t
-    → IsTileOfWindow f q r.level t
-of_window f q order l r complete offsets counts t p among = record {
-  asked = rectangle_of r;
-  asked_is = p.rectangle_is;
-  level_is = refl;
-  among = subst (λ ts. IsAmong ts t) (sym (window_is f q order l r complete offsets counts p)) among;
-}
+has_tile : (f : List ℕ) (q : Query) (order : Order) (l : Level) (r : Rectangle) (complete : ℕ) (offsets counts : List ℕ) (t : ℕ) (P : ℕ → ℕ → Type 0) → IsPlanned f q order l r complete offsets counts → IsAmong (tiles_of l r) t
+    → P r.level t → HasTile f q P
+has_tile f q order l r complete offsets counts t P p among holds =
+    let (k, (less, is)) = subst (λ ts. IsAmong ts t) (sym (window_is f q order l r complete offsets counts p)) among in
+    rw p.rectangle_is (k, t, less, sym is, holds)
+
+plain_number : (o : Option ℕ) → (o >>= compression_of) ≡ Some Plain → o ≡ Some 1
+plain_number None is = absurd (none-some Plain is)
+plain_number (Some n) is = elim (cases_Bool (n == 1)) [
+  | inl one ↦ ap Some (eqb-true n 1 one)
+  | inr other ↦ elim (cases_Bool (n == 32773)) [
+    | inl packed ↦ (let wrong : Some PackBits ≡ Some Plain = (rw (other, packed) at is) in absurd (other_kind (same_Some PackBits Plain wrong)))
+    | inr none ↦ (let wrong : None ≡ Some Plain = (rw (other, none) at is) in absurd (none-some Plain wrong))
+  ]
+] where
+  is_plain : Compression → Bool
+  is_plain Plain = true
+  is_plain PackBits = false
+
+  other_kind : PackBits ≡ Plain → ⊥
+  other_kind same = false≢true (ap is_plain same)
 
 not_plain : (f : List ℕ) (n count : ℕ) (l : Level) → IsDescribed f n l → l.compression ≡ Plain → (count == plain_size (layout_of l)) ≡ false → IsNotPlainSize f n count
-not_plain f n count l here plain is = (here.compression ∙ ap Some plain, size (level_plain_size f n) (plain_size (layout_of l)) here.plain_size is) where
+not_plain f n count l here plain is = (plain_number (level_value f n COMPRESSION 0) (here.compression ∙ ap Some plain), size (level_directory f n >>= plain_size_at f) (plain_size (layout_of l)) here.plain_size is) where
   size : (o : Option ℕ) (s : ℕ) → o ≡ Some s → (count == s) ≡ false → IsSomeAnd o (λ size. (count == size) ≡ false)
   size None s is wrong = absurd (none-some s is)
   size (Some k) s is wrong = (let same : k ≡ s = cc in ap (λ j. count == j) same ∙ wrong)
 
 pub stands : (f : List ℕ) (q : Query) (order : Order) (l : Level) (r : Rectangle) (complete : ℕ) (offsets counts : List ℕ) (t : ℕ) (fault : FileFault) → IsPlanned f q order l r complete offsets counts
     → IsAmong (tiles_of l r) t → IsRangeOf f r.level t (range_in order l offsets counts t) → IsTileFault l complete (range_in order l offsets counts t) fault → IsFaultOfWindow f q fault
-stands f q order l r complete offsets counts t TileSize p among is wrong = record {
-  level = r.level;
-  tile = t;
-  of_window = of_window f q order l r complete offsets counts t p among;
-  wrong = rw is.len (elim wrong [ inl bad ↦ inl bad | inr (plain, bad) ↦ inr (not_plain f r.level (range_in order l offsets counts t).len l p.described plain bad) ]);
-}
+stands f q order l r complete offsets counts t TileSize p among is wrong =
+    has_tile f q order l r complete offsets counts t (λ n t. IsSomeAnd (level_value f n TILE_BYTE_COUNTS t) (λ count. (is_byte_count count ≡ false) ⊎ IsNotPlainSize f n count)) p among
+    (rw is.len (elim wrong [ inl bad ↦ inl bad | inr (plain, bad) ↦ inr (not_plain f r.level (range_in order l offsets counts t).len l p.described plain bad) ]))
 stands f q order l r complete offsets counts t PastEnd p among is wrong =
     let here = range_in order l offsets counts t in
     let far : past (length f) here ≡ true = ap (λ n. past n here) p.size ∙ wrong in
@@ -167,8 +179,8 @@ all_inside f at range complete (t ∷ ts) size ((is, fits), rest) =
     rw (is, here) (all_inside f at range complete ts size rest)
 
 -- what is wrong with a tile of the window is wrong with its range
-wrong_size : (f : List ℕ) (n t : ℕ) (l : Level) (r : Extent) → IsDescribed f n l → IsRangeOf f n t r → IsSomeAnd (level_value f n 325 t) (λ count. (is_byte_count count ≡ false) ⊎ IsNotPlainSize f n count) → IsWrongSize l r.len
-wrong_size f n t l r here is wrong = at (level_value f n 325 t) is.len wrong where
+wrong_size : (f : List ℕ) (n t : ℕ) (l : Level) (r : Extent) → IsDescribed f n l → IsRangeOf f n t r → IsSomeAnd (level_value f n TILE_BYTE_COUNTS t) (λ count. (is_byte_count count ≡ false) ⊎ IsNotPlainSize f n count) → IsWrongSize l r.len
+wrong_size f n t l r here is wrong = at (level_value f n TILE_BYTE_COUNTS t) is.len wrong where
   plain : (o : Option ℕ) (size : ℕ) → o ≡ Some size → IsSomeAnd o (λ size. (r.len == size) ≡ false) → (r.len == size) ≡ false
   plain None size is wrong = absurd (none-some size is)
   plain (Some s) size is wrong = (let same : s ≡ size = cc in ap (λ j. r.len == j) (sym same) ∙ wrong)
@@ -178,19 +190,22 @@ wrong_size f n t l r here is wrong = at (level_value f n 325 t) is.len wrong whe
   at (Some count) is (inl bad) = (let same : count ≡ r.len = cc in inl (ap is_byte_count (sym same) ∙ bad))
   at (Some count) is (inr (compressed, bad)) =
       let same : count ≡ r.len = cc in
-      let is_plain : l.compression ≡ Plain = cc (here.compression, compressed) in
-      inr (is_plain, plain (level_plain_size f n) (plain_size (layout_of l)) here.plain_size (subst (λ k. IsSomeAnd (level_plain_size f n) (λ size. (k == size) ≡ false)) same bad))
+      let is_plain : l.compression ≡ Plain = same_Some l.compression Plain (sym here.compression ∙ ap (λ o. o >>= compression_of) compressed) in
+      let size = level_directory f n >>= plain_size_at f in
+      inr (is_plain, plain size (plain_size (layout_of l)) here.plain_size (subst (λ k. IsSomeAnd size (λ size. (k == size) ≡ false)) same bad))
+
+at_some : {A : Type 0} (o : Option A) (x : A) (P : A → Type 0) → o ≡ Some x → IsSomeAnd o P → P x
+at_some None x P is some = absurd (none-some x is)
+at_some (Some y) x P is some = subst P (same_Some y x is) some
 
 no_bad_tile : (f : List ℕ) (q : Query) (order : Order) (l : Level) (r : Rectangle) (complete : ℕ) (offsets counts : List ℕ) (e : ℕ → ℕ) (n : ℕ) → IsPlanned f q order l r complete offsets counts
     → map e (range_with_len 0 n) ≡ tiles_of l r → ((k : ℕ) → k < n → IsKnown order l complete offsets counts (e k)) → HasBadTile f q → ⊥
 no_bad_tile f q order l r complete offsets counts e n p tiles known h =
-    let asked_same : h.of_window.asked ≡ rectangle_of r = cc (h.of_window.asked_is, p.rectangle_is) in
-    let level : h.level ≡ r.level = sym h.of_window.level_is ∙ ap (λ (s : asked.Rectangle). s.level) asked_same in
-    let among = subst (λ ts. IsAmong ts h.tile) (window_is f q order l r complete offsets counts p) h.of_window.among in
-    let k = counted_among e n (tiles_of l r) h.tile tiles among in
+    let (i, t, less, is, bad) = at_some (rectangle f q) (rectangle_of r) (λ s. Any (λ t. IsSomeAnd (level_value f s.level TILE_BYTE_COUNTS t) (λ count. (is_byte_count count ≡ false) ⊎ IsNotPlainSize f s.level count)) (window_tiles f q)) p.rectangle_is h in
+    let among = subst (λ ts. IsAmong ts t) (window_is f q order l r complete offsets counts p) (i, (less, sym is)) in
+    let k = counted_among e n (tiles_of l r) t tiles among in
     let here = (known k.0 k.1).values f r.level p.order_is p.layout_is p.offsets_are p.counts_are in
-    let wrong = subst (λ t. IsSomeAnd (level_value f r.level 325 t) (λ count. (is_byte_count count ≡ false) ⊎ IsNotPlainSize f r.level count)) k.2
-    (subst (λ m. IsSomeAnd (level_value f m 325 h.tile) (λ count. (is_byte_count count ≡ false) ⊎ IsNotPlainSize f m count)) level h.wrong) in
+    let wrong = subst (λ t. IsSomeAnd (level_value f r.level TILE_BYTE_COUNTS t) (λ count. (is_byte_count count ≡ false) ⊎ IsNotPlainSize f r.level count)) k.2 bad in
     (known k.0 k.1).sound TileSize (wrong_size f r.level (e k.0) l (range_in order l offsets counts (e k.0)) p.described here wrong)
 
 pub needed : (f : List ℕ) (q : Query) (order : Order) (l : Level) (r : Rectangle) (complete : ℕ) (offsets counts : List ℕ) (e : ℕ → ℕ) (n : ℕ) (gs : List Group) → IsPlanned f q order l r complete offsets counts
