@@ -23,7 +23,6 @@ use Rattle.tiff_dir.specs.Walk.{levels_of, extent_of_span, HasEnded, IsArrayOf}
 use Rattle.tile_plan.specs.declared.asked.Rectangle.{Rectangle}
 use Rattle.tile_plan.specs.declared.plan.Group.{Group}
 use Rattle.tile_plan.specs.Levels.{rectangle_of, IsSmall}
-use Rattle.tile_plan.specs.Plan.{group_of}
 use Rattle.cog_reader.specs.declared.arrays.Arrays.{Arrays}
 use Rattle.cog_reader.specs.declared.fields.Fields.{Fields}
 use Rattle.cog_reader.specs.declared.kept.Kept.{Kept}
@@ -163,8 +162,8 @@ pub group_at : (f : List ℕ) (q : Query) (a : Arrays) (m : Mosaic) (g : Group) 
 group_at f q a m g n u is =
     let r = m.picture.rectangle in
     let split = needs_split f q r a.level u.planned.rectangle_is u.planned.good u.planned.layout_is in
-    ap (λ xs. slice_get xs (2 + n)) split ∙ shift n _ _ _ ∙ slice_get-map (λ (h : queries.Group). h.range) (queries.groups f q) n
-    ∙ ap (option_map (λ (h : queries.Group). h.range)) (ap (λ hs. slice_get hs n) (sym u.needed.groups) ∙ slice_get-map group_of m.groups n ∙ ap (option_map group_of) is) where
+    ap (λ xs. slice_get xs (2 + n)) split ∙ shift n _ _ _ ∙ ap (λ rs. slice_get rs n) (sym u.needed.ranges)
+    ∙ slice_get-map (λ (h : Group). extent_of_span h.span) m.groups n ∙ ap (option_map (λ (h : Group). extent_of_span h.span)) is where
       shift : (i : ℕ) (x y : Extent) (rest : List Extent) → slice_get (x ∷ y ∷ rest) (2 + i) ≡ slice_get rest i
       shift i x y rest = (let e : 2 + i ≡ suc (suc i) = omega arith in rw e refl)
 

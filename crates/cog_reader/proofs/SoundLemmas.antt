@@ -1,7 +1,8 @@
 -- No fault stands for a window of which all tiles are on the picture.
 use Rattle.std.proofs.Common.{◌≡◌, ℕ, ◌+◌, ◌++◌, ◌-◌, ◌*◌, ◌%◌, ◌<◌, inl, inr, Bool, true, false, List, length, take, drop, min, Option, Some, None, refl, sym, subst, ap, ◌∙◌, arith, length-drop}
 use Rattle.std.specs.Prelude.{◌||◌, ◌==◌, nat_lt, IsSomeAnd}
-use Rattle.std.specs.List.{list_any, Any, IsAmong}
+use Rattle.std.specs.List.{flat_map, list_any, Any, IsAmong}
+use Rattle.std.specs.Option.{option_to_list}
 use Rattle.std.proofs.Math.Nat.{mul-le-mul_left}
 use Rattle.std.proofs.lemmas.Bool.{le-ltb, ltb-true, and_parts, false≢true}
 use Rattle.std.proofs.lemmas.Nat.{le-div}
@@ -111,13 +112,13 @@ arrays_inside f q a w u =
 
 -- ---- each fault
 
-no_past : (f : List ℕ) (q : Query) (a : Arrays) (w : MosaicState) → IsUnderway f q a w → list_any (ends_past f) (array_ranges f q ++ tile_ranges f q) ≡ false
+no_past : (f : List ℕ) (q : Query) (a : Arrays) (w : MosaicState) → IsUnderway f q a w → list_any (ends_past f) (array_ranges f q ++ flat_map option_to_list (tile_ranges f q)) ≡ false
 unfolding array_ranges
 no_past f q a w u =
     let r = w.picture.rectangle in
     let parts = ranges_are f r.level (layout_of a.level) u.planned.layout_is in
     let inside = arrays_inside f q a w u in
-    list_any-append (ends_past f) (array_ranges f q) (tile_ranges f q)
+    list_any-append (ends_past f) (array_ranges f q) (flat_map option_to_list (tile_ranges f q))
     ∙ rw (u.needed.inside, u.planned.good, u.planned.rectangle_is, parts.0, parts.1, inside.0, inside.1) refl
 
 both_false : (a b : Bool) → (a || b) ≡ false → (a ≡ false) × (b ≡ false)

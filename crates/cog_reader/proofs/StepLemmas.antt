@@ -2,7 +2,7 @@
 use Rattle.std.proofs.Common.{◌≡◌, ℕ, suc, ◌+◌, ◌*◌, ◌<◌, ◌≤◌, ◌++◌, ◌∷◌, [], inl, inr, Bool, true, false, if◌then◌else◌, List, length, drop, map, get_or, Option, Some, None, refl, sym, subst, ap, ◌∙◌, arith, length-append, eq-eqb}
 use Rattle.std.specs.Prelude.{Result, Ok, Err, IfOk, IsSome, ◌||◌, ◌⊎◌, ◌==◌, slice_get, IsSomeAnd}
 use Rattle.std.specs.Option.{option_map, option_map_or, option_to_list}
-use Rattle.std.specs.List.{cons_option, filter, list_any, range_with_len}
+use Rattle.std.specs.List.{cons_option, filter, flat_map, list_any, range_with_len}
 use Rattle.std.proofs.Math.Nat.{mul-le-mul_left}
 use Rattle.std.proofs.lemmas.Bool.{lt-ltb, false≢true}
 use Rattle.std.proofs.lemmas.List.{length-map}
@@ -27,12 +27,14 @@ use Rattle.tiff_dir.specs.Faulty.{IsFaulty, IsFaultOfInfo, IsFaultOfWindow}
 use Rattle.tiff_dir.specs.Geo.{geo_ranges, IsGeoFault}
 use Rattle.tiff_dir.specs.Needs.{Extent, ends_past, extent_of_place}
 use Rattle.tiff_dir.specs.Query as queries
-use Rattle.tiff_dir.specs.Query.{array_ranges, grouped, grouped_after, joins, is_refused, needs_of_query, rectangle, tile_ranges, tiles_in}
+use Rattle.tiff_dir.specs.Query.{array_ranges, joined_after, joins, is_refused, needs_of_query, rectangle, tile_ranges, tiles_in}
 use Rattle.tiff_dir.specs.Walk as walk
 use Rattle.tiff_dir.specs.Walk.{levels_of, extent_of_span, AreGeoPlaces, AreTyped, HasEnded, IsDescribed, IsGeoPlace}
 use Rattle.tile_plan.specs.declared.asked.Rectangle.{Rectangle}
 use Rattle.cog_reader.specs.declared.mosaic.Mosaic.{Mosaic}
 use Rattle.tile_plan.specs.declared.plan.Group.{Group}
+use Rattle.tile_plan.specs.Groups as groups
+use Rattle.tile_plan.specs.Groups.{with_tile, alone, grouped_after, grouped}
 use Rattle.tile_plan.specs.Levels.{rectangle_of, HasLevels, IsAsked, IsSmall}
 use Rattle.tile_plan.specs.Plan.{group_of, tiles_of, IsGroup, IsPlanned}
 use Rattle.cog_reader.specs.declared.arrays.Arrays.{Arrays}
@@ -128,7 +130,7 @@ arrays_are f q r l asks good layout =
 
 -- what a window needs besides the directories
 pub needs_split : (f : List ℕ) (q : Query) (r : Rectangle) (l : Level) → rectangle f q ≡ Some (rectangle_of r) → is_refused f q ≡ false → level_layout f r.level ≡ Some (layout_of l)
-    → needs_of_query f q ≡ extent_of_place l.offsets ∷ extent_of_place l.counts ∷ map (λ (g : queries.Group). g.range) (queries.groups f q)
+    → needs_of_query f q ≡ extent_of_place l.offsets ∷ extent_of_place l.counts ∷ joined_after None (tile_ranges f q)
 unfolding needs_of_query array_ranges rectangle
 needs_split f Info r l asks good layout = absurd (none-some (rectangle_of r) asks)
 needs_split f (Window x y wide tall p) r l asks good layout =
@@ -156,9 +158,9 @@ pub past_array : (f : List ℕ) (q : Query) (r : Rectangle) (l : Level) (k : Kep
     → next_array k r.level l ≡ Some p → length f < p.first + p.len → IsFaulty f q PastEnd
 past_array f q r l k p asks good layout next past =
     let ends : ends_past f (extent_of_place p) ≡ true = lt-ltb (length f) (p.first + p.len) past in
-    window_fault f q (rectangle_of r) PastEnd asks (ap (λ rs. list_any (ends_past f) (rs ++ tile_ranges f q)) (arrays_are f q r l asks good layout) ∙ elim (which k r.level l p next) [
-      | inl same ↦ first (ends_past f) (extent_of_place l.offsets) (extent_of_place l.counts) (tile_ranges f q) (ap (λ x. ends_past f (extent_of_place x)) (sym same) ∙ ends)
-      | inr same ↦ second (ends_past f) (extent_of_place l.offsets) (extent_of_place l.counts) (tile_ranges f q) (ap (λ x. ends_past f (extent_of_place x)) (sym same) ∙ ends)
+    window_fault f q (rectangle_of r) PastEnd asks (ap (λ rs. list_any (ends_past f) (rs ++ flat_map option_to_list (tile_ranges f q))) (arrays_are f q r l asks good layout) ∙ elim (which k r.level l p next) [
+      | inl same ↦ first (ends_past f) (extent_of_place l.offsets) (extent_of_place l.counts) (flat_map option_to_list (tile_ranges f q)) (ap (λ x. ends_past f (extent_of_place x)) (sym same) ∙ ends)
+      | inr same ↦ second (ends_past f) (extent_of_place l.offsets) (extent_of_place l.counts) (flat_map option_to_list (tile_ranges f q)) (ap (λ x. ends_past f (extent_of_place x)) (sym same) ∙ ends)
     ]) where
       first : (p : Extent → Bool) (a b : Extent) (rest : List Extent) → p a ≡ true → list_any p (a ∷ b ∷ rest) ≡ true
       first p a b rest is = rw is refl
@@ -209,16 +211,19 @@ fair_array complete k n l p next inside = elim (which k n l p next) [
 
 -- ---- groups that are planned
 
-grouped_few : (before : Option queries.Group) (ts : List (ℕ × Option Extent)) → length (grouped_after before ts) ≤ length (option_to_list before) + length ts
+grouped_few : (range : ℕ → Extent) (g : groups.Group) (ts : List ℕ) → length (grouped_after range g ts) ≤ 1 + length ts
 unfolding grouped_after
-grouped_few before [] = omega arith
-grouped_few before ((t, None) ∷ ts) = (let h = grouped_few None ts in omega (arith, h, length-append (option_to_list before) (grouped_after None ts)))
-grouped_few None ((t, Some r) ∷ ts) = (let h = grouped_few (Some (queries.alone t r)) ts in omega (arith, h))
-grouped_few (Some g) ((t, Some r) ∷ ts) = at (joins g r) (grouped_few (Some (queries.with_tile g t r)) ts) (grouped_few (Some (queries.alone t r)) ts) where
-  at : (b : Bool) → length (grouped_after (Some (queries.with_tile g t r)) ts) ≤ 1 + length ts → length (grouped_after (Some (queries.alone t r)) ts) ≤ 1 + length ts
-      → length (if b then grouped_after (Some (queries.with_tile g t r)) ts else g ∷ grouped_after (Some (queries.alone t r)) ts) ≤ 1 + length ((t, Some r) ∷ ts)
+grouped_few range g [] = omega arith
+grouped_few range g (t ∷ ts) = at (joins g.range (range t)) (grouped_few range (with_tile g t (range t)) ts) (grouped_few range (alone t (range t)) ts) where
+  at : (b : Bool) → length (grouped_after range (with_tile g t (range t)) ts) ≤ 1 + length ts → length (grouped_after range (alone t (range t)) ts) ≤ 1 + length ts
+      → length (if b then grouped_after range (with_tile g t (range t)) ts else g ∷ grouped_after range (alone t (range t)) ts) ≤ 1 + length (t ∷ ts)
   at true h k = omega (arith, h)
   at false h k = omega (arith, k)
+
+all_few : (range : ℕ → Extent) (ts : List ℕ) → length (grouped range ts) ≤ length ts
+unfolding grouped
+all_few range [] = omega arith
+all_few range (t ∷ ts) = (let h = grouped_few range (alone t (range t)) ts in omega (arith, h))
 
 filter_few : (p : ℕ → Bool) (xs : List ℕ) → length (filter p xs) ≤ length xs
 filter_few p [] = omega arith
@@ -228,16 +233,16 @@ filter_few p (x ∷ xs) = at (p x) (filter_few p xs) where
   at false h = omega (arith, h)
 
 pub groups_few : (complete : ℕ) (a : Arrays) (m : MosaicState) → IsPlan complete a m → length m.groups ≤ 65536
-unfolding grouped tiles_in
+unfolding tiles_in
 groups_few complete a m plan =
     let l = a.level in
     let r = m.picture.rectangle in
     let ts = tiles_of l r in
     let same = sym (length-map m.groups group_of) ∙ ap length plan.are.groups in
-    let few = grouped_few None (map (λ t. (t, Some (tile_extent a t))) ts) in
+    let few = all_few (tile_extent a) ts in
     let tiles = filter_few (queries.meets (grid_of l) (rectangle_of r)) (range_with_len 0 (tile_total (grid_of l))) in
     let total = l.tiles in
-    omega (arith, same, few, length-map {B = ℕ × Option Extent} ts (λ t. (t, Some (tile_extent a t))), tiles, length-range_with_len 0 (tile_total (grid_of l)), total)
+    omega (arith, same, few, tiles, length-range_with_len 0 (tile_total (grid_of l)), total)
 
 pub both_held : (k : Kept) (n : ℕ) (a : Arrays) → k ≡ kept.Both n a → arrays_held k n ≡ 2
 both_held k n a is = ap (λ x. arrays_held x n) is ∙ (let same : (n == n) ≡ true = eq-eqb n n refl in rw same refl)

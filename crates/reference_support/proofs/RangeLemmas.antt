@@ -7,47 +7,20 @@ use Rattle.std.proofs.lemmas.List.Sums.{sum_by-cons}
 use Rattle.tiff_dir.specs.Needs.{Extent, ends_past}
 use Rattle.std.specs.Prelude.{MatchOption, IfSome, IfNone, OnOk}
 use Rattle.tiff_dir.specs.declared.query.Query.{Query}
-use Rattle.tiff_dir.specs.Query.{Group, joins, alone, with_tile, grouped_after, grouped, blocks_of_extent, needs, cost}
+use Rattle.tiff_dir.specs.Query.{joined_after, blocks_of_extent, needs, cost}
 use Rattle.reference_support.specs.declared.ranges.Extent as listed
-use Rattle.reference_support.specs.Ranges.{blocks_inside, extent_of, extents_of, ranges_after}
+use Rattle.reference_support.specs.Ranges.{blocks_inside, extent_of, extents_of}
 
--- ---- groups by their ranges alone
-
-abbrev range_in : Group → Extent
-range_in g = g.range
-
-either : {A B : Type 0} (b : Bool) (f : A → B) (x y : A) (u v : B) → f x ≡ u → f y ≡ v → f (cond b x y) ≡ cond b u v
-either true f x y u v one other = one
-either false f x y u v one other = other
-
--- the ranges of groups
-pub after_ranges : (before : Option Group) (tiles : List (ℕ × Option Extent)) → map range_in (grouped_after before tiles) ≡ ranges_after (option_map range_in before) (map (λ p. p.1) tiles)
-unfolding grouped_after
-after_ranges None [] = refl
-after_ranges (Some g) [] = refl
-after_ranges None ((t, None) ∷ rest) = after_ranges None rest
-after_ranges (Some g) ((t, None) ∷ rest) = ap (λ rs. g.range ∷ rs) (after_ranges None rest)
-after_ranges None ((t, Some r) ∷ rest) = after_ranges (Some (alone t r)) rest
-after_ranges (Some g) ((t, Some r) ∷ rest) =
-    either (joins g r) (map range_in) (grouped_after (Some (with_tile g t r)) rest) (g ∷ grouped_after (Some (alone t r)) rest) _ _
-    (after_ranges (Some (with_tile g t r)) rest) (ap (λ rs. g.range ∷ rs) (after_ranges (Some (alone t r)) rest))
-
-firsts : (range : ℕ → Option Extent) (tiles : List ℕ) → map (λ (p : ℕ × Option Extent). p.1) (map (λ t. (t, range t)) tiles) ≡ map range tiles
-firsts range [] = refl
-firsts range (t ∷ tiles) = ap (λ rs. range t ∷ rs) (firsts range tiles)
-
-pub groups_ranged : (range : ℕ → Option Extent) (tiles : List ℕ) → map range_in (grouped range tiles) ≡ ranges_after None (map range tiles)
-unfolding grouped
-groups_ranged range tiles = after_ranges None (map (λ t. (t, range t)) tiles) ∙ ap (ranges_after None) (firsts range tiles)
+-- ---- groups by their ranges
 
 -- one more tile
 pub one_tile_more : (range : ℕ → Option Extent) (tiles : List ℕ) (i : ℕ) (out new all : List Extent) (before after : Option Extent) → i < length tiles
-    → out ++ ranges_after before (map range (drop i tiles)) ≡ all
-    → ((rest : List (Option Extent)) → new ++ ranges_after after rest ≡ out ++ ranges_after before (range (get_or tiles i 0) ∷ rest))
-    → new ++ ranges_after after (map range (drop (i + 1) tiles)) ≡ all
+    → out ++ joined_after before (map range (drop i tiles)) ≡ all
+    → ((rest : List (Option Extent)) → new ++ joined_after after rest ≡ out ++ joined_after before (range (get_or tiles i 0) ∷ rest))
+    → new ++ joined_after after (map range (drop (i + 1) tiles)) ≡ all
 one_tile_more range tiles i out new all before after inside is step =
     let first : drop i tiles ≡ get_or tiles i 0 ∷ drop (i + 1) tiles = drop_more tiles i 0 inside in
-    step (map range (drop (i + 1) tiles)) ∙ ap (λ ts. out ++ ranges_after before (map range ts)) (sym first) ∙ is
+    step (map range (drop (i + 1) tiles)) ∙ ap (λ ts. out ++ joined_after before (map range ts)) (sym first) ∙ is
 
 on_ok_then : {T E : Type 0} (r : Result T E) (P Q : Type 0) → OnOk r P → (P → Q) → OnOk r Q
 on_ok_then (Ok x) P Q p then = then p
@@ -55,11 +28,11 @@ on_ok_then (Err e) P Q p then = tt
 
 -- the last group
 pub all_grouped : {T E : Type 0} (r : Result T E) (range : ℕ → Option Extent) (tiles : List ℕ) (i : ℕ) (out new start : List Extent) (last : Option Extent) → length tiles ≤ i
-    → out ++ ranges_after last (map range (drop i tiles)) ≡ start ++ ranges_after None (map range tiles)
-    → OnOk r (new ≡ out ++ option_to_list last) → OnOk r (new ≡ start ++ map range_in (grouped range tiles))
+    → out ++ joined_after last (map range (drop i tiles)) ≡ start ++ joined_after None (map range tiles)
+    → OnOk r (new ≡ out ++ option_to_list last) → OnOk r (new ≡ start ++ joined_after None (map range tiles))
 all_grouped r range tiles i out new start last past is pushed = on_ok_then r _ _ pushed (λ added.
     let none : drop i tiles ≡ [] = drop_all i tiles past in
-    added ∙ (rw none at is) ∙ ap (λ rs. start ++ rs) (sym (groups_ranged range tiles)))
+    added ∙ (rw none at is))
 
 -- the blocks of the ranges that end inside the file
 pub sum_inside : (f : List ℕ) (rs : List Extent) → sum_by blocks_of_extent (filter (λ r. not (ends_past f r)) rs) ≡ sum_by (blocks_inside (length f)) rs

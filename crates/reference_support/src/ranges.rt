@@ -4,11 +4,12 @@ ghost use Rattle.std.specs.List.{flat_map, filter, sum_by};
 ghost use Rattle.std.specs.Option.{option_map, option_to_list};
 ghost use Rattle.tiff_dir.specs.File.{directories};
 ghost use Rattle.tiff_dir.specs.Level.{level_directory};
+ghost use Rattle.tiff_dir.specs.Needs.{Extent as Range};
 ghost use Rattle.tiff_dir.specs.Needs.{count_range, ends_past, field_range, needs_of_directories, outside_range, extent_of_place, ranges_of_directory, table_range};
 ghost use Rattle.tiff_dir.specs.Geo.{geo_ranges};
-ghost use Rattle.tiff_dir.specs.Query.{array_range, array_ranges, blocks_of_extent, cost, grouped, groups, needs, tile_range};
+ghost use Rattle.tiff_dir.specs.Query.{array_range, array_ranges, blocks_of_extent, cost, joined_after, joins, needs, tile_range, tile_ranges};
 ghost use Rattle.reference_support.specs.Asked.{rectangle_of, HasNoModestLevel};
-ghost use Rattle.reference_support.specs.Ranges.{blocks_inside, may_join, extent_of, ranges_after, extents_of, with_range, Ranged};
+ghost use Rattle.reference_support.specs.Ranges.{blocks_inside, extent_of, extents_of};
 
 use crate::asked::asked_rectangle;
 use crate::directories::{directory, entry_count, has_directory};
@@ -196,7 +197,7 @@ fn push_arrays(
 
 /// The range of a group and the tile behind it, where the tile joins the group.
 fn joined(group: Extent, tile: Extent) -> Option<Extent>
-    ensures { option_map extent_of result ≡ (if may_join (extent_of group) (extent_of tile) then Some (with_range (extent_of group) (extent_of tile)) else None) }
+    ensures { option_map extent_of result ≡ (if joins (extent_of group) (extent_of tile) then Some (record { first = group.first; len = group.len + tile.len }) else None) }
 {
     let end = group.first.checked_add(group.len)?;
     let len = group.len.checked_add(tile.len)?;
@@ -215,8 +216,8 @@ fn push_tile(
     before: Option<Extent>,
     tile: Option<Extent>,
 ) -> Result<Option<Extent>, AllocError>
-    ensures { IfOk result (λ after. (rest : List Ranged) → extents_of out.new.items ++ ranges_after (option_map extent_of after) rest
-        ≡ extents_of out.old.items ++ ranges_after (option_map extent_of before) (option_map extent_of tile ∷ rest)) }
+    ensures { IfOk result (λ after. (rest : List (Option Range)) → extents_of out.new.items ++ joined_after (option_map extent_of after) rest
+        ≡ extents_of out.old.items ++ joined_after (option_map extent_of before) (option_map extent_of tile ∷ rest)) }
 {
     if let Some(group) = before
         && let Some(tile) = tile
@@ -236,7 +237,7 @@ fn push_groups(
     n: usize,
     tiles: &[u64],
 ) -> Result<(), AllocError>
-    ensures { OnOk result (extents_of out.new.items ≡ extents_of out.old.items ++ map (λ g. g.range) (grouped (tile_range file.now n) tiles.now)) }
+    ensures { OnOk result (extents_of out.new.items ≡ extents_of out.old.items ++ joined_after None (map (tile_range file.now n) tiles.now)) }
 {
     let mut group = None;
     for t in tiles {
@@ -247,7 +248,7 @@ fn push_groups(
 }
 
 /// Adds the ranges of the window's arrays and of its groups of tiles. Whether the plain program reads its level.
-#[tactic(auto, unfolding(tiff_dir::specs::Query::groups))]
+#[tactic(auto, unfolding(tiff_dir::specs::Query::tile_ranges))]
 fn push_window(
     alloc: Global,
     out: &mut Vec<Extent>,
@@ -255,7 +256,7 @@ fn push_window(
     query: Query,
 ) -> Result<bool, AllocError>
     ensures ranges { IfOk result (λ read. read ≡ true → extents_of out.new.items
-        ≡ extents_of out.old.items ++ (array_ranges file.now query ++ map (λ g. g.range) (groups file.now query))) }
+        ≡ extents_of out.old.items ++ (array_ranges file.now query ++ joined_after None (tile_ranges file.now query))) }
     ensures none { IfOk result (λ read. read ≡ false → HasNoModestLevel file.now query) }
 {
     push_arrays(alloc, out, file, query)?;

@@ -1,9 +1,9 @@
 -- Where no fault stands for a window: its rectangle, its level, and the bytes of each of its tiles.
 use Rattle.tiff_dir.specs.declared.tags.TheConstants.{IMAGE_LENGTH, IMAGE_WIDTH, TILE_BYTE_COUNTS, TILE_OFFSETS}
-use Rattle.std.proofs.Common.{◌≡◌, ℕ, zero, suc, ◌+◌, ◌-◌, ◌*◌, ◌/◌, ◌<◌, ◌≤◌, ◌⊎◌, inl, inr, Bool, true, false, List, [], ◌∷◌, ◌++◌, length, get_or, Option, Some, None, refl, sym, subst, ap, ◌∙◌, arith}
+use Rattle.std.proofs.Common.{◌≡◌, ℕ, zero, suc, ◌+◌, ◌-◌, ◌*◌, ◌/◌, ◌<◌, ◌≤◌, ◌⊎◌, inl, inr, Bool, true, false, List, [], ◌∷◌, ◌++◌, length, get_or, map, Option, Some, None, refl, sym, subst, ap, ◌∙◌, arith}
 use Rattle.std.specs.Prelude.{◌==◌, is_none, unwrap_or, slice_get}
 use Rattle.std.specs.Option.{option_to_list}
-use Rattle.std.specs.List.{cons_option, filter, filter_map, last_or, range_with_len}
+use Rattle.std.specs.List.{filter, flat_map, last_or, range_with_len}
 use Rattle.std.proofs.Math.Nat.{mul-le-mul_right}
 use Rattle.std.proofs.lemmas.Bool.{and_parts, or_parts, cases_Bool, ltb-false, ltb-true, false≢true}
 use Rattle.std.proofs.lemmas.Nat.{div_below}
@@ -228,14 +228,14 @@ not_refused f q c =
     let large : is_too_large f q ≡ false = not_true (is_too_large f q) (c.own TooLarge) in
     rw (outside, large) refl
 
-needed_inside : (f : List ℕ) (q : Query) (r : Extent) → IsClear f q → In r (array_ranges f q ++ tile_ranges f q) → r.first + r.len ≤ length f
-needed_inside f q r c there = ends_inside f r (none_of_any (ends_past f) (array_ranges f q ++ tile_ranges f q) r (c.own PastEnd) there)
+needed_inside : (f : List ℕ) (q : Query) (r : Extent) → IsClear f q → In r (array_ranges f q ++ flat_map option_to_list (tile_ranges f q)) → r.first + r.len ≤ length f
+needed_inside f q r c there = ends_inside f r (none_of_any (ends_past f) (array_ranges f q ++ flat_map option_to_list (tile_ranges f q)) r (c.own PastEnd) there)
 
 pub tiles_are : (f : List ℕ) (q : Query) (c : IsClear f q) (a : IsAsked f q) → window_tiles f q ≡ tiles_in (layout_of_level f a.asked.level a.placed.level).grid a.asked
 unfolding window_tiles
 tiles_are f q c a = rw (not_refused f q c, a.asked_is, grid_there f a.asked.level a.placed.level) refl
 
-tile_ranges_are : (f : List ℕ) (q : Query) (a : IsAsked f q) → tile_ranges f q ≡ filter_map (tile_range f a.asked.level) (window_tiles f q)
+tile_ranges_are : (f : List ℕ) (q : Query) (a : IsAsked f q) → tile_ranges f q ≡ map (tile_range f a.asked.level) (window_tiles f q)
 unfolding tile_ranges
 tile_ranges_are f q a = rw a.asked_is refl
 
@@ -243,20 +243,17 @@ arrays_are : (f : List ℕ) (q : Query) (c : IsClear f q) (a : IsAsked f q) → 
 unfolding array_ranges
 arrays_are f q c a = rw (not_refused f q c, a.asked_is) refl
 
-in_ranges : (range : ℕ → Option Extent) (t : ℕ) (r : Extent) (ts : List ℕ) → In t ts → range t ≡ Some r → In r (filter_map range ts)
+in_ranges : (range : ℕ → Option Extent) (t : ℕ) (r : Extent) (ts : List ℕ) → In t ts → range t ≡ Some r → In r (flat_map option_to_list (map range ts))
 in_ranges range t r [] there is = absurd there
 in_ranges range t r (u ∷ ts) (inl same) is = rw (ap range (sym same) ∙ is) (inl refl)
-in_ranges range t r (u ∷ ts) (inr there) is = at (range u) (in_ranges range t r ts there is) where
-  at : (o : Option Extent) → In r (filter_map range ts) → In r (cons_option o (filter_map range ts))
-  at None later = later
-  at (Some s) later = inr later
+in_ranges range t r (u ∷ ts) (inr there) is = in_right r (option_to_list (range u)) (flat_map option_to_list (map range ts)) (in_ranges range t r ts there is)
 
 pub arrays_inside : (f : List ℕ) (q : Query) (r : Extent) (c : IsClear f q) (a : IsAsked f q) → In r (option_to_list (array_range f a.asked.level TILE_OFFSETS) ++ option_to_list (array_range f a.asked.level TILE_BYTE_COUNTS)) → r.first + r.len ≤ length f
 arrays_inside f q r c a there =
     let here : In r (array_ranges f q) = subst (λ (rs : List Extent). In r rs) (sym (arrays_are f q c a)) there in
-    needed_inside f q r c (in_left r (array_ranges f q) (tile_ranges f q) here)
+    needed_inside f q r c (in_left r (array_ranges f q) (flat_map option_to_list (tile_ranges f q)) here)
 
 pub bytes_inside : (f : List ℕ) (q : Query) (t : ℕ) (r : Extent) (c : IsClear f q) (a : IsAsked f q) → In t (window_tiles f q) → tile_range f a.asked.level t ≡ Some r → r.first + r.len ≤ length f
 bytes_inside f q t r c a there is =
-    let here : In r (tile_ranges f q) = subst (λ (rs : List Extent). In r rs) (sym (tile_ranges_are f q a)) (in_ranges (tile_range f a.asked.level) t r (window_tiles f q) there is) in
-    needed_inside f q r c (in_right r (array_ranges f q) (tile_ranges f q) here)
+    let here : In r (flat_map option_to_list (tile_ranges f q)) = subst (λ rs. In r (flat_map option_to_list rs)) (sym (tile_ranges_are f q a)) (in_ranges (tile_range f a.asked.level) t r (window_tiles f q) there is) in
+    needed_inside f q r c (in_right r (array_ranges f q) (flat_map option_to_list (tile_ranges f q)) here)

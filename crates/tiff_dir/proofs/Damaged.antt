@@ -2,7 +2,8 @@
 use Rattle.tiff_dir.specs.declared.tags.TheConstants.{BITS_PER_SAMPLE, COMPRESSION, TILE_BYTE_COUNTS, TILE_LENGTH, TILE_WIDTH}
 use Rattle.tiff_dir.specs.declared.limits.TheConstants.{MAX_TILE_BYTES}
 use Rattle.std.proofs.Common.{◌≡◌, ℕ, zero, suc, ◌+◌, ◌==◌, ◌⊎◌, true, false, List, [], ◌∷◌, ◌++◌, take, drop, Some, None, ◌∙◌, refl, sym, ap, subst, Option, arith, inl, inr}
-use Rattle.std.specs.List.{list_any, range_with_len, IsAmong}
+use Rattle.std.specs.List.{flat_map, list_any, range_with_len, IsAmong}
+use Rattle.std.specs.Option.{option_to_list}
 use Rattle.std.specs.Prelude.{nat_lt, nat_le, IsSomeAnd}
 use Rattle.std.proofs.lemmas.Bool.Decides.{nat_tests}
 use Rattle.std.proofs.lemmas.Option.{same_Some, none-some}
@@ -16,7 +17,7 @@ use Rattle.tiff_dir.specs.File.{◌>>=◌, order_of, number, directory, has_dire
 use Rattle.tiff_dir.specs.Level.{is_level, level_directories, place_of, grid_at, layout_at, level_directory, level_grid, level_value, depth_at, plain_size_at}
 use Rattle.tiff_dir.specs.Profile.{accepts, is_tile_side}
 use Rattle.tiff_dir.specs.Needs.{count_range, table_range, field_range, outside_range, ranges_of_directory, needs_of_directories, ends_past, outside_ranges}
-use Rattle.tiff_dir.specs.Query.{rectangle, is_outside, is_too_large, tiles_in, window_tiles, array_range, tile_range, grouped_after, grouped, groups, array_ranges, tile_ranges}
+use Rattle.tiff_dir.specs.Query.{rectangle, is_outside, is_too_large, tiles_in, window_tiles, array_range, tile_range, array_ranges, tile_ranges}
 use Rattle.tiff_dir.specs.Fault.{IsUnsupported, IsFaultOfLevel, IsFaultOfDirectories}
 use Rattle.tiff_dir.specs.Faulty.{is_byte_count, IsNotPlainSize, HasBadTile, IsFaulty}
 use Rattle.tiff_dir.proofs.Fixtures.{header, one_directory, one_tile}
@@ -33,15 +34,15 @@ abbrev pub with_byte : ℕ → ℕ → List ℕ
 with_byte at byte = take at good ++ byte ∷ drop (at + 1) good
 
 back-to-first : IsFaulty (with_byte 118 8) first_sample TooManyDirs
-unfolding IsFaulty IsFaultOfDirectories number_in order_of number directory has_directory directories entry_count field_at fields_from fields has_all_tags field values_at field_value value is_level level_directories place_of grid_at depth_at layout_at level_directory level_grid level_value count_range table_range field_range outside_range ranges_of_directory outside_ranges needs_of_directories rectangle is_outside is_too_large tiles_in window_tiles array_range tile_range grouped_after grouped groups array_ranges tile_ranges
+unfolding IsFaulty IsFaultOfDirectories number_in order_of number directory has_directory directories entry_count field_at fields_from fields has_all_tags field values_at field_value value is_level level_directories place_of grid_at depth_at layout_at level_directory level_grid level_value count_range table_range field_range outside_range ranges_of_directory outside_ranges needs_of_directories rectangle is_outside is_too_large tiles_in window_tiles array_range tile_range array_ranges tile_ranges
 back-to-first = inl (inl refl)
 
 compression-five : IsFaulty (with_byte 54 5) first_sample (Unsupported COMPRESSION)
-unfolding IsFaulty IsFaultOfDirectories number_in order_of number directory has_directory directories entry_count field_at fields_from fields has_all_tags field values_at field_value value is_level level_directories place_of grid_at depth_at layout_at level_directory level_grid level_value count_range table_range field_range outside_range ranges_of_directory outside_ranges needs_of_directories rectangle is_outside is_too_large tiles_in window_tiles array_range tile_range grouped_after grouped groups array_ranges tile_ranges
+unfolding IsFaulty IsFaultOfDirectories number_in order_of number directory has_directory directories entry_count field_at fields_from fields has_all_tags field values_at field_value value is_level level_directories place_of grid_at depth_at layout_at level_directory level_grid level_value count_range table_range field_range outside_range ranges_of_directory outside_ranges needs_of_directories rectangle is_outside is_too_large tiles_in window_tiles array_range tile_range array_ranges tile_ranges
 compression-five = inl (inr (0, (omega arith, refl), inr (refl, inl (0, refl))))
 
 one-byte-short : IsFaulty (take 377 good) first_sample PastEnd
-unfolding IsFaulty number_in order_of number directory has_directory directories entry_count field_at fields_from fields has_all_tags field values_at field_value value is_level level_directories place_of grid_at depth_at layout_at level_directory level_grid level_value count_range table_range field_range outside_range ranges_of_directory outside_ranges needs_of_directories rectangle is_outside is_too_large tiles_in window_tiles array_range tile_range grouped_after grouped groups array_ranges tile_ranges
+unfolding IsFaulty number_in order_of number directory has_directory directories entry_count field_at fields_from fields has_all_tags field values_at field_value value is_level level_directories place_of grid_at depth_at layout_at level_directory level_grid level_value count_range table_range field_range outside_range ranges_of_directory outside_ranges needs_of_directories rectangle is_outside is_too_large tiles_in window_tiles array_range tile_range array_ranges tile_ranges
 one-byte-short = inr refl
 
 -- the byte count of the only tile is wrong, whatever the compression
@@ -49,23 +50,23 @@ abbrev with_count : ℕ → ℕ → List ℕ
 with_count compression count = header Little ++ one_directory Little 8 compression count ++ range_with_len 0 256
 
 count-too-small : IsFaulty (with_count 1 255) first_sample TileSize
-unfolding IsFaulty depth_at plain_size_at number_in order_of number directory has_directory directories entry_count field_at fields_from fields has_all_tags field values_at field_value value is_level level_directories place_of grid_at layout_at level_directory level_grid level_value count_range table_range field_range outside_range ranges_of_directory outside_ranges needs_of_directories rectangle is_outside is_too_large tiles_in window_tiles array_range tile_range grouped_after grouped groups array_ranges tile_ranges
+unfolding IsFaulty depth_at plain_size_at number_in order_of number directory has_directory directories entry_count field_at fields_from fields has_all_tags field values_at field_value value is_level level_directories place_of grid_at layout_at level_directory level_grid level_value count_range table_range field_range outside_range ranges_of_directory outside_ranges needs_of_directories rectangle is_outside is_too_large tiles_in window_tiles array_range tile_range array_ranges tile_ranges
 count-too-small = inr (0, 0, omega arith, refl, inr (refl, refl))
 
 no-bytes : IsFaulty (with_count 5 0) first_sample TileSize
-unfolding IsFaulty number_in order_of number directory has_directory directories entry_count field_at fields_from fields has_all_tags field values_at field_value value is_level level_directories place_of grid_at depth_at layout_at level_directory level_grid level_value count_range table_range field_range outside_range ranges_of_directory outside_ranges needs_of_directories rectangle is_outside is_too_large tiles_in window_tiles array_range tile_range grouped_after grouped groups array_ranges tile_ranges
+unfolding IsFaulty number_in order_of number directory has_directory directories entry_count field_at fields_from fields has_all_tags field values_at field_value value is_level level_directories place_of grid_at depth_at layout_at level_directory level_grid level_value count_range table_range field_range outside_range ranges_of_directory outside_ranges needs_of_directories rectangle is_outside is_too_large tiles_in window_tiles array_range tile_range array_ranges tile_ranges
 no-bytes = inr (0, 0, omega arith, refl, inl refl)
 
 -- 12 bits a sample
 odd-depth : IsFaulty (header Little ++ one_directory Little 12 1 512 ++ range_with_len 0 256) first_sample (Unsupported BITS_PER_SAMPLE)
-unfolding IsFaulty IsFaultOfDirectories number_in order_of number directory has_directory directories entry_count field_at fields_from fields has_all_tags field values_at field_value value is_level level_directories place_of grid_at depth_at layout_at level_directory level_grid level_value count_range table_range field_range outside_range ranges_of_directory outside_ranges needs_of_directories rectangle is_outside is_too_large tiles_in window_tiles array_range tile_range grouped_after grouped groups array_ranges tile_ranges
+unfolding IsFaulty IsFaultOfDirectories number_in order_of number directory has_directory directories entry_count field_at fields_from fields has_all_tags field values_at field_value value is_level level_directories place_of grid_at depth_at layout_at level_directory level_grid level_value count_range table_range field_range outside_range ranges_of_directory outside_ranges needs_of_directories rectangle is_outside is_too_large tiles_in window_tiles array_range tile_range array_ranges tile_ranges
 odd-depth = inl (inr (0, (omega arith, refl), inr (refl, inl (0, refl))))
 
 -- ---- the good file
 
 -- it has one directory
 one-directory : (k : ℕ) → has_directory good (suc k) ≡ false
-unfolding number_in order_of number directory has_directory directories entry_count field_at fields_from fields has_all_tags field values_at field_value value is_level level_directories place_of grid_at depth_at layout_at level_directory level_grid level_value count_range table_range field_range outside_range ranges_of_directory outside_ranges needs_of_directories rectangle is_outside is_too_large tiles_in window_tiles array_range tile_range grouped_after grouped groups array_ranges tile_ranges
+unfolding number_in order_of number directory has_directory directories entry_count field_at fields_from fields has_all_tags field values_at field_value value is_level level_directories place_of grid_at depth_at layout_at level_directory level_grid level_value count_range table_range field_range outside_range ranges_of_directory outside_ranges needs_of_directories rectangle is_outside is_too_large tiles_in window_tiles array_range tile_range array_ranges tile_ranges
 one-directory zero = refl
 one-directory (suc k) = rw (one-directory k) refl
 
@@ -82,11 +83,11 @@ no-cycle (inl (inr (k, there, inr (is, other)))) = absurd other
 no-cycle (inr other) = absurd other
 
 all-inside : list_any (ends_past good) (needs_of_directories good) ≡ false
-unfolding number_in order_of number directory has_directory directories entry_count field_at fields_from fields has_all_tags field values_at field_value value is_level level_directories place_of grid_at depth_at layout_at level_directory level_grid level_value count_range table_range field_range outside_range ranges_of_directory outside_ranges needs_of_directories rectangle is_outside is_too_large tiles_in window_tiles array_range tile_range grouped_after grouped groups array_ranges tile_ranges
+unfolding number_in order_of number directory has_directory directories entry_count field_at fields_from fields has_all_tags field values_at field_value value is_level level_directories place_of grid_at depth_at layout_at level_directory level_grid level_value count_range table_range field_range outside_range ranges_of_directory outside_ranges needs_of_directories rectangle is_outside is_too_large tiles_in window_tiles array_range tile_range array_ranges tile_ranges
 all-inside = refl
 
-query-inside : list_any (ends_past good) (array_ranges good first_sample ++ tile_ranges good first_sample) ≡ false
-unfolding number_in order_of number directory has_directory directories entry_count field_at fields_from fields has_all_tags field values_at field_value value is_level level_directories place_of grid_at depth_at layout_at level_directory level_grid level_value count_range table_range field_range outside_range ranges_of_directory outside_ranges needs_of_directories rectangle is_outside is_too_large tiles_in window_tiles array_range tile_range grouped_after grouped groups array_ranges tile_ranges
+query-inside : list_any (ends_past good) (array_ranges good first_sample ++ flat_map option_to_list (tile_ranges good first_sample)) ≡ false
+unfolding number_in order_of number directory has_directory directories entry_count field_at fields_from fields has_all_tags field values_at field_value value is_level level_directories place_of grid_at depth_at layout_at level_directory level_grid level_value count_range table_range field_range outside_range ranges_of_directory outside_ranges needs_of_directories rectangle is_outside is_too_large tiles_in window_tiles array_range tile_range array_ranges tile_ranges
 query-inside = refl
 
 -- a range past the end
@@ -101,11 +102,11 @@ out_of_one : (i : ℕ) → nat_lt (suc i) 1 ≡ false
 out_of_one i = grind (arith, nat_tests)
 
 compression-beyond : (i : ℕ) → value good 0 COMPRESSION (suc i) ≡ None
-unfolding number_in order_of number directory has_directory directories entry_count field_at fields_from fields has_all_tags field values_at field_value value is_level level_directories place_of grid_at depth_at layout_at level_directory level_grid level_value count_range table_range field_range outside_range ranges_of_directory outside_ranges needs_of_directories rectangle is_outside is_too_large tiles_in window_tiles array_range tile_range grouped_after grouped groups array_ranges tile_ranges
+unfolding number_in order_of number directory has_directory directories entry_count field_at fields_from fields has_all_tags field values_at field_value value is_level level_directories place_of grid_at depth_at layout_at level_directory level_grid level_value count_range table_range field_range outside_range ranges_of_directory outside_ranges needs_of_directories rectangle is_outside is_too_large tiles_in window_tiles array_range tile_range array_ranges tile_ranges
 compression-beyond i = rw (out_of_one i) refl
 
 compression-is : (i : ℕ) (v : ℕ) → value good 0 COMPRESSION i ≡ Some v → accepts COMPRESSION v ≡ true
-unfolding number_in order_of number directory has_directory directories entry_count field_at fields_from fields has_all_tags field values_at field_value value is_level level_directories place_of grid_at depth_at layout_at level_directory level_grid level_value count_range table_range field_range outside_range ranges_of_directory outside_ranges needs_of_directories rectangle is_outside is_too_large tiles_in window_tiles array_range tile_range grouped_after grouped groups array_ranges tile_ranges
+unfolding number_in order_of number directory has_directory directories entry_count field_at fields_from fields has_all_tags field values_at field_value value is_level level_directories place_of grid_at depth_at layout_at level_directory level_grid level_value count_range table_range field_range outside_range ranges_of_directory outside_ranges needs_of_directories rectangle is_outside is_too_large tiles_in window_tiles array_range tile_range array_ranges tile_ranges
 compression-is zero v e = let same : 1 ≡ v = same_Some _ _ e in ap (accepts COMPRESSION) (sym same)
 compression-is (suc i) v e = absurd (none-some v (sym (compression-beyond i) ∙ e))
 
@@ -128,15 +129,15 @@ supported (inl (inr (k, there, inr (is, bad)))) = supported-first (subst (λ m. 
 supported (inr other) = absurd other
 
 tile-width : value good 0 TILE_WIDTH 0 ≡ Some 16
-unfolding number_in order_of number directory has_directory directories entry_count field_at fields_from fields has_all_tags field values_at field_value value is_level level_directories place_of grid_at depth_at layout_at level_directory level_grid level_value count_range table_range field_range outside_range ranges_of_directory outside_ranges needs_of_directories rectangle is_outside is_too_large tiles_in window_tiles array_range tile_range grouped_after grouped groups array_ranges tile_ranges
+unfolding number_in order_of number directory has_directory directories entry_count field_at fields_from fields has_all_tags field values_at field_value value is_level level_directories place_of grid_at depth_at layout_at level_directory level_grid level_value count_range table_range field_range outside_range ranges_of_directory outside_ranges needs_of_directories rectangle is_outside is_too_large tiles_in window_tiles array_range tile_range array_ranges tile_ranges
 tile-width = refl
 
 tile-length : value good 0 TILE_LENGTH 0 ≡ Some 16
-unfolding number_in order_of number directory has_directory directories entry_count field_at fields_from fields has_all_tags field values_at field_value value is_level level_directories place_of grid_at depth_at layout_at level_directory level_grid level_value count_range table_range field_range outside_range ranges_of_directory outside_ranges needs_of_directories rectangle is_outside is_too_large tiles_in window_tiles array_range tile_range grouped_after grouped groups array_ranges tile_ranges
+unfolding number_in order_of number directory has_directory directories entry_count field_at fields_from fields has_all_tags field values_at field_value value is_level level_directories place_of grid_at depth_at layout_at level_directory level_grid level_value count_range table_range field_range outside_range ranges_of_directory outside_ranges needs_of_directories rectangle is_outside is_too_large tiles_in window_tiles array_range tile_range array_ranges tile_ranges
 tile-length = refl
 
 plain-size : plain_size_at good 0 ≡ Some 256
-unfolding depth_at plain_size_at number_in order_of number directory has_directory directories entry_count field_at fields_from fields has_all_tags field values_at field_value value is_level level_directories place_of grid_at layout_at level_directory level_grid level_value count_range table_range field_range outside_range ranges_of_directory outside_ranges needs_of_directories rectangle is_outside is_too_large tiles_in window_tiles array_range tile_range grouped_after grouped groups array_ranges tile_ranges
+unfolding depth_at plain_size_at number_in order_of number directory has_directory directories entry_count field_at fields_from fields has_all_tags field values_at field_value value is_level level_directories place_of grid_at layout_at level_directory level_grid level_value count_range table_range field_range outside_range ranges_of_directory outside_ranges needs_of_directories rectangle is_outside is_too_large tiles_in window_tiles array_range tile_range array_ranges tile_ranges
 plain-size = refl
 
 good-sides : IsFaultOfLevel good 0 TileSize → ⊥
@@ -145,15 +146,15 @@ good-sides (inr (inl bad)) = let wrong : is_tile_side 16 ≡ false = subst (λ o
 good-sides (inr (inr bad)) = let wrong : nat_le 256 MAX_TILE_BYTES ≡ false = subst (λ o. IsSomeAnd o (λ n. nat_le n MAX_TILE_BYTES ≡ false)) plain-size bad in cc
 
 only-tile : window_tiles good first_sample ≡ 0 ∷ []
-unfolding number_in order_of number directory has_directory directories entry_count field_at fields_from fields has_all_tags field values_at field_value value is_level level_directories place_of grid_at depth_at layout_at level_directory level_grid level_value count_range table_range field_range outside_range ranges_of_directory outside_ranges needs_of_directories rectangle is_outside is_too_large tiles_in window_tiles array_range tile_range grouped_after grouped groups array_ranges tile_ranges
+unfolding number_in order_of number directory has_directory directories entry_count field_at fields_from fields has_all_tags field values_at field_value value is_level level_directories place_of grid_at depth_at layout_at level_directory level_grid level_value count_range table_range field_range outside_range ranges_of_directory outside_ranges needs_of_directories rectangle is_outside is_too_large tiles_in window_tiles array_range tile_range array_ranges tile_ranges
 only-tile = refl
 
 size-is : (level_directory good 0 >>= plain_size_at good) ≡ Some 256
-unfolding depth_at plain_size_at number_in order_of number directory has_directory directories entry_count field_at fields_from fields has_all_tags field values_at field_value value is_level level_directories place_of grid_at layout_at level_directory level_grid level_value count_range table_range field_range outside_range ranges_of_directory outside_ranges needs_of_directories rectangle is_outside is_too_large tiles_in window_tiles array_range tile_range grouped_after grouped groups array_ranges tile_ranges
+unfolding depth_at plain_size_at number_in order_of number directory has_directory directories entry_count field_at fields_from fields has_all_tags field values_at field_value value is_level level_directories place_of grid_at layout_at level_directory level_grid level_value count_range table_range field_range outside_range ranges_of_directory outside_ranges needs_of_directories rectangle is_outside is_too_large tiles_in window_tiles array_range tile_range array_ranges tile_ranges
 size-is = refl
 
 count-is : level_value good 0 TILE_BYTE_COUNTS 0 ≡ Some 256
-unfolding number_in order_of number directory has_directory directories entry_count field_at fields_from fields has_all_tags field values_at field_value value is_level level_directories place_of grid_at depth_at layout_at level_directory level_grid level_value count_range table_range field_range outside_range ranges_of_directory outside_ranges needs_of_directories rectangle is_outside is_too_large tiles_in window_tiles array_range tile_range grouped_after grouped groups array_ranges tile_ranges
+unfolding number_in order_of number directory has_directory directories entry_count field_at fields_from fields has_all_tags field values_at field_value value is_level level_directories place_of grid_at depth_at layout_at level_directory level_grid level_value count_range table_range field_range outside_range ranges_of_directory outside_ranges needs_of_directories rectangle is_outside is_too_large tiles_in window_tiles array_range tile_range array_ranges tile_ranges
 count-is = refl
 
 first-of : (t : ℕ) → IsAmong (0 ∷ []) t → t ≡ 0

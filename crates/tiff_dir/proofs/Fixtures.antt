@@ -1,6 +1,6 @@
 -- The definitions at small files, by computation. The bytes of these files are written here and not taken from the crate of
 -- fixtures: that is an aid of tests, and no crate that is proved rests on it.
-use Rattle.std.proofs.Common.{◌≡◌, ℕ, ◌/◌, ◌%◌, false, List, [], ◌∷◌, ◌++◌, take, length, Some, refl}
+use Rattle.std.proofs.Common.{◌≡◌, ℕ, ◌/◌, ◌%◌, false, List, [], ◌∷◌, ◌++◌, take, length, Some, None, refl}
 use Rattle.std.specs.List.{flat_map, range_with_len}
 use Rattle.tiff_dir.specs.declared.order.Order.{Order}
 use Rattle.tiff_dir.specs.declared.order.Order.TheVariants.{Little, Big}
@@ -13,9 +13,9 @@ use Rattle.tiff_dir.specs.declared.query.Pick.TheVariants as pick
 use Rattle.tiff_dir.specs.Number.{number_in}
 use Rattle.tiff_dir.specs.File.{order_of, number, directory, has_directory, directories, entry_count, field_at, fields_from, fields, has_all_tags, field, values_at, field_value, value}
 use Rattle.tiff_dir.specs.Level.{Layout, is_level, level_directories, place_of, grid_at, depth_at, layout_at, layouts, level_directory, level_grid, level_layout, level_value}
-use Rattle.tiff_dir.specs.Needs.{count_range, table_range, field_range, outside_range, ranges_of_directory, needs_of_directories, outside_ranges}
+use Rattle.tiff_dir.specs.Needs.{Extent, count_range, table_range, field_range, outside_range, ranges_of_directory, needs_of_directories, outside_ranges}
 use Rattle.tiff_dir.specs.Geo.{geo_place, geo_ranges}
-use Rattle.tiff_dir.specs.Query.{Group, smallest_level, scaled, rectangle, is_outside, is_too_large, tiles_in, window_tiles, array_range, tile_range, grouped_after, grouped, groups, array_ranges, needs_of_query, needs, cost, segment}
+use Rattle.tiff_dir.specs.Query.{smallest_level, scaled, rectangle, is_outside, is_too_large, tiles_in, window_tiles, array_range, tile_range, joined_after, array_ranges, tile_ranges, needs_of_query, needs, cost, segment}
 
 -- ---- numbers and entries as they are written
 
@@ -70,24 +70,24 @@ record IsOneTile (f : List ℕ) (o : Order) (bits : ℕ) (samples : List ℕ) : 
   tile : segment f 0 0 ≡ Some samples
 
 little : IsOneTile (one_tile Little) Little 8 (range_with_len 0 256)
-unfolding number_in order_of number directory has_directory directories entry_count field_at fields_from fields has_all_tags field values_at field_value value is_level level_directories place_of grid_at depth_at layout_at layouts level_directory level_grid level_layout level_value segment count_range table_range field_range outside_range ranges_of_directory outside_ranges needs_of_directories smallest_level scaled rectangle is_outside is_too_large tiles_in window_tiles array_range tile_range grouped_after grouped groups array_ranges geo_place geo_ranges needs_of_query needs cost
+unfolding number_in order_of number directory has_directory directories entry_count field_at fields_from fields has_all_tags field values_at field_value value is_level level_directories place_of grid_at depth_at layout_at layouts level_directory level_grid level_layout level_value segment count_range table_range field_range outside_range ranges_of_directory outside_ranges needs_of_directories smallest_level scaled rectangle is_outside is_too_large tiles_in window_tiles array_range tile_range tile_ranges array_ranges geo_place geo_ranges needs_of_query needs cost
 little = record { order = refl; directory = refl; layout = refl; ranges = refl; blocks = refl; tile = refl }
 
 big : IsOneTile (one_tile Big) Big 8 (range_with_len 0 256)
-unfolding number_in order_of number directory has_directory directories entry_count field_at fields_from fields has_all_tags field values_at field_value value is_level level_directories place_of grid_at depth_at layout_at layouts level_directory level_grid level_layout level_value segment count_range table_range field_range outside_range ranges_of_directory outside_ranges needs_of_directories smallest_level scaled rectangle is_outside is_too_large tiles_in window_tiles array_range tile_range grouped_after grouped groups array_ranges geo_place geo_ranges needs_of_query needs cost
+unfolding number_in order_of number directory has_directory directories entry_count field_at fields_from fields has_all_tags field values_at field_value value is_level level_directories place_of grid_at depth_at layout_at layouts level_directory level_grid level_layout level_value segment count_range table_range field_range outside_range ranges_of_directory outside_ranges needs_of_directories smallest_level scaled rectangle is_outside is_too_large tiles_in window_tiles array_range tile_range tile_ranges array_ranges geo_place geo_ranges needs_of_query needs cost
 big = record { order = refl; directory = refl; layout = refl; ranges = refl; blocks = refl; tile = refl }
 
 deep_little : IsOneTile (deep_tile Little) Little 16 (flat_map (two Little) (range_with_len 32768 256))
-unfolding number_in order_of number directory has_directory directories entry_count field_at fields_from fields has_all_tags field values_at field_value value is_level level_directories place_of grid_at depth_at layout_at layouts level_directory level_grid level_layout level_value segment count_range table_range field_range outside_range ranges_of_directory outside_ranges needs_of_directories smallest_level scaled rectangle is_outside is_too_large tiles_in window_tiles array_range tile_range grouped_after grouped groups array_ranges geo_place geo_ranges needs_of_query needs cost
+unfolding number_in order_of number directory has_directory directories entry_count field_at fields_from fields has_all_tags field values_at field_value value is_level level_directories place_of grid_at depth_at layout_at layouts level_directory level_grid level_layout level_value segment count_range table_range field_range outside_range ranges_of_directory outside_ranges needs_of_directories smallest_level scaled rectangle is_outside is_too_large tiles_in window_tiles array_range tile_range tile_ranges array_ranges geo_place geo_ranges needs_of_query needs cost
 deep_little = record { order = refl; directory = refl; layout = refl; ranges = refl; blocks = refl; tile = refl }
 
 deep_big : IsOneTile (deep_tile Big) Big 16 (flat_map (two Big) (range_with_len 32768 256))
-unfolding number_in order_of number directory has_directory directories entry_count field_at fields_from fields has_all_tags field values_at field_value value is_level level_directories place_of grid_at depth_at layout_at layouts level_directory level_grid level_layout level_value segment count_range table_range field_range outside_range ranges_of_directory outside_ranges needs_of_directories smallest_level scaled rectangle is_outside is_too_large tiles_in window_tiles array_range tile_range grouped_after grouped groups array_ranges geo_place geo_ranges needs_of_query needs cost
+unfolding number_in order_of number directory has_directory directories entry_count field_at fields_from fields has_all_tags field values_at field_value value is_level level_directories place_of grid_at depth_at layout_at layouts level_directory level_grid level_layout level_value segment count_range table_range field_range outside_range ranges_of_directory outside_ranges needs_of_directories smallest_level scaled rectangle is_outside is_too_large tiles_in window_tiles array_range tile_range tile_ranges array_ranges geo_place geo_ranges needs_of_query needs cost
 deep_big = record { order = refl; directory = refl; layout = refl; ranges = refl; blocks = refl; tile = refl }
 
 -- an unsupported compression leaves the tiles of a window what they are
 pub compressed_otherwise : cost (header Little ++ one_directory Little 8 5 256 ++ range_with_len 0 256) (Window 0 0 1 1 (pick.Level 0)) ≡ 6
-unfolding number_in order_of number directory has_directory directories entry_count field_at fields_from fields has_all_tags field values_at field_value value is_level level_directories place_of grid_at depth_at layout_at layouts level_directory level_grid level_layout level_value segment count_range table_range field_range outside_range ranges_of_directory outside_ranges needs_of_directories smallest_level scaled rectangle is_outside is_too_large tiles_in window_tiles array_range tile_range grouped_after grouped groups array_ranges geo_place geo_ranges needs_of_query needs cost
+unfolding number_in order_of number directory has_directory directories entry_count field_at fields_from fields has_all_tags field values_at field_value value is_level level_directories place_of grid_at depth_at layout_at layouts level_directory level_grid level_layout level_value segment count_range table_range field_range outside_range ranges_of_directory outside_ranges needs_of_directories smallest_level scaled rectangle is_outside is_too_large tiles_in window_tiles array_range tile_range tile_ranges array_ranges geo_place geo_ranges needs_of_query needs cost
 compressed_otherwise = refl
 
 -- ---- two levels with geo fields: 32 by 32 in four plain tiles, and one packed tile of 16 by 16
@@ -111,39 +111,39 @@ two_levels = two_levels_at 400 656 912 1168
 
 -- cut behind the entry of the sides' first one, the second directory's level is there
 cut_directory : is_outside (take 200 two_levels) (Window 0 0 1 1 (pick.Level 1)) ≡ false
-unfolding number_in order_of number directory has_directory directories entry_count field_at fields_from fields has_all_tags field values_at field_value value is_level level_directories place_of grid_at depth_at layout_at layouts level_directory level_grid level_layout level_value segment count_range table_range field_range outside_range ranges_of_directory outside_ranges needs_of_directories smallest_level scaled rectangle is_outside is_too_large tiles_in window_tiles array_range tile_range grouped_after grouped groups array_ranges geo_place geo_ranges needs_of_query needs cost
+unfolding number_in order_of number directory has_directory directories entry_count field_at fields_from fields has_all_tags field values_at field_value value is_level level_directories place_of grid_at depth_at layout_at layouts level_directory level_grid level_layout level_value segment count_range table_range field_range outside_range ranges_of_directory outside_ranges needs_of_directories smallest_level scaled rectangle is_outside is_too_large tiles_in window_tiles array_range tile_range tile_ranges array_ranges geo_place geo_ranges needs_of_query needs cost
 cut_directory = refl
 
 -- as many columns as are asked for
 smallest : rectangle two_levels (Window 0 0 32 32 (pick.Columns 16)) ≡ Some (record { level = 1; left = 0; top = 0; width = 16; height = 16 })
-unfolding number_in order_of number directory has_directory directories entry_count field_at fields_from fields has_all_tags field values_at field_value value is_level level_directories place_of grid_at depth_at layout_at layouts level_directory level_grid level_layout level_value segment count_range table_range field_range outside_range ranges_of_directory outside_ranges needs_of_directories smallest_level scaled rectangle is_outside is_too_large tiles_in window_tiles array_range tile_range grouped_after grouped groups array_ranges geo_place geo_ranges needs_of_query needs cost
+unfolding number_in order_of number directory has_directory directories entry_count field_at fields_from fields has_all_tags field values_at field_value value is_level level_directories place_of grid_at depth_at layout_at layouts level_directory level_grid level_layout level_value segment count_range table_range field_range outside_range ranges_of_directory outside_ranges needs_of_directories smallest_level scaled rectangle is_outside is_too_large tiles_in window_tiles array_range tile_range tile_ranges array_ranges geo_place geo_ranges needs_of_query needs cost
 smallest = refl
 
 largest : rectangle two_levels (Window 0 0 32 32 (pick.Columns 17)) ≡ Some (record { level = 0; left = 0; top = 0; width = 32; height = 32 })
-unfolding number_in order_of number directory has_directory directories entry_count field_at fields_from fields has_all_tags field values_at field_value value is_level level_directories place_of grid_at depth_at layout_at layouts level_directory level_grid level_layout level_value segment count_range table_range field_range outside_range ranges_of_directory outside_ranges needs_of_directories smallest_level scaled rectangle is_outside is_too_large tiles_in window_tiles array_range tile_range grouped_after grouped groups array_ranges geo_place geo_ranges needs_of_query needs cost
+unfolding number_in order_of number directory has_directory directories entry_count field_at fields_from fields has_all_tags field values_at field_value value is_level level_directories place_of grid_at depth_at layout_at layouts level_directory level_grid level_layout level_value segment count_range table_range field_range outside_range ranges_of_directory outside_ranges needs_of_directories smallest_level scaled rectangle is_outside is_too_large tiles_in window_tiles array_range tile_range tile_ranges array_ranges geo_place geo_ranges needs_of_query needs cost
 largest = refl
 
 rounded_outwards : rectangle two_levels (Window 5 0 3 1 (pick.Columns 1)) ≡ Some (record { level = 1; left = 2; top = 0; width = 2; height = 1 })
-unfolding number_in order_of number directory has_directory directories entry_count field_at fields_from fields has_all_tags field values_at field_value value is_level level_directories place_of grid_at depth_at layout_at layouts level_directory level_grid level_layout level_value segment count_range table_range field_range outside_range ranges_of_directory outside_ranges needs_of_directories smallest_level scaled rectangle is_outside is_too_large tiles_in window_tiles array_range tile_range grouped_after grouped groups array_ranges geo_place geo_ranges needs_of_query needs cost
+unfolding number_in order_of number directory has_directory directories entry_count field_at fields_from fields has_all_tags field values_at field_value value is_level level_directories place_of grid_at depth_at layout_at layouts level_directory level_grid level_layout level_value segment count_range table_range field_range outside_range ranges_of_directory outside_ranges needs_of_directories smallest_level scaled rectangle is_outside is_too_large tiles_in window_tiles array_range tile_range tile_ranges array_ranges geo_place geo_ranges needs_of_query needs cost
 rounded_outwards = refl
 
 geo_of_two_levels : geo_ranges two_levels ≡ record { first = 352; len = 32 } ∷ record { first = 384; len = 8 } ∷ record { first = 392; len = 8 } ∷ record { first = 328; len = 24 } ∷ []
-unfolding number_in order_of number directory has_directory directories entry_count field_at fields_from fields has_all_tags field values_at field_value value is_level level_directories place_of grid_at depth_at layout_at layouts level_directory level_grid level_layout level_value segment count_range table_range field_range outside_range ranges_of_directory outside_ranges needs_of_directories smallest_level scaled rectangle is_outside is_too_large tiles_in window_tiles array_range tile_range grouped_after grouped groups array_ranges geo_place geo_ranges needs_of_query needs cost
+unfolding number_in order_of number directory has_directory directories entry_count field_at fields_from fields has_all_tags field values_at field_value value is_level level_directories place_of grid_at depth_at layout_at layouts level_directory level_grid level_layout level_value segment count_range table_range field_range outside_range ranges_of_directory outside_ranges needs_of_directories smallest_level scaled rectangle is_outside is_too_large tiles_in window_tiles array_range tile_range tile_ranges array_ranges geo_place geo_ranges needs_of_query needs cost
 geo_of_two_levels = refl
 
 abbrev whole_level : Query
 whole_level = Window 0 0 32 32 (pick.Level 0)
 
 -- tiles that follow each other are one group; tiles at one place are a group each
-one_group : groups two_levels whole_level ≡ record { tiles = 0 ∷ 1 ∷ 2 ∷ 3 ∷ []; range = record { first = 400; len = 1024 } } ∷ []
-unfolding number_in order_of number directory has_directory directories entry_count field_at fields_from fields has_all_tags field values_at field_value value is_level level_directories place_of grid_at depth_at layout_at layouts level_directory level_grid level_layout level_value segment count_range table_range field_range outside_range ranges_of_directory outside_ranges needs_of_directories smallest_level scaled rectangle is_outside is_too_large tiles_in window_tiles array_range tile_range grouped_after grouped groups array_ranges geo_place geo_ranges needs_of_query needs cost
+one_group : joined_after None (tile_ranges two_levels whole_level) ≡ record { first = 400; len = 1024 } ∷ []
+unfolding number_in order_of number directory has_directory directories entry_count field_at fields_from fields has_all_tags field values_at field_value value is_level level_directories place_of grid_at depth_at layout_at layouts level_directory level_grid level_layout level_value segment count_range table_range field_range outside_range ranges_of_directory outside_ranges needs_of_directories smallest_level scaled rectangle is_outside is_too_large tiles_in window_tiles array_range tile_range tile_ranges array_ranges geo_place geo_ranges needs_of_query needs cost
 one_group = refl
 
-abbrev alone_at : ℕ → Group
-alone_at t = record { tiles = t ∷ []; range = record { first = 400; len = 256 } }
+abbrev alone : Extent
+alone = record { first = 400; len = 256 }
 
-four_groups : groups (two_levels_at 400 400 400 400) whole_level ≡ alone_at 0 ∷ alone_at 1 ∷ alone_at 2 ∷ alone_at 3 ∷ []
-unfolding number_in order_of number directory has_directory directories entry_count field_at fields_from fields has_all_tags field values_at field_value value is_level level_directories place_of grid_at depth_at layout_at layouts level_directory level_grid level_layout level_value segment count_range table_range field_range outside_range ranges_of_directory outside_ranges needs_of_directories smallest_level scaled rectangle is_outside is_too_large tiles_in window_tiles array_range tile_range grouped_after grouped groups array_ranges geo_place geo_ranges needs_of_query needs cost
+four_groups : joined_after None (tile_ranges (two_levels_at 400 400 400 400) whole_level) ≡ alone ∷ alone ∷ alone ∷ alone ∷ []
+unfolding number_in order_of number directory has_directory directories entry_count field_at fields_from fields has_all_tags field values_at field_value value is_level level_directories place_of grid_at depth_at layout_at layouts level_directory level_grid level_layout level_value segment count_range table_range field_range outside_range ranges_of_directory outside_ranges needs_of_directories smallest_level scaled rectangle is_outside is_too_large tiles_in window_tiles array_range tile_range tile_ranges array_ranges geo_place geo_ranges needs_of_query needs cost
 four_groups = refl
 
 -- ---- three samples of 8 bits, packed, with values outside the entries
@@ -158,7 +158,7 @@ three_samples =
     ++ two Little 96 ++ two Little 96 ++ two Little 96 ++ two Little 96
 
 ranges_of_three_samples : needs_of_directories three_samples ≡ record { first = 0; len = 8 } ∷ record { first = 8; len = 2 } ∷ record { first = 10; len = 124 } ∷ record { first = 134; len = 6 } ∷ []
-unfolding number_in order_of number directory has_directory directories entry_count field_at fields_from fields has_all_tags field values_at field_value value is_level level_directories place_of grid_at depth_at layout_at layouts level_directory level_grid level_layout level_value segment count_range table_range field_range outside_range ranges_of_directory outside_ranges needs_of_directories smallest_level scaled rectangle is_outside is_too_large tiles_in window_tiles array_range tile_range grouped_after grouped groups array_ranges geo_place geo_ranges needs_of_query needs cost
+unfolding number_in order_of number directory has_directory directories entry_count field_at fields_from fields has_all_tags field values_at field_value value is_level level_directories place_of grid_at depth_at layout_at layouts level_directory level_grid level_layout level_value segment count_range table_range field_range outside_range ranges_of_directory outside_ranges needs_of_directories smallest_level scaled rectangle is_outside is_too_large tiles_in window_tiles array_range tile_range tile_ranges array_ranges geo_place geo_ranges needs_of_query needs cost
 ranges_of_three_samples = refl
 
 layout_of_three_samples : layouts three_samples ≡ Some (record {
@@ -169,5 +169,5 @@ layout_of_three_samples : layouts three_samples ≡ Some (record {
   offsets = record { first = 140; len = 16; count = 4; kind = kind.Long };
   counts = record { first = 156; len = 8; count = 4; kind = kind.Short };
 }) ∷ []
-unfolding number_in order_of number directory has_directory directories entry_count field_at fields_from fields has_all_tags field values_at field_value value is_level level_directories place_of grid_at depth_at layout_at layouts level_directory level_grid level_layout level_value segment count_range table_range field_range outside_range ranges_of_directory outside_ranges needs_of_directories smallest_level scaled rectangle is_outside is_too_large tiles_in window_tiles array_range tile_range grouped_after grouped groups array_ranges geo_place geo_ranges needs_of_query needs cost
+unfolding number_in order_of number directory has_directory directories entry_count field_at fields_from fields has_all_tags field values_at field_value value is_level level_directories place_of grid_at depth_at layout_at layouts level_directory level_grid level_layout level_value segment count_range table_range field_range outside_range ranges_of_directory outside_ranges needs_of_directories smallest_level scaled rectangle is_outside is_too_large tiles_in window_tiles array_range tile_range tile_ranges array_ranges geo_place geo_ranges needs_of_query needs cost
 layout_of_three_samples = refl

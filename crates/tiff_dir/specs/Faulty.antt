@@ -2,7 +2,8 @@
 use Rattle.tiff_dir.specs.declared.tags.TheConstants.{COMPRESSION, TILE_BYTE_COUNTS}
 use Rattle.tiff_dir.specs.declared.limits.TheConstants.{MAX_TILE_BYTES}
 use Rattle.std.specs.Prelude.{◌≡◌, ℕ, ◌⊎◌, Bool, true, false, ◌&&◌, nat_lt, nat_le, ◌==◌, List, ◌++◌, Some, IsSomeAnd}
-use Rattle.std.specs.List.{Any, list_any}
+use Rattle.std.specs.List.{Any, flat_map, list_any}
+use Rattle.std.specs.Option.{option_to_list}
 use Rattle.tiff_dir.specs.declared.query.Query.{Query}
 use Rattle.tiff_dir.specs.declared.query.Query.TheVariants.{Window, Info}
 use Rattle.tiff_dir.specs.declared.fault.FileFault.{FileFault}
@@ -41,7 +42,7 @@ HasBadPackets f q = HasTile f q (λ n t.
 
 -- A fault of a window's own.
 abbrev pub IsFaultOfWindow : List ℕ → Query → FileFault → Type 0
-IsFaultOfWindow f q PastEnd = list_any (ends_past f) (array_ranges f q ++ tile_ranges f q) ≡ true
+IsFaultOfWindow f q PastEnd = list_any (ends_past f) (array_ranges f q ++ flat_map option_to_list (tile_ranges f q)) ≡ true
 IsFaultOfWindow f q TileSize = HasBadTile f q
 IsFaultOfWindow f q Packet = HasBadPackets f q
 IsFaultOfWindow f q Outside = is_outside f q ≡ true

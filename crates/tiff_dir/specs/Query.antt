@@ -2,7 +2,7 @@
 use Rattle.tiff_dir.specs.declared.tags.TheConstants.{IMAGE_LENGTH, IMAGE_WIDTH, SAMPLES_PER_PIXEL, TILE_BYTE_COUNTS, TILE_OFFSETS}
 use Rattle.tiff_dir.specs.declared.limits.TheConstants.{MAX_RANGE_BYTES, MAX_WINDOW_SAMPLES}
 use Rattle.std.specs.Prelude.{ℕ, ◌+◌, ◌-◌, ◌*◌, ◌/◌, ◌%◌, Bool, false, not, ◌&&◌, ◌||◌, nat_lt, nat_le, ◌==◌, if◌then◌else◌, List, [], ◌∷◌, ◌++◌, length, map, Option, Some, None, is_none, unwrap_or}
-use Rattle.std.specs.List.{filter, filter_map, last_or, range_with_len, sum_by}
+use Rattle.std.specs.List.{filter, last_or, range_with_len, sum_by}
 use Rattle.std.specs.Option.{option_map_or, option_to_list}
 use Rattle.tiff_dir.specs.declared.query.Query.{Query}
 use Rattle.tiff_dir.specs.declared.query.Query.TheVariants.{Window, Info}
@@ -129,46 +129,25 @@ segment f n t = do
   if ends_past f r then None else Some (bytes_in f r)
 
 -- where the bytes of the window's tiles stand, tile by tile
-unfoldable pub tile_ranges : List ℕ → Query → List Extent
+unfoldable pub tile_ranges : List ℕ → Query → List (Option Extent)
 tile_ranges f q = unwrap_or (do
   r ← rectangle f q
-  Some (filter_map (tile_range f r.level) (window_tiles f q))) []
+  Some (map (tile_range f r.level) (window_tiles f q))) []
 
 -- ---- groups: tiles that follow each other in the file are read by one range
 
--- some tiles, and the range from the first one's first byte to the last one's last
-pub record Group : Type 0 where
-  pub tiles : List ℕ
-  pub range : Extent
+-- the range begins where the group ends, and the group with it isn't too long
+abbrev pub joins : Extent → Extent → Bool
+joins g r = (r.first == g.first + g.len) && nat_le (g.len + r.len) MAX_RANGE_BYTES
 
--- the range begins where the group's last tile ends, and the group with it isn't too long
-abbrev pub joins : Group → Extent → Bool
-joins g r = (r.first == g.range.first + g.range.len) && nat_le (g.range.len + r.len) MAX_RANGE_BYTES
-
-abbrev pub alone : ℕ → Extent → Group
-alone t r = record { tiles = t ∷ []; range = r }
-
-abbrev pub with_tile : Group → ℕ → Extent → Group
-with_tile g t r = record { tiles = g.tiles ++ t ∷ []; range = record { first = g.range.first; len = g.range.len + r.len } }
-
--- A group and the tiles after it: each joins the group of the one before, or begins the next. A tile whose values aren't
--- there is in no group and ends the one before.
-unfoldable pub grouped_after : Option Group → List (ℕ × Option Extent) → List Group
-grouped_after before [] = option_to_list before
-grouped_after before ((t, None) ∷ rest) = option_to_list before ++ grouped_after None rest
-grouped_after None ((t, Some r) ∷ rest) = grouped_after (Some (alone t r)) rest
-grouped_after (Some g) ((t, Some r) ∷ rest) =
-    if joins g r then grouped_after (Some (with_tile g t r)) rest else g ∷ grouped_after (Some (alone t r)) rest
-
--- the groups of some tiles
-unfoldable pub grouped : (ℕ → Option Extent) → List ℕ → List Group
-grouped range tiles = grouped_after None (map (λ t. (t, range t)) tiles)
-
--- The groups of the window's tiles.
-unfoldable pub groups : List ℕ → Query → List Group
-groups f q = unwrap_or (do
-  r ← rectangle f q
-  Some (grouped (tile_range f r.level) (window_tiles f q))) []
+-- The ranges of a group and of the tiles after it: each tile joins the group of the one before, or begins the next. A tile whose
+-- values aren't there is in no group and ends the one before.
+abbrev pub joined_after : Option Extent → List (Option Extent) → List Extent
+joined_after before [] = option_to_list before
+joined_after before (None ∷ rest) = option_to_list before ++ joined_after None rest
+joined_after None (Some r ∷ rest) = joined_after (Some r) rest
+joined_after (Some g) (Some r ∷ rest) =
+    if joins g r then joined_after (Some (record g { len = g.len + r.len })) rest else g ∷ joined_after (Some r) rest
 
 -- the arrays of the window's level
 unfoldable pub array_ranges : List ℕ → Query → List Extent
@@ -181,7 +160,7 @@ array_ranges f q =
 unfoldable pub needs_of_query : List ℕ → Query → List Extent
 needs_of_query f Info = geo_ranges f
 needs_of_query f (Window x y w h p) =
-    let q = Window x y w h p in array_ranges f q ++ map (λ (g : Group). g.range) (groups f q)
+    let q = Window x y w h p in array_ranges f q ++ joined_after None (tile_ranges f q)
 
 -- The ranges of the file that the query needs.
 unfoldable pub needs : List ℕ → Query → List Extent

@@ -1,5 +1,5 @@
 -- Groups, one tile more, and what is true of all of them.
-use Rattle.std.proofs.Common.{append_assoc, ◌≡◌, ℕ, zero, suc, ◌+◌, ◌<◌, ◌≤◌, inl, inr, true, false, List, [], ◌∷◌, ◌++◌, length, get_or, set, map, Option, Some, refl, sym, subst, ap, ◌∙◌, arith}
+use Rattle.std.proofs.Common.{append_assoc, ◌≡◌, ℕ, zero, suc, ◌+◌, ◌<◌, ◌≤◌, inl, inr, true, false, List, [], ◌∷◌, ◌++◌, length, get_or, set, map, None, Some, refl, sym, subst, ap, ◌∙◌, arith}
 use Rattle.std.specs.Prelude.{nat_le, ◌==◌}
 use Rattle.std.specs.List.{flat_map, AllByRecursion, IsAmong, range_with_len}
 use Rattle.std.proofs.lemmas.Bool.{and_parts, cases_Bool, eqb-true, leb-true}
@@ -9,20 +9,22 @@ use Rattle.tiff_dir.specs.declared.level.Level.{Level}
 use Rattle.tiff_dir.specs.Level.{tile_total}
 use Rattle.tiff_dir.specs.Described.{grid_of}
 use Rattle.tiff_dir.specs.Needs.{Extent}
-use Rattle.tiff_dir.specs.Query as asked
-use Rattle.tiff_dir.specs.Query.{joins, with_tile, alone, grouped_after, grouped}
+use Rattle.tiff_dir.specs.Query.{joins, joined_after}
+use Rattle.tiff_dir.specs.Walk.{extent_of_span}
 use Rattle.tile_plan.specs.declared.plan.Group.{Group}
+use Rattle.tile_plan.specs.Groups as groups
+use Rattle.tile_plan.specs.Groups.{with_tile, alone, grouped_after, grouped}
 use Rattle.tile_plan.specs.Plan.{group_of, Adjoin, IsGroup}
 use Rattle.tile_plan.specs.Adding.{added}
 
 -- ---- in the list of groups
 
 -- the last group takes the tile
-pub added_join : (gs : List Group) (n : ℕ) (g new : Group) (t : ℕ) (r : Extent) → suc n ≡ length gs → g ≡ get_or gs n g → joins (group_of g) r ≡ true
+pub added_join : (gs : List Group) (n : ℕ) (g new : Group) (t : ℕ) (r : Extent) → suc n ≡ length gs → g ≡ get_or gs n g → joins (group_of g).range r ≡ true
     → group_of new ≡ with_tile (group_of g) t r → map group_of (set gs n new) ≡ added (map group_of gs) t r
 added_join [] n g new t r size is joined next = absurd (omega (arith, size))
 added_join (h ∷ []) zero g new t r size is joined next =
-    let here : joins (group_of h) r ≡ true = ap (λ k. joins (group_of k) r) (sym is) ∙ joined in
+    let here : joins (group_of h).range r ≡ true = ap (λ k. joins (group_of k).range r) (sym is) ∙ joined in
     rw here (ap (λ k. k ∷ []) (next ∙ ap (λ k. with_tile (group_of k) t r) is))
 added_join (h ∷ []) (suc n) g new t r size is joined next = absurd (omega (arith, size))
 added_join (h ∷ i ∷ gs) zero g new t r size is joined next = absurd (omega (arith, size))
@@ -32,11 +34,11 @@ added_join (h ∷ i ∷ gs) (suc n) g new t r size is joined next = front gs i n
   front gs i n same = ap (λ l. group_of h ∷ l) same
 
 -- the tile is a group of its own, after the last group
-pub added_apart : (gs : List Group) (n : ℕ) (g new : Group) (t : ℕ) (r : Extent) → suc n ≡ length gs → g ≡ get_or gs n g → joins (group_of g) r ≡ false
+pub added_apart : (gs : List Group) (n : ℕ) (g new : Group) (t : ℕ) (r : Extent) → suc n ≡ length gs → g ≡ get_or gs n g → joins (group_of g).range r ≡ false
     → group_of new ≡ alone t r → map group_of (gs ++ new ∷ []) ≡ added (map group_of gs) t r
 added_apart [] n g new t r size is apart next = absurd (omega (arith, size))
 added_apart (h ∷ []) zero g new t r size is apart next =
-    let here : joins (group_of h) r ≡ false = ap (λ k. joins (group_of k) r) (sym is) ∙ apart in
+    let here : joins (group_of h).range r ≡ false = ap (λ k. joins (group_of k).range r) (sym is) ∙ apart in
     rw here (ap (λ k. group_of h ∷ k ∷ []) next)
 added_apart (h ∷ []) (suc n) g new t r size is apart next = absurd (omega (arith, size))
 added_apart (h ∷ i ∷ gs) zero g new t r size is apart next = absurd (omega (arith, size))
@@ -49,65 +51,82 @@ added_first (h ∷ gs) new t r none next = absurd (omega (arith, none))
 
 -- ---- in the definition
 
-after : (ℕ → Extent) → Option asked.Group → List ℕ → List asked.Group
-after range before ts = grouped_after before (map (λ t. (t, Some (range t))) ts)
-
 -- a group before is followed by a list that isn't empty
-some_after : (range : ℕ → Extent) (g : asked.Group) (ts : List ℕ) → (h : asked.Group) × (hs : List asked.Group) × (after range (Some g) ts ≡ h ∷ hs)
-unfolding after grouped_after
+some_after : (range : ℕ → Extent) (g : groups.Group) (ts : List ℕ) → (h : groups.Group) × (hs : List groups.Group) × (grouped_after range g ts ≡ h ∷ hs)
+unfolding grouped_after
 some_after range g [] = (g, [], refl)
-some_after range g (t ∷ ts) = elim (cases_Bool (joins g (range t))) [
+some_after range g (t ∷ ts) = elim (cases_Bool (joins g.range (range t))) [
   | inl h ↦ (let rest = some_after range (with_tile g t (range t)) ts in (rest.0, rest.1, rw h rest.2))
-  | inr h ↦ (g, after range (Some (alone t (range t))) ts, rw h refl)
+  | inr h ↦ (g, grouped_after range (alone t (range t)) ts, rw h refl)
 ]
 
-later : (g h : asked.Group) (zs hs : List asked.Group) (t : ℕ) (r : Extent) → zs ≡ h ∷ hs → added (g ∷ zs) t r ≡ g ∷ added zs t r
+later : (g h : groups.Group) (zs hs : List groups.Group) (t : ℕ) (r : Extent) → zs ≡ h ∷ hs → added (g ∷ zs) t r ≡ g ∷ added zs t r
 later g h zs hs t r is = rw is refl
 
-more_after : (range : ℕ → Extent) (g : asked.Group) (ts : List ℕ) (t : ℕ) → after range (Some g) (ts ++ t ∷ []) ≡ added (after range (Some g) ts) t (range t)
-unfolding after grouped_after
-more_after range g [] t = elim (cases_Bool (joins g (range t))) [ inl h ↦ rw h refl | inr h ↦ rw h refl ]
-more_after range g (u ∷ ts) t = elim (cases_Bool (joins g (range u))) [
+more_after : (range : ℕ → Extent) (g : groups.Group) (ts : List ℕ) (t : ℕ) → grouped_after range g (ts ++ t ∷ []) ≡ added (grouped_after range g ts) t (range t)
+unfolding grouped_after
+more_after range g [] t = elim (cases_Bool (joins g.range (range t))) [ inl h ↦ rw h refl | inr h ↦ rw h refl ]
+more_after range g (u ∷ ts) t = elim (cases_Bool (joins g.range (range u))) [
   | inl h ↦ rw h (more_after range (with_tile g u (range u)) ts t)
   | inr h ↦ (
       let next = alone u (range u) in
       let rest = some_after range next ts in
-      rw h (ap (λ l. g ∷ l) (more_after range next ts t) ∙ sym (later g rest.0 (after range (Some next) ts) rest.1 t (range t) rest.2))
+      rw h (ap (λ l. g ∷ l) (more_after range next ts t) ∙ sym (later g rest.0 (grouped_after range next ts) rest.1 t (range t) rest.2))
       )
 ]
 
 -- the groups of one tile more
-pub grouped_more : (range : ℕ → Extent) (ts : List ℕ) (t : ℕ) → grouped (λ t. Some (range t)) (ts ++ t ∷ []) ≡ added (grouped (λ t. Some (range t)) ts) t (range t)
-unfolding grouped after grouped_after
+pub grouped_more : (range : ℕ → Extent) (ts : List ℕ) (t : ℕ) → grouped range (ts ++ t ∷ []) ≡ added (grouped range ts) t (range t)
+unfolding grouped grouped_after
 grouped_more range [] t = refl
 grouped_more range (u ∷ ts) t = more_after range (alone u (range u)) ts t
 
-pub grouped_none : (range : ℕ → Option Extent) → grouped range [] ≡ []
-unfolding grouped grouped_after
+pub grouped_none : (range : ℕ → Extent) → grouped range [] ≡ []
+unfolding grouped
 grouped_none range = refl
+
+-- ---- their ranges
+
+ranges_after : (range : ℕ → Extent) (g : groups.Group) (ts : List ℕ) → map (λ (h : groups.Group). h.range) (grouped_after range g ts) ≡ joined_after (Some g.range) (map (λ t. Some (range t)) ts)
+unfolding grouped_after
+ranges_after range g [] = refl
+ranges_after range g (t ∷ ts) = elim (cases_Bool (joins g.range (range t))) [
+  | inl h ↦ rw h (ranges_after range (with_tile g t (range t)) ts)
+  | inr h ↦ rw h (ap (λ l. g.range ∷ l) (ranges_after range (alone t (range t)) ts))
+]
+
+-- the ranges of the groups are those of the tiles, joined
+pub ranges_joined : (range : ℕ → Extent) (ts : List ℕ) → map (λ (h : groups.Group). h.range) (grouped range ts) ≡ joined_after None (map (λ t. Some (range t)) ts)
+unfolding grouped
+ranges_joined range [] = refl
+ranges_joined range (t ∷ ts) = ranges_after range (alone t (range t)) ts
+
+pub ranges_kept : (gs : List Group) → map (λ (g : Group). extent_of_span g.span) gs ≡ map (λ (h : groups.Group). h.range) (map group_of gs)
+ranges_kept [] = refl
+ranges_kept (g ∷ gs) = ap (λ l. extent_of_span g.span ∷ l) (ranges_kept gs)
 
 -- ---- their tiles
 
-tiles_after : (range : ℕ → Extent) (g : asked.Group) (ts : List ℕ) → flat_map (λ (h : asked.Group). h.tiles) (after range (Some g) ts) ≡ g.tiles ++ ts
-unfolding after grouped_after
+tiles_after : (range : ℕ → Extent) (g : groups.Group) (ts : List ℕ) → flat_map (λ (h : groups.Group). h.tiles) (grouped_after range g ts) ≡ g.tiles ++ ts
+unfolding grouped_after
 tiles_after range g [] = refl
-tiles_after range g (t ∷ ts) = elim (cases_Bool (joins g (range t))) [
+tiles_after range g (t ∷ ts) = elim (cases_Bool (joins g.range (range t))) [
   | inl h ↦ rw h (tiles_after range (with_tile g t (range t)) ts ∙ append_assoc g.tiles (t ∷ []) ts)
   | inr h ↦ rw h (ap (λ l. g.tiles ++ l) (tiles_after range (alone t (range t)) ts))
 ]
 
-tiles_joined : (range : ℕ → Extent) (ts : List ℕ) → flat_map (λ (h : asked.Group). h.tiles) (grouped (λ t. Some (range t)) ts) ≡ ts
-unfolding grouped after grouped_after
+tiles_joined : (range : ℕ → Extent) (ts : List ℕ) → flat_map (λ (h : groups.Group). h.tiles) (grouped range ts) ≡ ts
+unfolding grouped grouped_after
 tiles_joined range [] = refl
 tiles_joined range (t ∷ ts) = tiles_after range (alone t (range t)) ts
 
-tiles_kept : (gs : List Group) → flat_map (λ (g : Group). g.tiles.items) gs ≡ flat_map (λ (h : asked.Group). h.tiles) (map group_of gs)
+tiles_kept : (gs : List Group) → flat_map (λ (g : Group). g.tiles.items) gs ≡ flat_map (λ (h : groups.Group). h.tiles) (map group_of gs)
 tiles_kept [] = refl
 tiles_kept (g ∷ gs) = ap (λ l. g.tiles.items ++ l) (tiles_kept gs)
 
 -- the tiles of the groups are the tiles that were grouped
-pub tiles_of_groups : (range : ℕ → Extent) (ts : List ℕ) (gs : List Group) → map group_of gs ≡ grouped (λ t. Some (range t)) ts → flat_map (λ (g : Group). g.tiles.items) gs ≡ ts
-tiles_of_groups range ts gs is = tiles_kept gs ∙ ap (flat_map (λ (h : asked.Group). h.tiles)) is ∙ tiles_joined range ts
+pub tiles_of_groups : (range : ℕ → Extent) (ts : List ℕ) (gs : List Group) → map group_of gs ≡ grouped range ts → flat_map (λ (g : Group). g.tiles.items) gs ≡ ts
+tiles_of_groups range ts gs is = tiles_kept gs ∙ ap (flat_map (λ (h : groups.Group). h.tiles)) is ∙ tiles_joined range ts
 
 -- ---- each group
 
@@ -124,7 +143,7 @@ adjoin_more range at (u ∷ ts) t end (begin, rest) first = (begin, adjoin_more 
 group_alone : (range : ℕ → Extent) (l : Level) (complete t : ℕ) → IsFit range l complete t → IsGroup range l complete (alone t (range t))
 group_alone range l complete t fit = record { tiles = All-cons (λ t. t < tile_total (grid_of l)) t [] fit.within (All-nil (λ t. t < tile_total (grid_of l))); adjoin = (refl, refl); few = fit.few; inside = fit.inside }
 
-group_more : (range : ℕ → Extent) (l : Level) (complete : ℕ) (g : asked.Group) (t : ℕ) → IsGroup range l complete g → IsFit range l complete t → joins g (range t) ≡ true → IsGroup range l complete (with_tile g t (range t))
+group_more : (range : ℕ → Extent) (l : Level) (complete : ℕ) (g : groups.Group) (t : ℕ) → IsGroup range l complete g → IsFit range l complete t → joins g.range (range t) ≡ true → IsGroup range l complete (with_tile g t (range t))
 group_more range l complete g t is fit joined =
     let (next, few) = and_parts ((range t).first == g.range.first + g.range.len) (nat_le (g.range.len + (range t).len) 1048576) joined in
     let first = eqb-true (range t).first (g.range.first + g.range.len) next in
@@ -136,17 +155,17 @@ group_more range l complete g t is fit joined =
       inside = omega (arith, fit.inside, first);
     }
 
-each_after : (range : ℕ → Extent) (l : Level) (complete : ℕ) (g : asked.Group) (ts : List ℕ) → IsGroup range l complete g → AllByRecursion (IsFit range l complete) ts → AllByRecursion (IsGroup range l complete) (after range (Some g) ts)
-unfolding after grouped_after
+each_after : (range : ℕ → Extent) (l : Level) (complete : ℕ) (g : groups.Group) (ts : List ℕ) → IsGroup range l complete g → AllByRecursion (IsFit range l complete) ts → AllByRecursion (IsGroup range l complete) (grouped_after range g ts)
+unfolding grouped_after
 each_after range l complete g [] is all = (is, tt)
-each_after range l complete g (t ∷ ts) is (fit, all) = elim (cases_Bool (joins g (range t))) [
+each_after range l complete g (t ∷ ts) is (fit, all) = elim (cases_Bool (joins g.range (range t))) [
   | inl h ↦ rw h (each_after range l complete (with_tile g t (range t)) ts (group_more range l complete g t is fit h) all)
   | inr h ↦ rw h (is, each_after range l complete (alone t (range t)) ts (group_alone range l complete t fit) all)
 ]
 
 -- each group of fitting tiles is the bytes of its tiles
-pub each_group : (range : ℕ → Extent) (l : Level) (complete : ℕ) (ts : List ℕ) → AllByRecursion (IsFit range l complete) ts → AllByRecursion (IsGroup range l complete) (grouped (λ t. Some (range t)) ts)
-unfolding grouped after grouped_after
+pub each_group : (range : ℕ → Extent) (l : Level) (complete : ℕ) (ts : List ℕ) → AllByRecursion (IsFit range l complete) ts → AllByRecursion (IsGroup range l complete) (grouped range ts)
+unfolding grouped grouped_after
 each_group range l complete [] all = tt
 each_group range l complete (t ∷ ts) (fit, all) = each_after range l complete (alone t (range t)) ts (group_alone range l complete t fit) all
 

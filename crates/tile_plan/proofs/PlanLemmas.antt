@@ -1,8 +1,9 @@
 -- The groups of a window in a file.
 use Rattle.tiff_dir.specs.declared.tags.TheConstants.{COMPRESSION, TILE_BYTE_COUNTS}
-use Rattle.std.proofs.Common.{◌≡◌, ℕ, zero, suc, ◌+◌, ◌<◌, ◌≤◌, ◌⊎◌, inl, inr, Bool, true, false, List, [], ◌∷◌, length, get_or, map, Option, Some, None, refl, sym, subst, ap, ◌∙◌, arith}
+use Rattle.std.proofs.Common.{◌≡◌, ℕ, zero, suc, ◌+◌, ◌<◌, ◌≤◌, ◌⊎◌, inl, inr, Bool, true, false, List, [], ◌∷◌, ◌++◌, length, get_or, map, Option, Some, None, refl, sym, subst, ap, ◌∙◌, arith}
 use Rattle.std.specs.Prelude.{◌||◌, nat_lt, nat_le, ◌==◌, IsSomeAnd}
-use Rattle.std.specs.List.{AllByRecursion, Any, IsAmong, cons_option, filter_map, list_any, range_with_len}
+use Rattle.std.specs.List.{AllByRecursion, Any, IsAmong, flat_map, list_any, range_with_len}
+use Rattle.std.specs.Option.{option_to_list}
 use Rattle.std.proofs.lemmas.Bool.{and_parts, cases_Bool, eqb-true, false≢true, leb-true, lt-ltb, le-ltb, cases_lt}
 use Rattle.std.proofs.lemmas.List.Elements.{All-from_recursion}
 use Rattle.std.proofs.lemmas.List.Folds.{list_any-append}
@@ -20,13 +21,14 @@ use Rattle.tiff_dir.specs.Needs.{Extent, ends_past}
 use Rattle.tiff_dir.specs.Described.{grid_of, layout_of}
 use Rattle.tiff_dir.specs.Walk.{IsArrayOf, IsDescribed}
 use Rattle.tiff_dir.specs.Faulty.{HasTile, HasBadTile, IsNotPlainSize, IsFaultOfWindow, is_byte_count}
-use Rattle.tiff_dir.specs.Query as asked
-use Rattle.tiff_dir.specs.Query.{joins, with_tile, alone, grouped_after, grouped, tile_range, tiles_in, window_tiles, rectangle, is_refused, array_ranges}
+use Rattle.tiff_dir.specs.Query.{joined_after, tile_range, tile_ranges, tiles_in, window_tiles, rectangle, is_refused, array_ranges}
 use Rattle.tile_plan.specs.declared.asked.Rectangle.{Rectangle}
 use Rattle.tile_plan.specs.declared.plan.Group.{Group}
+use Rattle.tile_plan.specs.Groups as groups
+use Rattle.tile_plan.specs.Groups.{grouped}
 use Rattle.tile_plan.specs.Levels.{rectangle_of}
 use Rattle.tile_plan.specs.Plan.{range_in, tiles_of, group_of, IsRangeOf, IsWrongSize, IsTileFault, IsGroup, IsPlanned, AreNeeded, AreGroups}
-use Rattle.tile_plan.proofs.GroupLemmas.{IsFit, tiles_of_groups, each_group, all_of, all_counted, counted_among}
+use Rattle.tile_plan.proofs.GroupLemmas.{IsFit, ranges_joined, ranges_kept, tiles_of_groups, each_group, all_of, all_counted, counted_among}
 
 -- what the arrays say of a tile, in every file that has them
 abbrev pub IsValueOf : Order → Level → List ℕ → List ℕ → ℕ → Type 0
@@ -63,35 +65,19 @@ window_is : (f : List ℕ) (q : Query) (order : Order) (l : Level) (r : Rectangl
 unfolding window_tiles
 window_is f q order l r complete offsets counts p = rw (p.good, p.rectangle_is, p.described.grid) refl
 
-groups_are : (f : List ℕ) (q : Query) (order : Order) (l : Level) (r : Rectangle) (complete : ℕ) (offsets counts : List ℕ) → IsPlanned f q order l r complete offsets counts
-    → asked.groups f q ≡ grouped (tile_range f r.level) (tiles_of l r)
-unfolding asked.groups
-groups_are f q order l r complete offsets counts p =
-    rw p.rectangle_is (ap (grouped (tile_range f r.level)) (window_is f q order l r complete offsets counts p))
-
 tile_ranges_are : (f : List ℕ) (q : Query) (order : Order) (l : Level) (r : Rectangle) (complete : ℕ) (offsets counts : List ℕ) → IsPlanned f q order l r complete offsets counts
-    → asked.tile_ranges f q ≡ filter_map (tile_range f r.level) (tiles_of l r)
-unfolding asked.tile_ranges
+    → tile_ranges f q ≡ map (tile_range f r.level) (tiles_of l r)
+unfolding tile_ranges
 tile_ranges_are f q order l r complete offsets counts p =
-    rw p.rectangle_is (ap (filter_map (tile_range f r.level)) (window_is f q order l r complete offsets counts p))
+    rw p.rectangle_is (ap (map (tile_range f r.level)) (window_is f q order l r complete offsets counts p))
 
 range_is : (f : List ℕ) (n t : ℕ) (r : Extent) → IsRangeOf f n t r → tile_range f n t ≡ Some r
 unfolding tile_range
 range_is f n t r is = rw (is.first, is.len) refl
 
-with_range : (ℕ → Option Extent) → ℕ → ℕ × Option Extent
-with_range range t = (t, range t)
-
-same_ranges : (a b : ℕ → Option Extent) (ts : List ℕ) → AllByRecursion (λ t. a t ≡ b t) ts → map (with_range a) ts ≡ map (with_range b) ts
-unfolding with_range
+same_ranges : (a : ℕ → Option Extent) (b : ℕ → Extent) (ts : List ℕ) → AllByRecursion (λ t. a t ≡ Some (b t)) ts → map a ts ≡ map (λ t. Some (b t)) ts
 same_ranges a b [] same = refl
-same_ranges a b (t ∷ ts) (here, rest) =
-    let first : with_range a t ≡ with_range b t = ap (λ (o : Option Extent). (t, o)) here in
-    ap (λ x. x ∷ map (with_range a) ts) first ∙ ap (λ l. with_range b t ∷ l) (same_ranges a b ts rest)
-
-grouped_same : (a b : ℕ → Option Extent) (ts : List ℕ) → AllByRecursion (λ t. a t ≡ b t) ts → grouped a ts ≡ grouped b ts
-unfolding grouped with_range
-grouped_same a b ts same = ap (grouped_after None) (same_ranges a b ts same)
+same_ranges a b (t ∷ ts) (here, rest) = ap (λ x. x ∷ map a ts) here ∙ ap (λ l. Some (b t) ∷ l) (same_ranges a b ts rest)
 
 -- ---- a tile past the end
 
@@ -102,13 +88,13 @@ or_right : (a b : Bool) → b ≡ true → (a || b) ≡ true
 or_right true b is = refl
 or_right false b is = is
 
-among_past : (p : Extent → Bool) (range : ℕ → Option Extent) (ts : List ℕ) (i t : ℕ) (r : Extent) → i < length ts → t ≡ get_or ts i t → range t ≡ Some r → p r ≡ true → list_any p (filter_map range ts) ≡ true
+among_past : (p : Extent → Bool) (range : ℕ → Option Extent) (ts : List ℕ) (i t : ℕ) (r : Extent) → i < length ts → t ≡ get_or ts i t → range t ≡ Some r → p r ≡ true → list_any p (flat_map option_to_list (map range ts)) ≡ true
 among_past p range [] i t r less at is far = absurd (omega (arith, less))
 among_past p range (u ∷ ts) zero t r less at is far = rw (ap range (sym at) ∙ is, far) refl
 among_past p range (u ∷ ts) (suc i) t r less at is far = go (range u) (among_past p range ts i t r (omega (arith, less)) at is far) where
-  go : (o : Option Extent) → list_any p (filter_map range ts) ≡ true → list_any p (cons_option o (filter_map range ts)) ≡ true
+  go : (o : Option Extent) → list_any p (flat_map option_to_list (map range ts)) ≡ true → list_any p (option_to_list o ++ flat_map option_to_list (map range ts)) ≡ true
   go None later = later
-  go (Some s) later = or_right (p s) (list_any p (filter_map range ts)) later
+  go (Some s) later = or_right (p s) (list_any p (flat_map option_to_list (map range ts))) later
 
 -- ---- a fault of a tile is one of the query
 
@@ -149,19 +135,19 @@ stands f q order l r complete offsets counts t PastEnd p among is wrong =
     let here = range_in order l offsets counts t in
     let far : past (length f) here ≡ true = ap (λ n. past n here) p.size ∙ wrong in
     let some = among_past (ends_past f) (tile_range f r.level) (tiles_of l r) among.0 t here among.1.0 among.1.1 (range_is f r.level t here is) far in
-    list_any-append (ends_past f) (array_ranges f q) (asked.tile_ranges f q)
-    ∙ or_right (list_any (ends_past f) (array_ranges f q)) (list_any (ends_past f) (asked.tile_ranges f q))
-    (ap (list_any (ends_past f)) (tile_ranges_are f q order l r complete offsets counts p) ∙ some)
+    list_any-append (ends_past f) (array_ranges f q) (flat_map option_to_list (tile_ranges f q))
+    ∙ or_right (list_any (ends_past f) (array_ranges f q)) (list_any (ends_past f) (flat_map option_to_list (tile_ranges f q)))
+    (ap (λ rs. list_any (ends_past f) (flat_map option_to_list rs)) (tile_ranges_are f q order l r complete offsets counts p) ∙ some)
 stands f q order l r complete offsets counts t _ p among is wrong = absurd wrong
 
 -- ---- the groups of a window
 
 pub planned : (order : Order) (l : Level) (r : Rectangle) (complete : ℕ) (offsets counts : List ℕ) (e : ℕ → ℕ) (n : ℕ) (gs : List Group)
-    → map e (range_with_len 0 n) ≡ tiles_of l r → ((k : ℕ) → k < n → IsKnown order l complete offsets counts (e k)) → map group_of gs ≡ grouped (λ t. Some (range_in order l offsets counts t)) (map e (range_with_len 0 n))
+    → map e (range_with_len 0 n) ≡ tiles_of l r → ((k : ℕ) → k < n → IsKnown order l complete offsets counts (e k)) → map group_of gs ≡ grouped (range_in order l offsets counts) (map e (range_with_len 0 n))
     → AreGroups (range_in order l offsets counts) l r complete gs
 planned order l r complete offsets counts e n gs tiles known is =
     let range = range_in order l offsets counts in
-    let same : map group_of gs ≡ grouped (λ t. Some (range t)) (tiles_of l r) = is ∙ ap (grouped (λ t. Some (range t))) tiles in
+    let same : map group_of gs ≡ grouped range (tiles_of l r) = is ∙ ap (grouped range) tiles in
     let fits = subst (AllByRecursion (IsFit range l complete)) tiles (all_counted (IsFit range l complete) e 0 n (λ k low less. known_fit order l complete offsets counts (e k) (known k (omega (arith, less))))) in
     record {
       groups = same;
@@ -172,7 +158,7 @@ planned order l r complete offsets counts e n gs tiles known is =
     }
 
 all_inside : (f : List ℕ) (at : ℕ → Option Extent) (range : ℕ → Extent) (complete : ℕ) (ts : List ℕ) → length f ≡ complete
-    → AllByRecursion (λ t. (at t ≡ Some (range t)) × ((range t).first + (range t).len ≤ complete)) ts → list_any (ends_past f) (filter_map at ts) ≡ false
+    → AllByRecursion (λ t. (at t ≡ Some (range t)) × ((range t).first + (range t).len ≤ complete)) ts → list_any (ends_past f) (flat_map option_to_list (map at ts)) ≡ false
 all_inside f at range complete [] size all = refl
 all_inside f at range complete (t ∷ ts) size ((is, fits), rest) =
     let here : ends_past f (range t) ≡ false = le-ltb (length f) ((range t).first + (range t).len) (omega (arith, fits, size)) in
@@ -220,10 +206,10 @@ needed f q order l r complete offsets counts e n gs p tiles known are =
     (all_counted Inside e 0 n (λ k low less.
     let fine = known k (omega (arith, less)) in
     (range_is f r.level (e k) (range (e k)) (fine.values f r.level p.order_is p.layout_is p.offsets_are p.counts_are), (known_fit order l complete offsets counts (e k) fine).inside))) in
-    let groups : map group_of gs ≡ asked.groups f q =
-    are.groups ∙ sym (groups_are f q order l r complete offsets counts p ∙ grouped_same (tile_range f r.level) (λ t. Some (range t)) (tiles_of l r) same) in
+    let ranges : tile_ranges f q ≡ map (λ t. Some (range t)) (tiles_of l r) =
+    tile_ranges_are f q order l r complete offsets counts p ∙ same_ranges (tile_range f r.level) range (tiles_of l r) same in
     record {
-      groups = groups;
-      inside = ap (list_any (ends_past f)) (tile_ranges_are f q order l r complete offsets counts p) ∙ all_inside f (tile_range f r.level) range complete (tiles_of l r) p.size inside;
+      ranges = ranges_kept gs ∙ ap (map (λ (g : groups.Group). g.range)) are.groups ∙ ranges_joined range (tiles_of l r) ∙ sym (ap (joined_after None) ranges);
+      inside = ap (λ rs. list_any (ends_past f) (flat_map option_to_list rs)) (tile_ranges_are f q order l r complete offsets counts p) ∙ all_inside f (tile_range f r.level) range complete (tiles_of l r) p.size inside;
       right = no_bad_tile f q order l r complete offsets counts e n p tiles known;
     }

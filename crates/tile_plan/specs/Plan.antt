@@ -1,8 +1,9 @@
 -- The groups of a window's tiles, by the bytes of the two arrays of its level.
 use Rattle.tiff_dir.specs.declared.tags.TheConstants.{TILE_BYTE_COUNTS, TILE_OFFSETS}
 use Rattle.tiff_dir.specs.declared.limits.TheConstants.{MAX_RANGE_BYTES}
-use Rattle.std.specs.Prelude.{◌≡◌, ℕ, ◌+◌, ◌*◌, ◌<◌, ◌≤◌, ◌⊎◌, true, false, ⊤, nat_lt, ◌==◌, List, [], ◌∷◌, length, map, Some}
+use Rattle.std.specs.Prelude.{◌≡◌, ℕ, ◌+◌, ◌*◌, ◌<◌, ◌≤◌, ◌⊎◌, true, false, ⊤, nat_lt, ◌==◌, List, [], ◌∷◌, length, map, None, Some}
 use Rattle.std.specs.List.{flat_map, list_any, All, IsAmong}
+use Rattle.std.specs.Option.{option_to_list}
 use Rattle.tiff_dir.specs.declared.order.Order.{Order}
 use Rattle.tiff_dir.specs.declared.level.Level.{Level}
 use Rattle.tiff_dir.specs.declared.level.Compression.TheVariants.{Plain}
@@ -16,12 +17,13 @@ use Rattle.tiff_dir.specs.Needs.{Extent, ends_past}
 use Rattle.tiff_dir.specs.Described.{grid_of, layout_of}
 use Rattle.tiff_dir.specs.Walk.{IsArrayOf, IsDescribed, extent_of_span}
 use Rattle.tiff_dir.specs.Faulty.{HasBadTile, is_byte_count, IsFaultOfWindow}
-use Rattle.tiff_dir.specs.Query as asked
-use Rattle.tiff_dir.specs.Query.{grouped, rectangle, is_refused, tiles_in}
+use Rattle.tiff_dir.specs.Query.{joined_after, rectangle, is_refused, tile_ranges, tiles_in}
 use Rattle.tile_plan.specs.declared.asked.Rectangle.{Rectangle}
 use Rattle.tile_plan.specs.declared.plan.Group.{Group}
 use Rattle.tiff_dir.specs.declared.fault.WalkError.{WalkError as PlanError}
 use Rattle.tiff_dir.specs.declared.fault.WalkError.TheVariants.{File, Memory}
+use Rattle.tile_plan.specs.Groups as groups
+use Rattle.tile_plan.specs.Groups.{grouped}
 use Rattle.tile_plan.specs.Levels.{rectangle_of}
 
 -- where a tile stands in the file, as the level's arrays say
@@ -36,7 +38,7 @@ range_in order l offsets counts t =
 abbrev pub tiles_of : Level → Rectangle → List ℕ
 tiles_of l r = tiles_in (grid_of l) (rectangle_of r)
 
-abbrev pub group_of : Group → asked.Group
+abbrev pub group_of : Group → groups.Group
 group_of g = record { tiles = g.tiles.items; range = extent_of_span g.span }
 
 -- a tile of the level can't have so many bytes
@@ -60,7 +62,7 @@ Adjoin range at [] end = at ≡ end
 Adjoin range at (t ∷ ts) end = ((range t).first ≡ at) × Adjoin range (at + (range t).len) ts end
 
 -- a group is the bytes of its tiles, at most 1,048,576 of the file
-pub record IsGroup (range : ℕ → Extent) (l : Level) (complete : ℕ) (g : asked.Group) : Type 0 where
+pub record IsGroup (range : ℕ → Extent) (l : Level) (complete : ℕ) (g : groups.Group) : Type 0 where
   pub tiles : All (λ t. t < tile_total (grid_of l)) g.tiles
   pub adjoin : Adjoin range g.range.first g.tiles (g.range.first + g.range.len)
   pub few : g.range.len ≤ MAX_RANGE_BYTES
@@ -68,7 +70,7 @@ pub record IsGroup (range : ℕ → Extent) (l : Level) (complete : ℕ) (g : as
 
 -- These are the groups of the rectangle's tiles, of which none has a fault.
 pub record AreGroups (range : ℕ → Extent) (l : Level) (r : Rectangle) (complete : ℕ) (gs : List Group) : Type 0 where
-  pub groups : map group_of gs ≡ grouped (λ t. Some (range t)) (tiles_of l r)
+  pub groups : map group_of gs ≡ grouped range (tiles_of l r)
   pub tiles : flat_map (λ g. g.tiles.items) gs ≡ tiles_of l r
   pub each : All (λ g. IsGroup range l complete (group_of g)) gs
   pub sound : (t : ℕ) → IsAmong (tiles_of l r) t → (fault : FileFault) → IsTileFault l complete (range t) fault → ⊥
@@ -97,10 +99,10 @@ pub record IsPlanned (f : List ℕ) (q : Query) (order : Order) (l : Level) (r :
   pub rectangle_is : rectangle f q ≡ Some (rectangle_of r)
   pub good : is_refused f q ≡ false
 
--- These are the groups that the query needs. Each tile ends inside the file, and none's byte count is wrong.
+-- These are the groups whose ranges the query needs. Each tile ends inside the file, and none's byte count is wrong.
 pub record AreNeeded (f : List ℕ) (q : Query) (gs : List Group) : Type 0 where
-  pub groups : map group_of gs ≡ asked.groups f q
-  pub inside : list_any (ends_past f) (asked.tile_ranges f q) ≡ false
+  pub ranges : map (λ g. extent_of_span g.span) gs ≡ joined_after None (tile_ranges f q)
+  pub inside : list_any (ends_past f) (flat_map option_to_list (tile_ranges f q)) ≡ false
   pub right : HasBadTile f q → ⊥
 
 -- the fault that is told stands in the file for the query

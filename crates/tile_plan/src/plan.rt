@@ -4,11 +4,12 @@ ghost use Rattle.tiff_dir.specs.declared.query.Query.{Query};
 ghost use Rattle.tiff_dir.specs.declared.fault.FileFault.{FileFault as Fault};
 ghost use Rattle.tiff_dir.specs.Described.{grid_of, layout_of};
 ghost use Rattle.tiff_dir.specs.Level.{level_layout, plain_size, tile_total};
-ghost use Rattle.tiff_dir.specs.Query.{joins, with_tile, alone};
+ghost use Rattle.tiff_dir.specs.Query.{joins};
 ghost use Rattle.tiff_dir.specs.File.{order_of};
 ghost use Rattle.tiff_dir.specs.Walk.{extent_of_span, IsArrayOf};
 ghost use Rattle.tile_plan.specs.Levels.{is_inside};
 ghost use Rattle.tile_plan.specs.Plan.{range_in, group_of, IsRangeOf, IsWrongSize, IsTileFault, AreGroups, IsPlanError, IsPlanned, AreNeeded, IsErrorOf};
+ghost use Rattle.tile_plan.specs.Groups.{with_tile, alone};
 ghost use Rattle.tile_plan.specs.Adding.{added};
 
 use crate::Rectangle;
@@ -35,7 +36,7 @@ impl Group {
 
     /// Whether the span begins where the group ends, and the group with it isn't too long.
     fn joins(&self, span: Span) -> bool
-        ensures { result ≡ joins (group_of self.now) (extent_of_span span) }
+        ensures { result ≡ joins (extent_of_span self.now.span) (extent_of_span span) }
     {
         span.first > self.span.last
             && span.first - self.span.last == 1
@@ -43,7 +44,7 @@ impl Group {
     }
 
     fn add(&mut self, tile: u32, span: Span) -> Result<(), tiff_dir::Memory>
-        requires { joins (group_of self.old) (extent_of_span span) ≡ true }
+        requires { joins (extent_of_span self.old.span) (extent_of_span span) ≡ true }
         ensures { OnOk result (group_of self.new ≡ with_tile (group_of self.old) tile (extent_of_span span)) }
     {
         self.tiles.push(tile)?;

@@ -4,7 +4,7 @@ use Rattle.std.specs.Vec.{vec_len}
 use Rattle.std.proofs.lemmas.Grind.{common_steps}
 use Rattle.std.proofs.lemmas.List.{set-get_or}
 use Rattle.tiff_dir.specs.Walk.{extent_of_span}
-use Rattle.tiff_dir.specs.Query.{with_tile}
+use Rattle.tile_plan.specs.Groups.{with_tile}
 use Rattle.tile_plan.specs.Plan.{group_of}
 use Rattle.tile_plan.proofs.GroupLemmas.{added_join, added_apart, added_first}
 use Rattle.tile_plan.proofs.plan.add_tile.Goals as goal

@@ -2,10 +2,10 @@ use Rattle.std.proofs.Common.{◌≡◌, ◌*◌, ◌<◌, ◌++◌, ◌∷◌, 
 use Rattle.std.specs.List.{range_with_len}
 use Rattle.tiff_dir.specs.Level.{tile_total}
 use Rattle.tiff_dir.specs.Described.{grid_of}
-use Rattle.tiff_dir.specs.Query.{grouped}
 use Rattle.tiff_dir.specs.Walk.{extent_of_span}
 use Rattle.tiff_dir.specs.declared.fault.WalkError.TheVariants.{File}
 use Rattle.tile_plan.specs.Block.{tile_of_block}
+use Rattle.tile_plan.specs.Groups.{grouped}
 use Rattle.tile_plan.specs.Plan.{range_in, group_of, tiles_of, IsRangeOf, IsTileFault, IsPlanError, IsErrorOf}
 use Rattle.tile_plan.specs.Adding.{added}
 use Rattle.tile_plan.proofs.AskedLemmas.{passed_on}
@@ -17,7 +17,7 @@ use Rattle.tile_plan.proofs.plan.groups.Goals as goal
 pub loop-n-init : goal.loop-n-init
 loop-n-init c =
     let range = range_in c.args.order c.args.level.now c.args.offsets.now c.args.counts.now in
-    record { groups = ap (map group_of) c.new-groups.ensures.items ∙ sym (grouped_none (λ t. Some (range t))); known = λ k less. absurd (omega arith) }
+    record { groups = ap (map group_of) c.new-groups.ensures.items ∙ sym (grouped_none range); known = λ k less. absurd (omega arith) }
 
 pub returns-in_err-span-clause-refused : goal.returns-in_err-span-clause-refused
 returns-in_err-span-clause-refused c =
@@ -56,8 +56,8 @@ loop-n-preserved c =
     let before = map (tile_of_block b) (range_with_len 0 n) in
     record {
       groups = c.in_ok-add_tile.ensures ∙ ap (λ gs. added gs tile (extent_of_span c.in_ok-span.span)) c.loop-n.invariant.groups
-          ∙ ap (added (grouped (λ t. Some (range t)) before) tile) c.in_ok-span.ensures.range ∙ sym (grouped_more range before tile)
-          ∙ ap (λ t. grouped (λ t. Some (range t)) (before ++ t ∷ [])) c.tile-tile.ensures ∙ ap (grouped (λ t. Some (range t))) (counted_all (tile_of_block b) n);
+          ∙ ap (added (grouped range before) tile) c.in_ok-span.ensures.range ∙ sym (grouped_more range before tile)
+          ∙ ap (λ t. grouped range (before ++ t ∷ [])) c.tile-tile.ensures ∙ ap (grouped range) (counted_all (tile_of_block b) n);
       known = below_more (λ k. IsKnown c.args.order l c.args.complete c.args.offsets.now c.args.counts.now (tile_of_block b k)) n c.loop-n.invariant.known
           (subst (IsKnown c.args.order l c.args.complete c.args.offsets.now c.args.counts.now) c.tile-tile.ensures (record { within = subst (λ t. t < tile_total (grid_of l)) (sym c.tile-tile.ensures) (c.of-block.ensures.within n (omega (arith, c.loop-n-test.true, c.count-n-end.ensures, c.loop-n.auto.n-end))); sound = c.in_ok-span.ensures.sound; values = c.in_ok-span.ensures.values }));
     }
