@@ -2,21 +2,15 @@
 use crate::keys::{is_bad_head, is_disorder, is_key_misplaced, key_count};
 use crate::rules::{GEO, add_rule_faults};
 use crate::stands::add_if;
-use reference_support::{field, kind_of};
+use reference_support::place;
 use std::alloc::AllocError;
 use tiff_dir::FileFault;
 use tiff_dir::limits::MAX_GEO_BYTES;
 
-/// How many bytes the field's values have.
-fn field_len(file: &[u8], tag: u16) -> Option<u64> {
-    let entry = field(file, 0, tag)?;
-    let kind = kind_of(entry.kind?)?;
-    Some(u64::from(entry.count?) * kind.size())
-}
-
+/// Whether the field's values have more bytes than a geo field may have.
 fn is_large(file: &[u8], tag: u16) -> bool {
-    match field_len(file, tag) {
-        Some(len) => len > MAX_GEO_BYTES,
+    match place(file, 0, tag) {
+        Some(place) => place.len > MAX_GEO_BYTES,
         None => false,
     }
 }

@@ -17,7 +17,7 @@ mod unpacked;
 
 pub use asked::asked_rectangle;
 pub use directories::{directory, entry_count, has_directory};
-pub use fields::{Entry, field, field_value, has_all_tags, kind_of, value};
+pub use fields::{Entry, field, field_value, has_all_tags, place, value};
 pub use info::{level_sides, values};
 pub use levels::{Grid, Level, is_level, level_directory, level_of, segment};
 pub use numbers::{number, order_of};

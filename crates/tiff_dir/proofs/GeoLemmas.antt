@@ -19,11 +19,11 @@ use Rattle.tiff_dir.specs.declared.stage.Stage.{Stage}
 use Rattle.tiff_dir.specs.declared.stage.Stage.TheVariants.{Table}
 use Rattle.tiff_dir.specs.declared.fault.FileFault.{FileFault}
 use Rattle.tiff_dir.specs.declared.fault.FileFault.TheVariants.{FieldType, TooLarge}
-use Rattle.tiff_dir.specs.File.{◌>>=◌, kind_of, size_of, field}
+use Rattle.tiff_dir.specs.File.{◌>>=◌, size_of, field}
 use Rattle.tiff_dir.specs.declared.limits.TheConstants.{MAX_GEO_BYTES}
 use Rattle.tiff_dir.specs.Profile.{subfile_rule, geo_profile, geo_rule, has_typing, is_multiple}
 use Rattle.tiff_dir.specs.Level.{place_of}
-use Rattle.tiff_dir.specs.Geo.{field_len, geo_place, IsLargeField, IsGeoFault}
+use Rattle.tiff_dir.specs.Geo.{geo_place, IsLargeField, IsGeoFault}
 use Rattle.tiff_dir.specs.Fault.{IsRuleFault}
 use Rattle.tiff_dir.specs.GeoEntries.{geo_in, place_by, ArePlacesBy, IsFaultBy}
 use Rattle.tiff_dir.specs.WalkState.{HasGeo}
@@ -68,17 +68,18 @@ refused r e fault is = at (allows r e) refl (nat_lt MAX_GEO_BYTES (len_of e)) re
   at true yes_allowed true long same = inr (yes_allowed, long, cc)
   at false wrong b is_b same = inl (wrong, cc)
 
-kind_known : (n : ℕ) → IsKind n → kind_of n ≡ Some (kind_in n)
-kind_known n (inl e) = rw e refl
-kind_known n (inr (inl e)) = rw e refl
-kind_known n (inr (inr (inl e))) = rw e refl
-kind_known n (inr (inr (inr e))) = rw e refl
-
-len_known : (e : Entry) → IsKind e.kind → field_len (field_of e) ≡ Some (len_of e)
-len_known e kind = rw (kind_known e.kind kind) refl
-
 entry_kind : (r : Rule) (e : Entry) → allows r e ≡ true → IsKind e.kind
 entry_kind r e ok = kind_is r.typing e.kind (typed r e ok)
+
+-- the place of a field that is there, and of none
+geo_at : (f : List ℕ) (es : List Entry) (r : Rule) (e : Entry) → HasTable f 0 es → entry_with_tag r.tag es ≡ Some e → allows r e ≡ true → geo_place f r.tag ≡ Some (place_in e)
+unfolding geo_place
+geo_at f es r e has there ok =
+    ap (λ o. o >>= place_of f) (field_told f 0 es r.tag has ∙ ap (option_map field_of) there) ∙ place_entry f e (has.long r.tag e there) (entry_kind r e ok)
+
+no_place : (f : List ℕ) (es : List Entry) (r : Rule) → HasTable f 0 es → entry_with_tag r.tag es ≡ None → geo_place f r.tag ≡ None
+unfolding geo_place
+no_place f es r has there = ap (λ o. o >>= place_of f) (field_told f 0 es r.tag has ∙ ap (option_map field_of) there)
 
 place_told : (f : List ℕ) (es : List Entry) (r : Rule) (p : Option Place) → HasTable f 0 es → place_by r (entry_with_tag r.tag es) ≡ Ok p → IsGeoFieldAt f r.tag p
 unfolding geo_place
@@ -89,9 +90,7 @@ place_told f es r p has is = at (entry_with_tag r.tag es) refl is where
       subst (IsGeoFieldAt f r.tag) none (field_told f 0 es r.tag has ∙ ap (option_map field_of) there)
   at (Some e) there is =
       let h = placed r e p is in
-      subst (IsGeoFieldAt f r.tag) (sym h.place)
-      (ap (λ o. o >>= place_of f) (field_told f 0 es r.tag has ∙ ap (option_map field_of) there)
-      ∙ place_entry f e (has.long r.tag e there) (entry_kind r e h.allowed))
+      subst (IsGeoFieldAt f r.tag) (sym h.place) (geo_at f es r e has there h.allowed)
 
 met : (es : List Entry) (r : Rule) (p : Option Place) → r.required ≡ false → place_by r (entry_with_tag r.tag es) ≡ Ok p → keeps es r ≡ true
 met es r p optional is = at (entry_with_tag r.tag es) refl is where
@@ -100,12 +99,12 @@ met es r p optional is = at (entry_with_tag r.tag es) refl is where
   at (Some e) there is = rw there (placed r e p is).allowed
 
 not_large : (f : List ℕ) (es : List Entry) (r : Rule) (p : Option Place) → HasTable f 0 es → place_by r (entry_with_tag r.tag es) ≡ Ok p → IsLargeField f r → ⊥
-not_large f es r p has is bad = at (entry_with_tag r.tag es) is (rw (field_told f 0 es r.tag has) at bad) where
-  at : (o : Option Entry) → place_by r o ≡ Ok p → IsSomeAnd (option_map field_of o) (λ e. IsSomeAnd (field_len e) (λ n. nat_le n MAX_GEO_BYTES ≡ false)) → ⊥
-  at None is bad = bad
-  at (Some e) is bad =
+not_large f es r p has is bad = at (entry_with_tag r.tag es) refl is where
+  at : (o : Option Entry) → entry_with_tag r.tag es ≡ o → place_by r o ≡ Ok p → ⊥
+  at None there is = (rw (no_place f es r has there) at bad)
+  at (Some e) there is =
       let h = placed r e p is in
-      let long = some_and_at (field_len (field_of e)) (λ n. nat_le n MAX_GEO_BYTES ≡ false) (len_of e) (len_known e (entry_kind r e h.allowed)) bad in
+      let long : nat_le (len_of e) MAX_GEO_BYTES ≡ false = some_and_at (geo_place f r.tag) (λ (q : Place). nat_le q.len MAX_GEO_BYTES ≡ false) (place_in e) (geo_at f es r e has there h.allowed) bad in
       let fits : nat_le (len_of e) MAX_GEO_BYTES ≡ true = le-leb (len_of e) MAX_GEO_BYTES (ltb-false MAX_GEO_BYTES (len_of e) h.short) in
       false≢true (sym long ∙ fits)
 
@@ -162,8 +161,7 @@ fault_at f es j fault inside has is = at (entry_with_tag (geo_rule j).tag es) re
   large : (e : Entry) → entry_with_tag (geo_rule j).tag es ≡ Some e → allows (geo_rule j) e ≡ true → nat_lt MAX_GEO_BYTES (len_of e) ≡ true → IsLargeField f (geo_rule j)
   large e there ok long =
       let past : nat_le (len_of e) MAX_GEO_BYTES ≡ false = (let h = ltb-true MAX_GEO_BYTES (len_of e) long in grind (arith, nat_tests)) in
-      some_and_from (field f 0 (geo_rule j).tag) (λ x. IsSomeAnd (field_len x) (λ n. nat_le n MAX_GEO_BYTES ≡ false)) (field_of e) (field_told f 0 es (geo_rule j).tag has ∙ rw there refl)
-      (some_and_from (field_len (field_of e)) (λ n. nat_le n MAX_GEO_BYTES ≡ false) (len_of e) (len_known e (entry_kind (geo_rule j) e ok)) past)
+      some_and_from (geo_place f (geo_rule j).tag) (λ (q : Place). nat_le q.len MAX_GEO_BYTES ≡ false) (place_in e) (geo_at f es (geo_rule j) e has there ok) past
 
   at : (o : Option Entry) → entry_with_tag (geo_rule j).tag es ≡ o → place_by (geo_rule j) o ≡ Err fault → IsGeoFault f fault
   at None there is = absurd (cc)

@@ -2,14 +2,14 @@
 -- They are looked at in the first directory, for the query Info alone.
 use Rattle.tiff_dir.specs.declared.tags.TheConstants.{GEO_KEY_DIRECTORY}
 use Rattle.tiff_dir.specs.declared.limits.TheConstants.{MAX_GEO_BYTES}
-use Rattle.std.specs.Prelude.{◌≡◌, ℕ, ◌*◌, false, nat_le, if◌then◌else◌, List, Option, Some, None, IsSomeAnd}
+use Rattle.std.specs.Prelude.{◌≡◌, ℕ, false, nat_le, if◌then◌else◌, List, Option, Some, None, IsSomeAnd}
 use Rattle.std.specs.Option.{option_map_or}
 use Rattle.std.specs.List.{Any, filter_map}
 use Rattle.tiff_dir.specs.declared.rule.Rule.{Rule}
 use Rattle.tiff_dir.specs.declared.level.Place.{Place}
 use Rattle.tiff_dir.specs.declared.fault.FileFault.{FileFault}
 use Rattle.tiff_dir.specs.declared.fault.FileFault.TheVariants.{FieldType, TooLarge}
-use Rattle.tiff_dir.specs.File.{◌>>=◌, Field, kind_of, size_of, has_all_tags, field, value}
+use Rattle.tiff_dir.specs.File.{◌>>=◌, Field, has_all_tags, field, value}
 use Rattle.tiff_dir.specs.Profile.{geo_profile}
 use Rattle.tiff_dir.specs.Level.{place_of}
 use Rattle.tiff_dir.specs.Needs.{Extent, field_range}
@@ -24,16 +24,9 @@ geo_place f tag = field f 0 tag >>= place_of f
 unfoldable pub geo_ranges : List ℕ → List Extent
 geo_ranges f = filter_map (λ (rule : Rule). field_range f 0 rule.tag) geo_profile
 
--- how many bytes the values of a field have
-abbrev pub field_len : Field → Option ℕ
-field_len e = do
-  kind ← e.kind >>= kind_of
-  count ← e.count
-  Some (count * size_of kind)
-
 -- the rule's field has more bytes than a geo field may have
 abbrev pub IsLargeField : List ℕ → Rule → Type 0
-IsLargeField f rule = IsSomeAnd (field f 0 rule.tag) (λ e. IsSomeAnd (field_len e) (λ n. nat_le n MAX_GEO_BYTES ≡ false))
+IsLargeField f rule = IsSomeAnd (geo_place f rule.tag) (λ p. nat_le p.len MAX_GEO_BYTES ≡ false)
 
 -- A geo field has another type or count than it may have, or too many bytes.
 abbrev pub IsGeoFault : List ℕ → FileFault → Type 0
