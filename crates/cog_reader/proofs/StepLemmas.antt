@@ -352,7 +352,8 @@ own_fault f (Window x y w h p) fault window bad = inr bad
 
 pub directory_fault : (f : List ℕ) (q : Query) (fault : FileFault) → IsFaultOfDirectories f fault → IsFaulty f q fault
 unfolding IsFaulty
-directory_fault f q fault bad = inl bad
+directory_fault f Info fault bad = inl bad
+directory_fault f (Window x y w h p) fault bad = inl bad
 
 pub both_at : (k : Kept) (n : ℕ) (a : Arrays) (P : Arrays → Type 0) → k ≡ kept.Both n a → HasBoth k P → P a
 both_at k n a P is good = subst (λ x. HasBoth x P) is good

@@ -5,7 +5,7 @@ use Rattle.std.specs.Prelude.{◌≡◌, ℕ, ◌⊎◌, Bool, true, false, ◌&
 use Rattle.std.specs.List.{Any, flat_map, list_any}
 use Rattle.std.specs.Option.{option_to_list}
 use Rattle.tiff_dir.specs.declared.query.Query.{Query}
-use Rattle.tiff_dir.specs.declared.query.Query.TheVariants.{Window, Info}
+use Rattle.tiff_dir.specs.declared.query.Query.TheVariants.{Info}
 use Rattle.tiff_dir.specs.declared.fault.FileFault.{FileFault}
 use Rattle.tiff_dir.specs.declared.fault.FileFault.TheVariants.{PastEnd, TileSize, Packet, Outside, TooLarge}
 use Rattle.tiff_dir.specs.File.{◌>>=◌}
@@ -54,13 +54,10 @@ abbrev pub IsFaultOfInfo : List ℕ → FileFault → Type 0
 IsFaultOfInfo f PastEnd = list_any (ends_past f) (geo_ranges f) ≡ true
 IsFaultOfInfo f fault = IsGeoFault f fault ⊎ IsFaultOfKeys (key_source f) fault
 
-abbrev pub IsFaultOfQuery : List ℕ → Query → FileFault → Type 0
-IsFaultOfQuery f Info fault = IsFaultOfInfo f fault
-IsFaultOfQuery f (Window x y w h pick) fault = IsFaultOfWindow f (Window x y w h pick) fault
-
 -- The fault stands in the file for the query.
 unfoldable pub IsFaulty : List ℕ → Query → FileFault → Type 0
-IsFaulty f q fault = IsFaultOfDirectories f fault ⊎ IsFaultOfQuery f q fault
+IsFaulty f Info fault = IsFaultOfDirectories f fault ⊎ IsFaultOfInfo f fault
+IsFaulty f q fault = IsFaultOfDirectories f fault ⊎ IsFaultOfWindow f q fault
 
 -- v is the window of the file: no fault stands, and v has its samples.
 pub record IsWindow (f : List ℕ) (q : Query) (v : List ℕ) : Type 0 where
