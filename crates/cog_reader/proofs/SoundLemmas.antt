@@ -130,7 +130,7 @@ no_damage : (f : List ℕ) (q : Query) (a : Arrays) (w : MosaicState) → IsUnde
 no_damage f q a w u painted h =
     let r = w.picture.rectangle in
     let l = a.level in
-    let Packed = λ (m : Layout) (bytes : List ℕ). (plain : List ℕ) → IsUnpacked m bytes plain → ⊥ in
+    let Packed : Layout → List ℕ → Type 0 = λ m bytes. (plain : List ℕ) → IsUnpacked m bytes plain → ⊥ in
     let (i, t, less, is, bad) = here_and (rectangle f q) (rectangle_of r) (λ s. Any (λ t. IsSomeAnd (level_layout f s.level) (λ m. IsSomeAnd (segment f s.level t) (Packed m))) (window_tiles f q)) u.planned.rectangle_is h in
     let here = painted t (subst (λ ts. IsAmong ts t) (window_is f q a r u.planned) (i, (less, sym is))) in
     let laid = here_and (level_layout f r.level) (layout_of l) (λ m. IsSomeAnd (segment f r.level t) (Packed m)) u.planned.layout_is bad in

@@ -14,10 +14,10 @@ use Rattle.tiff_dir.specs.declared.query.Query.{Query}
 use Rattle.tiff_dir.specs.File.{order_of}
 use Rattle.tiff_dir.specs.Number.{number_in}
 use Rattle.tiff_dir.specs.Profile.{sample_bytes}
-use Rattle.tiff_dir.specs.Level.{level_layout, plain_size}
+use Rattle.tiff_dir.specs.Level.{Layout, level_layout, plain_size}
 use Rattle.tiff_dir.specs.Query.{segment}
 use Rattle.tiff_dir.specs.Described.{grid_of, layout_of}
-use Rattle.tiff_dir.specs.Window.{HasSamples, sample_in, place_in_tile, tile_at}
+use Rattle.tiff_dir.specs.Window.{HasSamples, IsSample, IsUnpacked, sample_in, place_in_tile, tile_at}
 use Rattle.tile_plan.specs.Levels.{rectangle_of}
 use Rattle.tile_plan.specs.Covered.{TilesCover}
 use Rattle.tile_plan.specs.Canvas.{Picture, picture_size}
@@ -87,6 +87,11 @@ some_size l = elim (depth l.bits l.depth) [
   | inr sixteen ↦ subst (λ b. 0 < b / 8) (sym sixteen) (omega arith)
 ]
 
+sample_from : (f : List ℕ) (n x y c v : ℕ) (o : Order) (l : Layout) (bytes plain : List ℕ) → order_of f ≡ Some o → level_layout f n ≡ Some l → segment f n (tile_at l.grid x y) ≡ Some bytes
+    → IsUnpacked l bytes plain → sample_in o l.bits plain (place_in_tile l x y c) ≡ Some v → IsSample f n x y c v
+unfolding IsSample
+sample_from f n x y c v o l bytes plain named laid are unpacked value = rw named (rw laid (rw are (plain, unpacked, value)))
+
 filled : (f : List ℕ) (n : ℕ) (order : Order) (p : Picture) (new : List ℕ) → Filled f n order p → n ≡ p.rectangle.level → length new ≡ length p.bytes
     → ((k : ℕ) → k * sample_bytes p.level.bits + sample_bytes p.level.bits ≤ length p.bytes
     → sample_at p.level.bits new k ≡ number_in order (k * sample_bytes p.level.bits) (sample_bytes p.level.bits) p.bytes)
@@ -111,17 +116,9 @@ filled f n order p new is level same turned =
           let painted = is.painted i j wide tall in
           let value = get_or-map-range_with_len (sample_at l.bits new) 0 (length new / size) k k 0 below (omega arith) ∙ turned k fits
           ∙ value_is f n (tile_at (grid_of l) (r.x + i) (r.y + j)) i j c order p refl wide tall channel painted in
-          record {
-            order = order;
-            order_is = is.order_is;
-            layout = layout_of l;
-            layout_is = ap (level_layout f) (sym level) ∙ is.layout_is;
-            bytes = painted.bytes;
-            bytes_are = ap (λ n. segment f n (tile_at (grid_of l) (r.x + i) (r.y + j))) (sym level) ∙ painted.bytes_are;
-            plain = painted.plain;
-            unpacked = painted.unpacked;
-            value = there order l painted.plain (r.x + i) (r.y + j) c painted.size (sides l).0 (sides l).1 channel ∙ ap Some (sym value);
-          }
+          sample_from f r.level (r.x + i) (r.y + j) c (get_or (samples_in l.bits new) k 0) order (layout_of l) painted.bytes painted.plain is.order_is (ap (level_layout f) (sym level) ∙ is.layout_is)
+          (ap (λ n. segment f n (tile_at (grid_of l) (r.x + i) (r.y + j))) (sym level) ∙ painted.bytes_are) painted.unpacked
+          (there order l painted.plain (r.x + i) (r.y + j) c painted.size (sides l).0 (sides l).1 channel ∙ ap Some (sym value))
           );
     } where
       product : (a b c d : ℕ) → a * b * (c * d) ≡ a * b * c * d

@@ -36,6 +36,7 @@ use Rattle.tiff_dir.proofs.Covered.{IsPixelOf, tile_inside, pixel_tile, among_in
 use Rattle.tiff_dir.proofs.Clear.{IsLaidLevel, layout_of_level, layout_there, IsAsked, asked, IsClear, clear, not_outside, tiles_are, arrays_inside, bytes_inside}
 use Rattle.tiff_dir.proofs.Told.{offsets_at, counts_at}
 use Rattle.tiff_dir.proofs.TileValues.{offset_told, count_told, plain_number}
+use Rattle.tiff_dir.proofs.WindowLemmas.{sample_from}
 
 -- ---- the bytes of a tile
 
@@ -209,7 +210,7 @@ samples_there f q i j c clear a left top less none =
     let b = tile_there f q t clear a within among in
     plain_there f q t clear a b among (λ plain is.
     let (v, value) = sample_there o l plain (a.asked.left + i) (a.asked.top + j) c wide tall less is.size in
-    none v (record { order = o; order_is = order; layout = l; layout_is = layout_there f n a.placed.level; bytes = bytes_of f n t b; bytes_are = segment_there f n t b; plain = plain; unpacked = is.unpacked; value = value }))
+    none v (sample_from f n (a.asked.left + i) (a.asked.top + j) c v o l (bytes_of f n t b) plain order (layout_there f n a.placed.level) (segment_there f n t b) is.unpacked value))
 
 -- ---- all of them
 

@@ -1,6 +1,6 @@
 -- A file has one window for a query.
-use Rattle.std.proofs.Common.{◌≡◌, ℕ, zero, suc, ◌+◌, ◌*◌, ◌/◌, ◌%◌, ◌<◌, List, length, Some, sym, ap, subst, ◌∙◌, arith}
-use Rattle.std.specs.Prelude.{slice_index}
+use Rattle.std.proofs.Common.{◌≡◌, ℕ, zero, suc, ◌+◌, ◌*◌, ◌/◌, ◌%◌, ◌<◌, List, length, Option, Some, None, refl, sym, ap, subst, ◌∙◌, arith}
+use Rattle.std.specs.Prelude.{slice_index, IsSomeAnd}
 use Rattle.std.proofs.Math.Nat.{div-lt_iff_lt-mul}
 use Rattle.std.proofs.lemmas.Option.{same_Some}
 use Rattle.std.proofs.lemmas.Grind.{same_number_lists}
@@ -13,6 +13,7 @@ use Rattle.tiff_dir.specs.Level.{Layout, level_layout, plain_row, plain_size}
 use Rattle.tiff_dir.specs.Query.{Rectangle, segment}
 use Rattle.tiff_dir.specs.Window.{IsUnpackedBy, IsUnpacked, tile_at, place_in_tile, sample_in, IsSample, HasSamples}
 use Rattle.tiff_dir.specs.Faulty.{IsWindow}
+use Rattle.tiff_dir.proofs.Chain.{some_and_at}
 use Rattle.tiff_dir.proofs.PacketLemmas.{packs_once}
 
 unpacked_once : (c : Compression) (row size : ℕ) (bytes out out' : List ℕ) → IsUnpackedBy c row size bytes out → IsUnpackedBy c row size bytes out' → out ≡ out'
@@ -29,17 +30,40 @@ record IsSampleIn (f : List ℕ) (n : ℕ) (l : Layout) (x y c v : ℕ) : Type 0
   unpacked : IsUnpacked l bytes plain
   value : sample_in order l.bits plain (place_in_tile l x y c) ≡ Some v
 
+opened : {A : Type 0} (o : Option A) (P : A → Type 0) → IsSomeAnd o P → (x : A) × (o ≡ Some x) × P x
+opened None P some = absurd some
+opened (Some x) P some = (x, refl, some)
+
+abbrev IsFound : (x y c v : ℕ) → Order → Layout → List ℕ → Type 0
+IsFound x y c v o l bytes = (plain : List ℕ) × IsUnpacked l bytes plain × (sample_in o l.bits plain (place_in_tile l x y c) ≡ Some v)
+
+abbrev IsLaidOut : (f : List ℕ) (n x y c v : ℕ) → Order → Layout → Type 0
+IsLaidOut f n x y c v o l = IsSomeAnd (segment f n (tile_at l.grid x y)) (IsFound x y c v o l)
+
+layout_of_sample : (f : List ℕ) (n x y c v : ℕ) → IsSample f n x y c v → (l : Layout) × (level_layout f n ≡ Some l)
+unfolding IsSample
+layout_of_sample f n x y c v s =
+    let (o, named, there) = opened (order_of f) (λ o. IsSomeAnd (level_layout f n) (IsLaidOut f n x y c v o)) s in
+    let (l, laid, rest) = opened (level_layout f n) (IsLaidOut f n x y c v o) there in
+    (l, laid)
+
 in_layout : (f : List ℕ) (n x y c v : ℕ) (l : Layout) → level_layout f n ≡ Some l → IsSample f n x y c v → IsSampleIn f n l x y c v
+unfolding IsSample
 in_layout f n x y c v l is s =
-    let same : s.layout ≡ l = same_Some _ _ (sym s.layout_is ∙ is) in
-    let P : Layout → Type 0 = λ k. IsSampleIn f n k x y c v in
-    subst P same (record { order = s.order; order_is = s.order_is; bytes = s.bytes; bytes_are = s.bytes_are; plain = s.plain; unpacked = s.unpacked; value = s.value })
+    let (o, named, there) = opened (order_of f) (λ o. IsSomeAnd (level_layout f n) (IsLaidOut f n x y c v o)) s in
+    let (bytes, are, found) = opened (segment f n (tile_at l.grid x y)) (IsFound x y c v o l) (some_and_at (level_layout f n) (IsLaidOut f n x y c v o) l is there) in
+    record { order = o; order_is = named; bytes = bytes; bytes_are = are; plain = found.0; unpacked = found.1; value = found.2 }
+
+pub sample_from : (f : List ℕ) (n x y c v : ℕ) (o : Order) (l : Layout) (bytes plain : List ℕ) → order_of f ≡ Some o → level_layout f n ≡ Some l → segment f n (tile_at l.grid x y) ≡ Some bytes
+    → IsUnpacked l bytes plain → sample_in o l.bits plain (place_in_tile l x y c) ≡ Some v → IsSample f n x y c v
+unfolding IsSample
+sample_from f n x y c v o l bytes plain named laid are unpacked value = rw named (rw laid (rw are (plain, unpacked, value)))
 
 pub sample_once : (f : List ℕ) (n x y c v w : ℕ) → IsSample f n x y c v → IsSample f n x y c w → v ≡ w
 sample_once f n x y c v w s t =
-    let l = s.layout in
-    let a = in_layout f n x y c v l s.layout_is s in
-    let b = in_layout f n x y c w l s.layout_is t in
+    let (l, laid) = layout_of_sample f n x y c v s in
+    let a = in_layout f n x y c v l laid s in
+    let b = in_layout f n x y c w l laid t in
     let same : b.bytes ≡ a.bytes = same_Some _ _ (sym b.bytes_are ∙ a.bytes_are) in
     let order : a.order ≡ b.order = same_Some _ _ (sym a.order_is ∙ b.order_is) in
     let moved : IsUnpacked l a.bytes b.plain = subst (λ (bytes : List ℕ). IsUnpacked l bytes b.plain) same b.unpacked in
@@ -90,8 +114,9 @@ samples_once f r v u a b =
     let other : HasSamplesIn f r a.layout u = subst P same (record { size = b.size; each = b.each }) in
     same_number_lists v u (a.size ∙ sym other.size) (λ k inside.
     let p = pixel r.width r.height a.layout.samples k (omega (arith, a.size)) in
+    let place = (p.j * r.width + p.i) * a.layout.samples + p.c in
     sym (ap (slice_index v) p.place)
-    ∙ sample_once f r.level (r.left + p.i) (r.top + p.j) p.c _ _ (a.each p.i p.j p.c p.left p.top p.sample) (other.each p.i p.j p.c p.left p.top p.sample)
+    ∙ sample_once f r.level (r.left + p.i) (r.top + p.j) p.c (slice_index v place) (slice_index u place) (a.each p.i p.j p.c p.left p.top p.sample) (other.each p.i p.j p.c p.left p.top p.sample)
     ∙ ap (slice_index u) p.place)
 
 pub window_once : (f : List ℕ) (q : Query) (v u : List ℕ) → IsWindow f q v → IsWindow f q u → v ≡ u

@@ -1,5 +1,5 @@
 -- The samples of a file, and the window that a query asks for (TIFF 6.0, sections 9 and 15).
-use Rattle.std.specs.Prelude.{◌≡◌, ℕ, ◌+◌, ◌*◌, ◌/◌, ◌%◌, ◌<◌, List, nat_le, if◌then◌else◌, length, slice_index, Option, Some, None}
+use Rattle.std.specs.Prelude.{◌≡◌, ℕ, ◌+◌, ◌*◌, ◌/◌, ◌%◌, ◌<◌, List, nat_le, if◌then◌else◌, length, slice_index, Option, Some, None, IsSomeAnd}
 use Rattle.tiff_dir.specs.declared.order.Order.{Order}
 use Rattle.tiff_dir.specs.declared.level.Compression.{Compression}
 use Rattle.tiff_dir.specs.declared.level.Compression.TheVariants.{Plain, PackBits}
@@ -33,16 +33,10 @@ sample_in order bits plain p =
     if nat_le (p * size + size) (length plain) then Some (number_in order (p * size) size plain) else None
 
 -- Sample c of the pixel in column x and row y of level n has this value.
-pub record IsSample (f : List ℕ) (n x y c v : ℕ) : Type 0 where
-  pub order : Order
-  pub order_is : order_of f ≡ Some order
-  pub layout : Layout
-  pub layout_is : level_layout f n ≡ Some layout
-  pub bytes : List ℕ
-  pub bytes_are : segment f n (tile_at layout.grid x y) ≡ Some bytes
-  pub plain : List ℕ
-  pub unpacked : IsUnpacked layout bytes plain
-  pub value : sample_in order layout.bits plain (place_in_tile layout x y c) ≡ Some v
+unfoldable pub IsSample : (f : List ℕ) (n x y c v : ℕ) → Type 0
+IsSample f n x y c v =
+    IsSomeAnd (order_of f) (λ order. IsSomeAnd (level_layout f n) (λ l. IsSomeAnd (segment f n (tile_at l.grid x y)) (λ bytes.
+    (plain : List ℕ) × IsUnpacked l bytes plain × (sample_in order l.bits plain (place_in_tile l x y c) ≡ Some v))))
 
 -- v has the samples of the rectangle, row by row, and no more.
 pub record HasSamples (f : List ℕ) (r : Rectangle) (v : List ℕ) : Type 0 where
