@@ -17,13 +17,13 @@ use Rattle.tiff_dir.specs.declared.level.Level.{Level}
 use Rattle.tiff_dir.specs.declared.level.Place.{Place}
 use Rattle.tiff_dir.specs.declared.order.Order.{Order}
 use Rattle.tiff_dir.specs.declared.query.Query.TheVariants.{Info}
-use Rattle.tiff_dir.specs.File.{◌>>=◌, Field, kind_of, size_of, order_of, number, field, field_value, value, values_at, absent_value, has_all_tags}
+use Rattle.tiff_dir.specs.File.{◌>>=◌, Field, kind_of, size_of, order_of, number, field, field_value, value, values_at, default_of, has_all_tags}
 use Rattle.tiff_dir.specs.Level.{Grid, Layout, compression_of, grid_at, depth_at, layout_at, layouts, level_directories, place_of}
 use Rattle.tiff_dir.specs.Needs.{bytes_in, ends_past, extent_of_place}
 use Rattle.tiff_dir.specs.Number.{number_in}
 use Rattle.tiff_dir.specs.Geo.{geo_place, geo_ranges, item_count}
 use Rattle.tiff_dir.specs.Geo as file
-use Rattle.tiff_dir.specs.Keys.{KeySource, is_key_field, IsFaultOfKeys}
+use Rattle.tiff_dir.specs.Keys.{KeySource, IsFaultOfKeys}
 use Rattle.tiff_dir.specs.declared.fault.WalkError.{WalkError}
 use Rattle.tiff_dir.specs.declared.fault.WalkError.TheVariants.{File, Memory}
 use Rattle.tiff_dir.specs.declared.level.Compression.{Compression}
@@ -157,7 +157,7 @@ value_at f tag i p is = of_field (field f 0 tag) is where
         let same : record { first = x; len = n * size_of k; count = n; kind = k } ≡ p = cc in
         ap (λ (q : Place). if nat_lt i q.count then number f (q.first + i * size_of q.kind) (size_of q.kind) else None) same
 
-  of_field : (o : Option Field) → (o >>= place_of f) ≡ Some p → option_map_or (λ e. field_value f e i) o (absent_value f 0 tag) ≡ (if nat_lt i p.count then number f (p.first + i * size_of p.kind) (size_of p.kind) else None)
+  of_field : (o : Option Field) → (o >>= place_of f) ≡ Some p → option_map_or (λ e. field_value f e i) o (if has_all_tags f 0 then default_of tag else None) ≡ (if nat_lt i p.count then number f (p.first + i * size_of p.kind) (size_of p.kind) else None)
   of_field None is = absurd (none-some p is)
   of_field (Some e) is = by e (e.kind >>= kind_of) e.count is
 
@@ -244,7 +244,7 @@ items_told f tag k (Some p) whole is typed inside =
     (p.count, ap (λ o. option_map_or (λ (e : Field). e.count) o (if has_all_tags f 0 then Some 0 else None)) there ∙ count, slice_len f p inside ∙ typed.1)
 
 source_items : (f : List ℕ) (g : GeoPlaces) (tag : ℕ) → AreGeoPlaces f g → AreTyped g → AreInside f g
-    → keys.item_count (field_bytes f g.doubles) (field_bytes f g.ascii) tag ≡ (if is_key_field tag then item_count f tag else None)
+    → keys.item_count (field_bytes f g.doubles) (field_bytes f g.ascii) tag ≡ (if tag == 34736 || tag == 34737 then item_count f tag else None)
 source_items f g tag are typed inside = at (tag == 34736) refl (tag == 34737) refl where
   at : (a : Bool) → (tag == 34736) ≡ a → (b : Bool) → (tag == 34737) ≡ b
       → (if a then Some (length (field_bytes f g.doubles) / 8) else if b then Some (length (field_bytes f g.ascii)) else None) ≡ (if a || b then item_count f tag else None)

@@ -8,7 +8,7 @@ use Rattle.tiff_dir.specs.declared.fault.FileFault.{FileFault}
 use Rattle.tiff_dir.specs.declared.fault.FileFault.TheVariants.{KeyHead, KeyOrder, KeyPlace}
 use Rattle.tiff_dir.specs.Number.{number_in}
 use Rattle.tiff_dir.specs.File.{◌>>=◌}
-use Rattle.tiff_dir.specs.Keys.{KeySource, key_number, IsBadKeyHead, IsKeyDisorder, IsMisplaced, IsKeyMisplaced, IsFaultOfKeys}
+use Rattle.tiff_dir.specs.Keys.{KeySource, key_number, IsBadKeyHead, IsMisplaced, IsFaultOfKeys}
 use Rattle.geokeys.specs.declared.entry.Head.{Head}
 use Rattle.geokeys.specs.declared.entry.Entry.{Entry}
 use Rattle.geokeys.specs.declared.geo.Geo.{Geo}
@@ -58,7 +58,7 @@ Ascend order d n = (k : ℕ) → k + 1 < n → (entry_at order d k).id < (entry_
 abbrev pub ArePlaced : Order → List ℕ → List ℕ → List ℕ → ℕ → Type 0
 ArePlaced order d doubles ascii n = (k : ℕ) → k < n → IsPlaced doubles ascii (entry_at order d k)
 
-in_order : (order : Order) (d doubles ascii : List ℕ) (head : Head) → IsHead order d head → Ascend order d head.keys → IsKeyDisorder (key_source order d doubles ascii) → ⊥
+in_order : (order : Order) (d doubles ascii : List ℕ) (head : Head) → IsHead order d head → Ascend order d head.keys → IsFaultOfKeys (key_source order d doubles ascii) KeyOrder → ⊥
 in_order order d doubles ascii head is ascend bad =
     let s = key_source order d doubles ascii in
     let i = bad.0 in
@@ -82,9 +82,9 @@ misplaced_by s a b c d e f x y z bad =
 
 -- a key that isn't there is nowhere misplaced
 no_place : (s : KeySource) (a b c : Option ℕ) → a ≡ None → IsMisplaced s a b c → ⊥
-no_place s a b c none bad = elim (subst (λ (o : Option ℕ). IsMisplaced s o b c) none bad) [ inl one ↦ one | inr more ↦ elim more [ inl items ↦ items | inr other ↦ other ] ]
+no_place s a b c none bad = subst (λ (o : Option ℕ). IsMisplaced s o b c) none bad
 
-in_place : (order : Order) (d doubles ascii : List ℕ) (head : Head) → IsHead order d head → ArePlaced order d doubles ascii head.keys → IsKeyMisplaced (key_source order d doubles ascii) → ⊥
+in_place : (order : Order) (d doubles ascii : List ℕ) (head : Head) → IsHead order d head → ArePlaced order d doubles ascii head.keys → IsFaultOfKeys (key_source order d doubles ascii) KeyPlace → ⊥
 in_place order d doubles ascii head is placed bad =
     let s = key_source order d doubles ascii in
     let i = bad.0 in
@@ -187,7 +187,7 @@ keys_all order d doubles ascii head geo is minor count each = record {
 -- ---- the faults of a key
 
 pub bad_order : (order : Order) (d doubles ascii : List ℕ) (head : Head) (k : ℕ) → IsHead order d head → k + 1 < head.keys → (entry_at order d (k + 1)).id ≤ (entry_at order d k).id →
-    IsKeyDisorder (key_source order d doubles ascii)
+    IsFaultOfKeys (key_source order d doubles ascii) KeyOrder
 bad_order order d doubles ascii head k is lt le =
     let s = key_source order d doubles ascii in
     let a = (entry_at order d k).id in
@@ -198,7 +198,7 @@ bad_order order d doubles ascii head k is lt le =
     )
 
 pub bad_place : (order : Order) (d doubles ascii : List ℕ) (head : Head) (k : ℕ) → IsHead order d head → k < head.keys →
-    IsMisplaced (only_items doubles ascii) (Some (entry_at order d k).location) (Some (entry_at order d k).count) (Some (entry_at order d k).first) → IsKeyMisplaced (key_source order d doubles ascii)
+    IsMisplaced (only_items doubles ascii) (Some (entry_at order d k).location) (Some (entry_at order d k).count) (Some (entry_at order d k).first) → IsFaultOfKeys (key_source order d doubles ascii) KeyPlace
 bad_place order d doubles ascii head k is lt bad =
     let s = key_source order d doubles ascii in
     let e = entry_at order d k in (

@@ -77,7 +77,7 @@ no_such_field = (0, inr (inr ((λ e. omega (arith, e)), (λ e. omega (arith, e))
 
 past_the_end : IsFaultOfKeys (alone (1 ∷ 1 ∷ 0 ∷ 1 ∷ 2057 ∷ 34736 ∷ 1 ∷ 0 ∷ [])) KeyPlace
 unfolding number_at number_in key_number
-past_the_end = (0, inr (inl (inl refl, (omega arith, omega arith))))
+past_the_end = (0, inr (inl (omega arith, omega arith)))
 
 same_key : IsFaultOfKeys (alone (1 ∷ 1 ∷ 0 ∷ 2 ∷ 1024 ∷ 0 ∷ 1 ∷ 1 ∷ 1024 ∷ 0 ∷ 1 ∷ 1 ∷ [])) KeyOrder
 unfolding number_at number_in key_number

@@ -5,7 +5,8 @@ use Rattle.std.specs.Option.{option_map, option_map_or}
 use Rattle.std.specs.List.{cons_option}
 use Rattle.reference_support.specs.declared.fields.Entry.{Entry}
 use Rattle.reference_support.specs.Entry.{field_of}
-use Rattle.tiff_dir.specs.File.{Field, field_at, fields_from, field_with_tag}
+use Rattle.tiff_dir.specs.File.{Field, field_at, fields_from}
+use Rattle.tiff_dir.specs.Table.{field_with_tag}
 
 -- the first entry, if its tag is there, and the others
 first_of : (at next n left : ℕ) (f : List ℕ) → next ≡ at + 12 → n ≡ left + 1 → fields_from f at n ≡ cons_option (field_at f at) (fields_from f next left)

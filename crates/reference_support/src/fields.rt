@@ -2,7 +2,8 @@
 ghost use Rattle.std.specs.Prelude.{◌≡◌, ◌<◌, ◌≤◌, ◌^◌, ◌+◌, ◌*◌, ℕ, List, IfSome, false, ◌==◌, length, Option};
 ghost use Rattle.std.specs.Option.{option_map, option_map_or};
 ghost use Rattle.tiff_dir.specs.Level.{place_of};
-ghost use Rattle.tiff_dir.specs.File.{default_of, field, field_at, field_value, fields_from, has_all_tags, kind_of, value, values_at, field_with_tag};
+ghost use Rattle.tiff_dir.specs.File.{default_of, field, field_at, field_value, fields_from, has_all_tags, kind_of, value, values_at};
+ghost use Rattle.tiff_dir.specs.Table.{field_with_tag};
 ghost use Rattle.reference_support.specs.Entry.{field_of, place_in};
 
 use crate::directories::{directory, entry_count};

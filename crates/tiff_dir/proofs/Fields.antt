@@ -14,11 +14,11 @@ use Rattle.tiff_dir.specs.declared.rule.Count.TheVariants.{One, Samples, Tiles, 
 use Rattle.tiff_dir.specs.declared.fault.FileFault.{FileFault}
 use Rattle.tiff_dir.specs.declared.fault.FileFault.TheVariants.{Missing, FieldType}
 use Rattle.tiff_dir.specs.Number.{number_in}
-use Rattle.tiff_dir.specs.File.{Field, order_of, number, field_with_tag, field, values_at, field_value, value, default_of}
+use Rattle.tiff_dir.specs.File.{Field, order_of, number, field, values_at, field_value, value, default_of}
 use Rattle.tiff_dir.specs.Profile.{has_typing}
 use Rattle.tiff_dir.specs.Fault.{IsMiscounted, IsRuleFault}
 use Rattle.tiff_dir.specs.Stage.{HasTable, IsTableOf}
-use Rattle.tiff_dir.specs.Table.{entry_at, entries_from, field_of, entry_with_tag, allows, counts_one, keeps, IsEntryFault, single_of, single_or, short_or}
+use Rattle.tiff_dir.specs.Table.{field_with_tag, entry_at, entries_from, field_of, entry_with_tag, allows, counts_one, keeps, IsEntryFault, single_of, single_or, short_or}
 use Rattle.tiff_dir.proofs.Parts.{part_inside, number_inside}
 use Rattle.tiff_dir.proofs.Chain.{some_and_at, some_and_from, same_entries, fields_are, all_tags}
 

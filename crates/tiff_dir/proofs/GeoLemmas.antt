@@ -23,7 +23,7 @@ use Rattle.tiff_dir.specs.File.{◌>>=◌, size_of, field}
 use Rattle.tiff_dir.specs.declared.limits.TheConstants.{MAX_GEO_BYTES}
 use Rattle.tiff_dir.specs.Profile.{subfile_rule, geo_profile, geo_rule, has_typing, is_multiple}
 use Rattle.tiff_dir.specs.Level.{place_of}
-use Rattle.tiff_dir.specs.Geo.{geo_place, IsLargeField, IsGeoFault}
+use Rattle.tiff_dir.specs.Geo.{geo_place, IsGeoFault}
 use Rattle.tiff_dir.specs.Fault.{IsRuleFault}
 use Rattle.tiff_dir.specs.GeoEntries.{geo_in, place_by, ArePlacesBy, IsFaultBy}
 use Rattle.tiff_dir.specs.WalkState.{HasGeo}
@@ -97,6 +97,10 @@ met es r p optional is = at (entry_with_tag r.tag es) refl is where
   at : (o : Option Entry) → entry_with_tag r.tag es ≡ o → place_by r o ≡ Ok p → keeps es r ≡ true
   at None there is = rw (there, optional) refl
   at (Some e) there is = rw there (placed r e p is).allowed
+
+-- the rule's field has more bytes than a geo field may have
+abbrev IsLargeField : List ℕ → Rule → Type 0
+IsLargeField f rule = IsSomeAnd (geo_place f rule.tag) (λ p. nat_le p.len MAX_GEO_BYTES ≡ false)
 
 not_large : (f : List ℕ) (es : List Entry) (r : Rule) (p : Option Place) → HasTable f 0 es → place_by r (entry_with_tag r.tag es) ≡ Ok p → IsLargeField f r → ⊥
 not_large f es r p has is bad = at (entry_with_tag r.tag es) refl is where

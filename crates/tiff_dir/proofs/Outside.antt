@@ -1,6 +1,7 @@
 -- The values of BitsPerSample and SampleFormat, in their entries and outside.
 use Rattle.tiff_dir.specs.declared.tags.TheConstants.{BITS_PER_SAMPLE, PHOTOMETRIC_INTERPRETATION, SAMPLES_PER_PIXEL, SAMPLE_FORMAT}
-use Rattle.std.proofs.Common.{IsErrAnd, ◌≡◌, ◌≢◌, ℕ, suc, ◌+◌, ◌*◌, ◌<◌, inl, inr, true, false, List, [], ◌∷◌, get_or, Option, Some, None, Result, Ok, Err, MatchResult, refl, sym, subst, ap, ◌∙◌, arith, lit<}
+use Rattle.std.proofs.Common.{IsErrAnd, ◌≡◌, ◌≢◌, ℕ, suc, ◌+◌, ◌*◌, ◌<◌, inl, inr, true, false, List, [], ◌∷◌, get_or, if◌then◌else◌, Option, Some, None, Result, Ok, Err, MatchResult, refl, sym, subst, ap, ◌∙◌, arith, lit<}
+use Rattle.std.specs.Prelude.{nat_lt}
 use Rattle.std.proofs.lemmas.Option.{same_Some, none-some}
 use Rattle.std.proofs.lemmas.Bool.{eqb-true, ne_eqb}
 use Rattle.std.specs.Option.{option_map, option_to_list}
@@ -17,7 +18,7 @@ use Rattle.tiff_dir.specs.declared.fault.FileFault.{FileFault}
 use Rattle.tiff_dir.specs.File.{◌>>=◌, has_directory, values_at, value}
 use Rattle.tiff_dir.specs.Profile.{subfile_rule, profile, is_depth, accepts}
 use Rattle.tiff_dir.specs.Level.{is_level, place_of}
-use Rattle.tiff_dir.specs.Needs.{outside_entry, outside_range, outside_ranges}
+use Rattle.tiff_dir.specs.Needs.{extent_of_place, outside_range, outside_ranges}
 use Rattle.tiff_dir.specs.Fault.{IsUnsupported, IsFaultOfLevel, IsFaultOfDirectories}
 use Rattle.tiff_dir.specs.Table.{field_of, entry_with_tag, keeps, short_or, counts_samples, long_in, draft_in, HasValues, HasCounts, IsReadIn}
 use Rattle.tiff_dir.specs.Stage.{HasTable, HasShorts, HasFormats, IsSupported, IsPending, StepsOn, EndsDirectory, ranges_from, three_shorts, still}
@@ -61,7 +62,7 @@ three_outside f k es r e has met short count is =
 one_inside : (f : List ℕ) (k : ℕ) (es : List Entry) (r : Rule) → HasTable f k es → keeps es r ≡ true → r.typing ≡ typing.Short → ((e : Entry) → entry_with_tag r.tag es ≡ Some e → e.count ≡ 1) → outside_range f k r.tag ≡ None
 unfolding outside_range place_of values_at
 one_inside f k es r has met short one = rw (field_told f k es r.tag has) (at (entry_with_tag r.tag es) refl) where
-  at : (o : Option Entry) → entry_with_tag r.tag es ≡ o → (option_map field_of o >>= place_of f >>= outside_entry) ≡ None
+  at : (o : Option Entry) → entry_with_tag r.tag es ≡ o → (option_map field_of o >>= place_of f >>= λ p. if nat_lt 4 p.len then Some (extent_of_place p) else None) ≡ None
   at None is = refl
   at (Some e) is = let kind = is_short es r e met short is in let count = one e is in rw (kind, count) refl
 

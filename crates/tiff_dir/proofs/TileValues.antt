@@ -1,6 +1,6 @@
 -- The values of a level's arrays, by their bytes.
 use Rattle.tiff_dir.specs.declared.tags.TheConstants.{BITS_PER_SAMPLE, COMPRESSION, IMAGE_LENGTH, IMAGE_WIDTH, SAMPLES_PER_PIXEL, TILE_BYTE_COUNTS, TILE_LENGTH, TILE_OFFSETS, TILE_WIDTH}
-use Rattle.std.proofs.Common.{◌≡◌, ℕ, ◌+◌, ◌*◌, ◌<◌, ◌≤◌, ◌==◌, inl, inr, Bool, true, false, List, length, Option, Some, None, refl, sym, ap, subst, ◌∙◌, arith}
+use Rattle.std.proofs.Common.{◌≡◌, ℕ, ◌+◌, ◌*◌, ◌<◌, ◌≤◌, ◌==◌, inl, inr, Bool, true, false, List, length, Option, Some, None, if◌then◌else◌, refl, sym, ap, subst, ◌∙◌, arith}
 use Rattle.std.proofs.Math.Nat.{mul-le-mul_right}
 use Rattle.std.proofs.lemmas.Option.{same_Some, none-some}
 use Rattle.std.proofs.lemmas.Bool.{lt-ltb, cases_Bool, eqb-true, false≢true}
@@ -13,7 +13,7 @@ use Rattle.tiff_dir.specs.declared.level.Compression.TheVariants.{Plain, PackBit
 use Rattle.tiff_dir.specs.declared.level.Kind.{Kind}
 use Rattle.tiff_dir.specs.declared.level.Kind.TheVariants as kind
 use Rattle.tiff_dir.specs.Number.{number_in}
-use Rattle.tiff_dir.specs.File.{◌>>=◌, Field, order_of, number, kind_of, size_of, values_at, field, field_value, value, absent_value}
+use Rattle.tiff_dir.specs.File.{◌>>=◌, Field, order_of, number, kind_of, size_of, values_at, has_all_tags, field, field_value, value, default_of}
 use Rattle.tiff_dir.specs.Described.{grid_of, layout_of}
 use Rattle.tiff_dir.specs.Level.{Layout, place_of, compression_of, grid_at, level_directory, level_grid, level_layout, level_value, plain_size, depth_at, plain_size_at}
 use Rattle.tiff_dir.specs.Walk.{IsArrayOf, IsDescribed}
@@ -67,7 +67,7 @@ entry_value f e p t told less =
 field_value_told : (f : List ℕ) (k tag t : ℕ) (p : Place) → (field f k tag >>= place_of f) ≡ Some p → t < p.count → value f k tag t ≡ number f (p.first + t * size_of p.kind) (size_of p.kind)
 unfolding value
 field_value_told f k tag t p told less = at (field f k tag) told where
-  at : (o : Option Field) → (o >>= place_of f) ≡ Some p → option_map_or (λ e. field_value f e t) o (absent_value f k tag) ≡ number f (p.first + t * size_of p.kind) (size_of p.kind)
+  at : (o : Option Field) → (o >>= place_of f) ≡ Some p → option_map_or (λ e. field_value f e t) o (if has_all_tags f k then default_of tag else None) ≡ number f (p.first + t * size_of p.kind) (size_of p.kind)
   at None told = absurd (none-some p told)
   at (Some e) told = entry_value f e p t told less
 

@@ -14,10 +14,6 @@ use Rattle.tiff_dir.specs.Profile.{subfile_rule, profile, has_typing, is_multipl
 use Rattle.tiff_dir.specs.Level.{is_level, previous_level, grid_at, plain_size_at, tile_total}
 use Rattle.tiff_dir.specs.Needs.{is_entry_count, ends_past, needs_of_directories}
 
--- the bytes that name the order are there and are neither pair, or the number after them isn't 42
-abbrev pub IsBadHeader : List ℕ → Type 0
-IsBadHeader f = ((2 ≤ length f) × (order_of f ≡ None)) ⊎ IsSomeAnd (number f 2 2) (λ n. n ≢ 42)
-
 -- a directory begins at an even place of at least 8
 abbrev pub is_directory_place : ℕ → Bool
 is_directory_place at = nat_le 8 at && (at % 2 == 0)
@@ -115,7 +111,8 @@ IsFaultOfLevel f k _ = ⊥
 
 -- A fault of the file that is none of one directory alone.
 abbrev pub IsFaultOfChain : List ℕ → FileFault → Type 0
-IsFaultOfChain f Header = IsBadHeader f
+-- the bytes that name the order are there and are neither pair, or the number after them isn't 42
+IsFaultOfChain f Header = ((2 ≤ length f) × (order_of f ≡ None)) ⊎ IsSomeAnd (number f 2 2) (λ n. n ≢ 42)
 IsFaultOfChain f PastEnd = list_any (ends_past f) (needs_of_directories f) ≡ true
 -- the place after as many directories as a file may have isn't 0
 IsFaultOfChain f TooManyDirs = has_directory f MAX_DIRECTORIES ≡ true

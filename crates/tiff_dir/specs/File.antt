@@ -78,11 +78,8 @@ unfoldable pub has_all_tags : List ℕ → ℕ → Bool
 has_all_tags f k = option_map_or (λ n. length (fields f k) == n) (entry_count f k) false
 
 -- the first entry with the tag
-abbrev pub field_with_tag : ℕ → List Field → Option Field
-field_with_tag tag fields = find (λ e. e.tag == tag) fields
-
 unfoldable pub field : List ℕ → ℕ → ℕ → Option Field
-field f k tag = field_with_tag tag (fields f k)
+field f k tag = find (λ (e : Field). e.tag == tag) (fields f k)
 
 -- the types 1 to 12
 abbrev pub kinds : List Kind
@@ -126,10 +123,7 @@ default_of tag =
     else if tag == SAMPLES_PER_PIXEL || tag == PLANAR_CONFIGURATION || tag == SAMPLE_FORMAT then Some 1
     else None
 
--- a field is absent where all tags of its directory are in the file, and none is its own
-abbrev pub absent_value : List ℕ → ℕ → ℕ → Option ℕ
-absent_value f k tag = if has_all_tags f k then default_of tag else None
-
--- Value i of the field with this tag in directory k.
+-- Value i of the field with this tag in directory k. The field is absent where all tags of its directory are in the file, and
+-- none is its own.
 unfoldable pub value : List ℕ → ℕ → ℕ → ℕ → Option ℕ
-value f k tag i = option_map_or (λ e. field_value f e i) (field f k tag) (absent_value f k tag)
+value f k tag i = option_map_or (λ e. field_value f e i) (field f k tag) (if has_all_tags f k then default_of tag else None)

@@ -1,8 +1,8 @@
 -- The fields that georeference an image: where they stand, and what is wrong with them (OGC 19-008, sections 7 and 8).
 -- They are looked at in the first directory, for the query Info alone.
-use Rattle.tiff_dir.specs.declared.tags.TheConstants.{GEO_KEY_DIRECTORY}
+use Rattle.tiff_dir.specs.declared.tags.TheConstants.{GEO_ASCII_PARAMS, GEO_DOUBLE_PARAMS, GEO_KEY_DIRECTORY}
 use Rattle.tiff_dir.specs.declared.limits.TheConstants.{MAX_GEO_BYTES}
-use Rattle.std.specs.Prelude.{◌≡◌, ℕ, false, nat_le, if◌then◌else◌, List, Option, Some, None, IsSomeAnd}
+use Rattle.std.specs.Prelude.{◌≡◌, ℕ, false, ◌||◌, nat_le, ◌==◌, if◌then◌else◌, List, Option, Some, None, IsSomeAnd}
 use Rattle.std.specs.Option.{option_map_or}
 use Rattle.std.specs.List.{Any, filter_map}
 use Rattle.tiff_dir.specs.declared.rule.Rule.{Rule}
@@ -14,7 +14,7 @@ use Rattle.tiff_dir.specs.Profile.{geo_profile}
 use Rattle.tiff_dir.specs.Level.{place_of}
 use Rattle.tiff_dir.specs.Needs.{Extent, field_range}
 use Rattle.tiff_dir.specs.Fault.{IsRuleFault}
-use Rattle.tiff_dir.specs.Keys.{KeySource, is_key_field}
+use Rattle.tiff_dir.specs.Keys.{KeySource}
 
 -- where the values of a geo field stand, if it is there
 unfoldable pub geo_place : List ℕ → ℕ → Option Place
@@ -24,14 +24,10 @@ geo_place f tag = field f 0 tag >>= place_of f
 unfoldable pub geo_ranges : List ℕ → List Extent
 geo_ranges f = filter_map (λ (rule : Rule). field_range f 0 rule.tag) geo_profile
 
--- the rule's field has more bytes than a geo field may have
-abbrev pub IsLargeField : List ℕ → Rule → Type 0
-IsLargeField f rule = IsSomeAnd (geo_place f rule.tag) (λ p. nat_le p.len MAX_GEO_BYTES ≡ false)
-
 -- A geo field has another type or count than it may have, or too many bytes.
 abbrev pub IsGeoFault : List ℕ → FileFault → Type 0
 IsGeoFault f (FieldType tag) = Any (λ rule. IsRuleFault f 0 rule (FieldType tag)) geo_profile
-IsGeoFault f TooLarge = Any (IsLargeField f) geo_profile
+IsGeoFault f TooLarge = Any (λ (r : Rule). IsSomeAnd (geo_place f r.tag) (λ p. nat_le p.len MAX_GEO_BYTES ≡ false)) geo_profile
 IsGeoFault f _ = ⊥
 
 -- ---- the key directory (section 7.1.1)
@@ -45,5 +41,5 @@ abbrev pub key_source : List ℕ → KeySource
 key_source f = record {
   value = value f 0 GEO_KEY_DIRECTORY;
   count = field f 0 GEO_KEY_DIRECTORY >>= λ e. e.count;
-  items = λ tag. if is_key_field tag then item_count f tag else None;
+  items = λ tag. if tag == GEO_DOUBLE_PARAMS || tag == GEO_ASCII_PARAMS then item_count f tag else None;
 }

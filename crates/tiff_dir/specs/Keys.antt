@@ -1,14 +1,10 @@
 -- The key directory (OGC 19-008, section 7.1.1): four numbers, then four for each key.
 use Rattle.tiff_dir.specs.declared.tags.TheConstants.{GEO_ASCII_PARAMS, GEO_DOUBLE_PARAMS}
-use Rattle.std.specs.Prelude.{◌≡◌, ◌≢◌, ℕ, ◌+◌, ◌*◌, ◌<◌, ◌⊎◌, Bool, ◌||◌, nat_lt, ◌==◌, if◌then◌else◌, Option, Some, None, IsSomeAnd}
+use Rattle.std.specs.Prelude.{◌≡◌, ◌≢◌, ℕ, ◌+◌, ◌*◌, ◌<◌, ◌⊎◌, nat_lt, ◌==◌, if◌then◌else◌, Option, Some, None, IsSomeAnd}
 use Rattle.tiff_dir.specs.declared.fault.FileFault.{FileFault}
 use Rattle.tiff_dir.specs.declared.fault.FileFault.TheVariants.{KeyHead, KeyOrder, KeyPlace}
 use Rattle.tiff_dir.specs.File.{◌>>=◌}
 use Rattle.tiff_dir.specs.Fault.{IsMisfit}
-
--- a field that a key may point into: GeoDoubleParams or GeoAsciiParams
-abbrev pub is_key_field : ℕ → Bool
-is_key_field tag = tag == GEO_DOUBLE_PARAMS || tag == GEO_ASCII_PARAMS
 
 -- What keys are read from: the numbers of the directory (GeoKeyDirectory), how many there are, and how many items the fields
 -- 34736 (GeoDoubleParams) and 34737 (GeoAsciiParams) have. What can't be told of a file is None.
@@ -35,30 +31,18 @@ IsBadKeyHead s =
     ⊎ (IsSomeAnd s.count (λ count. count < 4)
     ⊎ IsMisfit (λ count n. count == 4 + 4 * n) s.count (key_count s)))
 
--- a KeyID isn't greater than the one before
-abbrev pub IsKeyDisorder : KeySource → Type 0
-IsKeyDisorder s = (i : ℕ) × IsMisfit nat_lt (key_number s i 0) (key_number s (i + 1) 0)
-
--- the items of a field that the key counts, from an index on, end past those that the field has
-abbrev pub HasNoItems : KeySource → ℕ → (count first : Option ℕ) → Type 0
-HasNoItems s location count first =
-    ((location ≡ GEO_DOUBLE_PARAMS) ⊎ (location ≡ GEO_ASCII_PARAMS))
-    × IsSomeAnd count (λ n. (0 < n) × IsSomeAnd first (λ at. IsSomeAnd (s.items location) (λ items. items < at + n)))
-
 -- A key's value is in no field, or past its end, as far as the numbers say that are there: location 0 is the value itself, and
--- has one; the others are the two fields.
+-- has one. The others are the two fields, where the key counts items from an index on.
 abbrev pub IsMisplaced : KeySource → (location count first : Option ℕ) → Type 0
-IsMisplaced s location count first =
-    IsSomeAnd location (λ l. (l ≡ 0) × IsSomeAnd count (λ n. n ≢ 1))
-    ⊎ (IsSomeAnd location (λ l. HasNoItems s l count first)
-    ⊎ IsSomeAnd location (λ l. (l ≢ 0) × (l ≢ GEO_DOUBLE_PARAMS) × (l ≢ GEO_ASCII_PARAMS)))
-
-abbrev pub IsKeyMisplaced : KeySource → Type 0
-IsKeyMisplaced s = (i : ℕ) × IsMisplaced s (key_number s i 1) (key_number s i 2) (key_number s i 3)
+IsMisplaced s location count first = IsSomeAnd location (λ l.
+    ((l ≡ 0) × IsSomeAnd count (λ n. n ≢ 1))
+    ⊎ (IsSomeAnd (s.items l) (λ items. IsSomeAnd count (λ n. (0 < n) × IsSomeAnd first (λ at. items < at + n)))
+    ⊎ ((l ≢ 0) × (l ≢ GEO_DOUBLE_PARAMS) × (l ≢ GEO_ASCII_PARAMS))))
 
 -- What is wrong with the keys.
 abbrev pub IsFaultOfKeys : KeySource → FileFault → Type 0
 IsFaultOfKeys s KeyHead = IsBadKeyHead s
-IsFaultOfKeys s KeyOrder = IsKeyDisorder s
-IsFaultOfKeys s KeyPlace = IsKeyMisplaced s
+-- a KeyID isn't greater than the one before
+IsFaultOfKeys s KeyOrder = (i : ℕ) × IsMisfit nat_lt (key_number s i 0) (key_number s (i + 1) 0)
+IsFaultOfKeys s KeyPlace = (i : ℕ) × IsMisplaced s (key_number s i 1) (key_number s i 2) (key_number s i 3)
 IsFaultOfKeys s _ = ⊥

@@ -44,11 +44,8 @@ unfoldable pub field_range : List ℕ → ℕ → ℕ → Option Extent
 field_range f k tag = field f k tag >>= place_of f >>= λ p. Some (extent_of_place p)
 
 -- those that stand outside the entry
-abbrev pub outside_entry : Place → Option Extent
-outside_entry p = if nat_lt 4 p.len then Some (extent_of_place p) else None
-
 unfoldable pub outside_range : List ℕ → ℕ → ℕ → Option Extent
-outside_range f k tag = field f k tag >>= place_of f >>= outside_entry
+outside_range f k tag = field f k tag >>= place_of f >>= λ p. if nat_lt 4 p.len then Some (extent_of_place p) else None
 
 -- the values of BitsPerSample and SampleFormat that stand outside the entries of a level
 unfoldable pub outside_ranges : List ℕ → ℕ → List Extent

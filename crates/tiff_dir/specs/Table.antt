@@ -44,7 +44,10 @@ entries_of t = entries_from t.order (t.at + 2) 0 t.entries t.bytes.now
 abbrev pub field_of : Entry → Field
 field_of e = record { tag = e.tag; kind = Some e.kind; count = Some e.count; place = e.place }
 
--- the first entry with the tag
+-- the first field with the tag, and the first entry
+abbrev pub field_with_tag : ℕ → List Field → Option Field
+field_with_tag tag fields = find (λ e. e.tag == tag) fields
+
 abbrev pub entry_with_tag : ℕ → List Entry → Option Entry
 entry_with_tag tag es = find (λ e. e.tag == tag) es
 

@@ -1,5 +1,6 @@
 use Rattle.std.proofs.Common.{◌≡◌, ◌+◌, ◌*◌, ◌-◌}
-use Rattle.tiff_dir.specs.File.{fields_from, field_with_tag}
+use Rattle.tiff_dir.specs.File.{fields_from}
+use Rattle.tiff_dir.specs.Table.{field_with_tag}
 use Rattle.reference_support.proofs.fields.find_entry.Given as goal
 
 -- none of the entries so far has the tag
