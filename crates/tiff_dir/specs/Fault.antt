@@ -76,9 +76,7 @@ IsNotSmaller f k =
 
 -- how many tiles a directory has, by its grid
 unfoldable pub directory_tiles : List ℕ → ℕ → Option ℕ
-directory_tiles f k = do
-  grid ← grid_at f k
-  if nat_lt 0 grid.tile_width && nat_lt 0 grid.tile_length then Some (tile_total grid) else None
+directory_tiles f k = grid_at f k >>= λ g. if nat_lt 0 g.tile_width && nat_lt 0 g.tile_length then Some (tile_total g) else None
 
 abbrev pub IsNoTileSide : List ℕ → ℕ → ℕ → Type 0
 IsNoTileSide f k tag = IsSomeAnd (value f k tag 0) (λ side. is_tile_side side ≡ false)

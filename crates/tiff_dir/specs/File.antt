@@ -22,9 +22,7 @@ order_of f =
 
 -- The number of the n bytes from at, in the file's order, where they are in the file.
 unfoldable pub number : List ℕ → ℕ → ℕ → Option ℕ
-number f at n = do
-  order ← order_of f
-  if nat_le (at + n) (length f) then Some (number_in order at n f) else None
+number f at n = order_of f >>= λ order. if nat_le (at + n) (length f) then Some (number_in order at n f) else None
 
 -- Where directory k begins: the header says it of the first, and each directory of the next.
 unfoldable pub directory : List ℕ → ℕ → Option ℕ
@@ -57,9 +55,8 @@ pub record Field : Type 0 where
 
 -- the entry at this place, where its tag is in the file
 unfoldable pub field_at : List ℕ → ℕ → Option Field
-field_at f at = do
-  tag ← number f at 2
-  Some (record { tag = tag; kind = number f (at + 2) 2; count = number f (at + 4) 4; place = at })
+field_at f at =
+    number f at 2 >>= λ tag. Some (record { tag = tag; kind = number f (at + 2) 2; count = number f (at + 4) 4; place = at })
 
 -- those of the n entries from this place whose tags are in the file
 unfoldable pub fields_from : List ℕ → ℕ → ℕ → List Field

@@ -59,9 +59,7 @@ grid_at f k = do
 
 -- the depth of the samples of directory k, where it is 8 or 16 bits
 unfoldable pub depth_at : List ℕ → ℕ → Option ℕ
-depth_at f k = do
-  bits ← value f k BITS_PER_SAMPLE 0
-  if is_depth bits then Some bits else None
+depth_at f k = value f k BITS_PER_SAMPLE 0 >>= λ bits. if is_depth bits then Some bits else None
 
 -- the layout that directory k describes, where all that it says is in the file
 unfoldable pub layout_at : List ℕ → ℕ → Option Layout

@@ -47,14 +47,9 @@ scaled f n x y w h = do
   first_length ← level_value f 0 IMAGE_LENGTH 0
   width ← level_value f n IMAGE_WIDTH 0
   length ← level_value f n IMAGE_LENGTH 0
-  let left = scaled_down width first_width x in let top = scaled_down length first_length y in
-      Some (record {
-        level = n;
-        left = left;
-        top = top;
-        width = scaled_up width first_width (x + w) - left;
-        height = scaled_up length first_length (y + h) - top;
-      })
+  let left = scaled_down width first_width x in let right = scaled_up width first_width (x + w) in
+      let top = scaled_down length first_length y in let bottom = scaled_up length first_length (y + h) in
+      Some (record { level = n; left = left; top = top; width = right - left; height = bottom - top })
 
 -- The rectangle that is asked for; 0 columns ask for none.
 unfoldable pub rectangle : List ℕ → Query → Option Rectangle
@@ -124,15 +119,11 @@ tile_range f n t = do
 
 -- Those bytes, where they are in the file.
 unfoldable pub segment : List ℕ → ℕ → ℕ → Option (List ℕ)
-segment f n t = do
-  r ← tile_range f n t
-  if ends_past f r then None else Some (bytes_in f r)
+segment f n t = tile_range f n t >>= λ r. if ends_past f r then None else Some (bytes_in f r)
 
 -- where the bytes of the window's tiles stand, tile by tile
 unfoldable pub tile_ranges : List ℕ → Query → List (Option Extent)
-tile_ranges f q = unwrap_or (do
-  r ← rectangle f q
-  Some (map (tile_range f r.level) (window_tiles f q))) []
+tile_ranges f q = option_map_or (λ r. map (tile_range f r.level) (window_tiles f q)) (rectangle f q) []
 
 -- ---- groups: tiles that follow each other in the file are read by one range
 
