@@ -146,13 +146,14 @@ no_fault_of_window f q a w Outside u painted bad = false≢true (sym (both_false
 no_fault_of_window f q a w TooLarge u painted bad = false≢true (sym (both_false (is_outside f q) (is_too_large f q) u.planned.good).1 ∙ bad)
 no_fault_of_window f q a w _ u painted bad = absurd bad
 
+with_some : {X : Type 0} (o : Option X) (x : X) (P : X → Type 0) → o ≡ Some x → P x → IsSomeAnd o P
+with_some o x P is good = rw is good
+
 pub whole_window : (f : List ℕ) (q : Query) (a : Arrays) (w : MosaicState) (v : List ℕ) → IsUnderway f q a w → ((t : ℕ) → IsAmong (tiles_of a.level w.picture.rectangle) t → IsPainted f w.picture.rectangle.level w.picture t)
     → ((fault : FileFault) → IsFaultOfDirectories f fault → ⊥) → HasSamples f (rectangle_of w.picture.rectangle) v → IsWindow f q v
 unfolding IsFaulty rectangle
 whole_window f Info a w v u painted clean samples = absurd (none-some (rectangle_of w.picture.rectangle) u.planned.rectangle_is)
-whole_window f (Window x y wide tall p) a w v u painted clean samples = record {
-  sound = λ fault bad. elim bad [ inl of_file ↦ clean fault of_file | inr of_window ↦ no_fault_of_window f (Window x y wide tall p) a w fault u painted of_window ];
-  asked = rectangle_of w.picture.rectangle;
-  asked_is = u.planned.rectangle_is;
-  samples = samples;
-}
+whole_window f (Window x y wide tall p) a w v u painted clean samples = (
+  λ fault bad. elim bad [ inl of_file ↦ clean fault of_file | inr of_window ↦ no_fault_of_window f (Window x y wide tall p) a w fault u painted of_window ],
+  with_some (rectangle f (Window x y wide tall p)) (rectangle_of w.picture.rectangle) (λ r. HasSamples f r v) u.planned.rectangle_is samples,
+)

@@ -27,7 +27,7 @@ use Rattle.tiff_dir.specs.Level.{Layout, place_of, level_directory, level_layout
 use Rattle.tiff_dir.specs.Needs.{Extent, extent_of_place}
 use Rattle.tiff_dir.specs.Walk.{bytes_in}
 use Rattle.tiff_dir.specs.Query.{Rectangle, rectangle, tile_range, array_range, window_tiles, segment}
-use Rattle.tiff_dir.specs.Window.{IsUnpackedBy, IsUnpacked, tile_at, place_in_tile, sample_in, IsSample}
+use Rattle.tiff_dir.specs.Window.{IsUnpackedBy, IsUnpacked, tile_at, place_in_tile, sample_in, HasSamples, IsSample}
 use Rattle.tiff_dir.specs.Faulty.{HasTile, is_byte_count, IsNotPlainSize, IsFaulty, IsWindow}
 use Rattle.tiff_dir.specs.Shape.{draft_tiles, has_arrays}
 use Rattle.tiff_dir.proofs.Chain.{some_and_from}
@@ -258,18 +258,16 @@ window_there f q sound c a none =
     let some = some_samples l.samples a.placed.level.laid.samples in
     choose (r.width * r.height * l.samples) (IsSampleAt f r l.samples)
     (λ k less. let at = place_of_window r.width r.height l.samples k some less in samples_there f q ((k / l.samples) % r.width) ((k / l.samples) / r.width) (k % l.samples) c a at.0 at.1 at.2)
-    (λ v size each. none v (record {
-      sound = sound;
-      asked = r;
-      asked_is = a.asked_is;
-      samples = record {
+    (λ v size each. none v (
+      sound,
+      some_and_from (rectangle f q) (λ r. HasSamples f r v) r a.asked_is (record {
         layout = l;
         layout_is = layout_there f r.level a.placed.level;
         size = size;
         each = λ i j s left top less. sample_at f r l.samples i j s (slice_index v ((j * r.width + i) * l.samples + s)) left less
             (each ((j * r.width + i) * l.samples + s) (omega (arith, mul-add-lt (j * r.width + i) l.samples s (r.width * r.height) (mul-add-lt j r.width i r.height top left) less)));
-      };
-    }))
+      }),
+    ))
 
 pub some_window : (f : List ℕ) (x y w h : ℕ) (p : Pick) → ((fault : FileFault) → IsFaulty f (Window x y w h p) fault → ⊥) → ((v : List ℕ) → IsWindow f (Window x y w h p) v → ⊥) → ⊥
 some_window f x y w h p sound none =

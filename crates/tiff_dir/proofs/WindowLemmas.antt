@@ -10,7 +10,7 @@ use Rattle.tiff_dir.specs.declared.level.Compression.TheVariants.{Plain, PackBit
 use Rattle.tiff_dir.specs.declared.query.Query.{Query}
 use Rattle.tiff_dir.specs.File.{order_of}
 use Rattle.tiff_dir.specs.Level.{Layout, level_layout, plain_row, plain_size}
-use Rattle.tiff_dir.specs.Query.{Rectangle, segment}
+use Rattle.tiff_dir.specs.Query.{Rectangle, rectangle, segment}
 use Rattle.tiff_dir.specs.Window.{IsUnpackedBy, IsUnpacked, tile_at, place_in_tile, sample_in, IsSample, HasSamples}
 use Rattle.tiff_dir.specs.Faulty.{IsWindow}
 use Rattle.tiff_dir.proofs.Chain.{some_and_at}
@@ -121,5 +121,5 @@ samples_once f r v u a b =
 
 pub window_once : (f : List ℕ) (q : Query) (v u : List ℕ) → IsWindow f q v → IsWindow f q u → v ≡ u
 window_once f q v u a b =
-    let same : b.asked ≡ a.asked = same_Some _ _ (sym b.asked_is ∙ a.asked_is) in
-    samples_once f a.asked v u a.samples (subst (λ (r : Rectangle). HasSamples f r u) same b.samples)
+    let (r, asked, samples) = opened (rectangle f q) (λ r. HasSamples f r v) a.1 in
+    samples_once f r v u samples (some_and_at (rectangle f q) (λ r. HasSamples f r u) r asked b.1)

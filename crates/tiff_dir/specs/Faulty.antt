@@ -14,7 +14,7 @@ use Rattle.tiff_dir.specs.Needs.{ends_past}
 use Rattle.tiff_dir.specs.Geo.{IsGeoFault, geo_ranges, key_source}
 use Rattle.tiff_dir.specs.Keys.{IsFaultOfKeys}
 use Rattle.tiff_dir.specs.Fault.{IsFaultOfDirectories}
-use Rattle.tiff_dir.specs.Query.{Rectangle, rectangle, is_outside, is_too_large, window_tiles, array_ranges, tile_ranges, segment}
+use Rattle.tiff_dir.specs.Query.{rectangle, is_outside, is_too_large, window_tiles, array_ranges, tile_ranges, segment}
 use Rattle.tiff_dir.specs.Window.{HasSamples, IsUnpacked}
 
 -- this holds of a tile of the window, by the number of its level and its own
@@ -60,8 +60,5 @@ IsFaulty f Info fault = IsFaultOfDirectories f fault ⊎ IsFaultOfInfo f fault
 IsFaulty f q fault = IsFaultOfDirectories f fault ⊎ IsFaultOfWindow f q fault
 
 -- v is the window of the file: no fault stands, and v has its samples.
-pub record IsWindow (f : List ℕ) (q : Query) (v : List ℕ) : Type 0 where
-  pub sound : (fault : FileFault) → IsFaulty f q fault → ⊥
-  pub asked : Rectangle
-  pub asked_is : rectangle f q ≡ Some asked
-  pub samples : HasSamples f asked v
+abbrev pub IsWindow : List ℕ → Query → List ℕ → Type 0
+IsWindow f q v = ((fault : FileFault) → IsFaulty f q fault → ⊥) × IsSomeAnd (rectangle f q) (λ r. HasSamples f r v)
