@@ -19,7 +19,7 @@ use Rattle.tiff_dir.specs.declared.stage.Stage.{Stage}
 use Rattle.tiff_dir.specs.declared.stage.Stage.TheVariants.{Table}
 use Rattle.tiff_dir.specs.declared.fault.FileFault.{FileFault}
 use Rattle.tiff_dir.specs.declared.fault.FileFault.TheVariants.{FieldType, TooLarge}
-use Rattle.tiff_dir.specs.File.{◌>>=◌, size_of, field}
+use Rattle.tiff_dir.specs.File.{◌>>=◌, size_of}
 use Rattle.tiff_dir.specs.declared.limits.TheConstants.{MAX_GEO_BYTES}
 use Rattle.tiff_dir.specs.Profile.{subfile_rule, geo_profile, geo_rule, has_typing, is_multiple}
 use Rattle.tiff_dir.specs.Level.{place_of}

@@ -117,8 +117,7 @@ field_value f e i = do
 abbrev pub default_of : ℕ → Option ℕ
 default_of tag =
     if tag == NEW_SUBFILE_TYPE then Some 0
-    else if tag == SAMPLES_PER_PIXEL || tag == PLANAR_CONFIGURATION || tag == SAMPLE_FORMAT then Some 1
-    else None
+    else if tag == SAMPLES_PER_PIXEL || tag == PLANAR_CONFIGURATION || tag == SAMPLE_FORMAT then Some 1 else None
 
 -- Value i of the field with this tag in directory k. The field is absent where all tags of its directory are in the file, and
 -- none is its own.

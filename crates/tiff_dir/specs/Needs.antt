@@ -54,8 +54,7 @@ outside_ranges f k =
 
 -- what is read of directory k
 unfoldable pub ranges_of_directory : List ℕ → ℕ → List Extent
-ranges_of_directory f k =
-    option_to_list (count_range f k) ++ option_to_list (table_range f k) ++ outside_ranges f k
+ranges_of_directory f k = option_to_list (count_range f k) ++ option_to_list (table_range f k) ++ outside_ranges f k
 
 -- The ranges that every query needs, in the order in which they are read: the header, and what is read of each directory. A
 -- range is among them where each value that gives its place is in the file.

@@ -66,8 +66,7 @@ accepts tag v =
     else if tag == PHOTOMETRIC_INTERPRETATION then v == 1 || v == 2
     else if tag == SAMPLES_PER_PIXEL then v == 1 || v == 3
     else if tag == PLANAR_CONFIGURATION then v == 1 || v == 2
-    else if tag == SAMPLE_FORMAT then v == 1
-    else true
+    else if tag == SAMPLE_FORMAT then v == 1 else true
 
 -- one sample with BlackIsZero, three with RGB
 abbrev pub samples_fit : ℕ → ℕ → Bool

@@ -54,8 +54,7 @@ scaled f n x y w h = do
 -- The rectangle that is asked for; 0 columns ask for none.
 unfoldable pub rectangle : List ℕ → Query → Option Rectangle
 rectangle f (Window x y w h (pick.Level n)) = Some (record { level = n; left = x; top = y; width = w; height = h })
-rectangle f (Window x y w h (pick.Columns columns)) =
-    if columns == 0 then None else scaled f (smallest_level f columns w) x y w h
+rectangle f (Window x y w h (pick.Columns columns)) = if columns == 0 then None else scaled f (smallest_level f columns w) x y w h
 rectangle f Info = None
 
 -- the side is there and ends before this place
@@ -150,8 +149,7 @@ array_ranges f q =
 -- what a window needs, and what Info needs, besides the directories
 unfoldable pub needs_of_query : List ℕ → Query → List Extent
 needs_of_query f Info = geo_ranges f
-needs_of_query f (Window x y w h p) =
-    let q = Window x y w h p in array_ranges f q ++ joined_after None (tile_ranges f q)
+needs_of_query f q = array_ranges f q ++ joined_after None (tile_ranges f q)
 
 -- The ranges of the file that the query needs.
 unfoldable pub needs : List ℕ → Query → List Extent
