@@ -1,5 +1,6 @@
 -- What a server answers, and the head that says it (RFC 9110, sections 8.8.3, 14.4 and 15; RFC 9112, section 4).
-use Rattle.std.specs.Prelude.{ℕ, ◌+◌, ◌-◌, ◌<◌, ◌≤◌, ◌^◌, IsTrue, Bool, List, [], ◌∷◌, ◌++◌, codes, decimal, ⊤}
+use Rattle.std.specs.Prelude.{ℕ, ◌+◌, ◌-◌, ◌<◌, ◌≤◌, ◌^◌, IsTrue, Bool, List, [], ◌∷◌, ◌++◌, slice_range, codes, decimal, ⊤}
+use Rattle.std.specs.Str.Parse.{digits_value}
 use Rattle.http_range.specs.declared.reply.Reply.{Reply}
 use Rattle.http_range.specs.declared.reply.Reply.TheVariants.{R200, R206, R304, R400, R404, R405, R412, R416}
 use Rattle.http_parts.specs.Tag.{is_kept_tag}
@@ -17,16 +18,6 @@ IsSent R405 = ⊤
 IsSent R412 = ⊤
 IsSent (R416 length) = length < 2 ^ 64
 
-abbrev pub status_of : Reply → ℕ
-status_of (R200 tag length) = 200
-status_of (R206 tag first last length) = 206
-status_of (R304 tag) = 304
-status_of R400 = 400
-status_of R404 = 404
-status_of R405 = 405
-status_of R412 = 412
-status_of (R416 length) = 416
-
 abbrev pub status_line : Reply → List ℕ
 status_line (R200 tag length) = codes "HTTP/1.1 200 OK"
 status_line (R206 tag first last length) = codes "HTTP/1.1 206 Partial Content"
@@ -36,6 +27,10 @@ status_line R404 = codes "HTTP/1.1 404 Not Found"
 status_line R405 = codes "HTTP/1.1 405 Method Not Allowed"
 status_line R412 = codes "HTTP/1.1 412 Precondition Failed"
 status_line (R416 length) = codes "HTTP/1.1 416 Range Not Satisfiable"
+
+-- the number that the three digits of the status line write
+abbrev pub status_of : Reply → ℕ
+status_of reply = digits_value 10 (slice_range (status_line reply) 9 12)
 
 -- `bytes A-B/L`
 unfoldable pub content_range : ℕ → ℕ → ℕ → List ℕ
