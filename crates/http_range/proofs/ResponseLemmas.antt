@@ -8,13 +8,13 @@ use Rattle.http_range.specs.declared.range.RangeSpec.{RangeSpec}
 use Rattle.http_range.specs.declared.range.RangeSpec.TheVariants.{Between, From, Suffix}
 use Rattle.http_range.specs.declared.range.Resolved.{Resolved}
 use Rattle.http_range.specs.declared.range.Resolved.TheVariants.{Whole, Part, Unsatisfiable}
-use Rattle.http_range.specs.declared.reply.Reply.TheVariants.{R200, R206, R400, R405, R412}
+use Rattle.http_range.specs.declared.reply.Reply.TheVariants.{R200, R206, R304, R400, R405, R412}
 use Rattle.http_range.specs.Range.{range_spec, resolved, resolved_or}
 use Rattle.http_range.specs.Reply.{IsSent}
 use Rattle.http_range.specs.Reading.{reply_seen, tag_seen}
 use Rattle.http_range.specs.Seen.{SeenRequest, HasRequest, seen_request}
 use Rattle.http_range.specs.Book.{Publication, IsPublication, Catalogue, IsCatalogue, published}
-use Rattle.http_range.specs.Response.{Response, has_other_version, lacks_host, announces_body, has_other_method, lacks_origin_form, asks_close, is_method, fails_precondition, is_unmodified, serve_tag, range_to_serve, target_name, refused, serve_head, serve_part, serve_file, answer_by}
+use Rattle.http_range.specs.Response.{Response, has_other_version, lacks_host, announces_body, has_other_method, lacks_origin_form, asks_close, is_method, fails_precondition, is_unmodified, range_to_serve, target_name, refused, serve_part, serve_file, answer_by, with_tag}
 use Rattle.http_range.specs.Honest.{IsFront, IsPieceOf}
 use Rattle.http_range.specs.Laws.{AnswersAreUnique}
 use Rattle.http_range.proofs.BookLemmas.{published_own, published_lawful}
@@ -128,10 +128,10 @@ module _ (catalogue : Catalogue) (lawful : IsCatalogue catalogue) where
           body = inner;
         }
 
-    kind_tag : Kind catalogue (serve_tag p close)
+    kind_tag : Kind catalogue (with_tag p (R304 p.tag) close [])
     kind_tag = inr (p, record { has = has; named = refl; sent = is.tagged; told = λ k. tt; tagged = refl })
 
-    kind_head : Kind catalogue (serve_head p close)
+    kind_head : Kind catalogue (with_tag p (R200 p.tag (length p.file)) close [])
     kind_head =
         let small = is.small in
         inr (p, record { has = has; named = refl; sent = (is.tagged, omega arith); told = whole_piece [] (front_nil p.file); tagged = refl })

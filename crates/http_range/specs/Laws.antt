@@ -1,7 +1,7 @@
 -- Laws of the definitions, each the contract of a function of `laws`.
 use Rattle.std.specs.Prelude.{◌≡◌, ◌≢◌, ◌<◌, ◌≤◌, ◌^◌, ◌-◌, ◌↔◌, ◌⊎◌, ℕ, suc, Bool, true, false, IsTrue, IsErr, IfOk, IsSomeAnd, List, [], ◌∷◌, ◌++◌, length, take, drop, Option, Some, None, Result, Ok, Err}
 use Rattle.httparse.specs.Grammar.{RequestHead, IsRequestHead, print_request}
-use Rattle.http_range.specs.Ask.{CanAsk, open_request_text, request_by, request_text, CanCheck, check_text}
+use Rattle.http_range.specs.Ask.{CanAsk, request_by, CanCheck, check_text}
 use Rattle.http_range.specs.Book.{Publication, IsPublication, Book, In, HasDistinctTags, Includes, Covers, Catalogue, IsCatalogue, published, publish, publication_tag}
 use Rattle.http_range.specs.Response.{Response, ending, text_of, IsAnswer, response_to_client, response_to_check}
 use Rattle.http_parts.specs.declared.limits.TheConstants.{HEAD_LIMIT, MESSAGE_LIMIT}
@@ -84,7 +84,7 @@ abbrev pub ClientsAreAnswered : Type 0
 ClientsAreAnswered =
     (catalogue : Catalogue) (host name more : List ℕ) (first last : ℕ) (tag : Option (List ℕ)) (response : Response)
     → CanAsk host name first last tag → first ≤ last
-    → IsAnswer catalogue (request_text host name first last tag ++ more) response
+    → IsAnswer catalogue (request_by true host name first last tag ++ more) response
     ↔ (response ≡ response_to_client (published name catalogue) first last tag)
 
 -- the same whether the connection is to end or may go on, but that the answer ends it or doesn't
@@ -107,7 +107,7 @@ abbrev pub ClientsAreServed : Type 0
 ClientsAreServed =
     (catalogue : Catalogue) (host name more : List ℕ) (first last : ℕ) (tag : Option (List ℕ)) (rs : List Response)
     → CanAsk host name first last tag → first ≤ last
-    → IsAnswered catalogue (request_text host name first last tag ++ more) rs
+    → IsAnswered catalogue (request_by true host name first last tag ++ more) rs
     ↔ (rs ≡ response_to_client (published name catalogue) first last tag ∷ [])
 
 -- one that lets the connection go on has its answer, and then those to what follows
@@ -115,7 +115,7 @@ abbrev pub OpenClientsAreServed : Type 0
 OpenClientsAreServed =
     (catalogue : Catalogue) (n : ℕ) (host name more : List ℕ) (first last : ℕ) (tag : Option (List ℕ)) (rs : List Response)
     → CanAsk host name first last tag → first ≤ last
-    → AreAnswers catalogue (suc n) (open_request_text host name first last tag ++ more) rs
+    → AreAnswers catalogue (suc n) (request_by false host name first last tag ++ more) rs
     ↔ ((later : List Response) × (rs ≡ ending false (response_to_client (published name catalogue) first last tag) ∷ later)
     × AreAnswers catalogue n more later)
 

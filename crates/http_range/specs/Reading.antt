@@ -1,5 +1,6 @@
 -- How an answer is read: the rows of the table, each by itself, and the first that applies.
 use Rattle.std.specs.Prelude.{◌≡◌, ℕ, ◌+◌, ◌-◌, ◌&&◌, ◌||◌, ◌==◌, not, nat_le, Bool, true, false, if◌then◌else◌, List, [], length, take, codes, Option, Some, None, is_none, unwrap_or, option_and_then, Result, Ok, Err}
+use Rattle.std.specs.Option.{option_map_or}
 use Rattle.http_range.specs.declared.reading.Why.{Why}
 use Rattle.http_range.specs.declared.reading.Why.TheVariants.{Cut, Status, NoTag, WeakTag, TagTooLong, NoRange, NoLength, Coding}
 use Rattle.http_range.specs.declared.reading.ContentRange.{ContentRange}
@@ -29,8 +30,7 @@ has_field name head = is_there (values_of name head.fields)
 
 -- a test of a value that may be missing
 abbrev pub holds : {A : Type 0} → Option A → (A → Bool) → Bool
-holds None test = false
-holds (Some x) test = test x
+holds value test = option_map_or test value false
 
 -- the positions of its only Content-Range
 abbrev pub range_named : SeenHead → Option ContentRange

@@ -2,6 +2,7 @@
 use Rattle.std.specs.Prelude.{◌≡◌, ℕ, ◌+◌, ◌-◌, ◌&&◌, ◌||◌, ◌==◌, min, not, nat_eq, nat_lt, Bool, true, false, if◌then◌else◌, List, [], ◌∷◌, ◌++◌, length, take, drop, codes, Option, Some, None, option_and_then}
 use Rattle.std.specs.List.{list_any, starts_with}
 use Rattle.std.specs.Str.{bytes_eq}
+use Rattle.std.specs.Option.{option_map_or}
 use Rattle.http_range.specs.declared.range.Resolved.{Resolved}
 use Rattle.http_range.specs.declared.range.Resolved.TheVariants.{Whole, Part, Unsatisfiable}
 use Rattle.http_range.specs.declared.reply.Reply.{Reply}
@@ -36,9 +37,7 @@ is_method method r = bytes_eq r.method method
 
 -- the values of If-Range let a range be served: there is none, or one that is the tag byte for byte
 abbrev pub lets_range : List (List ℕ) → List ℕ → Bool
-lets_range [] tag = true
-lets_range (value ∷ []) tag = bytes_eq value tag
-lets_range (value ∷ other ∷ values) tag = false
+lets_range values tag = option_map_or (λ value. bytes_eq value tag) (only values) (not (is_there values))
 
 -- the value of the only Range field, where If-Range lets it be served
 abbrev pub range_to_serve : SeenRequest → List ℕ → Option (List ℕ)
@@ -96,27 +95,19 @@ refused reply close = record { reply = reply; close = close; name = None; body =
 abbrev pub with_tag : Publication → Reply → Bool → List ℕ → Response
 with_tag p reply close body = record { reply = reply; close = close; name = Some p.name; body = body }
 
--- not modified: the tag alone
-abbrev pub serve_tag : Publication → Bool → Response
-serve_tag p close = with_tag p (R304 p.tag) close []
-
--- head: the head of the whole file
-abbrev pub serve_head : Publication → Bool → Response
-serve_head p close = with_tag p (R200 p.tag (length p.file)) close []
-
 -- part, unsatisfiable, whole
 abbrev pub serve_part : Resolved → Publication → Bool → Response
 serve_part (Part a b) p close = with_tag p (R206 p.tag a b (length p.file)) close (take (b - a + 1) (drop a p.file))
 serve_part Unsatisfiable p close = refused (R416 (length p.file)) close
 serve_part Whole p close = with_tag p (R200 p.tag (length p.file)) close p.file
 
--- the rows from *unknown name* on
+-- the rows from *unknown name* on: *not modified* is answered by the tag alone, and *head* by the head of the whole file
 abbrev pub serve_file : Option Publication → SeenRequest → Response
 serve_file None r = refused R404 (asks_close r)
 serve_file (Some p) r =
     if fails_precondition r p.tag then refused R412 (asks_close r)
-    else if is_unmodified r p.tag then serve_tag p (asks_close r)
-    else if is_method (codes "HEAD") r then serve_head p (asks_close r)
+    else if is_unmodified r p.tag then with_tag p (R304 p.tag) (asks_close r) []
+    else if is_method (codes "HEAD") r then with_tag p (R200 p.tag (length p.file)) (asks_close r) []
     else serve_part (part_to_serve r p.tag (length p.file)) p (asks_close r)
 
 -- the first row that applies; None is a message without a head
@@ -156,4 +147,5 @@ ending close s = record s { close = close }
 -- what is answered to a client that checks whether the file has this tag
 abbrev pub response_to_check : Option Publication → List ℕ → Response
 response_to_check None tag = refused R404 true
-response_to_check (Some p) tag = if bytes_eq tag p.tag then serve_tag p true else serve_head p true
+response_to_check (Some p) tag =
+    if bytes_eq tag p.tag then with_tag p (R304 p.tag) true [] else with_tag p (R200 p.tag (length p.file)) true []
