@@ -1,6 +1,7 @@
 //! What a request says, case by case of how the server answers (RFC 9110, with its section at each).
 ghost use Rattle.std.specs.Prelude.{◌≡◌, ◌≤◌, codes, option_copied};
-ghost use Rattle.http_range.specs.Response.{asks_close, has_other_version, lacks_host, announces_body, has_other_method, lacks_origin_form, is_method, fails_precondition, is_unmodified, lets_range, range_to_serve, part_to_serve};
+ghost use Rattle.std.specs.Str.{bytes_eq};
+ghost use Rattle.http_range.specs.Response.{asks_close, has_other_version, lacks_host, announces_body, has_other_method, lacks_origin_form, fails_precondition, is_unmodified, lets_range, range_to_serve, part_to_serve};
 ghost use Rattle.http_parts.specs.Fields.{values_of};
 ghost use Rattle.cog_server.specs.Place.{IsInside};
 
@@ -37,7 +38,7 @@ pub fn announces_body(request: &Request<'_>) -> bool
 
 /// Whether the method is HEAD, whose answer has no body (section 9.3.2).
 pub fn is_head(request: &Request<'_>) -> bool
-    ensures { result ≡ is_method (codes "HEAD") request.now }
+    ensures { result ≡ bytes_eq request.now.method (codes "HEAD") }
 {
     request.method() == b"HEAD".as_slice()
 }

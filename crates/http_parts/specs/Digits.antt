@@ -5,8 +5,7 @@ use Rattle.std.specs.Str.Parse.{digits_value}
 
 -- the number that one or more digits write, however many they are
 abbrev pub number : List ℕ → Option ℕ
-number text =
-    if nat_lt 0 (length text) && all_ascii_digits text then Some (digits_value 10 text) else None
+number text = if nat_lt 0 (length text) && all_ascii_digits text then Some (digits_value 10 text) else None
 
 -- the number of 64 bits that one or more digits write
 unfoldable pub number_64 : List ℕ → Option ℕ

@@ -1,6 +1,7 @@
 -- What kinds of answers a server gives.
 use Rattle.std.proofs.Common.{◌≡◌, ℕ, ◌+◌, ◌-◌, ◌<◌, ◌≤◌, ◌⊎◌, inl, inr, Bool, true, false, cond, List, [], ◌++◌, length, take, drop, min, refl, sym, ap, ◌∙◌, arith, append_assoc, append-nil, codes, take-append-drop, length-append, length-drop, Option, Some, None}
 use Rattle.std.specs.Prelude.{◌||◌, IsErr, IfOk, option_and_then}
+use Rattle.std.specs.Str.{bytes_eq}
 use Rattle.std.proofs.Math.Dec.{eqb, ltb}
 use Rattle.std.proofs.lemmas.Bool.{ltb-true, eqb-false}
 use Rattle.httparse.proofs.GrammarLemmas.{request_unique}
@@ -14,7 +15,7 @@ use Rattle.http_range.specs.Reply.{IsSent}
 use Rattle.http_range.specs.Reading.{reply_seen, tag_seen}
 use Rattle.http_range.specs.Seen.{SeenRequest, HasRequest, seen_request}
 use Rattle.http_range.specs.Book.{Publication, IsPublication, Catalogue, IsCatalogue, published}
-use Rattle.http_range.specs.Response.{Response, has_other_version, lacks_host, announces_body, has_other_method, lacks_origin_form, asks_close, is_method, fails_precondition, is_unmodified, range_to_serve, target_name, refused, serve_part, serve_file, answer_by, with_tag}
+use Rattle.http_range.specs.Response.{Response, has_other_version, lacks_host, announces_body, has_other_method, lacks_origin_form, asks_close, fails_precondition, is_unmodified, range_to_serve, target_name, refused, serve_part, serve_file, answer_by, with_tag}
 use Rattle.http_range.specs.Honest.{IsFront, IsPieceOf}
 use Rattle.http_range.specs.Laws.{AnswersAreUnique}
 use Rattle.http_range.proofs.BookLemmas.{published_own, published_lawful}
@@ -175,7 +176,7 @@ module _ (catalogue : Catalogue) (lawful : IsCatalogue catalogue) where
       let is = published_lawful (target_name r) catalogue p lawful found in
       kind_if catalogue (fails_precondition r p.tag) _ _ (plain (refused R412 (asks_close r)) refl tt (λ rest. refl) refl)
       (kind_if catalogue (is_unmodified r p.tag) _ _ (kind_tag p has is (asks_close r))
-      (kind_if catalogue (is_method (codes "HEAD") r) _ _ (kind_head p has is (asks_close r))
+      (kind_if catalogue (bytes_eq r.method (codes "HEAD")) _ _ (kind_head p has is (asks_close r))
       (kind_part p has is (asks_close r) (range_to_serve r p.tag) _ refl)))
 
   bad : Kind catalogue (refused R400 true)

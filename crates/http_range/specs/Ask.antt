@@ -27,8 +27,7 @@ request_fields close host first last tag =
 
 -- the text of that request, which ends the connection or lets it go on
 abbrev pub request_by : Bool → List ℕ → List ℕ → ℕ → ℕ → Option (List ℕ) → List ℕ
-request_by close host name first last tag =
-    head_with (request_line (codes "GET") name) (request_fields close host first last tag)
+request_by close host name first last tag = head_with (request_line (codes "GET") name) (request_fields close host first last tag)
 
 -- what a client asks with
 pub record CanAsk (host name : List ℕ) (first last : ℕ) (tag : Option (List ℕ)) : Type 0 where
@@ -49,13 +48,10 @@ asked_request close host name first last tag = record {
 
 -- ---- the check
 
--- the fields of a check whether the file still has the client's tag
-abbrev pub check_fields : List ℕ → List ℕ → List FieldLine
-check_fields host tag = (codes "Host", host) ∷ (codes "If-None-Match", tag) ∷ closing true
-
--- the text of the check
+-- the text of a check whether the file still has the client's tag
 abbrev pub check_text : List ℕ → List ℕ → List ℕ → List ℕ
-check_text host name tag = head_with (request_line (codes "HEAD") name) (check_fields host tag)
+check_text host name tag =
+    head_with (request_line (codes "HEAD") name) ((codes "Host", host) ∷ (codes "If-None-Match", tag) ∷ closing true)
 
 -- what a client checks with
 pub record CanCheck (host name tag : List ℕ) : Type 0 where
@@ -69,5 +65,5 @@ checked_request host name tag = record {
   method = codes "HEAD";
   target = codes "/" ++ name;
   minor = 1;
-  fields = check_fields host tag;
+  fields = (codes "Host", host) ∷ (codes "If-None-Match", tag) ∷ closing true;
 }

@@ -50,8 +50,7 @@ spec_behind text =
 
 -- the range that the value of a Range field names
 unfoldable pub range_spec : List ℕ → Option RangeSpec
-range_spec text =
-    if bytes_eq (str_to_ascii_lowercase (take 6 text)) (codes "bytes=") then spec_behind (drop 6 text) else None
+range_spec text = if bytes_eq (str_to_ascii_lowercase (take 6 text)) (codes "bytes=") then spec_behind (drop 6 text) else None
 
 -- ---- the part
 

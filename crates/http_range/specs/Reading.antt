@@ -78,13 +78,11 @@ announced_by_rows partial tag range length size =
 
 -- the rows from *no range* on; a 206 is a part
 abbrev pub announced_in : SeenHead → List ℕ → Result Announced Why
-announced_in head tag =
-    announced_by_rows (head.status == 206) tag (range_named head) (length_named head) head.size
+announced_in head tag = announced_by_rows (head.status == 206) tag (range_named head) (length_named head) head.size
 
 -- the first row that applies to a whole head
 abbrev pub announced_of : SeenHead → Result Announced Why
-announced_of head =
-    if has_other_status head then Err (Status head.status) else (tag_in head >>= announced_in head)
+announced_of head = if has_other_status head then Err (Status head.status) else (tag_in head >>= announced_in head)
 
 -- how the head of an answer is read: by the rows, or as *cut* or *refused head*
 abbrev pub ReadsHead : List ℕ → Result Announced Why → Type 0
@@ -92,8 +90,7 @@ ReadsHead bytes r = (found : Result SeenHead Why) × FindsHead bytes found × (r
 
 -- how an answer is read: by its head, and a piece is what follows that
 abbrev pub ReadsAnswer : List ℕ → Result SeenPiece Why → Type 0
-ReadsAnswer bytes r =
-    (head : Result Announced Why) × ReadsHead bytes head × (r ≡ (head >>= (λ a. Ok (piece_behind bytes a))))
+ReadsAnswer bytes r = (head : Result Announced Why) × ReadsHead bytes head × (r ≡ (head >>= (λ a. Ok (piece_behind bytes a))))
 
 -- ---- the connection
 
@@ -123,8 +120,7 @@ ReadsCheck bytes r = (found : Result SeenHead Why) × FindsHead bytes found × (
 
 -- what a reply announces in a head of this size
 abbrev pub reply_announced : Reply → ℕ → Result Announced Why
-reply_announced (R200 tag l) size =
-    Ok (record { tag = tag; whole = true; first = 0; complete = l; length = l; size = size })
+reply_announced (R200 tag l) size = Ok (record { tag = tag; whole = true; first = 0; complete = l; length = l; size = size })
 reply_announced (R206 tag first last l) size =
     Ok (record { tag = tag; whole = false; first = first; complete = l; length = last - first + 1; size = size })
 reply_announced (R304 tag) size = Err (Status 304)
@@ -142,8 +138,7 @@ front_announced reply close k =
 
 -- what a reply says to a client that got these bytes behind its head
 abbrev pub reply_seen : Reply → List ℕ → Result SeenPiece Why
-reply_seen (R200 tag l) rest =
-    Ok (record { tag = tag; whole = true; first = 0; complete = l; body = take l rest })
+reply_seen (R200 tag l) rest = Ok (record { tag = tag; whole = true; first = 0; complete = l; body = take l rest })
 reply_seen (R206 tag first last l) rest =
     Ok (record { tag = tag; whole = false; first = first; complete = l; body = take (last - first + 1) rest })
 reply_seen (R304 tag) rest = Err (Status 304)

@@ -9,8 +9,7 @@ use Rattle.http_parts.specs.Text.{FieldLine, head_with, closing}
 -- a reply that a server sends: its tag is kept, its positions lie in the file, and its numbers have 64 bits
 abbrev pub IsSent : Reply → Type 0
 IsSent (R200 tag length) = IsTrue (is_kept_tag tag) × (length < 2 ^ 64)
-IsSent (R206 tag first last length) =
-    IsTrue (is_kept_tag tag) × (first ≤ last) × (last < length) × (length < 2 ^ 64)
+IsSent (R206 tag first last length) = IsTrue (is_kept_tag tag) × (first ≤ last) × (last < length) × (length < 2 ^ 64)
 IsSent (R304 tag) = IsTrue (is_kept_tag tag)
 IsSent R400 = ⊤
 IsSent R404 = ⊤
@@ -34,28 +33,21 @@ status_of reply = digits_value 10 (slice_range (status_line reply) 9 12)
 
 -- `bytes A-B/L`
 unfoldable pub content_range : ℕ → ℕ → ℕ → List ℕ
-content_range first last length =
-    codes "bytes " ++ decimal first ++ codes "-" ++ decimal last ++ codes "/" ++ decimal length
-
--- the tag of the file (section 8.8.3)
-abbrev pub entity_tag : List ℕ → FieldLine
-entity_tag tag = (codes "ETag", tag)
+content_range first last length = codes "bytes " ++ decimal first ++ codes "-" ++ decimal last ++ codes "/" ++ decimal length
 
 abbrev pub content_length : ℕ → FieldLine
 content_length length = (codes "Content-Length", decimal length)
 
--- the fields that say what the file is
+-- the fields that say what the file is, the first of them its tag (section 8.8.3)
 abbrev pub file_fields : List ℕ → List FieldLine
 file_fields tag =
-    entity_tag tag ∷ (codes "Accept-Ranges", codes "bytes")
-    ∷ (codes "Content-Type", codes "image/tiff") ∷ []
+    (codes "ETag", tag) ∷ (codes "Accept-Ranges", codes "bytes") ∷ (codes "Content-Type", codes "image/tiff") ∷ []
 
 abbrev pub fields_of : Reply → List FieldLine
 fields_of (R200 tag length) = file_fields tag ++ content_length length ∷ []
 fields_of (R206 tag first last length) =
-    file_fields tag ++ (codes "Content-Range", content_range first last length)
-    ∷ content_length (last - first + 1) ∷ []
-fields_of (R304 tag) = entity_tag tag ∷ []
+    file_fields tag ++ (codes "Content-Range", content_range first last length) ∷ content_length (last - first + 1) ∷ []
+fields_of (R304 tag) = (codes "ETag", tag) ∷ []
 fields_of R405 = (codes "Allow", codes "GET, HEAD") ∷ content_length 0 ∷ []
 fields_of (R416 length) = (codes "Content-Range", codes "bytes */" ++ decimal length) ∷ content_length 0 ∷ []
 fields_of reply = content_length 0 ∷ []

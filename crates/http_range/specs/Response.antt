@@ -32,9 +32,6 @@ text_of s = head_text s.reply s.close ++ s.body
 abbrev pub asks_close : SeenRequest → Bool
 asks_close r = list_any (has_member (codes "close")) (values_of (codes "Connection") r.fields)
 
-abbrev pub is_method : List ℕ → SeenRequest → Bool
-is_method method r = bytes_eq r.method method
-
 -- the values of If-Range let a range be served: there is none, or one that is the tag byte for byte
 abbrev pub lets_range : List (List ℕ) → List ℕ → Bool
 lets_range values tag = option_map_or (λ value. bytes_eq value tag) (only values) (not (is_there values))
@@ -65,7 +62,7 @@ announces_body r =
 
 -- method: neither GET nor HEAD
 abbrev pub has_other_method : SeenRequest → Bool
-has_other_method r = not (is_method (codes "GET") r) && not (is_method (codes "HEAD") r)
+has_other_method r = not (bytes_eq r.method (codes "GET")) && not (bytes_eq r.method (codes "HEAD"))
 
 -- target form: it isn't the origin-form, which begins with `/`
 abbrev pub lacks_origin_form : SeenRequest → Bool
@@ -107,7 +104,7 @@ serve_file None r = refused R404 (asks_close r)
 serve_file (Some p) r =
     if fails_precondition r p.tag then refused R412 (asks_close r)
     else if is_unmodified r p.tag then with_tag p (R304 p.tag) (asks_close r) []
-    else if is_method (codes "HEAD") r then with_tag p (R200 p.tag (length p.file)) (asks_close r) []
+    else if bytes_eq r.method (codes "HEAD") then with_tag p (R200 p.tag (length p.file)) (asks_close r) []
     else serve_part (part_to_serve r p.tag (length p.file)) p (asks_close r)
 
 -- the first row that applies; None is a message without a head
