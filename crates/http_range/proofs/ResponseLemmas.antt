@@ -1,6 +1,8 @@
 -- What kinds of answers a server gives.
 use Rattle.std.proofs.Common.{◌≡◌, ℕ, ◌+◌, ◌-◌, ◌<◌, ◌≤◌, ◌⊎◌, inl, inr, Bool, true, false, cond, List, [], ◌++◌, length, take, drop, min, refl, sym, ap, ◌∙◌, arith, append_assoc, append-nil, codes, take-append-drop, length-append, length-drop, Option, Some, None}
-use Rattle.std.specs.Prelude.{◌||◌, IsErr, IfOk, option_and_then}
+use Rattle.std.specs.Prelude.{◌||◌, ◌&&◌, not, nat_eq, IsErr, IfOk, option_and_then}
+use Rattle.std.specs.List.{starts_with}
+use Rattle.http_parts.specs.Fields.{values_of}
 use Rattle.std.specs.Str.{bytes_eq}
 use Rattle.std.proofs.Math.Dec.{eqb, ltb}
 use Rattle.std.proofs.lemmas.Bool.{ltb-true, eqb-false}
@@ -15,7 +17,7 @@ use Rattle.http_range.specs.Reply.{IsSent}
 use Rattle.http_range.specs.Reading.{reply_seen, tag_seen}
 use Rattle.http_range.specs.Seen.{SeenRequest, HasRequest, seen_request}
 use Rattle.http_range.specs.Book.{Publication, IsPublication, Catalogue, IsCatalogue, published}
-use Rattle.http_range.specs.Response.{Response, has_other_version, lacks_host, announces_body, has_other_method, lacks_origin_form, asks_close, fails_precondition, is_unmodified, range_to_serve, target_name, refused, serve_part, serve_file, answer_by, with_tag}
+use Rattle.http_range.specs.Response.{Response, announces_body, asks_close, fails_precondition, is_unmodified, range_to_serve, target_name, refused, serve_part, serve_file, answer_by, with_tag}
 use Rattle.http_range.specs.Honest.{IsFront, IsPieceOf}
 use Rattle.http_range.specs.Laws.{AnswersAreUnique}
 use Rattle.http_range.proofs.BookLemmas.{published_own, published_lawful}
@@ -185,9 +187,9 @@ module _ (catalogue : Catalogue) (lawful : IsCatalogue catalogue) where
   pub kind_of : (o : Option SeenRequest) → Kind catalogue (answer_by catalogue o)
   kind_of None = bad
   kind_of (Some r) =
-      kind_if catalogue (has_other_version r || lacks_host r || announces_body r) _ _ bad
-      (kind_if catalogue (has_other_method r) _ _ (plain (refused R405 (asks_close r)) refl tt (λ rest. refl) refl)
-      (kind_if catalogue (lacks_origin_form r) _ _ bad (kind_file r _ refl)))
+      kind_if catalogue (not (eqb r.minor 1) || not (eqb (length (values_of (codes "Host") r.fields)) 1) || announces_body r) _ _ bad
+      (kind_if catalogue (not (bytes_eq r.method (codes "GET")) && not (bytes_eq r.method (codes "HEAD"))) _ _ (plain (refused R405 (asks_close r)) refl tt (λ rest. refl) refl)
+      (kind_if catalogue (not (starts_with nat_eq r.target (codes "/"))) _ _ bad (kind_file r _ refl)))
 
 -- ---- a message has one answer
 

@@ -47,26 +47,10 @@ part_to_serve r tag length = resolved_or (option_and_then range_spec (range_to_s
 
 -- ---- the rows
 
--- version: another one than HTTP/1.1
-abbrev pub has_other_version : SeenRequest → Bool
-has_other_version r = not (r.minor == 1)
-
--- host: not exactly one Host field
-abbrev pub lacks_host : SeenRequest → Bool
-lacks_host r = not (length (values_of (codes "Host") r.fields) == 1)
-
 -- body announced: a Content-Length or Transfer-Encoding field
 abbrev pub announces_body : SeenRequest → Bool
 announces_body r =
     is_there (values_of (codes "Content-Length") r.fields) || is_there (values_of (codes "Transfer-Encoding") r.fields)
-
--- method: neither GET nor HEAD
-abbrev pub has_other_method : SeenRequest → Bool
-has_other_method r = not (bytes_eq r.method (codes "GET")) && not (bytes_eq r.method (codes "HEAD"))
-
--- target form: it isn't the origin-form, which begins with `/`
-abbrev pub lacks_origin_form : SeenRequest → Bool
-lacks_origin_form r = not (starts_with nat_eq r.target (codes "/"))
 
 -- the name behind the `/`
 abbrev pub target_name : SeenRequest → List ℕ
@@ -107,13 +91,14 @@ serve_file (Some p) r =
     else if bytes_eq r.method (codes "HEAD") then with_tag p (R200 p.tag (length p.file)) (asks_close r) []
     else serve_part (part_to_serve r p.tag (length p.file)) p (asks_close r)
 
--- the first row that applies; None is a message without a head
+-- The first row that applies: *version* is another one than HTTP/1.1, *host* is not exactly one Host field, *method* is neither
+-- GET nor HEAD, and *target form* is not the origin-form, which begins with `/`. None is a message without a head.
 abbrev pub answer_by : Catalogue → Option SeenRequest → Response
 answer_by catalogue None = refused R400 true
 answer_by catalogue (Some r) =
-    if has_other_version r || lacks_host r || announces_body r then refused R400 true
-    else if has_other_method r then refused R405 (asks_close r)
-    else if lacks_origin_form r then refused R400 true
+    if not (r.minor == 1) || not (length (values_of (codes "Host") r.fields) == 1) || announces_body r then refused R400 true
+    else if not (bytes_eq r.method (codes "GET")) && not (bytes_eq r.method (codes "HEAD")) then refused R405 (asks_close r)
+    else if not (starts_with nat_eq r.target (codes "/")) then refused R400 true
     else serve_file (published (target_name r) catalogue) r
 
 -- the server's answer to the head at the front of a message
