@@ -2,7 +2,7 @@
 -- are is a law, by the grammar (`ListsAreMatched`).
 use Rattle.std.specs.Prelude.{ℕ, Bool, false, ◌&&◌, ◌==◌, not, if◌then◌else◌, List, [], ◌∷◌, map}
 use Rattle.std.specs.List.{list_any, onto_first}
-use Rattle.std.specs.Str.{bytes_eq, str_to_ascii_lowercase}
+use Rattle.std.specs.Str.{str_eq_ignore_ascii_case}
 use Rattle.httparse.specs.Grammar.{trim_ows}
 
 -- the parts between commas, where no quoted string is open: with `quotes` each quote opens one or closes it
@@ -19,5 +19,4 @@ members quotes value = map trim_ows (parts_from quotes false value)
 
 -- a member is this word; case is ignored
 abbrev pub has_member : List ℕ → List ℕ → Bool
-has_member word value =
-    list_any (λ member. bytes_eq (str_to_ascii_lowercase member) (str_to_ascii_lowercase word)) (members false value)
+has_member word value = list_any (λ member. str_eq_ignore_ascii_case member word) (members false value)

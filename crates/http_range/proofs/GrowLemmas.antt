@@ -1,6 +1,6 @@
 -- What is read of the head at the front of an answer stays when bytes follow.
 use Rattle.std.proofs.Common.{◌≡◌, ◌≢◌, ℕ, ◌+◌, ◌-◌, ◌<◌, ◌≤◌, inl, inr, Bool, true, false, cond, List, [], ◌∷◌, ◌++◌, length, take, drop, refl, sym, ap, ◌∙◌, subst, arith, append_assoc, append-nil, length-append, length-take, Option, Some, None, Result, Ok, Err}
-use Rattle.std.specs.Prelude.{IfOk, codes, is_none, nat_le, not, unwrap_or, ◌&&◌, ◌==◌}
+use Rattle.std.specs.Prelude.{IfOk, codes, is_none, nat_le, not, unwrap_or, ◌&&◌, ◌||◌, ◌==◌}
 use Rattle.std.proofs.Math.Seq.{take-append-add, take-append_seam}
 use Rattle.std.proofs.lemmas.Bool.{cases_lt}
 use Rattle.std.proofs.lemmas.List.{take_all, take-append-drop, take-append-le, drop-append-le}
@@ -14,7 +14,7 @@ use Rattle.http_parts.specs.Tag.{is_entity_tag, is_weak_tag}
 use Rattle.http_range.specs.Head.{SeenHead, IsHeadOf, seen_head, FindsHead}
 use Rattle.http_range.specs.Piece.{◌>>=◌}
 use Rattle.http_range.specs.Announced.{Announced, announced_by, body_behind, FitsFront}
-use Rattle.http_range.specs.Reading.{range_named, length_named, has_other_status, holds, is_coded, value_of, lacks_length, tag_in, announced_in, announced_of, ReadsHead}
+use Rattle.http_range.specs.Reading.{range_named, length_named, has_other_status, holds, is_coded, value_of, tag_in, announced_in, announced_of, ReadsHead}
 use Rattle.http_range.specs.Laws.{HasNone, HeadsGrow}
 use Rattle.http_range.proofs.FrontLemmas.{found_whole}
 
@@ -111,7 +111,7 @@ place_decided head tag =
     let part = head.status == 206 in
     let range : Option ContentRange = range_named head in
     let length : Option ℕ = length_named head in
-    place_rows (part && is_none range) (lacks_length part range length)
+    place_rows (part && is_none range) (not (holds length (λ n. not part || holds range (λ r. r.last - r.first + 1 == n))))
     (announced_by tag (cond part range None) (unwrap_or length 0) head.size)
 
 bind_decided : (head : SeenHead) (tag : Result (List ℕ) Why) → is_headless tag ≡ false → is_headless (tag >>= announced_in head) ≡ false
@@ -200,7 +200,7 @@ sized seen =
     let length : Option ℕ = length_named seen in
     let rows : (tag : List ℕ) → HasSize n (announced_in seen tag) =
     λ tag. if_sized n (part && is_none range) (Err NoRange) _ tt
-    (if_sized n (lacks_length part range length) (Err NoLength) _ tt
+    (if_sized n (not (holds length (λ m. not part || holds range (λ r. r.last - r.first + 1 == m)))) (Err NoLength) _ tt
     (by_sized tag (cond part range None) (unwrap_or length 0) n))
     in
     if_sized n (has_other_status seen) (Err (Status seen.status)) _ tt

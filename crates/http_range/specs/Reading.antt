@@ -24,10 +24,6 @@ use Rattle.http_range.specs.ContentRange.{range_of}
 abbrev pub value_of : List ℕ → SeenHead → Option (List ℕ)
 value_of name head = only (values_of name head.fields)
 
--- there is such a field
-abbrev pub has_field : List ℕ → SeenHead → Bool
-has_field name head = is_there (values_of name head.fields)
-
 -- a test of a value that may be missing
 abbrev pub holds : {A : Type 0} → Option A → (A → Bool) → Bool
 holds value test = option_map_or test value false
@@ -48,7 +44,8 @@ has_other_status head = not (head.status == 200) && not (head.status == 206)
 
 -- coding: a Transfer-Encoding or Content-Encoding field
 abbrev pub is_coded : SeenHead → Bool
-is_coded head = has_field (codes "Transfer-Encoding") head || has_field (codes "Content-Encoding") head
+is_coded head =
+    is_there (values_of (codes "Transfer-Encoding") head.fields) || is_there (values_of (codes "Content-Encoding") head.fields)
 
 -- the value of the only ETag field: *no tag* where there is none, or it isn't an entity tag; *weak tag*; *long tag* where its text
 -- has more than 64 bytes; or the tag
@@ -63,17 +60,13 @@ tag_by_rows value =
 abbrev pub tag_in : SeenHead → Result (List ℕ) Why
 tag_in head = if is_coded head then Err Coding else tag_by_rows (value_of (codes "ETag") head)
 
--- no length: not exactly one Content-Length of digits and 64 bits, or for a part not b - a + 1
-abbrev pub lacks_length : Bool → Option ContentRange → Option ℕ → Bool
-lacks_length partial range length =
-    is_none length || (partial && not (holds range (λ r. holds length (λ n. r.last - r.first + 1 == n))))
-
--- *no range*, a part without exactly one Content-Range `bytes a-b/l`; *no length*; or what is announced: the whole file, or the
--- part that the range names, and as many bytes as the Content-Length says
+-- *no range*, a part without exactly one Content-Range `bytes a-b/l`, or *no length*, not exactly one Content-Length of digits
+-- and 64 bits, or for a part not b - a + 1, or else what is announced: the whole file, or the part that the range names, and as
+-- many bytes as the Content-Length says
 abbrev pub announced_by_rows : Bool → List ℕ → Option ContentRange → Option ℕ → ℕ → Result Announced Why
 announced_by_rows partial tag range length size =
     if partial && is_none range then Err NoRange
-    else if lacks_length partial range length then Err NoLength
+    else if not (holds length (λ n. not partial || holds range (λ r. r.last - r.first + 1 == n))) then Err NoLength
     else Ok (announced_by tag (if partial then range else None) (unwrap_or length 0) size)
 
 -- the rows from *no range* on; a 206 is a part
