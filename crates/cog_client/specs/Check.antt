@@ -1,11 +1,11 @@
 -- A client's check whether the file is still the one that it reads (RFC 9110, section 13.1.2).
-use Rattle.std.specs.Prelude.{◌≡◌, ℕ, if◌then◌else◌, List, Option, Some, None, Result, Ok, Err}
+use Rattle.std.specs.Prelude.{◌≡◌, ℕ, if◌then◌else◌, List, Option, Some, None, IsSomeAnd, Result, Ok, Err}
 use Rattle.std.specs.Option.{option_map}
 use Rattle.std.specs.Str.{bytes_eq}
 use Rattle.http_range.specs.declared.reading.Why.{Why}
 use Rattle.http_range.specs.Ask.{check_text}
-use Rattle.http_range.specs.Book.{Publication}
-use Rattle.http_range.specs.Honest.{IsHonestFor, IsNamelessFront}
+use Rattle.http_range.specs.Book.{Book, published}
+use Rattle.http_range.specs.Honest.{IsHonest}
 use Rattle.http_range.specs.Piece.{number_of_why}
 use Rattle.http_range.specs.Reading.{ReadsCheck}
 use Rattle.cog_client.specs.declared.delivered.Current.{Current}
@@ -34,7 +34,9 @@ IsCurrent None text current = current ≡ Unknown NoRevision
 IsCurrent (Some tag) text current =
     (reading : Result (List ℕ) Why) × ReadsCheck text reading × (current ≡ current_by tag reading)
 
--- What an honest answer that says "same" tells: the catalogue that it is of has the client's tag under the name.
-pub record IsStillThere (tag : Option (List ℕ)) (text : List ℕ) : Type 0 where
-  pub there : (p : Publication) → IsHonestFor text p → tag ≡ Some p.tag
-  pub named : IsNamelessFront text → ⊥
+-- What an honest answer that says "same" tells: it carries the tag of a file, the catalogue that it is of has that file under the
+-- name, and the file's tag is the client's.
+abbrev pub IsStillThere : Option (List ℕ) → List ℕ → Type 0
+IsStillThere tag text =
+    (name : List ℕ) (book : Book) (honest : IsHonest text name book)
+    → (honest.response.name ≡ Some name) × IsSomeAnd (published name honest.catalogue) (λ p. tag ≡ Some p.tag)

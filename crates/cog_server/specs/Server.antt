@@ -18,14 +18,14 @@ pub record ServerState : Type 0 where
 
 -- ---- publications
 
--- why a file isn't published, the first that holds
-abbrev pub refusal_of : ServerState → List ℕ → List ℕ → Option PublishError
-refusal_of s name file =
+-- why a file isn't published after so many publications of the epoch, the first that holds
+abbrev pub refusal_of : (count : ℕ) → Catalogue → (name file : List ℕ) → Option PublishError
+refusal_of count catalogue name file =
     if not (is_name name) then Some Name
     else if length file == 0 then Some Empty
     else if nat_lt FILE_LIMIT (length file) then Some TooLarge
-    else if is_none (published name s.catalogue) && nat_le NAMES_LIMIT (length s.catalogue) then Some TooManyNames
-    else if s.count == 4294967295 then Some Exhausted
+    else if is_none (published name catalogue) && nat_le NAMES_LIMIT (length catalogue) then Some TooManyNames
+    else if count == 4294967295 then Some Exhausted
     else None
 
 -- the refusal is that one, or want of memory where there is none

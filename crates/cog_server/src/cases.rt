@@ -1,6 +1,8 @@
 //! What a request says, case by case of how the server answers (RFC 9110, with its section at each).
-ghost use Rattle.std.specs.Prelude.{◌≡◌, ◌≤◌, codes, option_copied};
-ghost use Rattle.http_range.specs.Response.{asks_close, has_other_version, lacks_host, announces_body, has_other_method, lacks_origin_form, is_method, fails_precondition, is_unmodified, lets_range, range_to_serve, part_to_serve};
+ghost use Rattle.std.specs.Prelude.{◌≡◌, ◌≤◌, ◌==◌, ◌&&◌, not, nat_eq, length, codes, option_copied};
+ghost use Rattle.std.specs.List.{starts_with};
+ghost use Rattle.std.specs.Str.{bytes_eq};
+ghost use Rattle.http_range.specs.Response.{asks_close, announces_body, fails_precondition, is_unmodified, lets_range, range_to_serve, part_to_serve};
 ghost use Rattle.http_parts.specs.Fields.{values_of};
 ghost use Rattle.cog_server.specs.Place.{IsInside};
 
@@ -16,14 +18,14 @@ pub fn asks_close(request: &Request<'_>) -> bool
 
 /// Whether the version is another one than HTTP/1.1, which is answered by 400 (section 2.5).
 pub fn has_other_version(request: &Request<'_>) -> bool
-    ensures { result ≡ has_other_version request.now }
+    ensures { result ≡ not (request.now.minor == 1) }
 {
     request.minor() != 1
 }
 
 /// Whether there isn't exactly one Host field, which is answered by 400 (section 7.2; RFC 9112, section 3.2).
 pub fn lacks_host(request: &Request<'_>) -> bool
-    ensures { result ≡ lacks_host request.now }
+    ensures { result ≡ not (length (values_of (codes "Host") request.now.fields) == 1) }
 {
     request.only(b"Host").is_none()
 }
@@ -37,21 +39,21 @@ pub fn announces_body(request: &Request<'_>) -> bool
 
 /// Whether the method is HEAD, whose answer has no body (section 9.3.2).
 pub fn is_head(request: &Request<'_>) -> bool
-    ensures { result ≡ is_method (codes "HEAD") request.now }
+    ensures { result ≡ bytes_eq request.now.method (codes "HEAD") }
 {
     request.method() == b"HEAD".as_slice()
 }
 
 /// Whether the method is neither GET nor HEAD, which is answered by 405 (sections 9.1 and 15.5.6).
 pub fn has_other_method(request: &Request<'_>) -> bool
-    ensures { result ≡ has_other_method request.now }
+    ensures { result ≡ not (bytes_eq request.now.method (codes "GET")) && not (bytes_eq request.now.method (codes "HEAD")) }
 {
     request.method() != b"GET".as_slice() && !is_head(request)
 }
 
 /// Whether the target isn't in origin form, a path behind `/`, which is answered by 400 (section 7.1; RFC 9112, section 3.2.1).
 pub fn lacks_origin_form(request: &Request<'_>) -> bool
-    ensures { result ≡ lacks_origin_form request.now }
+    ensures { result ≡ not (starts_with nat_eq request.now.target (codes "/")) }
 {
     !request.target().starts_with(b"/")
 }

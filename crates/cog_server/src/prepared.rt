@@ -2,7 +2,7 @@
 ghost use Rattle.std.specs.Prelude.{◌≡◌, ◌≤◌, Some, length, map, slice_range};
 ghost use Rattle.std.specs.Rc.{rc_slice_items};
 ghost use Rattle.http_range.specs.Reply.{status_of};
-ghost use Rattle.http_range.specs.Response.{IsAnswer, answer_by, refused, serve_file, serve_head, serve_part, serve_tag};
+ghost use Rattle.http_range.specs.Response.{IsAnswer, answer_by, refused, serve_file, serve_part};
 ghost use Rattle.cog_server.specs.Catalogue.{publication};
 ghost use Rattle.cog_server.specs.Place.{IsInside};
 ghost use Rattle.cog_server.specs.Prepared.{response_of};

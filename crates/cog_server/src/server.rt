@@ -99,8 +99,8 @@ impl Server {
     /// 4,294,967,295 publications of the epoch.
     pub fn publish(&mut self, name: &[u8], file: Vec<u8>) -> Result<Tag, PublishError>
         // It is refused by the first rule that holds, and by want of memory only where none does.
-        ensures accepted { OnOk result (refusal_of self.old name.now file.items ≡ None) }
-        ensures refused { IfErr result (IsRefusal (refusal_of self.old name.now file.items)) }
+        ensures accepted { OnOk result (refusal_of self.old.count self.old.catalogue name.now file.items ≡ None) }
+        ensures refused { IfErr result (IsRefusal (refusal_of self.old.count self.old.catalogue name.now file.items)) }
 
         // The tag has the epoch and the number of the publication, and the file takes the place of the one of its name.
         ensures tag { IfOk result (λ tag. tag ≡ publication_tag self.old.epoch (self.old.count + 1)) }
@@ -134,7 +134,7 @@ impl Server {
 
     /// Why the file isn't published.
     fn refusal(&self, name: &[u8], file: &[u8]) -> Option<PublishError>
-        ensures first { result ≡ refusal_of self.now name.now file.now }
+        ensures first { result ≡ refusal_of self.now.count self.now.catalogue name.now file.now }
         ensures room { result ≡ None → self.now.count < 4294967295 }
     {
         if !is_name(name) {

@@ -7,7 +7,7 @@ use Rattle.std.specs.Prelude.{option_and_then}
 use Rattle.std.specs.Str.{all_ascii_digits}
 use Rattle.std.specs.Str.Parse.{digits_value, digits_value_after}
 use Rattle.std.proofs.lemmas.Bool.{lt-ltb, le-ltb}
-use Rattle.http_parts.specs.Digits.{with_64_bits, number_64}
+use Rattle.http_parts.specs.Digits.{number_64}
 
 -- what the digits write behind those of n
 abbrev pub number_from : ℕ → List ℕ → Option ℕ
@@ -46,7 +46,7 @@ unfolding number_64 number_by
 number_some cs some = rw (lt-ltb 0 (length cs) some) (by_test (all_ascii_digits cs) ∙ sym (number_from_is 0 cs))
   where
     by_test : (t : Bool)
-        → option_and_then with_64_bits (cond t (Some (digits_value 10 cs)) None)
+        → option_and_then (λ (n : ℕ). cond (nat_lt n (2 ^ 64)) (Some n) None) (cond t (Some (digits_value 10 cs)) None)
         ≡ cond (t && nat_lt (digits_value_after 10 0 cs) (2 ^ 64)) (Some (digits_value_after 10 0 cs)) None
     by_test true = refl
     by_test false = refl

@@ -1,7 +1,7 @@
 -- Lists of entity tags, as they are read, are those of the grammar.
 use Rattle.std.proofs.Common.{◌≡◌, ℕ, ◌<◌, Bool, true, false, cond, not, ◌&&◌, ◌||◌, List, [], ◌∷◌, ◌++◌, map, length, refl, sym, ap, ◌∙◌, subst, arith, inl, inr, append-nil, codes, reverse}
 use Rattle.std.specs.Prelude.{◌⊎◌, All}
-use Rattle.std.specs.List.{join_with_byte, list_all, list_any}
+use Rattle.std.specs.List.{join_with_byte, list_all, list_any, onto_first}
 use Rattle.std.specs.Str.{bytes_eq}
 use Rattle.std.proofs.Math.Dec.{eqb}
 use Rattle.std.proofs.lemmas.Bool.{and_parts, eqb-true}
@@ -14,10 +14,11 @@ use Rattle.std.proofs.lemmas.List.Sums.{list_all-from_AllPass}
 use Rattle.httparse.specs.Grammar.{AllPass, is_ows, is_uri_byte, skip_ows, trim_ows}
 use Rattle.httparse.proofs.TrimLemmas.{AllPass-reverse}
 use Rattle.http_parts.specs.Tag.{is_tag_byte, is_opaque_tag, is_weak_tag}
-use Rattle.http_parts.specs.Members.{before_parts, parts_from, is_open, members}
+use Rattle.http_parts.specs.Members.{parts_from, members}
 use Rattle.http_parts.specs.Conditional.{any_match, is_match, may_be_listed}
 use Rattle.http_parts.specs.Lists.{Element, IsElement, IsTagList, HasMatch, element_text}
 use Rattle.http_parts.specs.Laws.{ListsAreMatched}
+use Rattle.http_parts.proofs.MembersLemmas.{is_open}
 use Rattle.http_parts.proofs.VisibleLemmas.{skip_none}
 use Rattle.http_parts.proofs.TagLemmas.{tag_pass, tag_nonempty, opaque_parts, tags_are_quoted}
 
@@ -87,7 +88,7 @@ trim_spaces before after front back =
 -- the bytes before the first part
 abbrev pub before_all : List ℕ → List (List ℕ) → List (List ℕ)
 before_all [] parts = parts
-before_all (b ∷ bytes) parts = before_parts b (before_all bytes parts)
+before_all (b ∷ bytes) parts = onto_first b (before_all bytes parts)
 
 -- what follows is cut as if it stood alone
 abbrev pub IsWhole : List ℕ → Type 0
@@ -95,7 +96,7 @@ IsWhole xs = (rest : List ℕ) → parts_from true false (xs ++ rest) ≡ before
 
 before_more : (xs ys : List ℕ) (parts : List (List ℕ)) → before_all (xs ++ ys) parts ≡ before_all xs (before_all ys parts)
 before_more [] ys parts = refl
-before_more (x ∷ xs) ys parts = ap (before_parts x) (before_more xs ys parts)
+before_more (x ∷ xs) ys parts = ap (onto_first x) (before_more xs ys parts)
 
 whole_more : (xs ys : List ℕ) → IsWhole xs → IsWhole ys → IsWhole (xs ++ ys)
 whole_more xs ys first second rest =
@@ -104,7 +105,7 @@ whole_more xs ys first second rest =
 
 -- a byte that is neither comma nor quote
 whole_byte : (b : ℕ) (xs : List ℕ) → eqb b 44 ≡ false → eqb b 34 ≡ false → IsWhole xs → IsWhole (b ∷ xs)
-whole_byte b xs comma quote later rest = rw (comma, quote) (ap (before_parts b) (later rest))
+whole_byte b xs comma quote later rest = rw (comma, quote) (ap (onto_first b) (later rest))
 
 whole_spaces : (xs : List ℕ) → AllPass is_ows xs → IsWhole xs
 whole_spaces [] pass = λ rest. refl
@@ -125,15 +126,15 @@ inside_quotes [] rest pass = refl
 inside_quotes (b ∷ inner) rest pass =
     let parts = and_parts (is_tag_byte b) (list_all is_tag_byte inner) pass in
     let other : eqb b 34 ≡ false = no_quote b parts.0 in
-    by_test (eqb b 44) (rw other (ap (before_parts b) (inside_quotes inner rest parts.1)))
+    by_test (eqb b 44) (rw other (ap (onto_first b) (inside_quotes inner rest parts.1)))
   where
     no_quote : (b : ℕ) → is_tag_byte b ≡ true → eqb b 34 ≡ false
     no_quote b h = grind (arith, nat_tests)
 
     by_test : (t : Bool)
-        → before_parts b (parts_from true (is_open true true b) (inner ++ 34 ∷ rest)) ≡ before_parts b (before_all (inner ++ 34 ∷ []) (parts_from true false rest))
-        → cond (t && false) ([] ∷ parts_from true false (inner ++ 34 ∷ rest)) (before_parts b (parts_from true (is_open true true b) (inner ++ 34 ∷ rest)))
-        ≡ before_parts b (before_all (inner ++ 34 ∷ []) (parts_from true false rest))
+        → onto_first b (parts_from true (is_open true true b) (inner ++ 34 ∷ rest)) ≡ onto_first b (before_all (inner ++ 34 ∷ []) (parts_from true false rest))
+        → cond (t && false) ([] ∷ parts_from true false (inner ++ 34 ∷ rest)) (onto_first b (parts_from true (is_open true true b) (inner ++ 34 ∷ rest)))
+        ≡ onto_first b (before_all (inner ++ 34 ∷ []) (parts_from true false rest))
     by_test true later = later
     by_test false later = later
 
@@ -145,8 +146,8 @@ whole_opaque tag opaque =
   where
     quoted : (inner : List ℕ) → list_all is_tag_byte inner ≡ true → IsWhole (34 ∷ (inner ++ 34 ∷ []))
     quoted inner pass rest =
-        ap (λ (t : List ℕ). before_parts 34 (parts_from true true t)) (append_assoc inner (34 ∷ []) rest)
-        ∙ ap (before_parts 34) (inside_quotes inner rest pass)
+        ap (λ (t : List ℕ). onto_first 34 (parts_from true true t)) (append_assoc inner (34 ∷ []) rest)
+        ∙ ap (onto_first 34) (inside_quotes inner rest pass)
 
 whole_weak : (tag : List ℕ) → is_weak_tag tag ≡ true → IsWhole tag
 whole_weak tag weak =
@@ -187,12 +188,12 @@ kept (b ∷ m) h = by_kind (is_opaque_tag (b ∷ m)) (is_weak_tag (b ∷ m)) ref
 
 -- ---- parts joined, and joined parts cut
 
-join_before : (b : ℕ) (parts : List (List ℕ)) → 0 < length parts → join_with_byte 44 (before_parts b parts) ≡ b ∷ join_with_byte 44 parts
+join_before : (b : ℕ) (parts : List (List ℕ)) → 0 < length parts → join_with_byte 44 (onto_first b parts) ≡ b ∷ join_with_byte 44 parts
 join_before b [] some = absurd (omega arith)
 join_before b (part ∷ []) some = refl
 join_before b (part ∷ next ∷ parts) some = refl
 
-some_before : (b : ℕ) (parts : List (List ℕ)) → 0 < length (before_parts b parts)
+some_before : (b : ℕ) (parts : List (List ℕ)) → 0 < length (onto_first b parts)
 some_before b [] = omega arith
 some_before b (part ∷ parts) = omega arith
 
@@ -200,7 +201,7 @@ some_parts : (quotes open_before : Bool) (xs : List ℕ) → 0 < length (parts_f
 some_parts quotes open_before [] = omega arith
 some_parts quotes open_before (b ∷ bytes) = by_test (eqb b 44 && not open_before)
   where
-    by_test : (t : Bool) → 0 < length (cond t ([] ∷ parts_from quotes false bytes) (before_parts b (parts_from quotes (is_open quotes open_before b) bytes)))
+    by_test : (t : Bool) → 0 < length (cond t ([] ∷ parts_from quotes false bytes) (onto_first b (parts_from quotes (is_open quotes open_before b) bytes)))
     by_test true = omega arith
     by_test false = some_before b (parts_from quotes (is_open quotes open_before b) bytes)
 
@@ -216,7 +217,7 @@ joined_parts quotes open_before (b ∷ bytes) =
     by_test : (comma shut : Bool) → eqb b 44 ≡ comma
         → join_with_byte 44 (parts_from quotes false bytes) ≡ bytes
         → join_with_byte 44 (parts_from quotes (is_open quotes open_before b) bytes) ≡ bytes
-        → join_with_byte 44 (cond (comma && shut) ([] ∷ parts_from quotes false bytes) (before_parts b (parts_from quotes (is_open quotes open_before b) bytes)))
+        → join_with_byte 44 (cond (comma && shut) ([] ∷ parts_from quotes false bytes) (onto_first b (parts_from quotes (is_open quotes open_before b) bytes)))
         ≡ b ∷ bytes
     by_test true true is cut on =
         join_first (parts_from quotes false bytes) (some_parts quotes false bytes)
@@ -230,7 +231,7 @@ joined_parts quotes open_before (b ∷ bytes) =
 
 before_first : (xs : List ℕ) (parts : List (List ℕ)) → before_all xs ([] ∷ parts) ≡ xs ∷ parts
 before_first [] parts = refl
-before_first (x ∷ xs) parts = ap (before_parts x) (before_first xs parts)
+before_first (x ∷ xs) parts = ap (onto_first x) (before_first xs parts)
 
 whole_element : (e : Element) → IsElement e → IsWhole (element_text e)
 whole_element e is =

@@ -4,16 +4,17 @@ use Rattle.std.proofs.lemmas.List.{reverse-reverse}
 use Rattle.std.proofs.lemmas.List.Sums.{list_all-from_AllPass}
 use Rattle.http_parts.specs.Fields.{is_there}
 use Rattle.std.specs.Prelude.{reverse}
-use Rattle.std.specs.List.{list_all}
+use Rattle.std.specs.List.{list_all, onto_first}
 use Rattle.std.specs.Str.{bytes_eq}
 use Rattle.std.proofs.Math.Dec.{eqb}
 use Rattle.std.proofs.lemmas.Bool.Decides.{nat_tests}
 use Rattle.httparse.specs.Grammar.{trim_ows, skip_ows}
 use Rattle.http_parts.specs.Tag.{is_tag_byte, is_opaque_tag, is_weak_tag}
-use Rattle.http_parts.specs.Members.{before_parts, parts_from, is_open, members}
+use Rattle.http_parts.specs.Members.{parts_from, members}
 use Rattle.http_parts.specs.Conditional.{may_be_listed}
 use Rattle.std.proofs.lemmas.Bool.{and_parts}
 use Rattle.http_parts.specs.Laws.{TagsMatchThemselves}
+use Rattle.http_parts.proofs.MembersLemmas.{is_open}
 use Rattle.http_parts.proofs.VisibleLemmas.{skip_none, back_bare}
 use Rattle.http_parts.proofs.TagLemmas.{tag_not_weak, tag_pass, tag_nonempty, opaque_parts}
 
@@ -23,14 +24,14 @@ inner_part [] pass = refl
 inner_part (b ∷ inner) pass =
     let parts = and_parts (is_tag_byte b) (list_all is_tag_byte inner) pass in
     let other : eqb b 34 ≡ false = no_quote b parts.0 in
-    by_test (eqb b 44) (rw other (ap (before_parts b) (inner_part inner parts.1)))
+    by_test (eqb b 44) (rw other (ap (onto_first b) (inner_part inner parts.1)))
   where
     no_quote : (b : ℕ) → is_tag_byte b ≡ true → eqb b 34 ≡ false
     no_quote b h = grind (arith, nat_tests)
 
     by_test : (t : Bool)
-        → before_parts b (parts_from true (is_open true true b) (inner ++ 34 ∷ [])) ≡ (b ∷ (inner ++ 34 ∷ [])) ∷ []
-        → cond (t && false) ([] ∷ parts_from true false (inner ++ 34 ∷ [])) (before_parts b (parts_from true (is_open true true b) (inner ++ 34 ∷ [])))
+        → onto_first b (parts_from true (is_open true true b) (inner ++ 34 ∷ [])) ≡ (b ∷ (inner ++ 34 ∷ [])) ∷ []
+        → cond (t && false) ([] ∷ parts_from true false (inner ++ 34 ∷ [])) (onto_first b (parts_from true (is_open true true b) (inner ++ 34 ∷ [])))
         ≡ (b ∷ (inner ++ 34 ∷ [])) ∷ []
     by_test true later = later
     by_test false later = later
@@ -49,7 +50,7 @@ unfolding members
 tag_alone tag opaque =
     let parts = opaque_parts tag opaque in
     let pass = list_all-from_AllPass is_tag_byte parts.0 parts.2 in
-    let whole : parts_from true false (34 ∷ (parts.0 ++ 34 ∷ [])) ≡ (34 ∷ (parts.0 ++ 34 ∷ [])) ∷ [] = ap (before_parts 34) (inner_part parts.0 pass) in
+    let whole : parts_from true false (34 ∷ (parts.0 ++ 34 ∷ [])) ≡ (34 ∷ (parts.0 ++ 34 ∷ [])) ∷ [] = ap (onto_first 34) (inner_part parts.0 pass) in
     let one : parts_from true false tag ≡ tag ∷ [] = subst (λ (t : List ℕ). parts_from true false t ≡ t ∷ []) (sym parts.1) whole in
     ap (map trim_ows) one ∙ ap (λ (t : List ℕ). t ∷ []) (trimmed tag opaque)
 

@@ -1,11 +1,16 @@
 -- The members of a list, part by part.
 use Rattle.std.proofs.Common.{◌≡◌, ℕ, suc, ◌+◌, ◌<◌, ◌≤◌, Bool, true, false, cond, not, ◌&&◌, List, [], ◌∷◌, length, length-take, inl, inr, get_or, map, take, drop, refl, ap, arith}
+use Rattle.std.specs.List.{onto_first}
 use Rattle.std.proofs.Math.Dec.{eqb}
 use Rattle.std.proofs.lemmas.Bool.{cases_lt}
 use Rattle.std.proofs.lemmas.List.{drop_more}
 use Rattle.httparse.specs.Grammar.{trim_ows}
-use Rattle.http_parts.specs.Members.{before_parts, is_open, parts_from, members}
+use Rattle.http_parts.specs.Members.{parts_from, members}
 use Rattle.http_parts.specs.MemberWalk.{first_part}
+
+-- whether a quoted string is open behind b
+abbrev pub is_open : Bool → Bool → ℕ → Bool
+is_open quotes open_before b = cond (quotes && eqb b 34) (not open_before) open_before
 
 -- where the first part ends
 abbrev pub part_end : Bool → Bool → List ℕ → ℕ
@@ -27,11 +32,11 @@ parts_at quotes open_before (b ∷ bytes) inside =
         ≡ take (part_end quotes (is_open quotes open_before b) bytes) bytes
         ∷ parts_from quotes false (drop (suc (part_end quotes (is_open quotes open_before b) bytes)) bytes))
         → cond t 0 (suc (part_end quotes (is_open quotes open_before b) bytes)) < suc (length bytes)
-        → cond t ([] ∷ parts_from quotes false bytes) (before_parts b (parts_from quotes (is_open quotes open_before b) bytes))
+        → cond t ([] ∷ parts_from quotes false bytes) (onto_first b (parts_from quotes (is_open quotes open_before b) bytes))
         ≡ take (cond t 0 (suc (part_end quotes (is_open quotes open_before b) bytes))) (b ∷ bytes)
         ∷ parts_from quotes false (drop (suc (cond t 0 (suc (part_end quotes (is_open quotes open_before b) bytes)))) (b ∷ bytes))
     by_test true later inside = refl
-    by_test false later inside = ap (before_parts b) (later (omega arith))
+    by_test false later inside = ap (onto_first b) (later (omega arith))
 
 -- there is only one part
 parts_whole : (quotes open_before : Bool) (xs : List ℕ) → length xs ≤ part_end quotes open_before xs
@@ -44,10 +49,10 @@ parts_whole quotes open_before (b ∷ bytes) past =
         → (length bytes ≤ part_end quotes (is_open quotes open_before b) bytes
         → parts_from quotes (is_open quotes open_before b) bytes ≡ bytes ∷ [])
         → suc (length bytes) ≤ cond t 0 (suc (part_end quotes (is_open quotes open_before b) bytes))
-        → cond t ([] ∷ parts_from quotes false bytes) (before_parts b (parts_from quotes (is_open quotes open_before b) bytes))
+        → cond t ([] ∷ parts_from quotes false bytes) (onto_first b (parts_from quotes (is_open quotes open_before b) bytes))
         ≡ (b ∷ bytes) ∷ []
     by_test true later past = absurd (omega arith)
-    by_test false later past = ap (before_parts b) (later (omega arith))
+    by_test false later past = ap (onto_first b) (later (omega arith))
 
 pub members_at : (quotes : Bool) (xs : List ℕ) → part_end quotes false xs < length xs
     → members quotes xs ≡ trim_ows (take (part_end quotes false xs) xs) ∷ members quotes (drop (part_end quotes false xs + 1) xs)

@@ -54,14 +54,11 @@ pub tag_nonempty : (text : List ℕ) → is_opaque_tag text ≡ true → 0 < len
 tag_nonempty text h = let long = (quoted_parts text h).long in omega arith
 
 pub tag_not_weak : (text : List ℕ) → is_opaque_tag text ≡ true → is_weak_tag text ≡ false
-tag_not_weak text h =
-    let first = (quoted_parts text h).first in
-    let other : eqb (get_or text 0 0) 87 ≡ false = rw first in
-    not_weak (ltb 2 (length text)) (eqb (get_or text 0 0) 87) (eqb (get_or text 1 0) 47) (is_opaque_tag (drop 2 text)) other
-  where
-    not_weak : (a b c d : Bool) → b ≡ false → (a && b && c && d) ≡ false
-    not_weak true b c d e = rw e
-    not_weak false b c d e = refl
+tag_not_weak [] h = refl
+tag_not_weak (x ∷ xs) h =
+    let first : x ≡ 34 = (quoted_parts (x ∷ xs) h).first in
+    let other : eqb 87 x ≡ false = rw first in
+    rw other
 
 pub tags_are_visible : TagsAreVisible
 tags_are_visible = record { some = tag_nonempty; visible = tag_pass; strong = tag_not_weak }
@@ -107,26 +104,24 @@ opaque_is text form =
     subst (λ (t : List ℕ). is_opaque_tag t ≡ true) (sym form.1) (opaque_of form.0 (list_all-from_AllPass is_tag_byte form.0 form.2))
 
 weak_parts : (text : List ℕ) → is_weak_tag text ≡ true → (tag : List ℕ) × (text ≡ codes "W/" ++ tag) × (is_opaque_tag tag ≡ true)
-weak_parts text h =
+weak_parts [] h = absurd (let wrong : false ≡ true = h in cc)
+weak_parts (x ∷ []) h =
+    let a = and_parts _ _ h in
+    let b = and_parts _ _ a.0 in absurd (let wrong : false ≡ true = b.1 in cc)
+weak_parts (x ∷ y ∷ tag) h =
     let a = and_parts _ _ h in
     let b = and_parts _ _ a.0 in
-    let c = and_parts _ _ b.0 in
-    by_text text (ltb-true _ _ c.0) (eqb-true _ _ c.1) (eqb-true _ _ b.1) a.1
-  where
-    by_text : (text : List ℕ) → 2 < length text → get_or text 0 0 ≡ 87 → get_or text 1 0 ≡ 47 → is_opaque_tag (drop 2 text) ≡ true
-        → (tag : List ℕ) × (text ≡ codes "W/" ++ tag) × (is_opaque_tag tag ≡ true)
-    by_text [] long first second opaque = absurd (omega arith)
-    by_text (x ∷ []) long first second opaque = absurd (omega arith)
-    by_text (x ∷ y ∷ tag) long first second opaque = (tag, rw (first, second), opaque)
+    let c = and_parts _ _ b.1 in
+    let first : x ≡ 87 = sym (eqb-true _ _ b.0) in
+    let second : y ≡ 47 = sym (eqb-true _ _ c.0) in
+    (tag, rw (first, second), a.1)
 
 weak_is : (text : List ℕ) → (tag : List ℕ) × (text ≡ codes "W/" ++ tag) × (is_opaque_tag tag ≡ true) → is_weak_tag text ≡ true
 weak_is text form =
     subst (λ (t : List ℕ). is_weak_tag t ≡ true) (sym form.1) (by_tag form.0 form.2)
   where
     by_tag : (tag : List ℕ) → is_opaque_tag tag ≡ true → is_weak_tag (codes "W/" ++ tag) ≡ true
-    by_tag tag opaque =
-        let long = (quoted_parts tag opaque).long in
-        rw (lt-ltb 2 (length (87 ∷ 47 ∷ tag)) (omega arith)) opaque
+    by_tag tag opaque = opaque
 
 pub tags_are_quoted : TagsAreQuoted
 tags_are_quoted = record {

@@ -20,8 +20,7 @@ may_be_listed member = not (is_there member) || is_entity_tag member
 abbrev pub any_match : List ℕ → List ℕ → Bool → Bool
 any_match value tag strong =
     let tags = members true value in
-    bytes_eq (trim_ows value) (codes "*")
-    || (list_all may_be_listed tags && list_any (is_match strong tag) tags)
+    bytes_eq (trim_ows value) (codes "*") || (list_all may_be_listed tags && list_any (is_match strong tag) tags)
 
 -- one of several values matches
 abbrev pub one_matches : List (List ℕ) → List ℕ → Bool → Bool

@@ -5,16 +5,11 @@ use Rattle.std.specs.Str.Parse.{digits_value}
 
 -- the number that one or more digits write, however many they are
 abbrev pub number : List ℕ → Option ℕ
-number text =
-    if nat_lt 0 (length text) && all_ascii_digits text then Some (digits_value 10 text) else None
-
--- a number that has 64 bits
-abbrev pub with_64_bits : ℕ → Option ℕ
-with_64_bits n = if nat_lt n (2 ^ 64) then Some n else None
+number text = if nat_lt 0 (length text) && all_ascii_digits text then Some (digits_value 10 text) else None
 
 -- the number of 64 bits that one or more digits write
 unfoldable pub number_64 : List ℕ → Option ℕ
-number_64 text = option_and_then with_64_bits (number text)
+number_64 text = option_and_then (λ n. if nat_lt n (2 ^ 64) then Some n else None) (number text)
 
 -- a number as 64 bits keep it
 abbrev pub capped : ℕ → ℕ

@@ -1,13 +1,13 @@
 -- The fields of a head, by name (RFC 9110, section 5.1).
 use Rattle.std.specs.Prelude.{ℕ, Bool, true, false, List, [], ◌∷◌, length, map, filter, All, Option, Some, None}
-use Rattle.std.specs.Str.{bytes_eq, str_to_ascii_lowercase}
+use Rattle.std.specs.Str.{str_eq_ignore_ascii_case}
 use Rattle.httparse.specs.declared.spans.HeaderSpan.{HeaderSpan}
 use Rattle.httparse.specs.Spans.{header_bytes, IsHeaderWithin}
 use Rattle.http_parts.specs.Text.{FieldLine}
 
 -- the field has this name; case is ignored
 abbrev pub is_named : List ℕ → FieldLine → Bool
-is_named name field = bytes_eq (str_to_ascii_lowercase field.0) (str_to_ascii_lowercase name)
+is_named name field = str_eq_ignore_ascii_case field.0 name
 
 -- the values under a name, in order
 abbrev pub values_of : List ℕ → List FieldLine → List (List ℕ)

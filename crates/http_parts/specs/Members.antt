@@ -1,25 +1,16 @@
 -- Lists in the value of a field (RFC 9110, sections 5.6.1 and 5.6.4), as they are computed. Which lists of entity tags these
 -- are is a law, by the grammar (`ListsAreMatched`).
 use Rattle.std.specs.Prelude.{ℕ, Bool, false, ◌&&◌, ◌==◌, not, if◌then◌else◌, List, [], ◌∷◌, map}
-use Rattle.std.specs.List.{list_any}
-use Rattle.std.specs.Str.{bytes_eq, str_to_ascii_lowercase}
+use Rattle.std.specs.List.{list_any, onto_first}
+use Rattle.std.specs.Str.{str_eq_ignore_ascii_case}
 use Rattle.httparse.specs.Grammar.{trim_ows}
 
--- the parts, with a byte before the first
-abbrev pub before_parts : ℕ → List (List ℕ) → List (List ℕ)
-before_parts b [] = (b ∷ []) ∷ []
-before_parts b (part ∷ parts) = (b ∷ part) ∷ parts
-
--- whether a quoted string is open behind b; without `quotes` there are none
-abbrev pub is_open : Bool → Bool → ℕ → Bool
-is_open quotes open_before b = if quotes && b == 34 then not open_before else open_before
-
--- the parts between commas, where no quoted string is open
+-- the parts between commas, where no quoted string is open: with `quotes` each quote opens one or closes it
 abbrev pub parts_from : Bool → Bool → List ℕ → List (List ℕ)
 parts_from quotes open_before [] = [] ∷ []
 parts_from quotes open_before (b ∷ bytes) =
     if b == 44 && not open_before then [] ∷ parts_from quotes false bytes
-    else before_parts b (parts_from quotes (is_open quotes open_before b) bytes)
+    else onto_first b (parts_from quotes (if quotes && b == 34 then not open_before else open_before) bytes)
 
 -- the members of a list, empty ones too, without spaces and tabs round them; with `quotes` a comma between quotes
 -- belongs to its member
@@ -28,5 +19,4 @@ members quotes value = map trim_ows (parts_from quotes false value)
 
 -- a member is this word; case is ignored
 abbrev pub has_member : List ℕ → List ℕ → Bool
-has_member word value =
-    list_any (λ member. bytes_eq (str_to_ascii_lowercase member) (str_to_ascii_lowercase word)) (members false value)
+has_member word value = list_any (λ member. str_eq_ignore_ascii_case member word) (members false value)

@@ -1,6 +1,6 @@
 -- Entity tags (RFC 9110, section 8.8.3).
-use Rattle.std.specs.Prelude.{ℕ, ◌-◌, Bool, ◌&&◌, ◌||◌, ◌==◌, nat_lt, nat_le, List, length, drop, slice_index, slice_range}
-use Rattle.std.specs.List.{list_all}
+use Rattle.std.specs.Prelude.{ℕ, ◌-◌, Bool, ◌&&◌, ◌||◌, ◌==◌, nat_eq, nat_lt, nat_le, List, codes, length, drop, slice_index, slice_range}
+use Rattle.std.specs.List.{list_all, starts_with}
 use Rattle.http_parts.specs.declared.limits.TheConstants.{TAG_LIMIT}
 
 -- etagc: a byte inside the quotes, visible but no quote, or past ASCII
@@ -15,9 +15,7 @@ is_opaque_tag text =
 
 -- a weak tag: an opaque tag behind `W/`, whose case matters
 abbrev pub is_weak_tag : List ℕ → Bool
-is_weak_tag text =
-    nat_lt 2 (length text) && slice_index text 0 == 0x57 && slice_index text 1 == 0x2F
-    && is_opaque_tag (drop 2 text)
+is_weak_tag text = starts_with nat_eq text (codes "W/") && is_opaque_tag (drop 2 text)
 
 -- an entity tag, strong or weak
 abbrev pub is_entity_tag : List ℕ → Bool

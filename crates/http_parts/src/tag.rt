@@ -3,6 +3,7 @@ ghost use Rattle.std.specs.Prelude.{◌≡◌, ◌==◌, ℕ, List, IsTrue, IfSo
 ghost use Rattle.std.specs.List.{list_all};
 ghost use Rattle.http_parts.specs.Tag.{is_tag_byte, is_opaque_tag, is_weak_tag, is_kept_tag};
 
+use crate::bytes::past;
 use crate::limits::TAG_LIMIT;
 use arrayvec::ArrayVec;
 use std::marker::Model;
@@ -56,7 +57,7 @@ pub fn is_opaque_tag(text: &[u8]) -> bool
 pub fn is_weak_tag(text: &[u8]) -> bool
     ensures { result ≡ is_weak_tag text.now }
 {
-    text.len() > 2 && text[0] == b'W' && text[1] == b'/' && is_opaque_tag(&text[2..])
+    text.starts_with(b"W/") && is_opaque_tag(past(text, 2))
 }
 
 // Strong comparison: neither tag is weak, and the texts are equal byte for byte.

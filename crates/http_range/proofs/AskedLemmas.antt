@@ -7,11 +7,11 @@ use Rattle.std.specs.Str.{bytes_eq}
 use Rattle.httparse.specs.Grammar.{trim_ows}
 use Rattle.http_range.specs.declared.range.RangeSpec.{RangeSpec}
 use Rattle.http_range.specs.declared.range.Resolved.TheVariants.{Whole, Part, Unsatisfiable}
-use Rattle.http_range.specs.declared.reply.Reply.TheVariants.{R404, R416}
+use Rattle.http_range.specs.declared.reply.Reply.TheVariants.{R200, R304, R404, R416}
 use Rattle.http_range.specs.Range.{range_spec, resolved_or}
-use Rattle.http_range.specs.Ask.{range_value, asked_request, open_request_text, request_by, request_text, CanAsk, CanCheck, checked_request, check_text}
+use Rattle.http_range.specs.Ask.{range_value, asked_request, request_by, CanAsk, CanCheck, checked_request, check_text}
 use Rattle.http_range.specs.Book.{Publication, Catalogue, published}
-use Rattle.http_range.specs.Response.{Response, ending, refused, serve_tag, serve_head, serve_part, serve_file, answer_by, is_current, response_to_client, response_to_check, IsAnswer}
+use Rattle.http_range.specs.Response.{Response, ending, refused, serve_part, serve_file, answer_by, is_current, response_to_client, response_to_check, IsAnswer, with_tag}
 use Rattle.http_range.specs.Stream.{AreAnswers, IsAnswered, IsFirstMessage}
 use Rattle.http_range.specs.Stream.AreAnswers.{unfinished, closed, more as goes_on}
 use Rattle.http_parts.specs.declared.limits.TheConstants.{ANSWERS_LIMIT}
@@ -107,10 +107,10 @@ module _ (laws : PartsAreRead) where
     unfolding members trim_ows
     check_file None = refl
     check_file (Some p) =
-        ap (λ (t : Bool). cond (t || false) (serve_tag p true) (serve_head p true)) (laws.alone tag p.tag can.kept)
+        ap (λ (t : Bool). cond (t || false) (with_tag p (R304 p.tag) true []) (with_tag p (R200 p.tag (length p.file)) true [])) (laws.alone tag p.tag can.kept)
         ∙ by_test (bytes_eq tag p.tag)
       where
-        by_test : (t : Bool) → cond (t || false) (serve_tag p true) (serve_head p true) ≡ cond t (serve_tag p true) (serve_head p true)
+        by_test : (t : Bool) → cond (t || false) (with_tag p (R304 p.tag) true []) (with_tag p (R200 p.tag (length p.file)) true []) ≡ cond t (with_tag p (R304 p.tag) true []) (with_tag p (R200 p.tag (length p.file)) true [])
         by_test true = refl
         by_test false = refl
 
@@ -150,13 +150,13 @@ module _ (laws : PartsAreRead) where
   check_closes None tag = refl
   check_closes (Some p) tag = by_test (bytes_eq tag p.tag)
     where
-      by_test : (t : Bool) → (cond t (serve_tag p true) (serve_head p true)).close ≡ true
+      by_test : (t : Bool) → (cond t (with_tag p (R304 p.tag) true []) (with_tag p (R200 p.tag (length p.file)) true [])).close ≡ true
       by_test true = refl
       by_test false = refl
 
   pub clients_answered : ClientsAreAnswered
   clients_answered catalogue host name more first last tag response can ordered =
-      subst (λ (s : Response). IsAnswer catalogue (request_text host name first last tag ++ more) response ↔ (response ≡ s))
+      subst (λ (s : Response). IsAnswer catalogue (request_by true host name first last tag ++ more) response ↔ (response ≡ s))
       (client_ends (published name catalogue) first last tag)
       (requests_answered catalogue true host name more first last tag response can ordered)
 
@@ -172,7 +172,7 @@ module _ (laws : PartsAreRead) where
 
   pub clients_served : ClientsAreServed
   clients_served catalogue host name more first last tag rs can ordered =
-      let text = request_text host name first last tag in
+      let text = request_by true host name first last tag in
       let served = response_to_client (published name catalogue) first last tag in
       let r = ending true served in
       let one = alone catalogue (text ++ more) text r rs (asked_first laws true host name first last tag more can)
@@ -208,7 +208,7 @@ module _ (laws : PartsAreRead) where
 
   pub open_clients_served : OpenClientsAreServed
   open_clients_served catalogue n host name more first last tag rs can ordered =
-      followed catalogue n (open_request_text host name first last tag) more (ending false (response_to_client (published name catalogue) first last tag)) rs
+      followed catalogue n (request_by false host name first last tag) more (ending false (response_to_client (published name catalogue) first last tag)) rs
       (asked_first laws false host name first last tag more can) (asked_alone catalogue false host name first last tag can ordered) refl
 
   pub checks_served : ChecksAreServed

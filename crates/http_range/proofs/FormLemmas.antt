@@ -9,7 +9,7 @@ use Rattle.std.proofs.lemmas.Bool.{lt-ltb, le-leb, ltb-true, ltb-false, leb-true
 use Rattle.std.proofs.lemmas.List.{drop_all}
 use Rattle.std.proofs.lemmas.List.Sums.{split_at_first, passes_at_first}
 use Rattle.http_range.specs.declared.reading.ContentRange.{ContentRange}
-use Rattle.http_parts.specs.Digits.{with_64_bits, number_64}
+use Rattle.http_parts.specs.Digits.{number_64}
 use Rattle.http_range.specs.ContentRange.{IsContentRange, range_of_numbers, range_of}
 use Rattle.http_range.specs.Laws.{ContentRangesAreForms}
 use Rattle.http_range.proofs.PlaceLemmas.{before_at, after_at, digits_miss}
@@ -25,7 +25,7 @@ number_64_parts text n is =
     by_test (ltb 0 (length text)) (all_ascii_digits text) (ltb (digits_value 10 text) (2 ^ 64)) refl refl is
   where
     by_test : (a b c : Bool) → ltb 0 (length text) ≡ a → all_ascii_digits text ≡ b
-        → option_and_then with_64_bits (cond (a && b) (Some (digits_value 10 text)) None) ≡ Some n → IsNumber64 text
+        → option_and_then (λ (m : ℕ). cond (ltb m (2 ^ 64)) (Some m) None) (cond (a && b) (Some (digits_value 10 text)) None) ≡ Some n → IsNumber64 text
     by_test true true c some digits is = record { some = ltb-true _ _ some; digits = digits }
     by_test true false c some digits is = absurd (cc)
     by_test false b c some digits is = absurd (cc)

@@ -6,22 +6,22 @@ use Rattle.httparse.specs.Grammar.{ResponseHead, IsResponseHead, ReadsResponse, 
 use Rattle.httparse.proofs.GrammarLemmas.{response_unique, response_prefix_free, ReadsResponse-append}
 use Rattle.http_range.specs.declared.reading.Why.{Why}
 use Rattle.http_range.specs.declared.reading.Why.TheVariants.{Cut, Head, Status, NoTag, WeakTag, TagTooLong, NoRange, NoLength, Coding}
-use Rattle.http_range.specs.Head.{SeenHead, head_front, IsHeadOf, seen_head, FindsHead}
+use Rattle.http_range.specs.Head.{SeenHead, IsHeadOf, seen_head, FindsHead}
 
 -- the head that is there is the one that is found
 pub found_whole : (bytes : List ℕ) (h : ResponseHead) (found : Result SeenHead Why) → IsHeadOf bytes h
     → FindsHead bytes found → found ≡ Ok (seen_head h)
 found_whole bytes h (Ok seen) is finds =
-    let same = response_unique (head_front bytes) finds.0 h _ _ finds.1.reads is.reads in
+    let same = response_unique (take 4096 bytes) finds.0 h _ _ finds.1.reads is.reads in
     ap Ok (finds.2 ∙ ap seen_head same.0)
 found_whole bytes h (Err Cut) is finds =
-    absurd (finds.none h is.rest
-    (let short = finds.short in
-    let all : head_front bytes ≡ bytes = take_all 4096 bytes (omega arith) in
+    absurd (finds.1 h is.rest
+    (let short = finds.0 in
+    let all : take 4096 bytes ≡ bytes = take_all 4096 bytes (omega arith) in
     subst (λ (t : List ℕ). ReadsResponse t h is.rest) all is.reads))
 found_whole bytes h (Err Head) is (inl long) = absurd (long.1 h is.rest is.reads)
 found_whole bytes h (Err Head) is (inr over) =
-    let many = over [] h (is.rest ++ []) (ReadsResponse-append (head_front bytes) h is.rest [] is.reads) in
+    let many = over [] h (is.rest ++ []) (ReadsResponse-append (take 4096 bytes) h is.rest [] is.reads) in
     let room = is.room in absurd (omega arith)
 found_whole bytes h (Err (Status code)) is finds = absurd finds
 found_whole bytes h (Err NoTag) is finds = absurd finds
@@ -41,7 +41,7 @@ module _ (h : ResponseHead) (is : IsResponseHead h) (room : length h.fields ≤ 
   bytes_short : length bytes < 4096
   bytes_short = omega (arith, ap length parts, length-append bytes more)
 
-  front_all : head_front bytes ≡ bytes
+  front_all : take 4096 bytes ≡ bytes
   front_all = let short = bytes_short in take_all 4096 bytes (omega arith)
 
   pub found_cut : (found : Result SeenHead Why) → FindsHead bytes found → found ≡ Err Cut
@@ -53,7 +53,7 @@ module _ (h : ResponseHead) (is : IsResponseHead h) (room : length h.fields ≤ 
   found_cut (Err Cut) finds = refl
   found_cut (Err Head) (inl long) = let short = bytes_short in absurd (omega arith)
   found_cut (Err Head) (inr over) =
-      let reads : ReadsResponse (head_front bytes ++ more) h [] =
+      let reads : ReadsResponse (take 4096 bytes ++ more) h [] =
       subst (λ (t : List ℕ). ReadsResponse (t ++ more) h []) (sym front_all) reads_all in
       let many = over more h [] reads in absurd (omega arith)
   found_cut (Err (Status code)) finds = absurd finds

@@ -1,6 +1,6 @@
 -- What is read of the head at the front of an answer stays when bytes follow.
 use Rattle.std.proofs.Common.{◌≡◌, ◌≢◌, ℕ, ◌+◌, ◌-◌, ◌<◌, ◌≤◌, inl, inr, Bool, true, false, cond, List, [], ◌∷◌, ◌++◌, length, take, drop, refl, sym, ap, ◌∙◌, subst, arith, append_assoc, append-nil, length-append, length-take, Option, Some, None, Result, Ok, Err}
-use Rattle.std.specs.Prelude.{IfOk, codes, is_none, nat_le, not, unwrap_or, ◌&&◌, ◌==◌}
+use Rattle.std.specs.Prelude.{IfOk, codes, is_none, nat_le, not, unwrap_or, ◌&&◌, ◌||◌, ◌==◌}
 use Rattle.std.proofs.Math.Seq.{take-append-add, take-append_seam}
 use Rattle.std.proofs.lemmas.Bool.{cases_lt}
 use Rattle.std.proofs.lemmas.List.{take_all, take-append-drop, take-append-le, drop-append-le}
@@ -11,10 +11,10 @@ use Rattle.http_range.specs.declared.reading.Why.TheVariants.{Cut, Head, Status,
 use Rattle.http_range.specs.declared.reading.ContentRange.{ContentRange}
 use Rattle.http_parts.specs.declared.limits.TheConstants.{TAG_LIMIT}
 use Rattle.http_parts.specs.Tag.{is_entity_tag, is_weak_tag}
-use Rattle.http_range.specs.Head.{SeenHead, head_front, IsHeadOf, seen_head, IsCut, FindsHead}
+use Rattle.http_range.specs.Head.{SeenHead, IsHeadOf, seen_head, FindsHead}
 use Rattle.http_range.specs.Piece.{◌>>=◌}
 use Rattle.http_range.specs.Announced.{Announced, announced_by, body_behind, FitsFront}
-use Rattle.http_range.specs.Reading.{range_named, length_named, has_other_status, holds, is_coded, value_of, lacks_length, tag_in, announced_in, announced_of, ReadsHead}
+use Rattle.http_range.specs.Reading.{range_named, length_named, has_other_status, holds, is_coded, value_of, tag_in, announced_in, announced_of, ReadsHead}
 use Rattle.http_range.specs.Laws.{HasNone, HeadsGrow}
 use Rattle.http_range.proofs.FrontLemmas.{found_whole}
 
@@ -44,7 +44,7 @@ found_grows bytes more (Ok seen) other finds =
         rest = is.rest ++ next;
         reads =
             subst (λ (t : List ℕ). ReadsResponse t finds.0 (is.rest ++ next)) (sym (take_joined 4096 bytes more))
-            (ReadsResponse-append (head_front bytes) finds.0 is.rest next is.reads);
+            (ReadsResponse-append (take 4096 bytes) finds.0 is.rest next is.reads);
         room = is.room;
       },
       finds.2,
@@ -61,7 +61,7 @@ found_grows bytes more (Err Head) other (inr over) =
     inr (λ later h rest reads.
     over (next ++ later) h rest
     (subst (λ (t : List ℕ). ReadsResponse t h rest)
-    (ap (λ (t : List ℕ). t ++ later) (take_joined 4096 bytes more) ∙ append_assoc (head_front bytes) next later) reads))
+    (ap (λ (t : List ℕ). t ++ later) (take_joined 4096 bytes more) ∙ append_assoc (take 4096 bytes) next later) reads))
 found_grows bytes more (Err (Status code)) other finds = absurd finds
 found_grows bytes more (Err NoTag) other finds = absurd finds
 found_grows bytes more (Err WeakTag) other finds = absurd finds
@@ -72,7 +72,7 @@ found_grows bytes more (Err Coding) other finds = absurd finds
 
 found_decided : (bytes : List ℕ) (found : Result SeenHead Why) → 4096 ≤ length bytes → FindsHead bytes found → found ≢ Err Cut
 found_decided bytes found long finds =
-    λ e. let cut : IsCut bytes = subst (FindsHead bytes) e finds in let short = cut.short in absurd (omega arith)
+    λ e. let cut : FindsHead bytes (Err Cut) = subst (FindsHead bytes) e finds in let short = cut.0 in absurd (omega arith)
 
 -- ---- a whole head is neither cut nor refused
 
@@ -111,7 +111,7 @@ place_decided head tag =
     let part = head.status == 206 in
     let range : Option ContentRange = range_named head in
     let length : Option ℕ = length_named head in
-    place_rows (part && is_none range) (lacks_length part range length)
+    place_rows (part && is_none range) (not (holds length (λ n. not part || holds range (λ r. r.last - r.first + 1 == n))))
     (announced_by tag (cond part range None) (unwrap_or length 0) head.size)
 
 bind_decided : (head : SeenHead) (tag : Result (List ℕ) Why) → is_headless tag ≡ false → is_headless (tag >>= announced_in head) ≡ false
@@ -200,7 +200,7 @@ sized seen =
     let length : Option ℕ = length_named seen in
     let rows : (tag : List ℕ) → HasSize n (announced_in seen tag) =
     λ tag. if_sized n (part && is_none range) (Err NoRange) _ tt
-    (if_sized n (lacks_length part range length) (Err NoLength) _ tt
+    (if_sized n (not (holds length (λ m. not part || holds range (λ r. r.last - r.first + 1 == m)))) (Err NoLength) _ tt
     (by_sized tag (cond part range None) (unwrap_or length 0) n))
     in
     if_sized n (has_other_status seen) (Err (Status seen.status)) _ tt
@@ -214,7 +214,7 @@ fits : (bytes : List ℕ) (head : Announced) → ReadsHead bytes (Ok head) → F
 fits bytes head reads =
     let whole = whole_of bytes head reads in
     let print = print_response whole.response in
-    let long : length (head_front bytes) ≡ length print + length whole.is.rest =
+    let long : length (take 4096 bytes) ≡ length print + length whole.is.rest =
     ap length whole.is.reads.1 ∙ length-append print whole.is.rest in
     let size = size_of bytes head whole in
     let cut = length-take 4096 bytes in
@@ -298,10 +298,10 @@ shorter : (front more : List ℕ) (h : ResponseHead) → IsHeadOf (front ++ more
 shorter front more h is inside =
     let print = print_response h in
     let n = length print in
-    let xs = head_front front in
+    let xs = take 4096 front in
     let ys = take (4096 - length front) more in
     let parts : xs ++ ys ≡ print ++ is.rest = sym (take_joined 4096 front more) ∙ is.reads.1 in
-    let long : length (head_front (front ++ more)) ≡ n + length is.rest = ap length is.reads.1 ∙ length-append print is.rest in
+    let long : length (take 4096 (front ++ more)) ≡ n + length is.rest = ap length is.reads.1 ∙ length-append print is.rest in
     let whole = length-take 4096 (front ++ more) in
     let short = length-take 4096 front in
     let printed : print ≡ take n xs =

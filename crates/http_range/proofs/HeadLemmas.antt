@@ -1,5 +1,5 @@
 -- What httparse says of the first bytes, as the words of this crate.
-use Rattle.std.proofs.Common.{◌≡◌, ℕ, ◌<◌, ◌≤◌, List, length, take, drop, ap, ◌∙◌, subst, arith, length-take}
+use Rattle.std.proofs.Common.{◌≡◌, ℕ, ◌<◌, ◌≤◌, List, length, take, drop, ap, ◌∙◌, subst, arith, length-take, Err}
 use Rattle.std.proofs.lemmas.List.{length-map}
 use Rattle.httparse.specs.declared.spans.HeaderSpan.{HeaderSpan}
 use Rattle.httparse.specs.declared.spans.ResponseSpans.{ResponseSpans}
@@ -9,7 +9,8 @@ use Rattle.httparse.specs.Spans.{header_bytes, name_and_value, span_bytes, IsRes
 use Rattle.http_parts.specs.Text.{FieldLine}
 use Rattle.http_parts.specs.Fields.{fields_at}
 use Rattle.http_range.specs.Seen.{SeenRequest, IsRequestFront, seen_request}
-use Rattle.http_range.specs.Head.{SeenHead, head_front, IsHeadOf, seen_head, IsCut}
+use Rattle.http_range.specs.declared.reading.Why.TheVariants.{Cut}
+use Rattle.http_range.specs.Head.{SeenHead, IsHeadOf, seen_head, FindsHead}
 
 room_of : (front : List ℕ) (spans : List HeaderSpan) (n : ℕ) (fields : List Field) → length spans ≡ 32
     → AreFieldsAt front spans n fields → length fields ≤ 32
@@ -17,7 +18,7 @@ room_of front spans n fields long same =
     omega (arith, ap length same, length-map (take n spans) (header_bytes front), length-map fields name_and_value, length-take n spans)
 
 pub head_found : (bytes front : List ℕ) (spans : List HeaderSpan) (r : ResponseSpans) (fields : List FieldLine)
-    → fields ≡ fields_at front (take r.headers spans) → front ≡ head_front bytes
+    → fields ≡ fields_at front (take r.headers spans) → front ≡ take 4096 bytes
     → length spans ≡ 32 → IsResponseOf front spans r
     → (h : ResponseHead) × IsHeadOf bytes h
     × (◌≡◌ {A = SeenHead} (record { status = r.code; fields = fields; size = r.len }) (seen_head h))
@@ -28,11 +29,11 @@ head_found bytes front spans r fields same is long of =
       λ i. record { status = at.code i; fields = (same ∙ at.fields) i; size = at.len i },
     )
 
-pub head_cut : (bytes front : List ℕ) → front ≡ head_front bytes → head_front bytes ≡ bytes → length bytes < 4096
-    → HasNoResponse front → MayBecomeResponse front → IsCut bytes
+pub head_cut : (bytes front : List ℕ) → front ≡ take 4096 bytes → take 4096 bytes ≡ bytes → length bytes < 4096
+    → HasNoResponse front → MayBecomeResponse front → FindsHead bytes (Err Cut)
 head_cut bytes front is all short none open_head =
     let same : front ≡ bytes = is ∙ all in
-    record { short = short; none = subst HasNoResponse same none; unfinished = subst MayBecomeResponse same open_head }
+    (short, subst HasNoResponse same none, subst MayBecomeResponse same open_head)
 
 pub request_found : (bytes front method target : List ℕ) (spans : List HeaderSpan) (r : RequestSpans) (fields : List FieldLine)
     → fields ≡ fields_at front (take r.headers spans) → front ≡ take 8192 bytes

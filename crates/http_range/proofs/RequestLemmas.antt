@@ -15,7 +15,7 @@ use Rattle.httparse.proofs.GrammarLemmas.{request_unique, print_request-append}
 use Rattle.http_parts.specs.Tag.{is_kept_tag}
 use Rattle.http_parts.specs.Text.{FieldLine, line, head_with, closing}
 use Rattle.http_parts.specs.Names.{is_name, is_name_byte, is_host, is_host_byte}
-use Rattle.http_range.specs.Ask.{CanAsk, request_line, range_value, if_range, request_by, request_fields, asked_request, CanCheck, check_fields, check_text, checked_request}
+use Rattle.http_range.specs.Ask.{CanAsk, request_line, range_value, if_range, request_by, request_fields, asked_request, CanCheck, check_text, checked_request}
 use Rattle.http_range.specs.Seen.{SeenRequest, IsRequestFront, seen_request, HasRequest}
 use Rattle.http_range.specs.Stream.{IsFirstMessage}
 use Rattle.http_parts.specs.Plain.{field_of}
@@ -23,6 +23,10 @@ use Rattle.http_parts.specs.Laws.{PartsAreRead}
 use Rattle.http_range.proofs.TextLemmas.{IsShort, ArePlain, lines-are, fields-are, seen-are, length-fields, length-head_with}
 use Rattle.http_range.proofs.FirstHead.{heads_are_messages}
 use Rattle.http_range.proofs.ReplyLemmas.{token_of, plain_visible, closing_plain, plain-append, value_literal, length_20, tag_plain}
+
+-- the fields of a check
+abbrev check_fields : List ℕ → List ℕ → List FieldLine
+check_fields host tag = (codes "Host", host) ∷ (codes "If-None-Match", tag) ∷ closing true
 
 abbrev head_by : List ℕ → List ℕ → List FieldLine → RequestHead
 head_by method name ls = record {

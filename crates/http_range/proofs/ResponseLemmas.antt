@@ -1,6 +1,9 @@
 -- What kinds of answers a server gives.
 use Rattle.std.proofs.Common.{◌≡◌, ℕ, ◌+◌, ◌-◌, ◌<◌, ◌≤◌, ◌⊎◌, inl, inr, Bool, true, false, cond, List, [], ◌++◌, length, take, drop, min, refl, sym, ap, ◌∙◌, arith, append_assoc, append-nil, codes, take-append-drop, length-append, length-drop, Option, Some, None}
-use Rattle.std.specs.Prelude.{◌||◌, IsErr, IfOk, option_and_then}
+use Rattle.std.specs.Prelude.{◌||◌, ◌&&◌, not, nat_eq, IsErr, IfOk, option_and_then}
+use Rattle.std.specs.List.{starts_with}
+use Rattle.http_parts.specs.Fields.{values_of}
+use Rattle.std.specs.Str.{bytes_eq}
 use Rattle.std.proofs.Math.Dec.{eqb, ltb}
 use Rattle.std.proofs.lemmas.Bool.{ltb-true, eqb-false}
 use Rattle.httparse.proofs.GrammarLemmas.{request_unique}
@@ -8,13 +11,13 @@ use Rattle.http_range.specs.declared.range.RangeSpec.{RangeSpec}
 use Rattle.http_range.specs.declared.range.RangeSpec.TheVariants.{Between, From, Suffix}
 use Rattle.http_range.specs.declared.range.Resolved.{Resolved}
 use Rattle.http_range.specs.declared.range.Resolved.TheVariants.{Whole, Part, Unsatisfiable}
-use Rattle.http_range.specs.declared.reply.Reply.TheVariants.{R200, R206, R400, R405, R412}
+use Rattle.http_range.specs.declared.reply.Reply.TheVariants.{R200, R206, R304, R400, R405, R412}
 use Rattle.http_range.specs.Range.{range_spec, resolved, resolved_or}
 use Rattle.http_range.specs.Reply.{IsSent}
 use Rattle.http_range.specs.Reading.{reply_seen, tag_seen}
 use Rattle.http_range.specs.Seen.{SeenRequest, HasRequest, seen_request}
 use Rattle.http_range.specs.Book.{Publication, IsPublication, Catalogue, IsCatalogue, published}
-use Rattle.http_range.specs.Response.{Response, has_other_version, lacks_host, announces_body, has_other_method, lacks_origin_form, asks_close, is_method, fails_precondition, is_unmodified, serve_tag, range_to_serve, target_name, refused, serve_head, serve_part, serve_file, answer_by}
+use Rattle.http_range.specs.Response.{Response, announces_body, asks_close, fails_precondition, is_unmodified, range_to_serve, target_name, refused, serve_part, serve_file, answer_by, with_tag}
 use Rattle.http_range.specs.Honest.{IsFront, IsPieceOf}
 use Rattle.http_range.specs.Laws.{AnswersAreUnique}
 use Rattle.http_range.proofs.BookLemmas.{published_own, published_lawful}
@@ -128,10 +131,10 @@ module _ (catalogue : Catalogue) (lawful : IsCatalogue catalogue) where
           body = inner;
         }
 
-    kind_tag : Kind catalogue (serve_tag p close)
+    kind_tag : Kind catalogue (with_tag p (R304 p.tag) close [])
     kind_tag = inr (p, record { has = has; named = refl; sent = is.tagged; told = λ k. tt; tagged = refl })
 
-    kind_head : Kind catalogue (serve_head p close)
+    kind_head : Kind catalogue (with_tag p (R200 p.tag (length p.file)) close [])
     kind_head =
         let small = is.small in
         inr (p, record { has = has; named = refl; sent = (is.tagged, omega arith); told = whole_piece [] (front_nil p.file); tagged = refl })
@@ -175,7 +178,7 @@ module _ (catalogue : Catalogue) (lawful : IsCatalogue catalogue) where
       let is = published_lawful (target_name r) catalogue p lawful found in
       kind_if catalogue (fails_precondition r p.tag) _ _ (plain (refused R412 (asks_close r)) refl tt (λ rest. refl) refl)
       (kind_if catalogue (is_unmodified r p.tag) _ _ (kind_tag p has is (asks_close r))
-      (kind_if catalogue (is_method (codes "HEAD") r) _ _ (kind_head p has is (asks_close r))
+      (kind_if catalogue (bytes_eq r.method (codes "HEAD")) _ _ (kind_head p has is (asks_close r))
       (kind_part p has is (asks_close r) (range_to_serve r p.tag) _ refl)))
 
   bad : Kind catalogue (refused R400 true)
@@ -184,9 +187,9 @@ module _ (catalogue : Catalogue) (lawful : IsCatalogue catalogue) where
   pub kind_of : (o : Option SeenRequest) → Kind catalogue (answer_by catalogue o)
   kind_of None = bad
   kind_of (Some r) =
-      kind_if catalogue (has_other_version r || lacks_host r || announces_body r) _ _ bad
-      (kind_if catalogue (has_other_method r) _ _ (plain (refused R405 (asks_close r)) refl tt (λ rest. refl) refl)
-      (kind_if catalogue (lacks_origin_form r) _ _ bad (kind_file r _ refl)))
+      kind_if catalogue (not (eqb r.minor 1) || not (eqb (length (values_of (codes "Host") r.fields)) 1) || announces_body r) _ _ bad
+      (kind_if catalogue (not (bytes_eq r.method (codes "GET")) && not (bytes_eq r.method (codes "HEAD"))) _ _ (plain (refused R405 (asks_close r)) refl tt (λ rest. refl) refl)
+      (kind_if catalogue (not (starts_with nat_eq r.target (codes "/"))) _ _ bad (kind_file r _ refl)))
 
 -- ---- a message has one answer
 

@@ -20,8 +20,7 @@ pub record Announced : Type 0 where
 
 -- the whole file, or the part that the range covers; n is the number of the Content-Length
 abbrev pub announced_by : List ℕ → Option ContentRange → ℕ → ℕ → Announced
-announced_by tag None n size =
-    record { tag = tag; whole = true; first = 0; complete = n; length = n; size = size }
+announced_by tag None n size = record { tag = tag; whole = true; first = 0; complete = n; length = n; size = size }
 announced_by tag (Some range) n size =
     record { tag = tag; whole = false; first = range.first; complete = range.complete; length = n; size = size }
 

@@ -1,6 +1,7 @@
 -- A client's requests: for a range of a file, and a check whether it is still the same (RFC 9110, sections 13.1.2, 13.1.5
 -- and 14.2; RFC 9112, section 3).
-use Rattle.std.specs.Prelude.{ℕ, ◌^◌, ◌<◌, Bool, true, false, IsTrue, IfSome, List, [], ◌∷◌, ◌++◌, codes, decimal, Option, Some, None}
+use Rattle.std.specs.Prelude.{ℕ, ◌^◌, ◌<◌, Bool, true, false, IsTrue, IfSome, List, [], ◌∷◌, ◌++◌, codes, decimal, Option, Some, None, option_map}
+use Rattle.std.specs.Option.{option_to_list}
 use Rattle.http_parts.specs.Tag.{is_kept_tag}
 use Rattle.http_parts.specs.Names.{is_name, is_host}
 use Rattle.http_parts.specs.Text.{FieldLine, head_with, closing}
@@ -16,8 +17,7 @@ range_value first last = codes "bytes=" ++ decimal first ++ codes "-" ++ decimal
 
 -- the condition that the file still has this tag
 abbrev pub if_range : Option (List ℕ) → List FieldLine
-if_range None = []
-if_range (Some tag) = (codes "If-Range", tag) ∷ []
+if_range tag = option_to_list (option_map (λ t. (codes "If-Range", t)) tag)
 
 -- the fields of a request for the bytes first to last, where the client has the revision of that tag; the connection is to end
 -- with the answer, or may go on
@@ -25,18 +25,9 @@ abbrev pub request_fields : Bool → List ℕ → ℕ → ℕ → Option (List �
 request_fields close host first last tag =
     (codes "Host", host) ∷ (codes "Range", range_value first last) ∷ (if_range tag ++ closing close)
 
--- the text of that request
+-- the text of that request, which ends the connection or lets it go on
 abbrev pub request_by : Bool → List ℕ → List ℕ → ℕ → ℕ → Option (List ℕ) → List ℕ
-request_by close host name first last tag =
-    head_with (request_line (codes "GET") name) (request_fields close host first last tag)
-
--- where the connection is to end with the answer
-abbrev pub request_text : List ℕ → List ℕ → ℕ → ℕ → Option (List ℕ) → List ℕ
-request_text = request_by true
-
--- where it may go on: without that field
-abbrev pub open_request_text : List ℕ → List ℕ → ℕ → ℕ → Option (List ℕ) → List ℕ
-open_request_text = request_by false
+request_by close host name first last tag = head_with (request_line (codes "GET") name) (request_fields close host first last tag)
 
 -- what a client asks with
 pub record CanAsk (host name : List ℕ) (first last : ℕ) (tag : Option (List ℕ)) : Type 0 where
@@ -57,13 +48,10 @@ asked_request close host name first last tag = record {
 
 -- ---- the check
 
--- the fields of a check whether the file still has the client's tag
-abbrev pub check_fields : List ℕ → List ℕ → List FieldLine
-check_fields host tag = (codes "Host", host) ∷ (codes "If-None-Match", tag) ∷ closing true
-
--- the text of the check
+-- the text of a check whether the file still has the client's tag
 abbrev pub check_text : List ℕ → List ℕ → List ℕ → List ℕ
-check_text host name tag = head_with (request_line (codes "HEAD") name) (check_fields host tag)
+check_text host name tag =
+    head_with (request_line (codes "HEAD") name) ((codes "Host", host) ∷ (codes "If-None-Match", tag) ∷ closing true)
 
 -- what a client checks with
 pub record CanCheck (host name tag : List ℕ) : Type 0 where
@@ -77,5 +65,5 @@ checked_request host name tag = record {
   method = codes "HEAD";
   target = codes "/" ++ name;
   minor = 1;
-  fields = check_fields host tag;
+  fields = (codes "Host", host) ∷ (codes "If-None-Match", tag) ∷ closing true;
 }

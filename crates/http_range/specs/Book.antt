@@ -1,6 +1,6 @@
 -- Files that were published, and what a server has of them.
 use Rattle.std.specs.Prelude.{◌≡◌, ◌≢◌, ◌≤◌, ◌⊎◌, ℕ, IsTrue, if◌then◌else◌, List, [], ◌∷◌, ◌++◌, length, codes, decimal, Option, Some, None, ⊤}
-use Rattle.std.specs.List.{AllPairs}
+use Rattle.std.specs.List.{AllByRecursion, AllPairs, find}
 use Rattle.std.specs.Str.{bytes_eq}
 use Rattle.http_parts.specs.Names.{is_name}
 use Rattle.http_parts.specs.Tag.{is_kept_tag}
@@ -44,13 +44,11 @@ Catalogue = List Publication
 
 -- each publication is lawful
 abbrev pub IsCatalogue : Catalogue → Type 0
-IsCatalogue [] = ⊤
-IsCatalogue (p ∷ catalogue) = IsPublication p × IsCatalogue catalogue
+IsCatalogue catalogue = AllByRecursion IsPublication catalogue
 
 -- the publication under a name
 abbrev pub published : List ℕ → Catalogue → Option Publication
-published name [] = None
-published name (p ∷ catalogue) = if bytes_eq p.name name then Some p else published name catalogue
+published name catalogue = find (λ p. bytes_eq p.name name) catalogue
 
 -- whatever the catalogue has stands in the book
 abbrev pub Covers : Book → Catalogue → Type 0

@@ -13,34 +13,20 @@ pub record SeenHead : Type 0 where
   pub fields : List FieldLine
   pub size : ℕ
 
--- the bytes where a head is looked for
-abbrev pub head_front : List ℕ → List ℕ
-head_front bytes = take HEAD_LIMIT bytes
-
 -- h stands at the front of bytes, whole in the first 4,096, with at most 32 fields
 pub record IsHeadOf (bytes : List ℕ) (h : ResponseHead) : Type 0 where
   pub rest : List ℕ
-  pub reads : ReadsResponse (head_front bytes) h rest
+  pub reads : ReadsResponse (take HEAD_LIMIT bytes) h rest
   pub room : length h.fields ≤ FIELD_LIMIT
 
 abbrev pub seen_head : ResponseHead → SeenHead
-seen_head h =
-    record { status = status_code h; fields = map name_and_value h.fields; size = length (print_response h) }
+seen_head h = record { status = status_code h; fields = map name_and_value h.fields; size = length (print_response h) }
 
--- a front of a head, and too short to be refused
-pub record IsCut (bytes : List ℕ) : Type 0 where
-  pub short : length bytes < HEAD_LIMIT
-  pub none : HasNoResponse bytes
-  pub unfinished : MayBecomeResponse bytes
-
--- no head ends in the first 4,096 bytes, or none of at most 32 fields begins there, whatever follows
-abbrev pub IsRefused : List ℕ → Type 0
-IsRefused bytes =
-    ((HEAD_LIMIT ≤ length bytes) × HasNoResponse (head_front bytes)) ⊎ ResponseOverflows FIELD_LIMIT (head_front bytes)
-
--- what is answered of the head of bytes: its parts, or one of the cases *cut* and *refused head*
+-- what is answered of the head of bytes: its parts, or that it is *cut*, a front of a head, and too short to be refused, or that
+-- it is a *refused head*: none ends in the first 4,096 bytes, or none of at most 32 fields begins there, whatever follows
 abbrev pub FindsHead : List ℕ → Result SeenHead Why → Type 0
 FindsHead bytes (Ok seen) = (h : ResponseHead) × IsHeadOf bytes h × (seen ≡ seen_head h)
-FindsHead bytes (Err Cut) = IsCut bytes
-FindsHead bytes (Err Head) = IsRefused bytes
+FindsHead bytes (Err Cut) = (length bytes < HEAD_LIMIT) × HasNoResponse bytes × MayBecomeResponse bytes
+FindsHead bytes (Err Head) =
+    ((HEAD_LIMIT ≤ length bytes) × HasNoResponse (take HEAD_LIMIT bytes)) ⊎ ResponseOverflows FIELD_LIMIT (take HEAD_LIMIT bytes)
 FindsHead bytes (Err why) = ⊥

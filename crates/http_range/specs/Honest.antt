@@ -1,5 +1,5 @@
 -- Answers as an honest network delivers them: whole, or cut anywhere.
-use Rattle.std.specs.Prelude.{◌≡◌, ◌≤◌, ◌⊎◌, ℕ, ◌+◌, IsTrue, List, ◌++◌, length, drop, Some, None, Result, IfOk}
+use Rattle.std.specs.Prelude.{◌≡◌, ◌≤◌, ℕ, ◌+◌, IsTrue, List, ◌++◌, length, drop, IfSome, IsSomeAnd, Result, IfOk}
 use Rattle.http_range.specs.declared.reading.Why.{Why}
 use Rattle.http_range.specs.Piece.{SeenPiece}
 use Rattle.http_range.specs.Reading.{ReadsAnswer}
@@ -10,31 +10,16 @@ use Rattle.http_range.specs.Response.{Response, text_of, IsAnswer}
 abbrev pub IsFront : List ℕ → List ℕ → Type 0
 IsFront front whole = (rest : List ℕ) × (front ++ rest ≡ whole)
 
--- text is a front of an answer for p: of a server that has p, to some message, carrying the tag of p or none
-pub record IsHonestFor (text : List ℕ) (p : Publication) : Type 0 where
+-- text is a front of an answer that a server with a lawful catalogue gives, and if that answer carries a tag, it is the tag of
+-- the file of this name, and the book has that file
+pub record IsHonest (text name : List ℕ) (book : Book) : Type 0 where
   pub catalogue : Catalogue
   pub message : List ℕ
   pub response : Response
   pub lawful : IsCatalogue catalogue
   pub answers : IsAnswer catalogue message response
-  pub has : published p.name catalogue ≡ Some p
-  pub named : (response.name ≡ Some p.name) ⊎ (response.name ≡ None)
   pub front : IsFront text (text_of response)
-
--- text is a front of an answer that carries no tag
-pub record IsNamelessFront (text : List ℕ) : Type 0 where
-  pub catalogue : Catalogue
-  pub message : List ℕ
-  pub response : Response
-  pub lawful : IsCatalogue catalogue
-  pub answers : IsAnswer catalogue message response
-  pub nameless : response.name ≡ None
-  pub front : IsFront text (text_of response)
-
--- it is so for a publication of that name in the book, or the answer carries no tag
-abbrev pub IsHonest : List ℕ → List ℕ → Book → Type 0
-IsHonest text name book =
-    ((p : Publication) × In p book × (p.name ≡ name) × IsHonestFor text p) ⊎ IsNamelessFront text
+  pub named : IfSome response.name (λ n. (n ≡ name) × IsSomeAnd (published name catalogue) (λ p. In p book))
 
 -- the piece has the tag and the length of p, and its body stands in the file of p at its first position
 pub record IsPieceOf (p : Publication) (piece : SeenPiece) : Type 0 where

@@ -1,14 +1,14 @@
 -- Laws of the definitions, each the contract of a function of `laws`.
-use Rattle.std.specs.Prelude.{◌≡◌, ◌≢◌, ◌<◌, ◌≤◌, ◌^◌, ◌-◌, ◌↔◌, ◌⊎◌, ℕ, suc, Bool, true, false, IsTrue, IsErr, IfOk, List, [], ◌∷◌, ◌++◌, length, take, drop, Option, Some, None, Result, Ok, Err}
+use Rattle.std.specs.Prelude.{◌≡◌, ◌≢◌, ◌<◌, ◌≤◌, ◌^◌, ◌-◌, ◌↔◌, ◌⊎◌, ℕ, suc, Bool, true, false, IsTrue, IsErr, IfOk, IsSomeAnd, List, [], ◌∷◌, ◌++◌, length, take, drop, Option, Some, None, Result, Ok, Err}
 use Rattle.httparse.specs.Grammar.{RequestHead, IsRequestHead, print_request}
-use Rattle.http_range.specs.Ask.{CanAsk, open_request_text, request_by, request_text, CanCheck, check_text}
+use Rattle.http_range.specs.Ask.{CanAsk, request_by, CanCheck, check_text}
 use Rattle.http_range.specs.Book.{Publication, IsPublication, Book, In, HasDistinctTags, Includes, Covers, Catalogue, IsCatalogue, published, publish, publication_tag}
 use Rattle.http_range.specs.Response.{Response, ending, text_of, IsAnswer, response_to_client, response_to_check}
 use Rattle.http_parts.specs.declared.limits.TheConstants.{HEAD_LIMIT, MESSAGE_LIMIT}
 use Rattle.http_range.specs.Seen.{SeenRequest, HasRequest}
 use Rattle.http_range.specs.Scan.{is_message}
 use Rattle.http_range.specs.Stream.{AreAnswers, HasNoMessage, IsAnswered, IsFirstMessage, IsMessage, IsUnfinished}
-use Rattle.http_range.specs.Honest.{IsFront, IsHonestFor, IsNamelessFront, IsHonest, IsPieceOf, IsPieceOfBook, ShowsOnly}
+use Rattle.http_range.specs.Honest.{IsFront, IsHonest, IsPieceOf, IsPieceOfBook, ShowsOnly}
 use Rattle.http_range.specs.declared.reading.Why.{Why}
 use Rattle.http_range.specs.declared.reading.Why.TheVariants.{Cut, Head}
 use Rattle.http_range.specs.declared.reply.Reply.{Reply}
@@ -84,7 +84,7 @@ abbrev pub ClientsAreAnswered : Type 0
 ClientsAreAnswered =
     (catalogue : Catalogue) (host name more : List ℕ) (first last : ℕ) (tag : Option (List ℕ)) (response : Response)
     → CanAsk host name first last tag → first ≤ last
-    → IsAnswer catalogue (request_text host name first last tag ++ more) response
+    → IsAnswer catalogue (request_by true host name first last tag ++ more) response
     ↔ (response ≡ response_to_client (published name catalogue) first last tag)
 
 -- the same whether the connection is to end or may go on, but that the answer ends it or doesn't
@@ -107,7 +107,7 @@ abbrev pub ClientsAreServed : Type 0
 ClientsAreServed =
     (catalogue : Catalogue) (host name more : List ℕ) (first last : ℕ) (tag : Option (List ℕ)) (rs : List Response)
     → CanAsk host name first last tag → first ≤ last
-    → IsAnswered catalogue (request_text host name first last tag ++ more) rs
+    → IsAnswered catalogue (request_by true host name first last tag ++ more) rs
     ↔ (rs ≡ response_to_client (published name catalogue) first last tag ∷ [])
 
 -- one that lets the connection go on has its answer, and then those to what follows
@@ -115,7 +115,7 @@ abbrev pub OpenClientsAreServed : Type 0
 OpenClientsAreServed =
     (catalogue : Catalogue) (n : ℕ) (host name more : List ℕ) (first last : ℕ) (tag : Option (List ℕ)) (rs : List Response)
     → CanAsk host name first last tag → first ≤ last
-    → AreAnswers catalogue (suc n) (open_request_text host name first last tag ++ more) rs
+    → AreAnswers catalogue (suc n) (request_by false host name first last tag ++ more) rs
     ↔ ((later : List Response) × (rs ≡ ending false (response_to_client (published name catalogue) first last tag) ∷ later)
     × AreAnswers catalogue n more later)
 
@@ -151,8 +151,9 @@ pub record HonestyIsKept : Type 0 where
   pub cut : (front text name : List ℕ) (book : Book) → IsFront front text → IsHonest text name book → IsHonest front name book
   -- and in each later book
   pub later : (text name : List ℕ) (book later : Book) → Includes later book → IsHonest text name book → IsHonest text name later
-  -- what it is honest for is a lawful publication
-  pub lawful : (text : List ℕ) (p : Publication) → IsHonestFor text p → IsPublication p
+  -- what its catalogue has under the name is a lawful publication
+  pub lawful : (text name : List ℕ) (book : Book) (p : Publication) (honest : IsHonest text name book)
+      → published name honest.catalogue ≡ Some p → IsPublication p
 
 -- no head is read: it isn't whole, or is refused
 abbrev pub HasNone : Result Announced Why → Type 0
@@ -193,12 +194,14 @@ pub record FrontsAreRead : Type 0 where
   pub answer : (catalogue : Catalogue) (message bytes : List ℕ) (s : Response) (k : ℕ) (r : Result SeenPiece Why)
       → IsCatalogue catalogue → IsAnswer catalogue message s → bytes ≡ take k (text_of s) → ReadsAnswer bytes r
       → r ≡ front_seen s.reply s.close s.body k
-  -- an honest answer for a publication shows only pieces of that file
-  pub honest : (text : List ℕ) (p : Publication) → IsHonestFor text p → ShowsOnly (IsPieceOf p) text
+  -- an honest answer for a name shows only pieces of the file that its catalogue has under the name
+  pub honest : (text name : List ℕ) (book : Book) (p : Publication) (honest : IsHonest text name book)
+      → published name honest.catalogue ≡ Some p → ShowsOnly (IsPieceOf p) text
   -- an honest answer for a name shows only pieces of files of that name in the book
   pub book : (text name : List ℕ) (book : Book) → IsHonest text name book → ShowsOnly (IsPieceOfBook name book) text
   -- an answer without a tag gives no piece
-  pub nameless : (text : List ℕ) (r : Result SeenPiece Why) → IsNamelessFront text → ReadsAnswer text r → IsErr r
+  pub nameless : (text name : List ℕ) (book : Book) (r : Result SeenPiece Why) (honest : IsHonest text name book)
+      → honest.response.name ≡ None → ReadsAnswer text r → IsErr r
   -- and the tag of a piece tells one publication
   pub one : TagsTellOne
 
@@ -211,11 +214,12 @@ pub record ChecksAreRead : Type 0 where
   pub answer : (catalogue : Catalogue) (message bytes : List ℕ) (s : Response) (k : ℕ) (r : Result (List ℕ) Why)
       → IsCatalogue catalogue → IsAnswer catalogue message s → bytes ≡ take k (text_of s) → ReadsCheck bytes r
       → r ≡ front_tag s.reply s.close k
-  -- a tag that is read of an honest answer for a publication, which stands in that answer's catalogue, is its tag
-  pub honest : (text : List ℕ) (p : Publication) (r : Result (List ℕ) Why) → IsHonestFor text p → ReadsCheck text r
-      → IfOk r (λ tag. tag ≡ p.tag)
+  -- a tag that is read of an honest answer for a name is that of the file that its catalogue has under the name
+  pub honest : (text name : List ℕ) (book : Book) (r : Result (List ℕ) Why) (honest : IsHonest text name book) → ReadsCheck text r
+      → IfOk r (λ tag. IsSomeAnd (published name honest.catalogue) (λ p. tag ≡ p.tag))
   -- an answer without a tag says none
-  pub nameless : (text : List ℕ) (r : Result (List ℕ) Why) → IsNamelessFront text → ReadsCheck text r → IsErr r
+  pub nameless : (text name : List ℕ) (book : Book) (r : Result (List ℕ) Why) (honest : IsHonest text name book)
+      → honest.response.name ≡ None → ReadsCheck text r → IsErr r
 
 -- a Content-Range is read exactly where it has the form `bytes a-b/l`
 abbrev pub ContentRangesAreForms : Type 0

@@ -1,6 +1,7 @@
 -- The value of a Range field, and the part of a content that it names (RFC 9110, sections 14.1 and 14.2).
 use Rattle.std.specs.Prelude.{◌≡◌, ℕ, ◌-◌, ◌≤◌, ◌==◌, min, if◌then◌else◌, nat_lt, nat_le, List, [], ◌∷◌, ◌++◌, length, take, drop, codes, Option, Some, None, option_map}
 use Rattle.std.specs.List.{before_first, after_first, position_or_len}
+use Rattle.std.specs.Option.{option_map_or}
 use Rattle.std.specs.Str.{bytes_eq, str_to_ascii_lowercase}
 use Rattle.http_range.specs.declared.range.RangeSpec.{RangeSpec}
 use Rattle.http_range.specs.declared.range.RangeSpec.TheVariants.{Between, From, Suffix}
@@ -49,8 +50,7 @@ spec_behind text =
 
 -- the range that the value of a Range field names
 unfoldable pub range_spec : List ℕ → Option RangeSpec
-range_spec text =
-    if bytes_eq (str_to_ascii_lowercase (take 6 text)) (codes "bytes=") then spec_behind (drop 6 text) else None
+range_spec text = if bytes_eq (str_to_ascii_lowercase (take 6 text)) (codes "bytes=") then spec_behind (drop 6 text) else None
 
 -- ---- the part
 
@@ -63,8 +63,7 @@ resolved (Suffix n) len = if n == 0 then Unsatisfiable else Part (len - n) (len 
 
 -- the whole content where there is no range
 abbrev pub resolved_or : Option RangeSpec → ℕ → Resolved
-resolved_or None len = Whole
-resolved_or (Some spec) len = resolved spec len
+resolved_or spec len = option_map_or (λ s. resolved s len) spec Whole
 
 -- the part that the value of a Range field names
 abbrev pub part : List ℕ → ℕ → Resolved

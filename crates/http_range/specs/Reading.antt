@@ -1,5 +1,6 @@
 -- How an answer is read: the rows of the table, each by itself, and the first that applies.
 use Rattle.std.specs.Prelude.{◌≡◌, ℕ, ◌+◌, ◌-◌, ◌&&◌, ◌||◌, ◌==◌, not, nat_le, Bool, true, false, if◌then◌else◌, List, [], length, take, codes, Option, Some, None, is_none, unwrap_or, option_and_then, Result, Ok, Err}
+use Rattle.std.specs.Option.{option_map_or}
 use Rattle.http_range.specs.declared.reading.Why.{Why}
 use Rattle.http_range.specs.declared.reading.Why.TheVariants.{Cut, Status, NoTag, WeakTag, TagTooLong, NoRange, NoLength, Coding}
 use Rattle.http_range.specs.declared.reading.ContentRange.{ContentRange}
@@ -23,14 +24,9 @@ use Rattle.http_range.specs.ContentRange.{range_of}
 abbrev pub value_of : List ℕ → SeenHead → Option (List ℕ)
 value_of name head = only (values_of name head.fields)
 
--- there is such a field
-abbrev pub has_field : List ℕ → SeenHead → Bool
-has_field name head = is_there (values_of name head.fields)
-
 -- a test of a value that may be missing
 abbrev pub holds : {A : Type 0} → Option A → (A → Bool) → Bool
-holds None test = false
-holds (Some x) test = test x
+holds value test = option_map_or test value false
 
 -- the positions of its only Content-Range
 abbrev pub range_named : SeenHead → Option ContentRange
@@ -48,7 +44,8 @@ has_other_status head = not (head.status == 200) && not (head.status == 206)
 
 -- coding: a Transfer-Encoding or Content-Encoding field
 abbrev pub is_coded : SeenHead → Bool
-is_coded head = has_field (codes "Transfer-Encoding") head || has_field (codes "Content-Encoding") head
+is_coded head =
+    is_there (values_of (codes "Transfer-Encoding") head.fields) || is_there (values_of (codes "Content-Encoding") head.fields)
 
 -- the value of the only ETag field: *no tag* where there is none, or it isn't an entity tag; *weak tag*; *long tag* where its text
 -- has more than 64 bytes; or the tag
@@ -63,28 +60,22 @@ tag_by_rows value =
 abbrev pub tag_in : SeenHead → Result (List ℕ) Why
 tag_in head = if is_coded head then Err Coding else tag_by_rows (value_of (codes "ETag") head)
 
--- no length: not exactly one Content-Length of digits and 64 bits, or for a part not b - a + 1
-abbrev pub lacks_length : Bool → Option ContentRange → Option ℕ → Bool
-lacks_length partial range length =
-    is_none length || (partial && not (holds range (λ r. holds length (λ n. r.last - r.first + 1 == n))))
-
--- *no range*, a part without exactly one Content-Range `bytes a-b/l`; *no length*; or what is announced: the whole file, or the
--- part that the range names, and as many bytes as the Content-Length says
+-- *no range*, a part without exactly one Content-Range `bytes a-b/l`, or *no length*, not exactly one Content-Length of digits
+-- and 64 bits, or for a part not b - a + 1, or else what is announced: the whole file, or the part that the range names, and as
+-- many bytes as the Content-Length says
 abbrev pub announced_by_rows : Bool → List ℕ → Option ContentRange → Option ℕ → ℕ → Result Announced Why
 announced_by_rows partial tag range length size =
     if partial && is_none range then Err NoRange
-    else if lacks_length partial range length then Err NoLength
+    else if not (holds length (λ n. not partial || holds range (λ r. r.last - r.first + 1 == n))) then Err NoLength
     else Ok (announced_by tag (if partial then range else None) (unwrap_or length 0) size)
 
 -- the rows from *no range* on; a 206 is a part
 abbrev pub announced_in : SeenHead → List ℕ → Result Announced Why
-announced_in head tag =
-    announced_by_rows (head.status == 206) tag (range_named head) (length_named head) head.size
+announced_in head tag = announced_by_rows (head.status == 206) tag (range_named head) (length_named head) head.size
 
 -- the first row that applies to a whole head
 abbrev pub announced_of : SeenHead → Result Announced Why
-announced_of head =
-    if has_other_status head then Err (Status head.status) else (tag_in head >>= announced_in head)
+announced_of head = if has_other_status head then Err (Status head.status) else (tag_in head >>= announced_in head)
 
 -- how the head of an answer is read: by the rows, or as *cut* or *refused head*
 abbrev pub ReadsHead : List ℕ → Result Announced Why → Type 0
@@ -92,8 +83,7 @@ ReadsHead bytes r = (found : Result SeenHead Why) × FindsHead bytes found × (r
 
 -- how an answer is read: by its head, and a piece is what follows that
 abbrev pub ReadsAnswer : List ℕ → Result SeenPiece Why → Type 0
-ReadsAnswer bytes r =
-    (head : Result Announced Why) × ReadsHead bytes head × (r ≡ (head >>= (λ a. Ok (piece_behind bytes a))))
+ReadsAnswer bytes r = (head : Result Announced Why) × ReadsHead bytes head × (r ≡ (head >>= (λ a. Ok (piece_behind bytes a))))
 
 -- ---- the connection
 
@@ -123,8 +113,7 @@ ReadsCheck bytes r = (found : Result SeenHead Why) × FindsHead bytes found × (
 
 -- what a reply announces in a head of this size
 abbrev pub reply_announced : Reply → ℕ → Result Announced Why
-reply_announced (R200 tag l) size =
-    Ok (record { tag = tag; whole = true; first = 0; complete = l; length = l; size = size })
+reply_announced (R200 tag l) size = Ok (record { tag = tag; whole = true; first = 0; complete = l; length = l; size = size })
 reply_announced (R206 tag first last l) size =
     Ok (record { tag = tag; whole = false; first = first; complete = l; length = last - first + 1; size = size })
 reply_announced (R304 tag) size = Err (Status 304)
@@ -142,8 +131,7 @@ front_announced reply close k =
 
 -- what a reply says to a client that got these bytes behind its head
 abbrev pub reply_seen : Reply → List ℕ → Result SeenPiece Why
-reply_seen (R200 tag l) rest =
-    Ok (record { tag = tag; whole = true; first = 0; complete = l; body = take l rest })
+reply_seen (R200 tag l) rest = Ok (record { tag = tag; whole = true; first = 0; complete = l; body = take l rest })
 reply_seen (R206 tag first last l) rest =
     Ok (record { tag = tag; whole = false; first = first; complete = l; body = take (last - first + 1) rest })
 reply_seen (R304 tag) rest = Err (Status 304)

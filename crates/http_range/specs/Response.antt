@@ -2,6 +2,7 @@
 use Rattle.std.specs.Prelude.{◌≡◌, ℕ, ◌+◌, ◌-◌, ◌&&◌, ◌||◌, ◌==◌, min, not, nat_eq, nat_lt, Bool, true, false, if◌then◌else◌, List, [], ◌∷◌, ◌++◌, length, take, drop, codes, Option, Some, None, option_and_then}
 use Rattle.std.specs.List.{list_any, starts_with}
 use Rattle.std.specs.Str.{bytes_eq}
+use Rattle.std.specs.Option.{option_map_or}
 use Rattle.http_range.specs.declared.range.Resolved.{Resolved}
 use Rattle.http_range.specs.declared.range.Resolved.TheVariants.{Whole, Part, Unsatisfiable}
 use Rattle.http_range.specs.declared.reply.Reply.{Reply}
@@ -31,14 +32,9 @@ text_of s = head_text s.reply s.close ++ s.body
 abbrev pub asks_close : SeenRequest → Bool
 asks_close r = list_any (has_member (codes "close")) (values_of (codes "Connection") r.fields)
 
-abbrev pub is_method : List ℕ → SeenRequest → Bool
-is_method method r = bytes_eq r.method method
-
 -- the values of If-Range let a range be served: there is none, or one that is the tag byte for byte
 abbrev pub lets_range : List (List ℕ) → List ℕ → Bool
-lets_range [] tag = true
-lets_range (value ∷ []) tag = bytes_eq value tag
-lets_range (value ∷ other ∷ values) tag = false
+lets_range values tag = option_map_or (λ value. bytes_eq value tag) (only values) (not (is_there values))
 
 -- the value of the only Range field, where If-Range lets it be served
 abbrev pub range_to_serve : SeenRequest → List ℕ → Option (List ℕ)
@@ -51,26 +47,10 @@ part_to_serve r tag length = resolved_or (option_and_then range_spec (range_to_s
 
 -- ---- the rows
 
--- version: another one than HTTP/1.1
-abbrev pub has_other_version : SeenRequest → Bool
-has_other_version r = not (r.minor == 1)
-
--- host: not exactly one Host field
-abbrev pub lacks_host : SeenRequest → Bool
-lacks_host r = not (length (values_of (codes "Host") r.fields) == 1)
-
 -- body announced: a Content-Length or Transfer-Encoding field
 abbrev pub announces_body : SeenRequest → Bool
 announces_body r =
     is_there (values_of (codes "Content-Length") r.fields) || is_there (values_of (codes "Transfer-Encoding") r.fields)
-
--- method: neither GET nor HEAD
-abbrev pub has_other_method : SeenRequest → Bool
-has_other_method r = not (is_method (codes "GET") r) && not (is_method (codes "HEAD") r)
-
--- target form: it isn't the origin-form, which begins with `/`
-abbrev pub lacks_origin_form : SeenRequest → Bool
-lacks_origin_form r = not (starts_with nat_eq r.target (codes "/"))
 
 -- the name behind the `/`
 abbrev pub target_name : SeenRequest → List ℕ
@@ -96,36 +76,29 @@ refused reply close = record { reply = reply; close = close; name = None; body =
 abbrev pub with_tag : Publication → Reply → Bool → List ℕ → Response
 with_tag p reply close body = record { reply = reply; close = close; name = Some p.name; body = body }
 
--- not modified: the tag alone
-abbrev pub serve_tag : Publication → Bool → Response
-serve_tag p close = with_tag p (R304 p.tag) close []
-
--- head: the head of the whole file
-abbrev pub serve_head : Publication → Bool → Response
-serve_head p close = with_tag p (R200 p.tag (length p.file)) close []
-
 -- part, unsatisfiable, whole
 abbrev pub serve_part : Resolved → Publication → Bool → Response
 serve_part (Part a b) p close = with_tag p (R206 p.tag a b (length p.file)) close (take (b - a + 1) (drop a p.file))
 serve_part Unsatisfiable p close = refused (R416 (length p.file)) close
 serve_part Whole p close = with_tag p (R200 p.tag (length p.file)) close p.file
 
--- the rows from *unknown name* on
+-- the rows from *unknown name* on: *not modified* is answered by the tag alone, and *head* by the head of the whole file
 abbrev pub serve_file : Option Publication → SeenRequest → Response
 serve_file None r = refused R404 (asks_close r)
 serve_file (Some p) r =
     if fails_precondition r p.tag then refused R412 (asks_close r)
-    else if is_unmodified r p.tag then serve_tag p (asks_close r)
-    else if is_method (codes "HEAD") r then serve_head p (asks_close r)
+    else if is_unmodified r p.tag then with_tag p (R304 p.tag) (asks_close r) []
+    else if bytes_eq r.method (codes "HEAD") then with_tag p (R200 p.tag (length p.file)) (asks_close r) []
     else serve_part (part_to_serve r p.tag (length p.file)) p (asks_close r)
 
--- the first row that applies; None is a message without a head
+-- The first row that applies: *version* is another one than HTTP/1.1, *host* is not exactly one Host field, *method* is neither
+-- GET nor HEAD, and *target form* is not the origin-form, which begins with `/`. None is a message without a head.
 abbrev pub answer_by : Catalogue → Option SeenRequest → Response
 answer_by catalogue None = refused R400 true
 answer_by catalogue (Some r) =
-    if has_other_version r || lacks_host r || announces_body r then refused R400 true
-    else if has_other_method r then refused R405 (asks_close r)
-    else if lacks_origin_form r then refused R400 true
+    if not (r.minor == 1) || not (length (values_of (codes "Host") r.fields) == 1) || announces_body r then refused R400 true
+    else if not (bytes_eq r.method (codes "GET")) && not (bytes_eq r.method (codes "HEAD")) then refused R405 (asks_close r)
+    else if not (starts_with nat_eq r.target (codes "/")) then refused R400 true
     else serve_file (published (target_name r) catalogue) r
 
 -- the server's answer to the head at the front of a message
@@ -156,4 +129,5 @@ ending close s = record s { close = close }
 -- what is answered to a client that checks whether the file has this tag
 abbrev pub response_to_check : Option Publication → List ℕ → Response
 response_to_check None tag = refused R404 true
-response_to_check (Some p) tag = if bytes_eq tag p.tag then serve_tag p true else serve_head p true
+response_to_check (Some p) tag =
+    if bytes_eq tag p.tag then with_tag p (R304 p.tag) true [] else with_tag p (R200 p.tag (length p.file)) true []

@@ -19,8 +19,7 @@ pub record IsRequestFront (bytes : List ℕ) (h : RequestHead) : Type 0 where
   pub room : length h.fields ≤ FIELD_LIMIT
 
 abbrev pub seen_request : RequestHead → SeenRequest
-seen_request h =
-    record { method = h.method; target = h.target; minor = h.minor; fields = map name_and_value h.fields }
+seen_request h = record { method = h.method; target = h.target; minor = h.minor; fields = map name_and_value h.fields }
 
 -- a head stands at the front of the message, and these are its parts; or none does
 abbrev pub HasRequest : List ℕ → Option SeenRequest → Type 0

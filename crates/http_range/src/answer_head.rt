@@ -1,6 +1,6 @@
 //! The head of an answer (RFC 9112, section 4).
-ghost use Rattle.std.specs.Prelude.{◌≡◌, ◌≤◌, Some, length, option_copied};
-ghost use Rattle.http_range.specs.Head.{head_front, FindsHead};
+ghost use Rattle.std.specs.Prelude.{◌≡◌, ◌≤◌, Some, length, option_copied, take};
+ghost use Rattle.http_range.specs.Head.{FindsHead};
 ghost use Rattle.http_range.specs.AnswerHead.{head_seen, found_seen};
 ghost use Rattle.http_range.specs.Reading.{EndsConnection, is_coded, says_close, tag_by_rows, tag_in};
 
@@ -21,7 +21,7 @@ pub(crate) struct AnswerHead<'b> {
 
 /// The bytes where a head is looked for.
 fn head_front(bytes: &[u8]) -> &[u8]
-    ensures front { result.now ≡ head_front bytes.now }
+    ensures front { result.now ≡ take HEAD_LIMIT bytes.now }
     ensures short { length result.now ≤ HEAD_LIMIT }
     ensures within { length result.now ≤ length bytes.now }
 {

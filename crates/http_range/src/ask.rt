@@ -1,8 +1,8 @@
 //! A client's requests.
-ghost use Rattle.std.specs.Prelude.{◌≡◌, ◌++◌, IfOk, OnOk, codes, option_map};
+ghost use Rattle.std.specs.Prelude.{◌≡◌, ◌++◌, true, false, IfOk, OnOk, codes, option_map};
 ghost use Rattle.std.specs.List.{flat_map};
 ghost use Rattle.http_parts.specs.Text.{line};
-ghost use Rattle.http_range.specs.Ask.{open_request_text, request_by, request_text, request_line, range_value, if_range, check_text};
+ghost use Rattle.http_range.specs.Ask.{request_by, request_line, range_value, if_range, check_text};
 
 use http_parts::line::{push_closing, push_decimal, push_line};
 use http_parts::tag::Tag;
@@ -19,7 +19,7 @@ pub fn write_request(
     tag: Option<&Tag>,
 ) -> Result<Vec<u8>, Memory>
     ensures { IfOk result (λ text. text.items
-        ≡ request_text host.now name.now span.first span.last (option_map (λ t. t.now) tag.entry)) }
+        ≡ request_by true host.now name.now span.first span.last (option_map (λ t. t.now) tag.entry)) }
 {
     write_by(alloc, host, name, span, tag, true)
 }
@@ -33,7 +33,7 @@ pub fn write_open_request(
     tag: Option<&Tag>,
 ) -> Result<Vec<u8>, Memory>
     ensures { IfOk result (λ text. text.items
-        ≡ open_request_text host.now name.now span.first span.last (option_map (λ t. t.now) tag.entry)) }
+        ≡ request_by false host.now name.now span.first span.last (option_map (λ t. t.now) tag.entry)) }
 {
     write_by(alloc, host, name, span, tag, false)
 }

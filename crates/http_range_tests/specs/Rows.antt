@@ -7,7 +7,7 @@ use Rattle.http_range.specs.declared.reply.Reply.TheVariants.{R200, R206, R304, 
 use Rattle.http_range.specs.Text.{FieldLine}
 use Rattle.http_range.specs.Range.{part}
 use Rattle.http_range.specs.Reply.{head_text}
-use Rattle.http_range.specs.Ask.{request_text}
+use Rattle.http_range.specs.Ask.{request_by}
 use Rattle.http_range.specs.declared.reading.Why.TheVariants.{Cut, Status, NoRange, NoLength}
 use Rattle.http_range.specs.Head.{SeenHead}
 use Rattle.http_range.specs.Announced.{Announced, body_behind}
@@ -68,12 +68,12 @@ tag_1 = codes "\"1-1\""
 
 pub record TextRows : Type 0 where
   pub tag : publication_tag 1 1 ≡ tag_1
-  pub first_request : request_text (codes "cog.test") (codes "a") 0 65535 None
+  pub first_request : request_by true (codes "cog.test") (codes "a") 0 65535 None
       ≡ codes "GET /a HTTP/1.1\r\nHost: cog.test\r\nRange: bytes=0-65535\r\nConnection: close\r\n\r\n"
-  pub first_length : length (request_text (codes "cog.test") (codes "a") 0 65535 None) ≡ 76
-  pub second_request : request_text (codes "cog.test") (codes "a") 65536 67705 (Some tag_1)
+  pub first_length : length (request_by true (codes "cog.test") (codes "a") 0 65535 None) ≡ 76
+  pub second_request : request_by true (codes "cog.test") (codes "a") 65536 67705 (Some tag_1)
       ≡ codes "GET /a HTTP/1.1\r\nHost: cog.test\r\nRange: bytes=65536-67705\r\nIf-Range: \"1-1\"\r\nConnection: close\r\n\r\n"
-  pub second_length : length (request_text (codes "cog.test") (codes "a") 65536 67705 (Some tag_1)) ≡ 97
+  pub second_length : length (request_by true (codes "cog.test") (codes "a") 65536 67705 (Some tag_1)) ≡ 97
   pub head : head_text (R206 tag_1 0 65535 67706) true
       ≡ codes "HTTP/1.1 206 Partial Content\r\nETag: \"1-1\"\r\nAccept-Ranges: bytes\r\nContent-Type: image/tiff\r\n"
       ++ codes "Content-Range: bytes 0-65535/67706\r\nContent-Length: 65536\r\nConnection: close\r\n\r\n"

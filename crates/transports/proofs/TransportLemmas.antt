@@ -1,9 +1,9 @@
 -- What the answers of a server in memory show.
-use Rattle.std.proofs.Common.{◌≡◌, ℕ, List, [], ◌++◌, Some, Result, Ok, Err, IfOk, sym, ap, ◌∙◌, subst, append-nil, append_assoc}
+use Rattle.std.proofs.Common.{◌≡◌, ℕ, List, [], ◌++◌, inl, inr, Option, Some, None, IfSome, IsSomeAnd, Result, Ok, Err, IfOk, sym, ap, ◌∙◌, subst, append-nil, append_assoc}
 use Rattle.http_range.specs.declared.reading.Why.{Why}
 use Rattle.http_range.specs.Piece.{SeenPiece}
-use Rattle.http_range.specs.Book.{Book, Catalogue, published}
-use Rattle.http_range.specs.Honest.{IsFront, IsHonestFor, IsPieceOf, IsPieceOfSome}
+use Rattle.http_range.specs.Book.{Publication, Book, In, Catalogue, published}
+use Rattle.http_range.specs.Honest.{IsFront, IsHonest, IsPieceOfBook, IsPieceOfSome}
 use Rattle.http_range.specs.Response.{Response, IsAnswer, text_of}
 use Rattle.http_range.specs.Laws.{FrontsAreRead}
 use Rattle.cog_client.specs.Transport.{IsTrueToAll}
@@ -12,25 +12,30 @@ use Rattle.transports.specs.InMemory.{IsAbout, StandsIn}
 -- the answer of a server that has the file, if it carries that file's tag or none
 pub shown_answer : FrontsAreRead → (catalogue : Catalogue) (name message text : List ℕ) (s : Response) → IsAnswer catalogue message s
     → text ≡ text_of s → IsAbout name s.name → IsTrueToAll (StandsIn catalogue name) text
-shown_answer law catalogue name message text s answers is named book (p, has, among) front cut r reads = of r (law.honest text p honest front cut r reads)
+shown_answer law catalogue name message text s answers is named book (p, has, among) front cut r reads =
+    of r (law.book text name book honest front cut r reads)
   where
-    honest : IsHonestFor text p
-    honest =
-        let P : List ℕ → Type 0 = λ n. published n catalogue ≡ Some p in
-        let Q : List ℕ → Type 0 = λ n. IsAbout n s.name in
-        record {
-          catalogue = catalogue;
-          message = message;
-          response = s;
-          lawful = has.lawful;
-          answers = answers;
-          has = subst P (sym has.named) has.there;
-          named = subst Q (sym has.named) named;
-          front = ([], append-nil text ∙ is);
-        }
+    carried : (o : Option (List ℕ)) → IsAbout name o → IfSome o (λ n. (n ≡ name) × IsSomeAnd (published name catalogue) (λ q. In q book))
+    carried None about = tt
+    carried (Some n) (inl is) =
+        let same : n ≡ name = cc in
+        let P : Option Publication → Type 0 = λ o. IsSomeAnd o (λ q. In q book) in
+        (same, subst P (sym has.there) among)
+    carried (Some n) (inr none) = absurd (cc)
 
-    of : (x : Result SeenPiece Why) → IfOk x (IsPieceOf p) → IfOk x (IsPieceOfSome book)
-    of (Ok x) is = (p, among, is)
+    honest : IsHonest text name book
+    honest = record {
+      catalogue = catalogue;
+      message = message;
+      response = s;
+      lawful = has.lawful;
+      answers = answers;
+      front = ([], append-nil text ∙ is);
+      named = carried s.name named;
+    }
+
+    of : (x : Result SeenPiece Why) → IfOk x (IsPieceOfBook name book) → IfOk x (IsPieceOfSome book)
+    of (Ok x) is = (is.0, is.1, is.3)
     of (Err why) is = tt
 
 -- a front of what shows only pieces shows only pieces

@@ -18,10 +18,6 @@ StandsIn catalogue name book = (p : Publication) × Has catalogue name p × In p
 abbrev pub first_of : ℕ → List ℕ → List ℕ → Publication
 first_of epoch name file = record { name = name; tag = publication_tag epoch 1; file = file }
 
--- a server without files
-abbrev pub new_server : ℕ → ServerState
-new_server epoch = record { epoch = epoch; count = 0; catalogue = [] }
-
 -- a server whose first publication of the epoch is its only one
 abbrev pub server_of_one : ℕ → List ℕ → List ℕ → ServerState
 server_of_one epoch name file =

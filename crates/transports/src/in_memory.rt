@@ -1,8 +1,8 @@
 //! A server in memory.
-ghost use Rattle.std.specs.Prelude.{◌≡◌, ◌↔◌, IfErr, IfOk, IsTrue, OnOk, None, option_map};
+ghost use Rattle.std.specs.Prelude.{◌≡◌, ◌↔◌, IfErr, IfOk, IsTrue, OnOk, None, [], option_map};
 ghost use Rattle.cog_client.specs.Transport.{IsTrueToAll};
 ghost use Rattle.cog_server.specs.Server.{IsRefusal, refusal_of};
-ghost use Rattle.transports.specs.InMemory.{Has, IsAbout, IsAnswerAbout, StandsIn, first_of, new_server, server_of_one};
+ghost use Rattle.transports.specs.InMemory.{Has, IsAbout, IsAnswerAbout, StandsIn, first_of, server_of_one};
 
 use cog_client::{Lost, Transport};
 use cog_server::{PublishError, Server};
@@ -119,8 +119,8 @@ pub fn server_of_one(
     ensures one { IfOk result (λ server. server ≡ server_of_one epoch name.now file.items) }
 
     // It is refused as the first publication of a new server is.
-    ensures accepted { OnOk result (refusal_of (new_server epoch) name.now file.items ≡ None) }
-    ensures refused { IfErr result (IsRefusal (refusal_of (new_server epoch) name.now file.items)) }
+    ensures accepted { OnOk result (refusal_of 0 [] name.now file.items ≡ None) }
+    ensures refused { IfErr result (IsRefusal (refusal_of 0 [] name.now file.items)) }
 {
     tags_tell_publications();
     let mut server = Server::new(alloc, epoch);

@@ -11,8 +11,9 @@ use Rattle.http_range.specs.Ask.{check_text}
 use Rattle.http_range.specs.Book.{Publication, published}
 use Rattle.http_range.specs.declared.reading.Why.TheVariants.{Cut}
 use Rattle.http_range.specs.Reading.{front_tag, tag_seen}
+use Rattle.http_range.specs.declared.reply.Reply.TheVariants.{R200, R304}
 use Rattle.http_range.specs.Reply.{head_text}
-use Rattle.http_range.specs.Response.{Response, IsAnswer, text_of, response_to_check, serve_tag, serve_head}
+use Rattle.http_range.specs.Response.{Response, IsAnswer, text_of, response_to_check, with_tag}
 use Rattle.cog_client.specs.declared.delivered.Current.{Current}
 use Rattle.cog_client.specs.declared.delivered.Current.TheVariants.{Same, Other}
 use Rattle.cog_client.specs.Check.{current_by}
@@ -30,7 +31,8 @@ use Rattle.world.proofs.Lists.{get-map}
 use Rattle.world.proofs.Good.{Good}
 
 -- both answers about a file tell its tag
-tag_told : (b : Bool) (p : Publication) → tag_seen (if b then serve_tag p true else serve_head p true).reply ≡ Ok p.tag
+tag_told : (b : Bool) (p : Publication)
+    → tag_seen (if b then with_tag p (R304 p.tag) true [] else with_tag p (R200 p.tag (length p.file)) true []).reply ≡ Ok p.tag
 tag_told true p = refl
 tag_told false p = refl
 

@@ -14,14 +14,14 @@ use Rattle.http_range.specs.Names.{is_name}
 use Rattle.http_range.specs.Book.{Publication, IsPublication, Book, In, Includes, HasDistinctTags, Catalogue, IsCatalogue, published, Covers, publish, publication_tag}
 use Rattle.cog_server.specs.declared.error.PublishError.{PublishError}
 use Rattle.cog_server.specs.declared.server.Answer.{Answer}
-use Rattle.cog_server.specs.Server.{ServerState, refusal_of}
+use Rattle.cog_server.specs.Server.{refusal_of}
 use Rattle.cog_client.specs.declared.error.ClientError.{ClientError}
 use Rattle.cog_client.specs.Client.{ClientState, ClientAgrees, KnowsOne, client_refusal, name_of, query_of, revision_of}
 use Rattle.world.specs.declared.event.Event.{Event}
 use Rattle.world.specs.declared.event.Event.TheVariants.{Publish, Epoch, NewClient, Open, Forget, Ask, AskFrom, Deliver, Exchange, Check}
 use Rattle.world.specs.declared.event.Effect.{Effect}
 use Rattle.world.specs.State.{refused_at}
-use Rattle.world.specs.World.{World, Seen, start, answer_in, next_of, publish_by, server_of, restart_by, made_by, scheduled, after, host, opened, StaysHonest}
+use Rattle.world.specs.World.{World, Seen, start, answer_in, next_of, publish_by, restart_by, made_by, scheduled, after, host, opened, StaysHonest}
 use Rattle.world.specs.Run.{seen}
 use Rattle.world.specs.LowerLaws.{LowerLaws}
 use Rattle.world.proofs.Lists.{get-map, get-set, get-push, map-set, set_there}
@@ -104,8 +104,9 @@ not_false : (b : Bool) → not b ≡ false → b ≡ true
 not_false true e = refl
 not_false false e = sym e
 
-accepted : (s : ServerState) (name file : List ℕ) → refusal_of s name file ≡ None → IsAccepted s.count name file
-accepted s name file e =
+accepted : (count : ℕ) (catalogue : Catalogue) (name file : List ℕ) → refusal_of count catalogue name file ≡ None
+    → IsAccepted count name file
+accepted count catalogue name file e =
     let a = passed _ _ _ e in
     let b = passed _ _ _ a.1 in
     let c = passed _ _ _ b.1 in
@@ -140,7 +141,7 @@ module _ (laws : LowerLaws) where
   good_accepted : (w : World) (cs : List ClientState) (name file : List ℕ) → refused_at w name file ≡ None → Good w cs → Good (publish_by w (next_of w name file) None) cs
   good_accepted w cs name file none g =
       let p = next_of w name file in
-      let ok = accepted (server_of w) name file none in
+      let ok = accepted w.count w.catalogue name file none in
       let full : (w.count == 4294967295) ≡ false = ok.room in
       let small = g.count_small in
       let epoch = g.epoch_small in

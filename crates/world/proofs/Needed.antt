@@ -5,7 +5,7 @@ use Rattle.std.specs.Option.{option_map}
 use Rattle.std.proofs.lemmas.Option.{none-some, same_Some}
 use Rattle.tiff_dir.specs.declared.query.Query.{Query}
 use Rattle.tiff_dir.specs.declared.span.Span.{Span}
-use Rattle.http_range.specs.Ask.{request_by, request_text}
+use Rattle.http_range.specs.Ask.{request_by}
 use Rattle.http_range.specs.Book.{Publication, Book, HasDistinctTags, In}
 use Rattle.cog_client.specs.declared.asking.Asking.{Asking}
 use Rattle.cog_client.specs.declared.error.ClientError.{ClientError}
@@ -174,8 +174,8 @@ module _ (laws : LowerLaws) where
         there = ap (λ j. slice_get w.clients j) answered.client
             ∙ ap (λ (ss : List Seen). slice_get ss i) (sym g.seen_are) ∙ get-map seen cs i ∙ ap (λ (o : Option ClientState). option_map seen o) at;
         text = text ∙ ap (λ b. request_by b (host_of c) (name_of c) a.span.first a.span.last (tag_of c)) (hosts i c at).closing
-            ∙ ap (λ h. request_text h (name_of c) a.span.first a.span.last (tag_of c)) (hosts i c at).host_is
-            ∙ ap (λ t. request_text host (name_of c) a.span.first a.span.last t) (sym tag);
+            ∙ ap (λ h. request_by true h (name_of c) a.span.first a.span.last (tag_of c)) (hosts i c at).host_is
+            ∙ ap (λ t. request_by true host (name_of c) a.span.first a.span.last t) (sym tag);
         needed = needed_by w c mid a (revision_of mid) q.0 refl answered.tag agrees asks r.goes.same.name (sym r.goes.same.query ∙ q.1) q.1;
       }
 

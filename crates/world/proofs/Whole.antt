@@ -31,9 +31,9 @@ use Rattle.world.specs.declared.event.Event.{Event}
 use Rattle.world.specs.declared.event.Event.TheVariants.{Publish, Epoch, NewClient, Open, Forget, Ask, AskFrom, Deliver, Exchange, Check}
 use Rattle.world.specs.declared.event.Entry.{Entry}
 use Rattle.world.specs.Progress.{IsNeededEntry}
-use Rattle.world.specs.World.{World, Seen, start, answer_in, next_of, publish_by, server_of, after, after_all, client_of, AtEach, IsTrueAt, IsTrueEntry, IsToldIn, AreEqual, SayTheSame, AreAlike, AreOfBook, IsHonestEntry, IsExactEntry}
+use Rattle.world.specs.World.{World, Seen, start, answer_in, next_of, publish_by, after, after_all, client_of, AtEach, IsTrueAt, IsTrueEntry, IsToldIn, AreEqual, SayTheSame, AreAlike, AreOfBook, IsHonestEntry, IsExactEntry}
 use Rattle.world.specs.Run.{Answers, AtClient, IsDelivery, Step, Runs, IsBeginning, IsTrueLog, receiver}
-use Rattle.world.specs.State.{refused_at, AreKept, Does, IsAtAfter, IsDeliveryKeeping, IsState, Keeping, Publishes, RunsKeeping, StepKeeping, answer_at, noted}
+use Rattle.world.specs.State.{refused_at, server_of, AreKept, Does, IsAtAfter, IsDeliveryKeeping, IsState, Keeping, Publishes, RunsKeeping, StepKeeping, answer_at, noted}
 use Rattle.world.specs.LowerLaws.{LowerLaws}
 use Rattle.world.proofs.Good.{Good, good_start}
 use Rattle.world.proofs.Truth.{grows, honest_step, sound_step}

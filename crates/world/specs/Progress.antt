@@ -1,9 +1,9 @@
 -- What clients ask for in a schedule, and when a report comes at the latest.
-use Rattle.std.specs.Prelude.{◌≡◌, ◌⊎◌, ℕ, suc, ◌≤◌, List, ◌∷◌, ◌++◌, length, replicate, take, drop, Option, Some, None, IfSome, IsSomeAnd, slice_get}
+use Rattle.std.specs.Prelude.{◌≡◌, ◌⊎◌, ℕ, suc, ◌≤◌, true, List, ◌∷◌, ◌++◌, length, replicate, take, drop, Option, Some, None, IfSome, IsSomeAnd, slice_get}
 use Rattle.tiff_dir.specs.declared.query.Query.{Query}
 use Rattle.tiff_dir.specs.declared.span.Span.{Span}
 use Rattle.tiff_dir.specs.Query.{cost}
-use Rattle.http_range.specs.Ask.{request_text}
+use Rattle.http_range.specs.Ask.{request_by}
 use Rattle.http_range.specs.Book.{Publication, In, published}
 use Rattle.cog_client.specs.Take.{first_span}
 use Rattle.cog_client.specs.Progress.{IsOfNeeded}
@@ -40,7 +40,7 @@ IsNeededBy w s (Some tag) span = IsOfPublished w s tag span
 pub record IsNeededIn (w : World) (a : AnsweredRequest) : Type 0 where
   pub seen : Seen
   pub there : slice_get w.clients a.client ≡ Some seen
-  pub text : a.request.items ≡ request_text host seen.name a.span.first a.span.last a.tag
+  pub text : a.request.items ≡ request_by true host seen.name a.span.first a.span.last a.tag
   pub needed : IsNeededBy w seen a.tag a.span
 
 -- The request of an entry is for what is needed when it is made.

@@ -20,7 +20,7 @@ use Rattle.world.specs.declared.event.AnsweredCheck.{AnsweredCheck}
 use Rattle.world.specs.declared.event.Effect.{Effect}
 use Rattle.world.specs.declared.event.Effect.TheVariants as effects
 use Rattle.world.specs.declared.event.Entry.{Entry}
-use Rattle.world.specs.World.{World, Seen, host, start, is_for, next_of, server_of, after, after_all, AtEach, IsTrueEntry, IsExactEntry, IsHonestEntry, AreAlike, AreOfBook}
+use Rattle.world.specs.World.{World, Seen, host, start, is_for, next_of, after, after_all, AtEach, IsTrueEntry, IsExactEntry, IsHonestEntry, AreAlike, AreOfBook}
 use Rattle.world.specs.Progress.{IsNeededEntry, AllReport}
 
 abbrev pub seen : ClientState → Seen
@@ -176,7 +176,7 @@ IsCheckBy (Some c) catalogue sent i n old new =
 
 -- One event, with what is logged of it.
 abbrev pub Step : World → List ClientState → Event → Entry → List ClientState → Type 0
-Step w old (Publish name file) n new = Quiet n (publish_effect (next_of w name.items file.items).tag (refusal_of (server_of w) name.items file.items)) old new
+Step w old (Publish name file) n new = Quiet n (publish_effect (next_of w name.items file.items).tag (refusal_of w.count w.catalogue name.items file.items)) old new
 Step w old (Epoch e) n new = (e < 2 ^ 32) × Quiet n (if nat_lt w.epoch e then effects.Epoch e else effects.Skipped) old new
 Step w old (NewClient name blocks) n new = MakesBy (client_refusal host name.items blocks) name.items blocks n old new
 Step w old (Open i q) n new = AtClient (slice_get old i) (OpensWith q i n.effect) i n old new

@@ -20,7 +20,7 @@ use Rattle.world.specs.declared.event.AnsweredRequest.{AnsweredRequest}
 use Rattle.world.specs.declared.event.Effect.{Effect}
 use Rattle.world.specs.declared.event.Effect.TheVariants as effects
 use Rattle.world.specs.declared.event.Entry.{Entry}
-use Rattle.world.specs.World.{World, after, answer_in, server_of}
+use Rattle.world.specs.World.{World, after, answer_in}
 use Rattle.world.specs.Run.{AsksWith, AtClient, DeliversWith, ExchangesWith, ForgetsAll, OpensWith, Quiet, Step, cut_at, publish_effect, receiver, told_of}
 
 -- ---- what the calls keep
@@ -89,9 +89,13 @@ RunsKeeping w old (e ∷ es) (n ∷ ns) new = (mid : List ClientState) × StepKe
 
 -- ---- the server
 
+-- the server of the epoch
+abbrev pub server_of : World → ServerState
+server_of w = record { epoch = w.epoch; count = w.count; catalogue = w.catalogue }
+
 -- why the world's server doesn't publish a file
 abbrev pub refused_at : World → List ℕ → List ℕ → Option PublishError
-refused_at w name file = refusal_of (server_of w) name file
+refused_at w name file = refusal_of w.count w.catalogue name file
 
 -- the server has published the file, or has not changed
 abbrev pub IsAtAfter : Option PublishError → Publication → ServerState → ServerState → Type 0
@@ -99,9 +103,9 @@ IsAtAfter None p old new = new ≡ record { epoch = old.epoch; count = old.count
 IsAtAfter (Some refusal) p old new = new ≡ old
 
 pub record Publishes (name file : List ℕ) (n : Entry) (old new : ServerState) : Type 0 where
-  pub done : n.effect ≡ publish_effect (publication_tag old.epoch (old.count + 1)) (refusal_of old name file)
+  pub done : n.effect ≡ publish_effect (publication_tag old.epoch (old.count + 1)) (refusal_of old.count old.catalogue name file)
   pub report : told_of n ≡ None
-  pub server_at : IsAtAfter (refusal_of old name file)
+  pub server_at : IsAtAfter (refusal_of old.count old.catalogue name file)
       (record { name = name; tag = publication_tag old.epoch (old.count + 1); file = file }) old new
 
 pub record Restarts (epoch : ℕ) (n : Entry) (old new : ServerState) : Type 0 where

@@ -13,7 +13,7 @@ use Rattle.cog_reader.specs.declared.outcome.Window.{Window}
 use Rattle.cog_reader.specs.Samples.{samples_in}
 use Rattle.cog_server.specs.declared.error.PublishError.{PublishError}
 use Rattle.cog_server.specs.declared.server.Answer.{Answer}
-use Rattle.cog_server.specs.Server.{ServerState, refusal_of}
+use Rattle.cog_server.specs.Server.{refusal_of}
 use Rattle.cog_client.specs.declared.error.ClientError.{ClientError}
 use Rattle.cog_client.specs.declared.delivered.Current.TheVariants.{Same}
 use Rattle.cog_client.specs.declared.report.Report.{Report}
@@ -43,10 +43,6 @@ pub record World : Type 0 where
 abbrev pub start : World
 start = record { epoch = 0; count = 0; catalogue = []; book = []; sent = []; clients = [] }
 
--- the server of the epoch
-abbrev pub server_of : World → ServerState
-server_of w = record { epoch = w.epoch; count = w.count; catalogue = w.catalogue }
-
 -- the host of every client
 abbrev pub host : List ℕ
 host = codes "cog.test"
@@ -75,7 +71,7 @@ opened (s ∷ ss) (suc i) q = s ∷ opened ss i q
 
 -- what an event makes of the world, whatever is answered
 abbrev pub scheduled : World → Event → World
-scheduled w (Publish name file) = publish_by w (next_of w name.items file.items) (refusal_of (server_of w) name.items file.items)
+scheduled w (Publish name file) = publish_by w (next_of w name.items file.items) (refusal_of w.count w.catalogue name.items file.items)
 scheduled w (Epoch e) = restart_by w e (nat_lt w.epoch e)
 scheduled w (NewClient name blocks) = made_by w name.items (client_refusal host name.items blocks)
 scheduled w (Open i q) = record w { clients = opened w.clients i q }
