@@ -167,13 +167,13 @@ no_window f q v is a =
 
 same_outcome : (laws : LowerLaws) (f : List ℕ) (q : Query) (x y : Outcome) → IsTrueOf f q x → IsTrueOf f q y → SayTheSame x y
 same_outcome laws f q (outcomes.Window v) (outcomes.Window u) x y = same_windows laws f q v u x y
-same_outcome laws f q (outcomes.Window v) (outcomes.Info i) x y = no_window f q v y.0 x
-same_outcome laws f q (outcomes.Window v) (outcomes.Fault k) x y = x.window.sound k y
-same_outcome laws f q (outcomes.Info i) (outcomes.Window u) x y = no_window f q u x.0 y
+same_outcome laws f q (outcomes.Window v) (outcomes.Info i) x y = absurd (no_window f q v y.0 x)
+same_outcome laws f q (outcomes.Window v) (outcomes.Fault k) x y = absurd (x.window.sound k y)
+same_outcome laws f q (outcomes.Info i) (outcomes.Window u) x y = absurd (no_window f q u x.0 y)
 same_outcome laws f q (outcomes.Info i) (outcomes.Info j) x y = same_info laws f i j x.1 y.1
-same_outcome laws f q (outcomes.Info i) (outcomes.Fault k) x y = x.1.sound k (subst (λ a. IsFaulty f a k) x.0 y)
-same_outcome laws f q (outcomes.Fault k) (outcomes.Window u) x y = y.window.sound k x
-same_outcome laws f q (outcomes.Fault k) (outcomes.Info j) x y = y.1.sound k (subst (λ a. IsFaulty f a k) y.0 x)
+same_outcome laws f q (outcomes.Info i) (outcomes.Fault k) x y = absurd (x.1.sound k (subst (λ a. IsFaulty f a k) x.0 y))
+same_outcome laws f q (outcomes.Fault k) (outcomes.Window u) x y = absurd (y.window.sound k x)
+same_outcome laws f q (outcomes.Fault k) (outcomes.Info j) x y = absurd (y.1.sound k (subst (λ a. IsFaulty f a k) y.0 x))
 same_outcome laws f q (outcomes.Fault k) (outcomes.Fault l) x y = tt
 
 alike : (laws : LowerLaws) (book : Book) (ns : List Entry) → HasDistinctTags book → ((r : Report) → IsToldIn r ns → IsSource r book) → AreAlike ns
