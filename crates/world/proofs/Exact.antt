@@ -21,7 +21,6 @@ use Rattle.world.specs.declared.event.Event.{Event}
 use Rattle.world.specs.declared.event.Event.TheVariants.{Publish, Epoch, NewClient, Open, Forget, Ask, AskFrom, Deliver, Exchange, Check}
 use Rattle.world.specs.declared.event.AnsweredCheck.{AnsweredCheck}
 use Rattle.world.specs.declared.event.Effect.{Effect}
-use Rattle.world.specs.declared.event.Effect.TheVariants as effects
 use Rattle.world.specs.declared.event.Entry.{Entry}
 use Rattle.world.specs.World.{World, Seen, check_in, IsExact, IsExactEntry}
 use Rattle.world.specs.Run.{seen}
@@ -71,25 +70,13 @@ module _ (laws : LowerLaws) where
       let there = ap (λ (ss : List Seen). slice_get ss i) (sym g.seen_are) ∙ (get-map seen cs i ∙ ap (λ (o : Option ClientState). option_map seen o) at) in
       subst (λ (o : Option Seen). IsSomeAnd o (λ s. (k.current ≡ Same) ↔ (option_map (λ p. p.tag) (published s.name w.catalogue) ≡ Some k.tag))) (sym there) (exact_by (published name w.catalogue) k.tag k.current told)
 
-  exact_checked : (w : World) (cs : List ClientState) (i : ℕ) (c : ClientState) (effect : Effect) → Good w cs → slice_get cs i ≡ Some c → IsCheckedKeeping w.catalogue (length w.sent) i c effect → IfSome (check_in effect) (IsExact w i)
-  exact_checked w cs i c (effects.Checked k) g at h = exact_check w cs i c k g at h
-  exact_checked w cs i c (effects.Published tag) g at h = tt
-  exact_checked w cs i c (effects.Refused refusal) g at h = tt
-  exact_checked w cs i c (effects.Epoch e) g at h = tt
-  exact_checked w cs i c (effects.Made k) g at h = tt
-  exact_checked w cs i c (effects.Opened k) g at h = tt
-  exact_checked w cs i c (effects.Forgot k) g at h = tt
-  exact_checked w cs i c (effects.Answered k a) g at h = tt
-  exact_checked w cs i c (effects.Asked a) g at h = tt
-  exact_checked w cs i c (effects.Nothing k) g at h = tt
-  exact_checked w cs i c (effects.Delivered k what) g at h = tt
-  exact_checked w cs i c (effects.Exchanged a what) g at h = tt
-  exact_checked w cs i c (effects.Unchecked k) g at h = tt
-  exact_checked w cs i c effects.Skipped g at h = tt
+  exact_checked : (w : World) (cs : List ClientState) (i : ℕ) (c : ClientState) (o : Option AnsweredCheck) (effect : Effect) → Good w cs → slice_get cs i ≡ Some c → IsCheckedKeeping w.catalogue (length w.sent) i c o effect → IfSome (check_in effect) (IsExact w i)
+  exact_checked w cs i c None effect g at h = let P : Effect → Type 0 = λ e. IfSome (check_in e) (IsExact w i) in subst P (sym h.0) tt
+  exact_checked w cs i c (Some k) effect g at h = let P : Effect → Type 0 = λ e. IfSome (check_in e) (IsExact w i) in subst P (sym h.0) (exact_check w cs i c k g at h.1)
 
   exact_at : (o : Option ClientState) (w : World) (cs new : List ClientState) (i : ℕ) (n : Entry) → slice_get cs i ≡ o → Good w cs → IsCheckBy o w.catalogue (length w.sent) i n cs new → IfSome (check_in n.effect) (IsExact w i)
   exact_at None w cs new i n at g h = let P : Effect → Type 0 = λ e. IfSome (check_in e) (IsExact w i) in subst P (sym h.done) tt
-  exact_at (Some c) w cs new i n at g h = exact_checked w cs i c n.effect g at h.0
+  exact_at (Some c) w cs new i n at g h = exact_checked w cs i c h.0 n.effect g at h.1
 
   pub exact_step : (w : World) (cs : List ClientState) (e : Event) (n : Entry) (new : List ClientState) → Good w cs → StepKeeping w cs e n new → IsExactEntry w e n
   exact_step w cs (Publish name file) n new g h = tt

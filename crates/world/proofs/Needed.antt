@@ -92,7 +92,7 @@ hosted_delivery (Some a) (Some c) cut i n old new at h all = by (is_for a (name_
 
 hosted_check : (o : Option ClientState) (catalogue : _) (sent i : ℕ) (n : Entry) (old new : List ClientState) → IsCheckBy o catalogue sent i n old new → AllHosted old → AllHosted new
 hosted_check None catalogue sent i n old new h all = hosted_same old new h.same all
-hosted_check (Some c) catalogue sent i n old new h all = hosted_same old new h.1.same all
+hosted_check (Some c) catalogue sent i n old new h all = hosted_same old new h.2.same all
 
 pub hosted_step : (w : World) (cs : List ClientState) (e : Event) (n : Entry) (new : List ClientState) → StepKeeping w cs e n new → AllHosted cs → AllHosted new
 unfolding host_of how_of

@@ -316,29 +316,19 @@ module _ (laws : LowerLaws) where
 
   -- ---- checks
 
-  check_honest : (w : World) (cs : List ClientState) (i : ℕ) (c : ClientState) (effect : Effect) → Good w cs → IsCheckedKeeping w.catalogue (length w.sent) i c effect → IfSome (answer_in effect) (λ a. StaysHonest a w.book)
-  check_honest w cs i c (effects.Checked k) g h = answer_honest w cs k.request.items k.answer g h.seen.answered
-  check_honest w cs i c (effects.Published tag) g h = tt
-  check_honest w cs i c (effects.Refused refusal) g h = tt
-  check_honest w cs i c (effects.Epoch e) g h = tt
-  check_honest w cs i c (effects.Made k) g h = tt
-  check_honest w cs i c (effects.Opened k) g h = tt
-  check_honest w cs i c (effects.Forgot k) g h = tt
-  check_honest w cs i c (effects.Answered k a) g h = nothing_sent (effects.Answered k a) _ w.book h.0 refl
-  check_honest w cs i c (effects.Asked a) g h = nothing_sent (effects.Asked a) _ w.book h.0 refl
-  check_honest w cs i c (effects.Nothing k) g h = tt
-  check_honest w cs i c (effects.Delivered k what) g h = tt
-  check_honest w cs i c (effects.Exchanged a what) g h = nothing_sent (effects.Exchanged a what) _ w.book h.0 refl
-  check_honest w cs i c (effects.Unchecked k) g h = tt
-  check_honest w cs i c effects.Skipped g h = tt
+  check_honest : (w : World) (cs : List ClientState) (i : ℕ) (c : ClientState) (o : Option AnsweredCheck) (effect : Effect) → Good w cs → IsCheckedKeeping w.catalogue (length w.sent) i c o effect → IfSome (answer_in effect) (λ a. StaysHonest a w.book)
+  check_honest w cs i c None effect g h = let P : Effect → Type 0 = λ e. IfSome (answer_in e) (λ a. StaysHonest a w.book) in subst P (sym h.0) tt
+  check_honest w cs i c (Some k) effect g h =
+      let P : Effect → Type 0 = λ e. IfSome (answer_in e) (λ a. StaysHonest a w.book) in
+      subst P (sym h.0) (answer_honest w cs k.request.items k.answer g h.1.seen.answered)
 
   check_sent : (o : Option ClientState) (w : World) (cs new : List ClientState) (i : ℕ) (n : Entry) → Good w cs → IsCheckBy o w.catalogue (length w.sent) i n cs new → IfSome (answer_in n.effect) (λ a. StaysHonest a w.book)
   check_sent None w cs new i n g h = nothing_sent n.effect _ w.book h.done refl
-  check_sent (Some c) w cs new i n g h = check_honest w cs i c n.effect g h.0
+  check_sent (Some c) w cs new i n g h = check_honest w cs i c h.0 n.effect g h.1
 
   sound_check : (o : Option ClientState) (w : World) (cs new : List ClientState) (i : ℕ) (n : Entry) → Good w cs → IsCheckBy o w.catalogue (length w.sent) i n cs new → IsSound w new (Some i) n.report
   sound_check None w cs new i n g h = sound_quiet w cs new (Some i) n g h.same h.report
-  sound_check (Some c) w cs new i n g h = sound_quiet w cs new (Some i) n g h.1.same h.1.report
+  sound_check (Some c) w cs new i n g h = sound_quiet w cs new (Some i) n g h.2.same h.2.report
 
   -- ---- one event
 

@@ -31,6 +31,7 @@ use Rattle.cog_client.specs.Report.{IsTrueReport, Tells, Told, said_of, told}
 use Rattle.cog_client.specs.Client.{ClientState, IsOfBook, report_of}
 use Rattle.world.specs.declared.event.Event.{Event}
 use Rattle.world.specs.declared.event.Event.TheVariants.{Publish, Epoch, NewClient, Open, Forget, Ask, AskFrom, Deliver, Exchange, Check}
+use Rattle.world.specs.declared.event.AnsweredCheck.{AnsweredCheck}
 use Rattle.world.specs.declared.event.Effect.{Effect}
 use Rattle.world.specs.declared.event.Effect.TheVariants as effects
 use Rattle.world.specs.declared.event.Entry.{Entry}
@@ -196,22 +197,9 @@ delivery_seen : (o : Option Answer) (client : Option ClientState) (cut : Option 
 delivery_seen None client cut i n old new h = h
 delivery_seen (Some a) client cut i n old new h = at_seen (receiver (Some a) client) _ _ (λ c next d. d.seen) i n old new h
 
--- a client without a check has no other effect
-checked_seen : (catalogue : Catalogue) (sent i : ℕ) (c : ClientState) (effect : Effect) → IsCheckedKeeping catalogue sent i c effect → IsChecked catalogue sent i c effect
-checked_seen catalogue sent i c (effects.Checked k) h = h.seen
-checked_seen catalogue sent i c (effects.Published tag) h = h
-checked_seen catalogue sent i c (effects.Refused refusal) h = h
-checked_seen catalogue sent i c (effects.Epoch e) h = h
-checked_seen catalogue sent i c (effects.Made k) h = h
-checked_seen catalogue sent i c (effects.Opened k) h = h
-checked_seen catalogue sent i c (effects.Forgot k) h = h
-checked_seen catalogue sent i c (effects.Answered k a) h = h
-checked_seen catalogue sent i c (effects.Asked a) h = h
-checked_seen catalogue sent i c (effects.Nothing k) h = h
-checked_seen catalogue sent i c (effects.Delivered k what) h = h
-checked_seen catalogue sent i c (effects.Exchanged a what) h = h
-checked_seen catalogue sent i c (effects.Unchecked k) h = h
-checked_seen catalogue sent i c effects.Skipped h = h
+checked_seen : (catalogue : Catalogue) (sent i : ℕ) (c : ClientState) (o : Option AnsweredCheck) (effect : Effect) → IsCheckedKeeping catalogue sent i c o effect → IsChecked catalogue sent i c effect
+checked_seen catalogue sent i c None effect h = subst (IsChecked catalogue sent i c) (sym h.0) (refl, h.1)
+checked_seen catalogue sent i c (Some k) effect h = subst (IsChecked catalogue sent i c) (sym h.0) h.1.seen
 
 -- what stands already is no news
 quiet_news : (c : ClientState) (t : Option Told) → t ≡ None → t ≡ news c c
@@ -225,7 +213,7 @@ check_seen : (o : Option ClientState) (catalogue : Catalogue) (sent i : ℕ) (n 
     → AtClient o (λ c next. (next ≡ c) × IsChecked catalogue sent i c n.effect) i n old new
 check_seen None catalogue sent i n old new at h = h
 check_seen (Some c) catalogue sent i n old new at h =
-    record { next = c; changed = h.1.same ∙ sym (set_there old i c at); does = (refl, checked_seen catalogue sent i c n.effect h.0); tells = quiet_news c (told_of n) h.1.report }
+    record { next = c; changed = h.2.same ∙ sym (set_there old i c at); does = (refl, checked_seen catalogue sent i c h.0 n.effect h.1); tells = quiet_news c (told_of n) h.2.report }
 
 step_seen : (w : World) (cs : List ClientState) (e : Event) (n : Entry) (new : List ClientState) → StepKeeping w cs e n new → Step w cs e n new
 step_seen w cs (Publish name file) n new h = h

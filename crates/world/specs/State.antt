@@ -84,14 +84,15 @@ pub record IsCheckOfKeeping (catalogue : Catalogue) (sent i : ℕ) (c : ClientSt
   pub seen : IsCheckOf catalogue sent i c k
   pub lawful : CanCheck (host_of c) (name_of c) k.tag
 
-abbrev pub IsCheckedKeeping : Catalogue → ℕ → ℕ → ClientState → Effect → Type 0
-IsCheckedKeeping catalogue sent i c (effects.Checked k) = IsCheckOfKeeping catalogue sent i c k
-IsCheckedKeeping catalogue sent i c effect = (effect ≡ effects.Unchecked i) × (tag_of c ≡ None)
+abbrev pub IsCheckedKeeping : Catalogue → ℕ → ℕ → ClientState → Option AnsweredCheck → Effect → Type 0
+IsCheckedKeeping catalogue sent i c None effect = (effect ≡ effects.Unchecked i) × (tag_of c ≡ None)
+IsCheckedKeeping catalogue sent i c (Some k) effect = (effect ≡ effects.Checked k) × IsCheckOfKeeping catalogue sent i c k
 
 -- the client's check, if it has one, is answered, or nothing, where there is no such client; no client changes
 abbrev pub IsCheckBy : Option ClientState → Catalogue → ℕ → ℕ → Entry → List ClientState → List ClientState → Type 0
 IsCheckBy None catalogue sent i n old new = Quiet n effects.Skipped old new
-IsCheckBy (Some c) catalogue sent i n old new = IsCheckedKeeping catalogue sent i c n.effect × Quiet n n.effect old new
+IsCheckBy (Some c) catalogue sent i n old new =
+    (check : Option AnsweredCheck) × IsCheckedKeeping catalogue sent i c check n.effect × Quiet n n.effect old new
 
 -- a message is answered from the catalogue
 pub record Answers (catalogue : Catalogue) (sent : ℕ) (message : List ℕ) (n : Entry) : Type 0 where

@@ -3,6 +3,7 @@ ghost use Rattle.std.specs.Prelude.{◌≡◌, Option, Some, IfOk, slice_get};
 ghost use Rattle.http_range.specs.Ask.{CanCheck};
 ghost use Rattle.cog_client.specs.Client.{asked_of, host_of, name_of, tag_of};
 ghost use Rattle.cog_client.specs.Check.{check_of};
+ghost use Rattle.world.specs.declared.event.AnsweredCheck.{AnsweredCheck};
 ghost use Rattle.cog_client.specs.Keeps.{RequestsKeeping};
 ghost use Rattle.world.specs.Run.{Asks, IsAnswerTo, IsExchanged};
 ghost use Rattle.world.specs.State.{IsCheckBy, IsCheckOfKeeping, IsCheckedKeeping, IsDeliveredKeeping, request_in};
@@ -112,7 +113,7 @@ fn answer_check(
 
 /// The client's check, if it has one, and the server's answer.
 fn check_one(server: &Server, number: usize, client: &Client, i: u32) -> Result<Effect, Memory>
-    ensures { IfOk result (IsCheckedKeeping server.now.catalogue number i client.now) }
+    ensures { IfOk result (λ effect. (o : Option AnsweredCheck) × IsCheckedKeeping server.now.catalogue number i client.now o effect) }
 {
     let Some(tag) = tag_of(client) else {
         return Ok(Effect::Unchecked(i));
