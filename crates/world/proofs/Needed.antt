@@ -17,15 +17,17 @@ use Rattle.cog_client.specs.Progress.{IsOfNeeded}
 use Rattle.cog_server.specs.declared.server.Answer.{Answer}
 use Rattle.world.specs.declared.event.Event.{Event}
 use Rattle.world.specs.declared.event.Event.TheVariants.{Publish, Epoch, NewClient, Open, Forget, Ask, AskFrom, Deliver, Exchange, Check}
+use Rattle.world.specs.declared.event.AnsweredCheck.{AnsweredCheck}
 use Rattle.world.specs.declared.event.AnsweredRequest.{AnsweredRequest}
 use Rattle.world.specs.declared.event.Effect.{Effect}
 use Rattle.world.specs.declared.event.Entry.{Entry}
 use Rattle.world.specs.World.{World, Seen, host, is_for}
 use Rattle.world.specs.Progress.{IsNeededEntry, IsNeededBy, IsNeededIn, asked_in}
 use Rattle.world.specs.Run.{Asks, AtClient, ExchangesWith, IsExchanged, MakesBy, asked_effect, cut_at, seen}
-use Rattle.world.specs.State.{AsksWithKeeping, DeliversWithKeeping, ExchangesWithKeeping, ForgetsAll, IsCheckBy, IsDeliveryKeeping, Keeping, OpensWithKeeping, StepKeeping, request_in}
+use Rattle.world.specs.State.{AsksWithKeeping, DeliversWithKeeping, ExchangesWithKeeping, ForgetsAll, IsCheckBy, IsCheckedKeeping, IsDeliveryKeeping, Keeping, OpensWithKeeping, StepKeeping, request_in}
 use Rattle.world.specs.LowerLaws.{LowerLaws}
 use Rattle.world.proofs.Lists.{get-map, get-push, get-set}
+use Rattle.world.proofs.Effects.{HoldsElse, at_effect, of_step}
 use Rattle.world.proofs.Good.{Good}
 
 -- ---- every client asks the one host, by each request that the connection end, and looks no block ahead
@@ -209,17 +211,31 @@ module _ (laws : LowerLaws) where
       by None is k = subst (InEffect w) (sym is.0) tt
       by (Some a) is k = subst (InEffect w) (sym is.1) k
 
+  needed_check : (o : Option ClientState) (w : World) (i : ℕ) (n : Entry) (cs new : List ClientState) → IsCheckBy o w.catalogue (length w.sent) i n cs new → InEffect w n.effect
+  needed_check None w i n cs new h = at_effect (InEffect w) n.effect _ h.done tt
+  needed_check (Some c) w i n cs new h = by h.0 h.1
+    where
+      by : (k : Option AnsweredCheck) → IsCheckedKeeping w.catalogue (length w.sent) i c k n.effect → InEffect w n.effect
+      by None d = at_effect (InEffect w) n.effect _ d.0 tt
+      by (Some k) d = at_effect (InEffect w) n.effect _ d.0 tt
+
+  nothing_needed : (w : World) → HoldsElse (InEffect w)
+  nothing_needed w = record {
+    skipped = tt;
+    published = λ tag. tt;
+    refused = λ e. tt;
+    epoch = λ e. tt;
+    made = λ k. tt;
+    opened = λ i. tt;
+    forgot = λ i. tt;
+    answered = λ k a. tt;
+    delivered = λ i what. tt;
+  }
+
   pub needed_step : (w : World) (cs : List ClientState) (e : Event) (n : Entry) (new : List ClientState) → Good w cs → AllHosted cs → StepKeeping w cs e n new → IsNeededEntry w e n
-  needed_step w cs (Publish name file) n new g hosts h = tt
-  needed_step w cs (Epoch e) n new g hosts h = tt
-  needed_step w cs (NewClient name blocks) n new g hosts h = tt
-  needed_step w cs (Open i q) n new g hosts h = tt
-  needed_step w cs (Forget i) n new g hosts h = tt
-  needed_step w cs (Ask message) n new g hosts h = tt
-  needed_step w cs (AskFrom i) n new g hosts h = needed_ask_from (slice_get cs i) w cs new i n refl g hosts h
-  needed_step w cs (Deliver i a cut) n new g hosts h = tt
-  needed_step w cs (Exchange i) n new g hosts h = needed_exchange (slice_get cs i) w cs new i n refl g hosts h
-  needed_step w cs (Check i) n new g hosts h = tt
+  needed_step w cs e n new g hosts h =
+      of_step (InEffect w) (nothing_needed w) w cs e n new (λ i is k. needed_ask_from (slice_get cs i) w cs new i n refl g hosts k)
+      (λ i is k. needed_exchange (slice_get cs i) w cs new i n refl g hosts k) (λ i is k. needed_check (slice_get cs i) w i n cs new k) h
 
 -- no client is there at the start
 pub hosted_start : AllHosted []

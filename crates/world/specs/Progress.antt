@@ -39,9 +39,7 @@ pub record IsNeededIn (w : World) (a : AnsweredRequest) : Type 0 where
 
 -- The request of an entry is for what is needed when it is made.
 abbrev pub IsNeededEntry : World → Event → Entry → Type 0
-IsNeededEntry w (AskFrom i) n = IfSome (asked_in n.effect) (IsNeededIn w)
-IsNeededEntry w (Exchange i) n = IfSome (asked_in n.effect) (IsNeededIn w)
-IsNeededEntry w e n = Unit {0}
+IsNeededEntry w e n = IfSome (asked_in n.effect) (IsNeededIn w)
 
 -- ---- when a report comes
 

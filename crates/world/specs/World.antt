@@ -162,12 +162,7 @@ abbrev pub check_in : Effect → Option AnsweredCheck
 check_in (effects.Checked k) = Some k
 check_in effect = None
 
--- The check says "same" exactly where the catalogue that answered it has the tag under the client's name.
-abbrev pub IsExact : World → ℕ → AnsweredCheck → Type 0
-IsExact w i k =
-    IsSomeAnd (slice_get w.clients i) (λ s. (k.current ≡ Same) ↔ (option_map (λ p. p.tag) (published s.name w.catalogue) ≡ Some k.tag))
-
--- The check of an entry does.
+-- The check of an entry says "same" exactly where the catalogue that answered it has the tag under the client's name.
 abbrev pub IsExactEntry : World → Event → Entry → Type 0
-IsExactEntry w (Check i) n = IfSome (check_in n.effect) (IsExact w i)
-IsExactEntry w e n = Unit {0}
+IsExactEntry w e n = IfSome (check_in n.effect) (λ k. IsSomeAnd (slice_get w.clients k.client) (λ s.
+    (k.current ≡ Same) ↔ (option_map (λ p. p.tag) (published s.name w.catalogue) ≡ Some k.tag)))
