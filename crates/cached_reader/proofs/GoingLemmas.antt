@@ -15,7 +15,7 @@ use Rattle.range_cache.specs.declared.missing.Missing.{Missing}
 use Rattle.cog_reader.specs.Reader as reader
 use Rattle.cog_reader.specs.Reader.{ReaderState, ReaderAgrees, IsWantedOf, Takes, complete_of, outcome_of, query_of, to_come, unread, wanted}
 use Rattle.cog_reader.specs.declared.outcome.Outcome.{Outcome}
-use Rattle.cached_reader.specs.Going.{CachedReader, work, AreSame, KeepsRead, ReaderGoesOn, IsMissing}
+use Rattle.cached_reader.specs.Going.{CachedReader, work, AreSame, KeepsRead, ReaderGoesOn, IsMissing, IsMissingWithRoom}
 
 -- ---- ends of lists
 
@@ -174,7 +174,7 @@ some_blocks first len some = elim (eqb_tells len 0) [
 pub lacking : RunsAreMissing → MissingIsFew → (old new : Blocks) (complete len : ℕ) (r : Extent) (missing : Missing) (span : Span) → len ≡ r.len → 0 < r.len → r.first + r.len ≤ complete → r.len ≤ MAX_RANGE_BYTES → 66 ≤ new.capacity
     → ((k : ℕ) → has k (numbers new.entries) ≡ has k (numbers old.entries)) → IsFirstGap old complete r.first len missing
     → IsLed (numbers new.entries) (first_block r.first) (blocks r.first len) → span.first ≡ missing.first → span.last ≡ missing.last
-    → IsMissing new complete r 0 span
+    → IsMissingWithRoom new complete r 0 span
 lacking runs most old new complete len r missing span size some within small room same l led first last =
     let e : IsFirstGap old complete r.first r.len missing = subst (λ n. IsFirstGap old complete r.first n missing) size l in
     let ns = numbers new.entries in
@@ -187,7 +187,7 @@ lacking runs most old new complete len r missing span size some within small roo
     let more = g.some in
     let ends = g.within in
     let last_is = e.last_is in
-    record {
+    let m : IsMissing new complete r 0 span = record {
       some = some;
       within = within;
       small = small;
@@ -201,9 +201,11 @@ lacking runs most old new complete len r missing span size some within small roo
       few = omega (arith, few, begins, ends);
       inside = omega (arith, touched, within, some, begins, more, ends);
       gone = g.gone;
+    } in
+    (m, record {
       led = subst (λ n. IsLed ns (first_block r.first) (blocks r.first n)) size led;
       room = omega (arith, runs ns n count e.from e.to begins ends g.gone, most ns n count, few, room);
-    }
+    })
 
 -- what holds after every refusal
 pub refused : {A E : Type 0} (r : Result A E) (P : Type 0) → P → OnErr r P

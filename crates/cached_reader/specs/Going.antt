@@ -56,7 +56,7 @@ abbrev pub AreTouched : List Extent → Span → Type 0
 AreTouched rs s = (k : ℕ) → s.first ≤ k * BLOCK_SIZE → k * BLOCK_SIZE ≤ s.last → OneTouches rs k
 
 -- Of a range these are the bytes of the first run of missing blocks, and behind it of at most so many more, none of which is there:
--- 65 blocks at most in all, which have room beside those of the range that are there and lead.
+-- 65 blocks at most in all.
 pub record IsMissing (b : Blocks) (complete : ℕ) (r : Extent) (ahead : ℕ) (span : Span) : Type 0 where
   pub some : 0 < r.len
   pub within : r.first + r.len ≤ complete
@@ -71,8 +71,14 @@ pub record IsMissing (b : Blocks) (complete : ℕ) (r : Extent) (ahead : ℕ) (s
   pub few : to ≤ lacks.from + MAX_BLOCKS
   pub inside : to * BLOCK_SIZE < complete + BLOCK_SIZE
   pub gone : (k : ℕ) → lacks.from ≤ k → k < to → has k (numbers b.entries) ≡ false
+
+-- The blocks of the range that are there lead the others, and those that are missing have room beside them.
+pub record HasRoom (b : Blocks) (complete : ℕ) (r : Extent) (ahead : ℕ) (span : Span) (m : IsMissing b complete r ahead span) : Type 0 where
   pub led : IsLed (numbers b.entries) (first_block r.first) (blocks r.first r.len)
-  pub room : blocks r.first r.len - absent (numbers b.entries) (first_block r.first) (blocks r.first r.len) + (to - lacks.from) ≤ b.capacity
+  pub room : blocks r.first r.len - absent (numbers b.entries) (first_block r.first) (blocks r.first r.len) + (m.to - m.lacks.from) ≤ b.capacity
+
+abbrev pub IsMissingWithRoom : Blocks → ℕ → Extent → ℕ → Span → Type 0
+IsMissingWithRoom b complete r ahead span = (m : IsMissing b complete r ahead span) × HasRoom b complete r ahead span m
 
 -- The range that is still to come first, of whatever file is read, isn't all there: this is missing of it, and behind it of those
 -- that are to come later.
@@ -80,6 +86,7 @@ pub record IsStopped (w : CachedReader) (ahead : ℕ) (span : Span) : Type 0 whe
   pub range : Extent
   pub first : (f : List ℕ) → ReaderAgrees w.reader f → slice_get (to_come w.reader f) 0 ≡ Some range
   pub missing : IsMissing w.cache (complete_of w.reader) range ahead span
+  pub room : HasRoom w.cache (complete_of w.reader) range ahead span missing
   pub needed : (f : List ℕ) → ReaderAgrees w.reader f → AreTouched (to_come w.reader f) span
 
 -- The reader needs nothing more, or stopped where the cache lacks something.
@@ -95,4 +102,4 @@ LooksAtOneRange = (b : Blocks) (complete : ℕ) (r : Extent) (span : Span) (m : 
 -- One range: it was given, and one step less is left; or it isn't all there, and the reader is as it was.
 abbrev pub IsGiven : Extent → CachedReader → CachedReader → Option Span → Type 0
 IsGiven r old new None = steps_of new.reader < steps_of old.reader
-IsGiven r old new (Some span) = (new.reader ≡ old.reader) × IsMissing new.cache (complete_of new.reader) r 0 span
+IsGiven r old new (Some span) = (new.reader ≡ old.reader) × IsMissingWithRoom new.cache (complete_of new.reader) r 0 span

@@ -5,7 +5,7 @@ ghost use Rattle.tiff_dir.specs.Walk.{extent_of_span};
 ghost use Rattle.range_cache.specs.Numbers.{has};
 ghost use Rattle.range_cache.specs.Cache.{numbers};
 ghost use Rattle.cog_reader.specs.Reader.{complete_of, to_come, ReaderAgrees};
-ghost use Rattle.cached_reader.specs.Going.{work, IsMissing, OneTouches, IsStopped, Touches};
+ghost use Rattle.cached_reader.specs.Going.{work, IsMissingWithRoom, OneTouches, IsStopped, Touches};
 
 use cog_reader::Reader;
 use range_cache::{Cache, missing_is_exact};
@@ -67,7 +67,7 @@ pub fn extend(
     missing: Span,
     ahead: u32,
 ) -> Span
-    requires missing { IsMissing cache.now (complete_of reader.now) (extent_of_span range) 0 missing }
+    requires missing { IsMissingWithRoom cache.now (complete_of reader.now) (extent_of_span range) 0 missing }
     requires next { (f : List ℕ) → ReaderAgrees reader.now f → slice_get (to_come reader.now f) 0 ≡ Some (extent_of_span range) }
     requires complete { complete_of reader.now ≡ complete }
     ensures { IsStopped (work reader.now cache.now) ahead result }

@@ -20,7 +20,7 @@ use Rattle.cog_client.specs.declared.source.Source.{Source}
 use Rattle.cog_client.specs.Case.{Revision}
 use Rattle.cog_client.specs.Take.{emptied, stored_front}
 use Rattle.cog_client.specs.Feeding.{Feed, nothing_fed}
-use Rattle.cog_client.specs.Client.{ClientAgrees, ClientState, IsAlone, IsClient, IsFew, IsReadingOf, IsReportOf, Knows, KnowsBy, KnowsOne, asked_of, blocks_of, feed_of, host_of, how_of, name_of, query_of, report_of, revision_at, revision_of, tag_of, to_come, unread}
+use Rattle.cog_client.specs.Client.{ClientAgrees, ClientState, IsAlone, IsClient, IsFew, IsReadingOf, IsReportOf, Knows, KnowsBy, KnowsOne, asked_of, blocks_of, feed_of, host_of, how_of, name_of, query_of, report_of, revision_in, revision_of, tag_of, to_come, unread}
 use Rattle.cog_client.specs.Calls.{SameClient}
 use Rattle.cog_client.specs.Keeps.{GoesOnKeeping, OpensKeeping, StaysOf}
 use Rattle.cached_reader.specs.Going as going
@@ -36,14 +36,14 @@ known_is e how h n q q' a s s' b r r' query source report =
     ap (λ x. known e how h n x a s b r) query ∙ ap (λ x. known e how h n q' a x b r) source ∙ ap (known e how h n q' a s' b) report
 
 -- a client with a revision reads something
-pub by_source : (P : Option Source → Type 0) → ((s : Source) → P (Some s)) → (o : Option Source) → IsSome (revision_at o) → P o
+pub by_source : (P : Option Source → Type 0) → ((s : Source) → P (Some s)) → (o : Option Source) → IsSome (option_map revision_in o) → P o
 by_source P h None none = absurd (false≢true none)
 by_source P h (Some s) some = h s
 
 -- the tag is that of what is read
 pub tag_is : (c : ClientState) (s : Source) → c.source ≡ Some s → tag_of c ≡ Some s.tag
 unfolding revision_of
-tag_is c s is = ap (λ o. option_map (λ (v : Revision). v.tag) (revision_at o)) is
+tag_is c s is = ap (λ o. option_map (λ (v : Revision). v.tag) (option_map revision_in o)) is
 
 -- ---- agreement goes by files
 
@@ -204,7 +204,7 @@ module _ (e e' : Feed) (dropped : e' ≡ nothing_fed) (how : Asking) (h n : List
   pub opened_alone : OpensKeeping query (known e how h n q a None b r) (known e' how h n (Some query) None None b None)
   unfolding how_of host_of name_of query_of asked_of revision_of report_of blocks_of feed_of to_come unread Knows ClientAgrees
   opened_alone = record {
-    seen = record { host = refl; name = refl; how = refl; asks = refl; asked = refl; revision = refl; blocks = refl; report = refl; feed = dropped };
+    seen = (refl, ap (λ k. known k how h n (Some query) None None b None) dropped);
     knows = λ f k. tt;
     come = λ f k. end_nil (needs f query);
     held = λ f. refl;
@@ -226,7 +226,7 @@ module _ (e e' : Feed) (dropped : e' ≡ nothing_fed) (how : Asking) (h n : List
       let knows : (f : List ℕ) → Knows f (known e how h n q a (Some s) b r) → Knows f (known e' how h n (Some query) None (Some (record s { reader = x })) b None) =
       λ f k. record { reader = agrees f k.reader; blocks = k.blocks; report = tt; sound = opened_sound s x complete asks c } in
       record {
-        seen = record { host = refl; name = refl; how = refl; asks = refl; asked = refl; revision = refl; blocks = refl; report = refl; feed = dropped };
+        seen = (refl, ap (λ k. known k how h n (Some query) None (Some (record s { reader = x })) b None) dropped);
         knows = knows;
         come = λ f k. subst (λ o. IfSome o (λ q. IsEndOf (reader.to_come x f) (needs f q))) asks (law x f (agrees f k.reader));
         held = held;

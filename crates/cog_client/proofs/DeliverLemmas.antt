@@ -1,5 +1,6 @@
 -- An answer is taken, case by case.
 use Rattle.std.proofs.Common.{◌≡◌, ℕ, ◌+◌, ◌-◌, Bool, true, false, List, length, take, drop, Option, Some, None, Result, Ok, refl, sym, ap, ◌∙◌, subst, arith, inl, inr}
+use Rattle.std.specs.Option.{option_map}
 use Rattle.std.specs.Prelude.{IfSome, IsSome, not, if◌then◌else◌, ◌==◌}
 use Rattle.std.specs.Str.{bytes_eq}
 use Rattle.std.proofs.lemmas.Bool.{false≢true, eqb-true}
@@ -28,7 +29,7 @@ use Rattle.cog_client.specs.declared.report.Report.{Report}
 use Rattle.cog_client.specs.declared.source.Source.{Source}
 use Rattle.cog_client.specs.Case.{Revision, case_of, is_beside}
 use Rattle.cog_client.specs.Take.{Holding, Taken, IsIgnored, asked_or_first, base_of, keep, stored_count, emptied, first_span, revision_of_piece, stored_front, stored_of, take as taken, take_by}
-use Rattle.cog_client.specs.Client.{ClientAgrees, ClientState, IsReadingOf, IsStanding, Knows, KnowsBy, KnowsOne, asked_of, blocks_of, feed_of, holding, host_of, how_of, name_of, query_of, report_of, revision_at, revision_in, revision_of, to_come, unread}
+use Rattle.cog_client.specs.Client.{ClientAgrees, ClientState, IsReadingOf, IsStanding, Knows, KnowsBy, KnowsOne, asked_of, blocks_of, feed_of, holding, host_of, how_of, name_of, query_of, report_of, revision_in, revision_in, revision_of, to_come, unread}
 use Rattle.cog_client.specs.Feeding.{nothing_fed}
 use Rattle.cog_client.specs.Calls.{unless_reported}
 use Rattle.cog_client.specs.Keeps.{DeliversKeeping, StaysOf, StopsDelivery}
@@ -288,7 +289,7 @@ known_length : ((r : ReaderState) (f : List ℕ) → reader.ReaderAgrees r f →
 unfolding revision_of Knows
 known_length law c v is f knows = at c.source refl is knows
   where
-    at : (o : Option Source) → c.source ≡ o → revision_at o ≡ Some v → IfSome o (KnowsBy f c) → v.complete ≡ length f
+    at : (o : Option Source) → c.source ≡ o → option_map revision_in o ≡ Some v → IfSome o (KnowsBy f c) → v.complete ≡ length f
     at None e none k = absurd (none-some v none)
     at (Some s) e some k =
         let same : revision_in s ≡ v = same_Some _ _ some in

@@ -294,8 +294,8 @@ fewer laws p c v ahead s size knows l =
     let lies = brought_lies laws.only (length f) s.first piece.body s q.from q.to k first last among in
     l.missing.gone k lies.0 lies.1 in
     let few : length new ≤ q.to - q.from = laws.whole (length f) s.first piece.body s (q.to - q.from) (omega arith) in
-    let room = l.missing.room in
-    let stays = laws.stay b (length f) s.first piece.body s n count gone (omega (arith, few, room)) l.missing.led in
+    let room = l.room.room in
+    let stays = laws.stay b (length f) s.first piece.body s n count gone (omega (arith, few, room)) l.room.led in
     let whole : is_brought (length f) s.first (length piece.body) s q.from ≡ true =
     and_from _ _ (whole_at (length f) s.first (s.first + length piece.body) q.from (omega arith) (omega arith) (omega arith))
     (whole_at (length f) s.first (s.last + 1) q.from (omega arith) (omega arith) (omega arith)) in

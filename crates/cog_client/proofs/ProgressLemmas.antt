@@ -1,5 +1,6 @@
 -- What is left for a client to get, and that it grows with no call.
 use Rattle.std.proofs.Common.{◌≡◌, ℕ, suc, Bool, ◌+◌, ◌-◌, ◌≤◌, true, false, cond, List, [], ◌∷◌, ◌++◌, length, Option, Some, None, refl, sym, ap, ◌∙◌, subst, arith, inl, inr}
+use Rattle.std.specs.Option.{option_map}
 use Rattle.std.specs.Prelude.{IfSome, IsSome, is_some, not, sum_by}
 use Rattle.std.specs.List.{filter, IsAmong}
 use Rattle.std.proofs.lemmas.Bool.{false≢true}
@@ -19,7 +20,7 @@ use Rattle.cog_reader.specs.Reader as reader
 use Rattle.cog_client.specs.declared.source.Source.{Source}
 use Rattle.cog_client.specs.Case.{Revision}
 use Rattle.http_range.specs.Book.{Publication, In}
-use Rattle.cog_client.specs.Client.{AgreementIsSeen, ClientAgrees, ClientState, IsOf, Knows, KnowsBy, KnowsOne, IsReadingOf, ahead_of, asked_of, blocks_of, query_of, report_of, revision_at, revision_of, to_come}
+use Rattle.cog_client.specs.Client.{AgreementIsSeen, ClientAgrees, ClientState, Knows, KnowsBy, KnowsOne, IsReadingOf, ahead_of, asked_of, blocks_of, name_of, query_of, report_of, revision_in, revision_of, to_come}
 use Rattle.cog_client.specs.Keeps.{AsksFor, ComesFirst, Lacks, Misses}
 use Rattle.cached_reader.specs.Going.{AreSame, AreTouched, LooksAtOneRange, OneTouches}
 use Rattle.cog_client.specs.Progress.{AskingLeavesAsMuch, CostIsMost, DeliveryReports, GoingOnLeavesNoMore, IsAtWork, IsGone, IsOfNeeded, NeededAreAsked, OneRangeIsAsked, OpeningLeavesCost, RequestReports, blocks_of_ranges, left, left_of, missing_of_range}
@@ -114,7 +115,7 @@ pub known_length : LengthsAreKnown → (f : List ℕ) (c : ClientState) (v : Rev
 unfolding Knows revision_of
 known_length lengths f c v is knows = at c.source refl is knows
   where
-    at : (o : Option Source) → c.source ≡ o → revision_at o ≡ Some v → IfSome o (KnowsBy f c) → length f ≡ v.complete
+    at : (o : Option Source) → c.source ≡ o → option_map revision_in o ≡ Some v → IfSome o (KnowsBy f c) → length f ≡ v.complete
     at None e is k = absurd (none-some v is)
     at (Some s) e is k =
         let reading = subst (λ o. IfSome o (IsReadingOf c.query c.report)) e k.sound.reading in
@@ -125,7 +126,7 @@ blocks_known : (f : List ℕ) (c : ClientState) (v : Revision) → revision_of c
 unfolding Knows revision_of blocks_of
 blocks_known f c v is knows = at c.source refl is knows
   where
-    at : (o : Option Source) → c.source ≡ o → revision_at o ≡ Some v → IfSome o (KnowsBy f c) → Holds f c.cache
+    at : (o : Option Source) → c.source ≡ o → option_map revision_in o ≡ Some v → IfSome o (KnowsBy f c) → Holds f c.cache
     at None e is k = absurd (none-some v is)
     at (Some s) e is k = k.blocks
 
@@ -133,17 +134,15 @@ pub agreement_seen : LengthsAreKnown → AgreementIsSeen
 unfolding ClientAgrees
 agreement_seen lengths c book agrees = at (revision_of c) refl agrees
   where
-    at : (o : Option Revision) → revision_of c ≡ o → IfSome o (KnowsOne c book) → IfSome o (λ v. (p : Publication) × In p book × IsOf c v p)
+    at : (o : Option Revision) → revision_of c ≡ o → IfSome o (KnowsOne c book) → IfSome o (λ v. (p : Publication) × In p book × (p.name ≡ name_of c) × (p.tag ≡ v.tag) × (length p.file ≡ v.complete) × Holds p.file (blocks_of c))
     at None is k = tt
     at (Some v) is k = (
       k.source,
       k.published,
-      record {
-        named = k.of_name;
-        tagged = k.of_tag;
-        long = known_length lengths k.source.file c v is k.knows;
-        blocks = blocks_known k.source.file c v is k.knows;
-      },
+      k.of_name,
+      k.of_tag,
+      known_length lengths k.source.file c v is k.knows,
+      blocks_known k.source.file c v is k.knows,
     )
 
 pub first_split : (r : Extent) (rs : List Extent) → ComesFirst r rs → (rest : List Extent) × (rs ≡ r ∷ rest)

@@ -18,7 +18,7 @@ use Rattle.cog_client.specs.Feeding.{Feed, TakesNoBody, nothing_fed}
 use Rattle.cog_client.specs.Client.{ClientState, IsAlone, IsClient, IsFew, IsStanding, Knows, ahead_of, asked_of, blocks_of, feed_of, host_of, how_of, name_of, query_of, report_of, revision_of, tag_of, to_come, unread}
 use Rattle.cog_client.specs.Calls.{IsAsked, IsIdle, request_for, unless_reported}
 use Rattle.cog_client.specs.Keeps.{AsksFor, AsksLike, GoesOnKeeping, ComesFirst, Lacks, RequestsKeeping}
-use Rattle.cached_reader.specs.Going.{AreTouched, IsMissing}
+use Rattle.cached_reader.specs.Going.{AreTouched, IsMissing, IsMissingWithRoom}
 use Rattle.cog_client.proofs.GoingLemmas.{end_refl, same_refl}
 use Rattle.cog_client.proofs.ClientLemmas.{agrees_by, goes_by, goes_trans, known, rehowed}
 
@@ -82,12 +82,15 @@ same_lawful old new span host name revision can =
 -- the range that is needed next, of what is known before
 lacks_back : (old new : ClientState) (v : Revision) (ahead : ℕ) (span : Span) → blocks_of new ≡ blocks_of old → ((f : List ℕ) → Knows f new → Knows f old) → ((f : List ℕ) → to_come new f ≡ to_come old f)
     → Lacks old v ahead span → Lacks new v ahead span
-lacks_back old new v ahead span blocks knows come l = record {
-  range = l.range;
-  next = λ f k. subst (ComesFirst l.range) (sym (come f)) (l.next f (knows f k));
-  missing = subst (λ b. IsMissing b v.complete l.range ahead span) (sym blocks) l.missing;
-  needed = λ f k. subst (λ rs. AreTouched rs span) (sym (come f)) (l.needed f (knows f k));
-}
+lacks_back old new v ahead span blocks knows come l =
+    let missing = subst (λ b. IsMissingWithRoom b v.complete l.range ahead span) (sym blocks) (l.missing, l.room) in
+    record {
+      range = l.range;
+      next = λ f k. subst (ComesFirst l.range) (sym (come f)) (l.next f (knows f k));
+      missing = missing.0;
+      room = missing.1;
+      needed = λ f k. subst (λ rs. AreTouched rs span) (sym (come f)) (l.needed f (knows f k));
+    }
 
 asks_back : (old new : ClientState) (v : Option Revision) (ahead : ℕ) (span : Span) → blocks_of new ≡ blocks_of old → ((f : List ℕ) → Knows f new → Knows f old) → ((f : List ℕ) → to_come new f ≡ to_come old f)
     → AsksFor old v ahead span → AsksFor new v ahead span
@@ -144,7 +147,6 @@ module _ (e : Feed) (how : Asking) (h n : List ℕ) (q : Option Query) (a : Opti
           goes = on.seen;
           text = is ∙ same_text old mid span goes.seen.same.how goes.seen.same.host goes.seen.same.name goes.seen.revision;
           asks = is_asked new (revision_of mid) (ahead_of mid) span asking;
-          lawful = same_lawful old mid span goes.seen.same.host goes.seen.same.name goes.seen.revision can;
           silent = λ none_is. absurd (none-some span (sym none_is));
           idle = λ idle. absurd (elim idle [
             | inl none_is ↦ false≢true (sym (ap is_some (sym goes.seen.same.query ∙ none_is)) ∙ query)
@@ -153,6 +155,7 @@ module _ (e : Feed) (how : Asking) (h n : List ℕ) (q : Option Query) (a : Opti
           report = λ some. absurd (false≢true (sym quiet ∙ some));
           feed = dropped;
         };
+        lawful = same_lawful old mid span goes.seen.same.host goes.seen.same.name goes.seen.revision can;
         goes = on;
         asks = asking;
       }
@@ -170,12 +173,12 @@ requests_none old new goes none idle report dropped = record {
     goes = goes.seen;
     text = sym (ap (request_for old) none);
     asks = subst (λ a. IfSome a (IsAsked new (revision_of new) (ahead_of new))) (sym none) tt;
-    lawful = subst (λ a. IfSome a (λ s. CanAsk (host_of old) (name_of old) s.first s.last (tag_of old))) (sym none) tt;
     silent = λ _. idle;
     idle = λ _. none;
     report = report;
     feed = dropped;
   };
+  lawful = subst (λ a. IfSome a (λ s. CanAsk (host_of old) (name_of old) s.first s.last (tag_of old))) (sym none) tt;
   goes = goes;
   asks = subst (λ a. IfSome a (AsksFor new (revision_of new) (ahead_of new))) (sym none) tt;
 }

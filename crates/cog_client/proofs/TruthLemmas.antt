@@ -31,42 +31,42 @@ use Rattle.cog_reader.specs.declared.outcome.Window.{Window}
 use Rattle.cog_reader.specs.Fields.{geo_bytes}
 use Rattle.cog_reader.specs.Outcome.{IsInfoOf, IsTrueOf, IsWindowOf, items_of}
 use Rattle.cog_reader.specs.Samples.{samples_in}
-use Rattle.cog_client.specs.Report.{Facts, Refuses, Said, Samples, Shows, Tells, Told, TruthIsTold, facts_of, said_of, samples_of}
+use Rattle.cog_client.specs.Report.{Refuses, Said, Shows, Tells, Told, TruthIsTold, items_in, said_of}
 
 -- ---- windows
 
 -- what a window says is true of the file
-record AreSamplesOf (f : List ℕ) (q : Query) (s : Samples) : Type 0 where
-  window : IsWindow f q (samples_in s.bits s.pixels)
+record AreSamplesOf (f : List ℕ) (q : Query) (width height samples bits : ℕ) (pixels : List ℕ) : Type 0 where
+  window : IsWindow f q (samples_in bits pixels)
   asked : Rectangle
   asked_is : rectangle f q ≡ Some asked
-  width : s.width ≡ asked.width
-  height : s.height ≡ asked.height
-  samples : level_value f asked.level SAMPLES_PER_PIXEL 0 ≡ Some s.samples
-  bits : level_value f asked.level BITS_PER_SAMPLE 0 ≡ Some s.bits
-  size : length s.pixels ≡ s.width * s.height * (s.samples * sample_bytes s.bits)
+  width_is : width ≡ asked.width
+  height_is : height ≡ asked.height
+  samples_are : level_value f asked.level SAMPLES_PER_PIXEL 0 ≡ Some samples
+  bits_are : level_value f asked.level BITS_PER_SAMPLE 0 ≡ Some bits
+  size : length pixels ≡ width * height * (samples * sample_bytes bits)
 
-samples_true : (f : List ℕ) (q : Query) (v : Window) → IsWindowOf f q v → AreSamplesOf f q (samples_of v)
+samples_true : (f : List ℕ) (q : Query) (v : Window) → IsWindowOf f q v → AreSamplesOf f q v.w v.h v.samples v.bits v.pixels.items
 samples_true f q v h = record {
   window = h.window;
   asked = h.asked;
   asked_is = h.asked_is;
-  width = h.width;
-  height = h.height;
-  samples = h.samples;
-  bits = h.bits;
+  width_is = h.width;
+  height_is = h.height;
+  samples_are = h.samples;
+  bits_are = h.bits;
   size = h.size;
 }
 
-window_true : (f : List ℕ) (q : Query) (v : Window) → AreSamplesOf f q (samples_of v) → IsWindowOf f q v
+window_true : (f : List ℕ) (q : Query) (v : Window) → AreSamplesOf f q v.w v.h v.samples v.bits v.pixels.items → IsWindowOf f q v
 window_true f q v h = record {
   window = h.window;
   asked = h.asked;
   asked_is = h.asked_is;
-  width = h.width;
-  height = h.height;
-  samples = h.samples;
-  bits = h.bits;
+  width = h.width_is;
+  height = h.height_is;
+  samples = h.samples_are;
+  bits = h.bits_are;
   size = h.size;
 }
 
@@ -151,17 +151,17 @@ keys_true s order doubles ascii geo h = record {
 
 -- ---- info
 
-record AreFactsOf (f : List ℕ) (a : Facts) : Type 0 where
+record AreFactsOf (f : List ℕ) (shown : List (ℕ × ℕ)) (minor : ℕ) (contained : List (ℕ × Content)) (s t x : Option (List (List ℕ))) : Type 0 where
   sound : (fault : FileFault) → IsFaulty f queries.Info fault → ⊥
   order : Order
   order_is : order_of f ≡ Some order
-  sides_are : map Some a.sides ≡ map (sides f) (level_directories f)
-  keys : AreContents (key_source f) order (geo_bytes f GEO_DOUBLE_PARAMS) (geo_bytes f GEO_ASCII_PARAMS) a.minor a.keys
-  scale : a.scale ≡ items_of order f MODEL_PIXEL_SCALE
-  tiepoints : a.tiepoints ≡ items_of order f MODEL_TIEPOINT
-  transformation : a.transformation ≡ items_of order f MODEL_TRANSFORMATION
+  sides_are : map Some shown ≡ map (sides f) (level_directories f)
+  keys : AreContents (key_source f) order (geo_bytes f GEO_DOUBLE_PARAMS) (geo_bytes f GEO_ASCII_PARAMS) minor contained
+  scale : s ≡ items_of order f MODEL_PIXEL_SCALE
+  tiepoints : t ≡ items_of order f MODEL_TIEPOINT
+  transformation : x ≡ items_of order f MODEL_TRANSFORMATION
 
-facts_true : (f : List ℕ) (i : Info) → IsInfoOf f i → AreFactsOf f (facts_of i)
+facts_true : (f : List ℕ) (i : Info) → IsInfoOf f i → AreFactsOf f i.sides.items i.geo.minor (contents i.geo.keys.items) (items_in i.scale) (items_in i.tiepoints) (items_in i.transformation)
 facts_true f i h = record {
   sound = h.sound;
   order = h.order;
@@ -173,7 +173,7 @@ facts_true f i h = record {
   transformation = h.transformation;
 }
 
-info_true : (f : List ℕ) (i : Info) → AreFactsOf f (facts_of i) → IsInfoOf f i
+info_true : (f : List ℕ) (i : Info) → AreFactsOf f i.sides.items i.geo.minor (contents i.geo.keys.items) (items_in i.scale) (items_in i.tiepoints) (items_in i.transformation) → IsInfoOf f i
 info_true f i h = record {
   sound = h.sound;
   order = h.order;
@@ -189,8 +189,8 @@ info_true f i h = record {
 
 -- what is said is true of the file
 abbrev IsSaidOf : List ℕ → Query → Said → Type 0
-IsSaidOf f q (Shows s) = AreSamplesOf f q s
-IsSaidOf f q (Tells a) = (q ≡ queries.Info) × AreFactsOf f a
+IsSaidOf f q (Shows width height samples bits pixels) = AreSamplesOf f q width height samples bits pixels
+IsSaidOf f q (Tells shown minor contained s t x) = (q ≡ queries.Info) × AreFactsOf f shown minor contained s t x
 IsSaidOf f q (Refuses fault) = IsFaulty f q fault
 
 said_true : (f : List ℕ) (q : Query) (o : Outcome) → IsTrueOf f q o → IsSaidOf f q (said_of o)

@@ -186,8 +186,9 @@ module _ (laws : StepLaws) (book : Book) (p : Publication) (q : Query) (distinct
 
 module _ (laws : StepLaws) (Answers : ClientState → Publication → Span → List ℕ → Type 0) (are : (book : Book) (p : Publication) → HasDistinctTags book → In p book → AreServed Answers book p) where
   pub answers_report : AnswersReport Answers
+  unfolding query_of
   answers_report book p q old opened new n distinct among agrees opens exchanges =
-      let begins : IsReading book q opened = record { agrees = opens.agrees book agrees; query = opens.seen.asks } in
+      let begins : IsReading book q opened = record { agrees = opens.agrees book agrees; query = ap query_of opens.seen.1 } in
       let far = reach laws book p q distinct among Answers (are book p distinct among) n (cost p.file q + 1) opened new begins (inr (inl (omega arith))) exchanges in
       (far.0, elim far.1 [ inl stands ↦ inl stands | inr few ↦ inr (omega (arith, few)) ])
 

@@ -1,11 +1,11 @@
 -- What a caller sees of each call of a client, from one state to the next.
-use Rattle.std.specs.Prelude.{◌≡◌, ℕ, ◌⊎◌, true, if◌then◌else◌, List, Option, Some, None, IfSome, IsSome, is_some, Result}
+use Rattle.std.specs.Prelude.{◌≡◌, ℕ, ◌⊎◌, true, if◌then◌else◌, List, [], Option, Some, None, IfSome, IsSome, is_some, Result}
 use Rattle.std.specs.Option.{option_map}
 use Rattle.tiff_dir.specs.declared.query.Query.{Query}
 use Rattle.tiff_dir.specs.declared.span.Span.{Span}
 use Rattle.tiff_dir.specs.Needs.{Extent}
 use Rattle.http_range.specs.declared.reading.Why.{Why}
-use Rattle.http_range.specs.Ask.{CanAsk, request_by}
+use Rattle.http_range.specs.Ask.{request_by}
 use Rattle.http_range.specs.Piece.{SeenPiece}
 use Rattle.http_range.specs.Reading.{ReadsAnswer}
 use Rattle.cog_client.specs.declared.delivered.Delivered.{Delivered}
@@ -23,41 +23,23 @@ pub record SameClient (old new : ClientState) : Type 0 where
   pub query : query_of new ≡ query_of old
   pub how : how_of new ≡ how_of old
 
--- nothing is asked, and there is neither a revision nor a block nor a report, nor anything of an answer
-pub record HoldsNothing (c : ClientState) : Type 0 where
-  pub asked : asked_of c ≡ None
-  pub revision : revision_of c ≡ None
-  pub blocks : blocks_of c ≡ emptied (blocks_of c)
-  pub report : report_of c ≡ None
-  pub feed : feed_of c ≡ nothing_fed
-
 -- ---- new, open, forget
 
-pub record Starts (host name : List ℕ) (blocks : ℕ) (new : ClientState) : Type 0 where
-  pub hosted : host_of new ≡ host
-  pub named : name_of new ≡ name
-  pub query : query_of new ≡ None
-  pub closing : closes new ≡ true
-  pub near : ahead_of new ≡ 0
-  pub capacity : (blocks_of new).capacity ≡ blocks
-  pub empty : HoldsNothing new
+-- It has nothing: no query, no revision, no block. Its requests close the connection, and it looks no block ahead.
+abbrev pub Starts : List ℕ → List ℕ → ℕ → ClientState → Type 0
+Starts host name blocks new = new ≡ record {
+  how = record { closes = true; ahead = 0 }; host = host; name = name; query = None; asked = None; source = None;
+  cache = record { entries = []; capacity = blocks }; report = None; feed = nothing_fed;
+}
 
 -- The query is asked; revision and blocks stay, and an unfinished answer is dropped, as in each call from here on.
-pub record Opens (query : Query) (old new : ClientState) : Type 0 where
-  pub host : host_of new ≡ host_of old
-  pub name : name_of new ≡ name_of old
-  pub how : how_of new ≡ how_of old
-  pub asks : query_of new ≡ Some query
-  pub asked : asked_of new ≡ None
-  pub revision : revision_of new ≡ revision_of old
-  pub blocks : blocks_of new ≡ blocks_of old
-  pub report : report_of new ≡ None
-  pub feed : feed_of new ≡ nothing_fed
+abbrev pub Opens : Query → ClientState → ClientState → Type 0
+Opens query old new = (revision_of new ≡ revision_of old)
+    × (new ≡ record old { query = Some query; asked = None; source = new.source; report = None; feed = nothing_fed })
 
-pub record Forgets (old new : ClientState) : Type 0 where
-  pub same : SameClient old new
-  pub capacity : (blocks_of new).capacity ≡ (blocks_of old).capacity
-  pub empty : HoldsNothing new
+-- It keeps host, name, query and how it asks.
+abbrev pub Forgets : ClientState → ClientState → Type 0
+Forgets old new = new ≡ record old { asked = None; source = None; cache = emptied old.cache; report = None; feed = nothing_fed }
 
 -- ---- going on
 
@@ -88,7 +70,6 @@ pub record Requests (old : ClientState) (request : Option (List ℕ)) (new : Cli
   pub goes : GoesOn old new
   pub text : request ≡ request_for old (asked_of new)
   pub asks : IfSome (asked_of new) (IsAsked new (revision_of new) (ahead_of new))
-  pub lawful : IfSome (asked_of new) (λ s. CanAsk (host_of old) (name_of old) s.first s.last (tag_of old))
   -- there is none exactly where there is no query, or a report stands, from before or from now on
   pub silent : asked_of new ≡ None → IsIdle new
   pub idle : IsIdle new → asked_of new ≡ None

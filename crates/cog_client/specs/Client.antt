@@ -87,12 +87,9 @@ asked_of c = c.asked
 abbrev pub revision_in : Source → Revision
 revision_in s = record { tag = s.tag; complete = s.complete }
 
-abbrev pub revision_at : Option Source → Option Revision
-revision_at s = option_map revision_in s
-
 -- The tag and the length of the file that is read.
 unfoldable pub revision_of : ClientState → Option Revision
-revision_of c = revision_at c.source
+revision_of c = option_map revision_in c.source
 
 -- The blocks, the most recently used first, and how many there may be.
 unfoldable pub blocks_of : ClientState → Blocks
@@ -181,16 +178,10 @@ pub record KnowsOne (c : ClientState) (book : Book) (v : Revision) : Type 0 wher
 unfoldable pub ClientAgrees : ClientState → Book → Type 0
 ClientAgrees c book = IfSome (revision_of c) (KnowsOne c book)
 
--- What a caller sees of a client that reads this revision is of the publication: its name, tag and length, and its blocks.
-pub record IsOf (c : ClientState) (v : Revision) (p : Publication) : Type 0 where
-  pub named : p.name ≡ name_of c
-  pub tagged : p.tag ≡ v.tag
-  pub long : length p.file ≡ v.complete
-  pub blocks : Holds p.file (blocks_of c)
-
--- A client that has a revision is of one publication of the book.
+-- A client that reads a revision is of one publication of the book: of its name, tag and length, and its blocks are that file's.
 abbrev pub IsOfBook : ClientState → Book → Type 0
-IsOfBook c book = IfSome (revision_of c) (λ v. (p : Publication) × In p book × IsOf c v p)
+IsOfBook c book = IfSome (revision_of c) (λ v. (p : Publication)
+    × In p book × (p.name ≡ name_of c) × (p.tag ≡ v.tag) × (length p.file ≡ v.complete) × Holds p.file (blocks_of c))
 
 -- So it is where what it holds agrees with the book.
 abbrev pub AgreementIsSeen : Type 0

@@ -5,6 +5,7 @@ use Rattle.tiff_dir.specs.declared.span.Span.{Span}
 use Rattle.tiff_dir.specs.Needs.{Extent, IsEndOf}
 use Rattle.tiff_dir.specs.Query.{needs}
 use Rattle.http_range.specs.declared.reading.Why.{Why}
+use Rattle.http_range.specs.Ask.{CanAsk}
 use Rattle.http_range.specs.Book.{Book, HasDistinctTags}
 use Rattle.http_range.specs.Honest.{IsPieceOfBook, IsReadAs}
 use Rattle.http_range.specs.Piece.{SeenPiece}
@@ -17,9 +18,9 @@ use Rattle.cog_client.specs.Feeding.{TakesNoBody, nothing_fed}
 use Rattle.cog_client.specs.Take.{IsIgnored, asked_or_first, base_of, first_span, stored_front, take}
 use Rattle.cog_client.specs.Report.{IsTrueReport}
 use Rattle.cog_client.specs.declared.asking.Asking.{Asking}
-use Rattle.cog_client.specs.Client.{ClientState, Knows, ClientAgrees, ahead_of, asked_of, blocks_of, feed_of, holding, how_of, name_of, query_of, report_of, revision_of, to_come, unread}
+use Rattle.cog_client.specs.Client.{ClientState, Knows, ClientAgrees, ahead_of, asked_of, blocks_of, feed_of, holding, host_of, how_of, name_of, query_of, report_of, revision_of, tag_of, to_come, unread}
 use Rattle.cog_reader.specs.Reader.{AreOfOneLevel}
-use Rattle.cached_reader.specs.Going.{AreSame, AreTouched, IsMissing}
+use Rattle.cached_reader.specs.Going.{AreSame, AreTouched, HasRoom, IsMissing}
 use Rattle.cog_client.specs.Calls.{Delivers, GoesOn, IsIdle, Opens, Requests, SameClient}
 
 -- What the query needs is to come, but for what is held, which stays.
@@ -58,6 +59,7 @@ pub record Lacks (c : ClientState) (v : Revision) (ahead : ℕ) (span : Span) : 
   pub range : Extent
   pub next : (f : List ℕ) → Knows f c → ComesFirst range (to_come c f)
   pub missing : IsMissing (blocks_of c) v.complete range ahead span
+  pub room : HasRoom (blocks_of c) v.complete range ahead span missing
   pub needed : (f : List ℕ) → Knows f c → AreTouched (to_come c f) span
 
 -- What a client that looks so many blocks ahead asks for: without a revision the first 65,536 bytes, with one what is missing of
@@ -97,6 +99,7 @@ LooksAhead blocks old new = AsksLike (record (how_of old) { ahead = blocks }) ol
 
 pub record RequestsKeeping (old : ClientState) (request : Option (List ℕ)) (new : ClientState) : Type 0 where
   pub seen : Requests old request new
+  pub lawful : IfSome (asked_of new) (λ s. CanAsk (host_of old) (name_of old) s.first s.last (tag_of old))
   pub goes : GoesOnKeeping old new
   pub asks : IfSome (asked_of new) (AsksFor new (revision_of new) (ahead_of new))
 

@@ -6,55 +6,25 @@ use Rattle.tiff_dir.specs.declared.query.Query.{Query}
 use Rattle.tiff_dir.specs.declared.fault.FileFault.{FileFault}
 use Rattle.http_range.specs.Book.{Publication, Book, In}
 use Rattle.geokeys.specs.Same.{Content, contents}
-use Rattle.cog_reader.specs.declared.outcome.Info.{Info}
 use Rattle.cog_reader.specs.declared.outcome.Outcome.{Outcome}
 use Rattle.cog_reader.specs.declared.outcome.Outcome.TheVariants as outcomes
-use Rattle.cog_reader.specs.declared.outcome.Window.{Window}
 use Rattle.cog_reader.specs.Outcome.{IsTrueOf}
 use Rattle.cog_client.specs.declared.report.Report.{Report}
 
 -- ---- what is said of a file, wherever it lies in memory
 
-pub record Samples : Type 0 where
-  pub width : ℕ
-  pub height : ℕ
-  pub samples : ℕ
-  pub bits : ℕ
-  pub pixels : List ℕ
-
-pub record Facts : Type 0 where
-  pub sides : List (ℕ × ℕ)
-  pub minor : ℕ
-  pub keys : List (ℕ × Content)
-  pub scale : Option (List (List ℕ))
-  pub tiepoints : Option (List (List ℕ))
-  pub transformation : Option (List (List ℕ))
-
 pub data Said : Type 0 where
-  Shows : Samples → Said
-  Tells : Facts → Said
+  Shows : (width height samples bits : ℕ) (pixels : List ℕ) → Said
+  Tells : (sides : List (ℕ × ℕ)) (minor : ℕ) (keys : List (ℕ × Content)) (scale tiepoints transformation : Option (List (List ℕ))) → Said
   Refuses : FileFault → Said
-
-abbrev pub samples_of : Window → Samples
-samples_of v =
-    record { width = v.w; height = v.h; samples = v.samples; bits = v.bits; pixels = v.pixels.items }
 
 abbrev pub items_in : Option (Vec (List ℕ)) → Option (List (List ℕ))
 items_in o = option_map (λ v. v.items) o
 
-abbrev pub facts_of : Info → Facts
-facts_of i = record {
-  sides = i.sides.items;
-  minor = i.geo.minor;
-  keys = contents i.geo.keys.items;
-  scale = items_in i.scale;
-  tiepoints = items_in i.tiepoints;
-  transformation = items_in i.transformation;
-}
-
 abbrev pub said_of : Outcome → Said
-said_of (outcomes.Window v) = Shows (samples_of v)
-said_of (outcomes.Info i) = Tells (facts_of i)
+said_of (outcomes.Window v) = Shows v.w v.h v.samples v.bits v.pixels.items
+said_of (outcomes.Info i) =
+    Tells i.sides.items i.geo.minor (contents i.geo.keys.items) (items_in i.scale) (items_in i.tiepoints) (items_in i.transformation)
 said_of (outcomes.Fault fault) = Refuses fault
 
 -- the query, the tag of the file, and what is said of it

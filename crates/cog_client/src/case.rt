@@ -1,9 +1,10 @@
 //! The case of the table by which an answer is taken, as its head tells it.
 ghost use Rattle.std.specs.Prelude.{◌≡◌, ◌+◌, ◌<◌, ◌^◌, Some, if◌then◌else◌, max, min, nat_le};
+ghost use Rattle.std.specs.Option.{option_map};
 ghost use Rattle.cog_client.specs.declared.case.Case.TheVariants.{Restarted, Ignored as AnIgnored};
 ghost use Rattle.cog_client.specs.declared.delivered.Ignored.TheVariants.{OtherRevision};
 ghost use Rattle.http_range.specs.Announced.{announced};
-ghost use Rattle.cog_client.specs.Client.{revision_in, revision_at};
+ghost use Rattle.cog_client.specs.Client.{revision_in};
 ghost use Rattle.cog_client.specs.Fed.{case_of_head, case_of_revision, told_at_end};
 
 use crate::delivered::{Delivered, Ignored};
@@ -57,7 +58,7 @@ fn case_of_revision(source: &Source, head: &Head) -> Case
 
 /// The case that the head of an answer tells. Whether the body is beside what is asked for is known at its end.
 pub fn case_of_head(source: &Option<Source>, asked: Option<Span>, head: &Head) -> Case
-    ensures { result ≡ case_of_head (revision_at source.now) asked (announced head.now) }
+    ensures { result ≡ case_of_head (option_map revision_in source.now) asked (announced head.now) }
 {
     if asked.is_none() {
         return Case::Ignored(Ignored::NotAsked);

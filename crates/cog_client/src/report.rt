@@ -1,7 +1,8 @@
 //! What a client reports.
 ghost use Rattle.std.specs.Prelude.{◌≡◌, IfOk};
 ghost use Rattle.geokeys.specs.Same.{content_of, contents};
-ghost use Rattle.cog_client.specs.Report.{facts_of, items_in, said_of, samples_of};
+ghost use Rattle.cog_reader.specs.declared.outcome.Outcome.TheVariants as outcomes;
+ghost use Rattle.cog_client.specs.Report.{items_in, said_of};
 
 use cog_reader::{Info, Outcome, Window};
 use geokeys::{Geo, Key, KeyValue};
@@ -56,7 +57,7 @@ fn copy_items(alloc: Global, items: &Option<Vec<[u8; 8]>>) -> Result<Option<Vec<
 
 /// What Info says, again.
 fn copy_info(alloc: Global, info: &Info) -> Result<Info, Memory>
-    ensures { IfOk result (λ i. facts_of i ≡ facts_of info.now) }
+    ensures { IfOk result (λ i. said_of (outcomes.Info i) ≡ said_of (outcomes.Info info.now)) }
 {
     let sides = Vec::from_slice(alloc, &info.sides)?;
     let geo = copy_geo(alloc, &info.geo)?;
@@ -74,7 +75,7 @@ fn copy_info(alloc: Global, info: &Info) -> Result<Info, Memory>
 
 /// An equal window.
 fn copy_window(alloc: Global, window: &Window) -> Result<Window, Memory>
-    ensures { IfOk result (λ w. samples_of w ≡ samples_of window.now) }
+    ensures { IfOk result (λ w. said_of (outcomes.Window w) ≡ said_of (outcomes.Window window.now)) }
 {
     let pixels = Vec::from_slice(alloc, &window.pixels)?;
     Ok(Window {

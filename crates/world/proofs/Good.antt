@@ -21,7 +21,7 @@ use Rattle.world.specs.declared.event.Event.{Event}
 use Rattle.world.specs.declared.event.Event.TheVariants.{Publish, Epoch, NewClient, Open, Forget, Ask, AskFrom, Deliver, Exchange, Check}
 use Rattle.world.specs.declared.event.Effect.{Effect}
 use Rattle.world.specs.State.{refused_at}
-use Rattle.world.specs.World.{World, Seen, start, answer_in, next_of, publish_by, restart_by, made_by, scheduled, after, host, opened, StaysHonest}
+use Rattle.world.specs.World.{World, Seen, start, answer_in, next_of, publish_by, made_by, scheduled, after, host, opened, StaysHonest}
 use Rattle.world.specs.Run.{seen}
 use Rattle.world.specs.LowerLaws.{LowerLaws}
 use Rattle.world.proofs.Lists.{get-map, get-set, get-push, map-set, set_there}
@@ -172,6 +172,10 @@ module _ (laws : LowerLaws) where
   pub good_publish : (w : World) (cs : List ClientState) (name file : List ℕ) (o : Option PublishError) → refused_at w name file ≡ o → Good w cs → Good (publish_by w (next_of w name file) o) cs
   good_publish w cs name file (Some refusal) e g = g
   good_publish w cs name file None e g = good_accepted w cs name file e g
+
+-- the world of a restart, or the same
+abbrev pub restart_by : World → ℕ → Bool → World
+restart_by w e greater = if greater then record w { epoch = e; count = 0; catalogue = [] } else w
 
 pub good_epoch : (b : Bool) (w : World) (cs : List ClientState) (e : ℕ) → nat_lt w.epoch e ≡ b → e < 2 ^ 32 → Good w cs → Good (restart_by w e b) cs
 good_epoch false w cs e t small g = g

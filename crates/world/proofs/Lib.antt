@@ -1,5 +1,6 @@
 pub mod Lists
 pub mod Good
+pub mod Effects
 pub mod Truth
 pub mod Exact
 pub mod Needed

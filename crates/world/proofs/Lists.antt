@@ -9,7 +9,7 @@ use Rattle.cog_client.specs.Client.{name_of}
 use Rattle.cog_server.specs.declared.server.Answer.{Answer}
 use Rattle.world.specs.declared.event.Effect.TheVariants as effects
 use Rattle.world.specs.World.{is_for}
-use Rattle.world.specs.Run.{Acts, AtClient, Changes, Quiet, cut_at, news}
+use Rattle.world.specs.Run.{AtClient, Changes, Quiet, cut_at, news, told_of}
 use Rattle.world.specs.State.{DeliversWithKeeping, IsDeliveryKeeping, Keeping}
 
 pub get_there : {A : Type 0} (xs : List A) (i : ℕ) (x : A) → i < length xs → x ≡ get_or xs i x → slice_get xs i ≡ Some x
@@ -52,10 +52,10 @@ map-set f (a ∷ xs) zero x = refl
 map-set f (a ∷ xs) (suc i) x = ap (λ ys. f a ∷ ys) (map-set f xs i x)
 
 -- a call of the client that is there
-pub at_client : (R : ClientState → ClientState → Type 0) (old : List ClientState) (i : ℕ) (c next : ClientState) (n : Entry) → i < length old → c ≡ get_or old i c → Acts R n c next → AtClient (slice_get old i) R i n old (slice_set old i next)
-at_client R old i c next n inside is acts =
+pub at_client : (R : ClientState → ClientState → Type 0) (old : List ClientState) (i : ℕ) (c next : ClientState) (n : Entry) → i < length old → c ≡ get_or old i c → R c next → told_of n ≡ news c next → AtClient (slice_get old i) R i n old (slice_set old i next)
+at_client R old i c next n inside is does tells =
     let P : Option ClientState → Type 0 = λ o. AtClient o R i n old (slice_set old i next) in
-    subst P (sym (get_there old i c inside is)) (record { next = next; changed = refl; acts = acts })
+    subst P (sym (get_there old i c inside is)) (record { next = next; changed = refl; does = does; tells = tells })
 
 pub tells_of : (had : Bool) (old new : ClientState) (report : Option Told) → had ≡ is_some (report_of old) → report ≡ (if had then None else option_map told (report_of new)) → report ≡ news old new
 tells_of had old new report is h = h ∙ ap (λ (b : Bool). if b then None else option_map told (report_of new)) is

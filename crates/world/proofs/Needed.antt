@@ -17,15 +17,17 @@ use Rattle.cog_client.specs.Progress.{IsOfNeeded}
 use Rattle.cog_server.specs.declared.server.Answer.{Answer}
 use Rattle.world.specs.declared.event.Event.{Event}
 use Rattle.world.specs.declared.event.Event.TheVariants.{Publish, Epoch, NewClient, Open, Forget, Ask, AskFrom, Deliver, Exchange, Check}
+use Rattle.world.specs.declared.event.AnsweredCheck.{AnsweredCheck}
 use Rattle.world.specs.declared.event.AnsweredRequest.{AnsweredRequest}
 use Rattle.world.specs.declared.event.Effect.{Effect}
 use Rattle.world.specs.declared.event.Entry.{Entry}
 use Rattle.world.specs.World.{World, Seen, host, is_for}
-use Rattle.world.specs.Progress.{IsNeededEntry, IsNeededBy, IsNeededIn, IsOfPublished, asked_in}
-use Rattle.world.specs.Run.{Asks, AtClient, ExchangesWith, ForgetsAll, IsCheckBy, IsExchanged, MakesBy, asked_effect, cut_at, seen}
-use Rattle.world.specs.State.{AsksWithKeeping, DeliversWithKeeping, ExchangesWithKeeping, IsDeliveryKeeping, Keeping, OpensWithKeeping, StepKeeping, request_in}
+use Rattle.world.specs.Progress.{IsNeededEntry, IsNeededBy, IsNeededIn, asked_in}
+use Rattle.world.specs.Run.{Asks, AtClient, ExchangesWith, IsExchanged, MakesBy, asked_effect, cut_at, seen}
+use Rattle.world.specs.State.{AsksWithKeeping, DeliversWithKeeping, ExchangesWithKeeping, ForgetsAll, IsCheckBy, IsCheckedKeeping, IsDeliveryKeeping, Keeping, OpensWithKeeping, StepKeeping, request_in}
 use Rattle.world.specs.LowerLaws.{LowerLaws}
 use Rattle.world.proofs.Lists.{get-map, get-push, get-set}
+use Rattle.world.proofs.Effects.{HoldsElse, at_effect, of_step}
 use Rattle.world.proofs.Good.{Good}
 
 -- ---- every client asks the one host, by each request that the connection end, and looks no block ahead
@@ -61,24 +63,25 @@ hosted_at : (R : ClientState → ClientState → Type 0) → ((c next : ClientSt
 hosted_at R keeps None i n old new at h all = hosted_same old new h.same all
 hosted_at R keeps (Some c) i n old new at h all =
     hosted_same (slice_set old i h.next) new h.changed (λ j d e. elim (get-set old i j h.next d c at e) [
-      | inl is ↦ stays_hosted c h.next d (keeps c h.next h.acts.does) is (all i c at)
+      | inl is ↦ stays_hosted c h.next d (keeps c h.next h.does) is (all i c at)
       | inr there ↦ all j d there
     ])
 
 hosted_made : (o : Option ClientError) (name : List ℕ) (blocks : ℕ) (n : Entry) (old new : List ClientState) → MakesBy o name blocks n old new → AllHosted old → AllHosted new
+unfolding host_of how_of
 hosted_made (Some refusal) name blocks n old new h all = hosted_same old new h.same all
 hosted_made None name blocks n old new h all =
-    hosted_same (old ++ h.made ∷ []) new h.added (λ j d e. elim (get-push old j h.made d e) [
-      | inl is ↦ record { host_is = ap host_of is ∙ h.starts.hosted; closing = ap closes is ∙ h.starts.closing; near = ap ahead_of is ∙ h.starts.near }
+    hosted_same (old ++ h.0 ∷ []) new h.2.same (λ j d e. elim (get-push old j h.0 d e) [
+      | inl is ↦ record { host_is = ap host_of is ∙ ap host_of h.1; closing = ap closes is ∙ ap closes h.1; near = ap ahead_of is ∙ ap ahead_of h.1 }
       | inr there ↦ all j d there
     ])
 
 hosted_exchange : (catalogue : _) (sent i : ℕ) (effect : Effect) (c next : ClientState) → ExchangesWith catalogue sent i effect c next → StaysHosted c next
-hosted_exchange catalogue sent i effect c next h = at h.asked h.exchanged
+hosted_exchange catalogue sent i effect c next h = at h.0 h.3
   where
-    at : (o : Option AnsweredRequest) → IsExchanged i o effect h.mid next → StaysHosted c next
-    at None e = let same = h.asks.requests.goes.same in (ap host_of e.1 ∙ same.host, ap how_of e.1 ∙ same.how)
-    at (Some a) e = let same = h.asks.requests.goes.same in (e.2.same.host ∙ same.host, e.2.same.how ∙ same.how)
+    at : (o : Option AnsweredRequest) → IsExchanged i o effect h.1 next → StaysHosted c next
+    at None e = let same = h.2.requests.goes.same in (ap host_of e.1 ∙ same.host, ap how_of e.1 ∙ same.how)
+    at (Some a) e = let same = h.2.requests.goes.same in (e.2.same.host ∙ same.host, e.2.same.how ∙ same.how)
 
 hosted_delivery : (o : Option Answer) (client : Option ClientState) (cut : Option ℕ) (i : ℕ) (n : Entry) (old new : List ClientState) → slice_get old i ≡ client → IsDeliveryKeeping o client cut i n old new → AllHosted old → AllHosted new
 hosted_delivery None client cut i n old new at h all = hosted_same old new h.same all
@@ -94,11 +97,12 @@ hosted_check None catalogue sent i n old new h all = hosted_same old new h.same 
 hosted_check (Some c) catalogue sent i n old new h all = hosted_same old new h.2.same all
 
 pub hosted_step : (w : World) (cs : List ClientState) (e : Event) (n : Entry) (new : List ClientState) → StepKeeping w cs e n new → AllHosted cs → AllHosted new
+unfolding host_of how_of
 hosted_step w cs (Publish name file) n new h all = hosted_same cs new h.same all
 hosted_step w cs (Epoch e) n new h all = hosted_same cs new h.1.same all
 hosted_step w cs (NewClient name blocks) n new h all = hosted_made (client_refusal host name.items blocks) name.items blocks n cs new h all
-hosted_step w cs (Open i q) n new h all = hosted_at (Keeping (OpensWithKeeping q i n.effect)) (λ c next o. (o.does.opens.seen.host, o.does.opens.seen.how)) (slice_get cs i) i n cs new refl h all
-hosted_step w cs (Forget i) n new h all = hosted_at (Keeping (ForgetsAll i n.effect)) (λ c next f. same_hosted c next f.does.forgets.same) (slice_get cs i) i n cs new refl h all
+hosted_step w cs (Open i q) n new h all = hosted_at (Keeping (OpensWithKeeping q i n.effect)) (λ c next o. (ap host_of o.does.opens.seen.1, ap how_of o.does.opens.seen.1)) (slice_get cs i) i n cs new refl h all
+hosted_step w cs (Forget i) n new h all = hosted_at (Keeping (ForgetsAll i n.effect)) (λ c next f. (ap host_of f.does.forgets, ap how_of f.does.forgets)) (slice_get cs i) i n cs new refl h all
 hosted_step w cs (Ask message) n new h all = hosted_same cs new h.1 all
 hosted_step w cs (AskFrom i) n new h all = hosted_at (Keeping (AsksWithKeeping w.catalogue (length w.sent) i n.effect)) (λ c next a. same_hosted c next a.does.requests.seen.goes.same) (slice_get cs i) i n cs new refl h all
 hosted_step w cs (Deliver i a cut) n new h all = hosted_delivery (slice_get w.sent a) (slice_get cs i) cut i n cs new refl h all
@@ -127,18 +131,18 @@ module _ (laws : LowerLaws) where
   -- ---- requests
 
   needed_under : (w : World) (c mid : ClientState) (v : Revision) (span : Span) (q : Query) → revision_of mid ≡ Some v → ClientAgrees mid w.book → AsksFor mid (Some v) 0 span → name_of mid ≡ name_of c → query_of c ≡ Some q → query_of mid ≡ Some q
-      → IsOfPublished w (seen c) v.tag span
+      → IsNeededBy w (seen c) (Some v.tag) span
   unfolding ClientAgrees
   needed_under w c mid v span q is agrees asks name query queried =
       let k : KnowsOne mid w.book v = subst (λ o. IfSome o (KnowsOne mid w.book)) is agrees in
       let needed = laws.one_range mid v k.source.file span is k.knows asks in
-      record {
-        source = k.source;
-        published = k.published;
-        of_name = k.of_name ∙ name;
-        of_tag = k.of_tag;
-        needed = subst (λ o. IsSomeAnd o (λ q. IsOfNeeded k.source.file q span)) (sym query) (subst (λ o. IfSome o (λ q. IsOfNeeded k.source.file q span)) queried needed);
-      }
+      (
+        k.source,
+        k.published,
+        k.of_name ∙ name,
+        k.of_tag,
+        subst (λ o. IsSomeAnd o (λ q. IsOfNeeded k.source.file q span)) (sym query) (subst (λ o. IfSome o (λ q. IsOfNeeded k.source.file q span)) queried needed),
+      )
 
   needed_by : (w : World) (c mid : ClientState) (a : AnsweredRequest) (o : Option Revision) (q : Query) → revision_of mid ≡ o → a.tag ≡ tag_of mid → ClientAgrees mid w.book → AsksFor mid o 0 a.span → name_of mid ≡ name_of c → query_of c ≡ Some q
       → query_of mid ≡ Some q → IsNeededBy w (seen c) a.tag a.span
@@ -189,8 +193,8 @@ module _ (laws : LowerLaws) where
   needed_ask_from : (o : Option ClientState) (w : World) (cs new : List ClientState) (i : ℕ) (n : Entry) → slice_get cs i ≡ o → Good w cs → AllHosted cs → AtClient o (Keeping (AsksWithKeeping w.catalogue (length w.sent) i n.effect)) i n cs new → InEffect w n.effect
   needed_ask_from None w cs new i n at g hosts h = subst (InEffect w) (sym h.done) tt
   needed_ask_from (Some c) w cs new i n at g hosts h =
-      let d = h.acts.does.does in
-      by d.seen.asked d.seen.done (needed_of w cs i c h.next d.seen.asked g hosts at d.seen.asks d.requests)
+      let d = h.does.does in
+      by d.seen.0 d.seen.2 (needed_of w cs i c h.next d.seen.0 g hosts at d.seen.1 d.requests)
     where
       by : (a : Option AnsweredRequest) → n.effect ≡ asked_effect i a → IfSome a (IsNeededIn w) → InEffect w n.effect
       by None is k = subst (InEffect w) (sym is) tt
@@ -199,25 +203,39 @@ module _ (laws : LowerLaws) where
   needed_exchange : (o : Option ClientState) (w : World) (cs new : List ClientState) (i : ℕ) (n : Entry) → slice_get cs i ≡ o → Good w cs → AllHosted cs → AtClient o (Keeping (ExchangesWithKeeping w.catalogue (length w.sent) i n.effect)) i n cs new → InEffect w n.effect
   needed_exchange None w cs new i n at g hosts h = subst (InEffect w) (sym h.done) tt
   needed_exchange (Some c) w cs new i n at g hosts h =
-      let d = h.acts.does.does in
+      let d = h.does.does in
       let e = d.seen in
-      by e.asked e.exchanged (needed_of w cs i c e.mid e.asked g hosts at e.asks d.requests)
+      by e.0 e.3 (needed_of w cs i c e.1 e.0 g hosts at e.2 d.requests)
     where
-      by : (a : Option AnsweredRequest) → IsExchanged i a n.effect h.acts.does.does.seen.mid h.next → IfSome a (IsNeededIn w) → InEffect w n.effect
+      by : (a : Option AnsweredRequest) → IsExchanged i a n.effect h.does.does.seen.1 h.next → IfSome a (IsNeededIn w) → InEffect w n.effect
       by None is k = subst (InEffect w) (sym is.0) tt
       by (Some a) is k = subst (InEffect w) (sym is.1) k
 
+  needed_check : (o : Option ClientState) (w : World) (i : ℕ) (n : Entry) (cs new : List ClientState) → IsCheckBy o w.catalogue (length w.sent) i n cs new → InEffect w n.effect
+  needed_check None w i n cs new h = at_effect (InEffect w) n.effect _ h.done tt
+  needed_check (Some c) w i n cs new h = by h.0 h.1
+    where
+      by : (k : Option AnsweredCheck) → IsCheckedKeeping w.catalogue (length w.sent) i c k n.effect → InEffect w n.effect
+      by None d = at_effect (InEffect w) n.effect _ d.0 tt
+      by (Some k) d = at_effect (InEffect w) n.effect _ d.0 tt
+
+  nothing_needed : (w : World) → HoldsElse (InEffect w)
+  nothing_needed w = record {
+    skipped = tt;
+    published = λ tag. tt;
+    refused = λ e. tt;
+    epoch = λ e. tt;
+    made = λ k. tt;
+    opened = λ i. tt;
+    forgot = λ i. tt;
+    answered = λ k a. tt;
+    delivered = λ i what. tt;
+  }
+
   pub needed_step : (w : World) (cs : List ClientState) (e : Event) (n : Entry) (new : List ClientState) → Good w cs → AllHosted cs → StepKeeping w cs e n new → IsNeededEntry w e n
-  needed_step w cs (Publish name file) n new g hosts h = tt
-  needed_step w cs (Epoch e) n new g hosts h = tt
-  needed_step w cs (NewClient name blocks) n new g hosts h = tt
-  needed_step w cs (Open i q) n new g hosts h = tt
-  needed_step w cs (Forget i) n new g hosts h = tt
-  needed_step w cs (Ask message) n new g hosts h = tt
-  needed_step w cs (AskFrom i) n new g hosts h = needed_ask_from (slice_get cs i) w cs new i n refl g hosts h
-  needed_step w cs (Deliver i a cut) n new g hosts h = tt
-  needed_step w cs (Exchange i) n new g hosts h = needed_exchange (slice_get cs i) w cs new i n refl g hosts h
-  needed_step w cs (Check i) n new g hosts h = tt
+  needed_step w cs e n new g hosts h =
+      of_step (InEffect w) (nothing_needed w) w cs e n new (λ i is k. needed_ask_from (slice_get cs i) w cs new i n refl g hosts k)
+      (λ i is k. needed_exchange (slice_get cs i) w cs new i n refl g hosts k) (λ i is k. needed_check (slice_get cs i) w i n cs new k) h
 
 -- no client is there at the start
 pub hosted_start : AllHosted []

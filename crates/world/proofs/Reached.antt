@@ -87,7 +87,7 @@ module _ (laws : LowerLaws) (w : World) (cs : List ClientState) (i : ℕ) (c : C
       let name = r.goes.same.name in
       let tag : tag_of mid ≡ tag_of c = ap (λ x. option_map (λ (v : Revision). v.tag) x) r.goes.revision in
       let s = h.answered.answered in
-      let can : CanAsk (host_of c) (name_of c) span.first span.last (tag_of c) = some_of (asked_of mid) span _ asked r.lawful in
+      let can : CanAsk (host_of c) (name_of c) span.first span.last (tag_of c) = some_of (asked_of mid) span _ asked k.lawful in
       let text : a.request.items ≡ request_by (closes c) (host_of c) (name_of c) span.first span.last (tag_of c) = same_Some _ _ (r.text ∙ ap (request_for c) asked) in
       let closing : closes mid ≡ closes c = ap (λ (h : Asking). h.closes) r.goes.same.how in
       let same : request_by (closes c) (host_of c) (name_of c) span.first span.last (tag_of c) ≡ request_by (closes mid) (host_of mid) (name_of mid) span.first span.last (tag_of mid) =
@@ -150,7 +150,7 @@ module _ (laws : LowerLaws) (w : World) (cs : List ClientState) (i : ℕ) (c : C
   exchanged m n next reading has within h stands_true tells = by (report_of next) refl
     where
       kept : IsKept c next w.book
-      kept = exchanged_kept laws w cs i h.seen.asked n.effect c h.seen.mid next g h.seen.asks h.requests h.seen.exchanged h.delivers (g.agree i c at)
+      kept = exchanged_kept laws w cs i h.seen.0 n.effect c h.seen.1 next g h.seen.2 h.requests h.seen.3 h.delivers (g.agree i c at)
 
       agrees : ClientAgrees next w.book
       agrees = kept.agrees w.book (λ p j. j) g.distinct
@@ -158,16 +158,16 @@ module _ (laws : LowerLaws) (w : World) (cs : List ClientState) (i : ℕ) (c : C
       query : query_of next ≡ Some q
       query = ap (λ (s : Seen). s.query) kept.same ∙ reading.query
 
-      silently : (o : Option AnsweredRequest) → Asks w.catalogue (length w.sent) i o c h.seen.mid → RequestsKeeping c (request_in o) h.seen.mid → IsExchanged i o n.effect h.seen.mid next → IsDeliveredKeeping o h.seen.mid next
+      silently : (o : Option AnsweredRequest) → Asks w.catalogue (length w.sent) i o c h.seen.1 → RequestsKeeping c (request_in o) h.seen.1 → IsExchanged i o n.effect h.seen.1 next → IsDeliveredKeeping o h.seen.1 next
           → report_of next ≡ None → IsWithin p q m next
       silently None asks k e d none =
           let r = asks.requests in
-          let unasked = no_request c (asked_of h.seen.mid) r.text in
+          let unasked = no_request c (asked_of h.seen.1) r.text in
           absurd (elim (r.silent unasked) [
             | inl no_query ↦ false≢true (sym (ap is_some no_query) ∙ ap is_some (r.goes.same.query ∙ reading.query))
             | inr stands ↦ false≢true (sym (ap is_some none) ∙ ap (λ (x : ClientState). is_some (report_of x)) e.1 ∙ stands)
           ])
-      silently (Some a) asks k e d none = fewer m h.seen.mid next a d.0 (name_of c) reading has asks k d.1 agrees none within
+      silently (Some a) asks k e d none = fewer m h.seen.1 next a d.0 (name_of c) reading has asks k d.1 agrees none within
 
       asked : (r : Report) → report_of next ≡ Some r → r.query ≡ q
       asked r stands =
@@ -175,7 +175,7 @@ module _ (laws : LowerLaws) (w : World) (cs : List ClientState) (i : ℕ) (c : C
           same_Some _ _ (sym true_now.asked ∙ query)
 
       by : (o : Option Report) → report_of next ≡ o → Outcome m next n.report
-      by None none = inr (record { query = query; name_is = ap (λ (s : Seen). s.name) kept.same; silent = none }, silently h.seen.asked h.seen.asks h.requests h.seen.exchanged h.delivers none)
+      by None none = inr (record { query = query; name_is = ap (λ (s : Seen). s.name) kept.same; silent = none }, silently h.seen.0 h.seen.2 h.requests h.seen.3 h.delivers none)
       by (Some r) stands = inl (report_for n.report r q (told_now c next (told_of n) tells reading.silent ∙ ap (option_map told) stands) (asked r stands))
 
 -- ---- a stretch
@@ -193,7 +193,7 @@ module _ (laws : LowerLaws) (i : ℕ) (q : Query) (p : Publication) where
       let own_name : name_of c ≡ name = reading.name_is in
       let mine : IsReading q (name_of c) c = record { query = reading.query; name_is = refl; silent = reading.silent } in
       let there : slice_get mid i ≡ Some changes.next = ap (λ (xs : List ClientState). slice_get xs i) changes.changed ∙ get-set_same cs i changes.next c at in
-      elim (exchanged laws w cs i c g at p q m x changes.next mine (ap (λ n. published n w.catalogue) own_name ∙ has) within changes.acts.does.does changes.acts.does.stands changes.acts.tells) [
+      elim (exchanged laws w cs i c g at p q m x changes.next mine (ap (λ n. published n w.catalogue) own_name ∙ has) within changes.does.does changes.does.stands changes.tells) [
         | inl told ↦ inl (refl, told)
         | inr on ↦
             let next : IsReading q name changes.next = record { query = on.0.query; name_is = on.0.name_is ∙ own_name; silent = on.0.silent } in
@@ -207,6 +207,7 @@ module _ (laws : LowerLaws) (i : ℕ) (q : Query) (p : Publication) where
 
   from_opening : (w : World) (cs : List ClientState) (n : ℕ) (later : List Event) (ns : List Entry) (new : List ClientState) (s : Seen) → Good w cs → slice_get w.clients i ≡ Some s → published s.name w.catalogue ≡ Some p
       → suc (cost p.file q) ≤ n → RunsKeeping w cs (stretch i q n ++ later) ns new → HasReport i q (take (suc (cost p.file q)) (drop 1 (stretch i q n ++ later))) (take (suc (cost p.file q)) (drop 1 ns))
+  unfolding name_of query_of report_of
   from_opening w cs n later [] new s g there has enough h = absurd h
   from_opening w cs n later (x ∷ ns) new s g there has enough (mid, step, rest) =
       let found = client_at cs s (slice_get cs i) refl (sym (get-map seen cs i) ∙ ap (λ (ss : List Seen). slice_get ss i) g.seen_are ∙ there) in
@@ -214,8 +215,8 @@ module _ (laws : LowerLaws) (i : ℕ) (q : Query) (p : Publication) where
       let at = found.1 in
       let R = Keeping (OpensWithKeeping q i x.effect) in
       let changes : Changes R i c x cs mid = subst (λ o. AtClient o R i x cs mid) at step in
-      let opens = changes.acts.does.does.opens.seen in
-      let reading : IsReading q s.name changes.next = record { query = opens.asks; name_is = opens.name ∙ found.2; silent = opens.report } in
+      let opens = changes.does.does.opens.seen in
+      let reading : IsReading q s.name changes.next = record { query = ap query_of opens.1; name_is = ap name_of opens.1 ∙ found.2; silent = ap report_of opens.1 } in
       let here : slice_get mid i ≡ Some changes.next = ap (λ (xs : List ClientState). slice_get xs i) changes.changed ∙ get-set_same cs i changes.next c at in
       reach (suc (cost p.file q)) s.name (after w (Open i q) x.effect) mid changes.next n later ns new (sound_step laws w cs (Open i q) x mid g step).good here reading has (inl (omega arith)) enough rest
 
@@ -229,6 +230,6 @@ module _ (laws : LowerLaws) (i : ℕ) (q : Query) (p : Publication) where
       after_others (after w e x.effect) mid before later n ns new s (sound_step laws w cs e x mid g step).good there has enough rest
 
 pub reached : (laws : LowerLaws) (events : List Event) (entries : List Entry) (new : List ClientState) → RunsKeeping start [] events entries new → AllReport events entries
-reached laws events entries new runs i q n p s enough =
-    let found = after_others laws i q p start [] s.before s.later n entries new s.seen good_start s.there s.has enough (subst (λ es. RunsKeeping start [] es entries new) s.are runs) in
-    subst (λ es. HasReport i q (take (suc (cost p.file q)) (drop (suc (length s.before)) es)) (take (suc (cost p.file q)) (drop (suc (length s.before)) entries))) (sym s.are) found
+reached laws events entries new runs i q n before later s p are there has enough =
+    let found = after_others laws i q p start [] before later n entries new s good_start there has enough (subst (λ es. RunsKeeping start [] es entries new) are runs) in
+    subst (λ es. HasReport i q (take (suc (cost p.file q)) (drop (suc (length before)) es)) (take (suc (cost p.file q)) (drop (suc (length before)) entries))) (sym are) found

@@ -21,7 +21,7 @@ use Rattle.cog_server.specs.Server.{IsAnswered}
 use Rattle.cog_client.specs.declared.error.ClientError.{ClientError}
 use Rattle.cog_client.specs.declared.report.Report.{Report}
 use Rattle.cog_client.specs.Report.{told, IsTrueReport}
-use Rattle.cog_client.specs.Client.{ClientState, asked_of, client_refusal, host_of, name_of, query_of, report_of, tag_of, closes}
+use Rattle.cog_client.specs.Client.{ClientState, asked_of, client_refusal, host_of, name_of, query_of, report_of, revision_of, tag_of, closes}
 use Rattle.cog_client.specs.Calls.{request_for}
 use Rattle.cog_client.specs.Keeps.{RequestsKeeping}
 use Rattle.world.specs.declared.event.Event.{Event}
@@ -31,12 +31,12 @@ use Rattle.world.specs.declared.event.AnsweredCheck.{AnsweredCheck}
 use Rattle.world.specs.declared.event.Effect.{Effect}
 use Rattle.world.specs.declared.event.Effect.TheVariants as effects
 use Rattle.world.specs.declared.event.Entry.{Entry}
-use Rattle.world.specs.World.{World, Seen, host, is_for, answer_in, next_of, publish_by, restart_by, scheduled, made_by, opened, after, client_of, IsTrueAt, StaysHonest}
-use Rattle.world.specs.Run.{seen, news, AtClient, MakesBy, ForgetsAll, Asks, asked_effect, IsExchanged, cut_at, publish_effect, receiver, told_of, IsChecked, IsCheckBy}
-use Rattle.world.specs.State.{refused_at, AsksWithKeeping, DeliversWithKeeping, ExchangesWithKeeping, IsDeliveredKeeping, IsDeliveryKeeping, Keeping, OpensWithKeeping, StandsTrue, StepKeeping, request_in}
+use Rattle.world.specs.World.{World, Seen, host, is_for, answer_in, next_of, publish_by, scheduled, made_by, opened, after, client_of, IsTrueAt, StaysHonest}
+use Rattle.world.specs.Run.{seen, news, AtClient, MakesBy, Asks, asked_effect, IsExchanged, cut_at, publish_effect, receiver, told_of}
+use Rattle.world.specs.State.{refused_at, AsksWithKeeping, DeliversWithKeeping, ExchangesWithKeeping, ForgetsAll, IsCheckBy, IsCheckedKeeping, IsDeliveredKeeping, IsDeliveryKeeping, Keeping, OpensWithKeeping, StandsTrue, StepKeeping, request_in}
 use Rattle.world.specs.LowerLaws.{LowerLaws}
 use Rattle.world.proofs.Lists.{get-map, get-set_same}
-use Rattle.world.proofs.Good.{Good, AgreesLater, see, seen_same, kept_seen, opened_there, opened_none, agree_set, agree_push, nothing_agrees, good_publish, good_epoch, good_clients, good_after}
+use Rattle.world.proofs.Good.{Good, AgreesLater, see, seen_same, kept_seen, opened_there, opened_none, agree_set, agree_push, nothing_agrees, good_publish, good_epoch, restart_by, good_clients, good_after}
 
 -- ---- nothing that was published is lost
 
@@ -115,23 +115,25 @@ sound_quiet : (w : World) (cs new : List ClientState) (client : Option ℕ) (n :
 sound_quiet w cs new client n g same none = record { good = subst (Good w) (sym same) g; told = silent n.report (IsTrueAt w client) none }
 
 sound_made : (o : Option ClientError) (w : World) (cs new : List ClientState) (name : List ℕ) (blocks : ℕ) (n : Entry) → Good w cs → MakesBy o name blocks n cs new → IsSound (made_by w name o) new None n.report
+unfolding name_of query_of revision_of
 sound_made (Some refusal) w cs new name blocks n g h = sound_quiet w cs new None n g h.same h.report
 sound_made None w cs new name blocks n g h =
-    let seen_made : seen h.made ≡ see name None = ap (λ (m : List ℕ). see m (query_of h.made)) h.starts.named ∙ ap (λ (o : Option Query). see name o) h.starts.query in
-    let all : map seen (cs ++ h.made ∷ []) ≡ w.clients ++ see name None ∷ [] = map_push seen cs h.made ∙ (ap (λ (ss : List Seen). ss ++ seen h.made ∷ []) g.seen_are ∙ ap (λ (s : Seen). w.clients ++ s ∷ []) seen_made) in
-    let good = good_clients w cs (cs ++ h.made ∷ []) (w.clients ++ see name None ∷ []) g all (agree_push cs h.made w.book g.agree (λ b inc d. nothing_agrees h.made h.starts.empty.revision b)) in
-    sound_quiet (made_by w name None) (cs ++ h.made ∷ []) new None n good h.added h.report
+    let seen_made : seen h.0 ≡ see name None = ap seen h.1 in
+    let all : map seen (cs ++ h.0 ∷ []) ≡ w.clients ++ see name None ∷ [] = map_push seen cs h.0 ∙ (ap (λ (ss : List Seen). ss ++ seen h.0 ∷ []) g.seen_are ∙ ap (λ (s : Seen). w.clients ++ s ∷ []) seen_made) in
+    let good = good_clients w cs (cs ++ h.0 ∷ []) (w.clients ++ see name None ∷ []) g all (agree_push cs h.0 w.book g.agree (λ b inc d. nothing_agrees h.0 (ap revision_of h.1) b)) in
+    sound_quiet (made_by w name None) (cs ++ h.0 ∷ []) new None n good h.2.same h.2.report
 
 sound_open : (laws : LowerLaws) (o : Option ClientState) (w : World) (cs new : List ClientState) (i : ℕ) (q : Query) (n : Entry) → slice_get cs i ≡ o → Good w cs → AtClient o (Keeping (OpensWithKeeping q i n.effect)) i n cs new → IsSound (scheduled w (Open i q)) new (Some i) n.report
+unfolding name_of query_of
 sound_open laws None w cs new i q n at g h =
     let same : w.clients ≡ opened w.clients i q = sym (ap (λ (ss : List Seen). opened ss i q) (sym g.seen_are) ∙ (opened_none cs i q at ∙ g.seen_are)) in
     sound_quiet (scheduled w (Open i q)) cs new (Some i) n (good_clients w cs cs (opened w.clients i q) g (g.seen_are ∙ same) g.agree) h.same h.report
 sound_open laws (Some c) w cs new i q n at g h =
-    let opens = h.acts.does.does.opens in
+    let opens = h.does.does.opens in
     let later : AgreesLater h.next w.book = (λ b inc d. opens.agrees b (g.agree i c at b inc d)) in
-    let seen_new : map seen (slice_set cs i h.next) ≡ opened w.clients i q = opened_there cs i c h.next q at opens.seen.name opens.seen.asks ∙ ap (λ (ss : List Seen). opened ss i q) g.seen_are in
+    let seen_new : map seen (slice_set cs i h.next) ≡ opened w.clients i q = opened_there cs i c h.next q at (ap name_of opens.seen.1) (ap query_of opens.seen.1) ∙ ap (λ (ss : List Seen). opened ss i q) g.seen_are in
     let good = good_clients w cs (slice_set cs i h.next) (opened w.clients i q) g seen_new (agree_set cs i c h.next w.book at g.agree later) in
-    sound_call laws (scheduled w (Open i q)) cs new i c h.next n (subst (Good (scheduled w (Open i q))) (sym h.changed) good) at h.changed later h.acts.does.stands h.acts.tells
+    sound_call laws (scheduled w (Open i q)) cs new i c h.next n (subst (Good (scheduled w (Open i q))) (sym h.changed) good) at h.changed later h.does.stands h.tells
 
 -- what a client is after its calls
 pub record IsKept (c next : ClientState) (book : Book) : Type 0 where
@@ -145,10 +147,11 @@ sound_kept laws w cs new i c next n g at changed kept stands tells =
     sound_call laws w cs new i c next n (subst (Good w) (sym changed) mid) at changed kept.agrees stands tells
 
 sound_forget : (laws : LowerLaws) (o : Option ClientState) (w : World) (cs new : List ClientState) (i : ℕ) (n : Entry) → slice_get cs i ≡ o → Good w cs → AtClient o (Keeping (ForgetsAll i n.effect)) i n cs new → IsSound w new (Some i) n.report
+unfolding name_of query_of revision_of
 sound_forget laws None w cs new i n at g h = sound_quiet w cs new (Some i) n g h.same h.report
 sound_forget laws (Some c) w cs new i n at g h =
-    let forgets = h.acts.does.does.forgets in
-    sound_kept laws w cs new i c h.next n g at h.changed (record { same = seen_same c h.next forgets.same.name forgets.same.query; agrees = λ b inc d. nothing_agrees h.next forgets.empty.revision b }) h.acts.does.stands h.acts.tells
+    let forgets = h.does.does.forgets in
+    sound_kept laws w cs new i c h.next n g at h.changed (record { same = seen_same c h.next (ap name_of forgets) (ap query_of forgets); agrees = λ b inc d. nothing_agrees h.next (ap revision_of forgets) b }) h.does.stands h.tells
 
 -- ---- what is sent
 
@@ -167,14 +170,14 @@ none_restarted true e = refl
 none_restarted false e = refl
 
 made_honest : (o : Option ClientError) (book : Book) (name : List ℕ) (blocks : ℕ) (n : Entry) (cs new : List ClientState) → MakesBy o name blocks n cs new → IfSome (answer_in n.effect) (λ a. StaysHonest a book)
-made_honest None book name blocks n cs new h = nothing_sent n.effect _ book h.done refl
+made_honest None book name blocks n cs new h = nothing_sent n.effect _ book h.2.done refl
 made_honest (Some refusal) book name blocks n cs new h = nothing_sent n.effect _ book h.done refl
 
 -- where there is no such client, nothing is sent
 client_honest : (o : Option ClientState) (R : ClientState → ClientState → Type 0) (book : Book) (i : ℕ) (n : Entry) (cs new : List ClientState) → ((c next : ClientState) → o ≡ Some c → R c next → IfSome (answer_in n.effect) (λ a. StaysHonest a book))
     → AtClient o R i n cs new → IfSome (answer_in n.effect) (λ a. StaysHonest a book)
 client_honest None R book i n cs new each h = nothing_sent n.effect _ book h.done refl
-client_honest (Some c) R book i n cs new each h = each c h.next refl h.acts.does
+client_honest (Some c) R book i n cs new each h = each c h.next refl h.does
 
 served_name : (laws : LowerLaws) (name : List ℕ) (catalogue : Catalogue) (first last : ℕ) (tag : Option (List ℕ)) (o : Option Publication) → published name catalogue ≡ o
     → ((response_to_client o first last tag).name ≡ Some name) ⊎ ((response_to_client o first last tag).name ≡ None)
@@ -248,11 +251,11 @@ module _ (laws : LowerLaws) where
   sound_ask_from : (o : Option ClientState) (w : World) (cs new : List ClientState) (i : ℕ) (n : Entry) → slice_get cs i ≡ o → Good w cs → AtClient o (Keeping (AsksWithKeeping w.catalogue (length w.sent) i n.effect)) i n cs new → IsSound w new (Some i) n.report
   sound_ask_from None w cs new i n at g h = sound_quiet w cs new (Some i) n g h.same h.report
   sound_ask_from (Some c) w cs new i n at g h =
-      let d = h.acts.does.does in
-      sound_kept laws w cs new i c h.next n g at h.changed (asks_kept w (request_in d.seen.asked) c h.next d.requests (g.agree i c at)) h.acts.does.stands h.acts.tells
+      let d = h.does.does in
+      sound_kept laws w cs new i c h.next n g at h.changed (asks_kept w (request_in d.seen.0) c h.next d.requests (g.agree i c at)) h.does.stands h.tells
 
   ask_from_honest : (w : World) (cs : List ClientState) (i : ℕ) (effect : Effect) (c next : ClientState) → Good w cs → AsksWithKeeping w.catalogue (length w.sent) i effect c next → IfSome (answer_in effect) (λ a. StaysHonest a w.book)
-  ask_from_honest w cs i effect c next g h = asked_honest w i h.seen.asked effect h.seen.done (asks_honest w cs i h.seen.asked c next g h.seen.asks)
+  ask_from_honest w cs i effect c next g h = asked_honest w i h.seen.0 effect h.seen.2 (asks_honest w cs i h.seen.0 c next g h.seen.1)
 
   -- ---- exchanges
 
@@ -262,7 +265,7 @@ module _ (laws : LowerLaws) where
   exchanged_kept w cs i (Some a) effect c mid next g asks k h d agrees =
       let r = asks.requests in
       let delivers = d.1 in
-      let asked = asked_for c (asked_of mid) a.request.items r.text r.lawful in
+      let asked = asked_for c (asked_of mid) a.request.items r.text k.lawful in
       let for : is_for a.answer (name_of c) ≡ true = answer_for w.catalogue (closes c) (host_of c) (name_of c) (tag_of c) asked.0 a.request.items a.answer asked.1 asked.2 asks.answered.answered in
       let honest = answer_honest w cs a.request.items a.answer g asks.answered.answered in
       let P : Book → List ℕ → Type 0 = λ later name. IsReadAs (IsPieceOfBook name later) a.answer.text.items in
@@ -279,14 +282,14 @@ module _ (laws : LowerLaws) where
   sound_exchange : (o : Option ClientState) (w : World) (cs new : List ClientState) (i : ℕ) (n : Entry) → slice_get cs i ≡ o → Good w cs → AtClient o (Keeping (ExchangesWithKeeping w.catalogue (length w.sent) i n.effect)) i n cs new → IsSound w new (Some i) n.report
   sound_exchange None w cs new i n at g h = sound_quiet w cs new (Some i) n g h.same h.report
   sound_exchange (Some c) w cs new i n at g h =
-      let d = h.acts.does.does in
+      let d = h.does.does in
       let e = d.seen in
-      sound_kept laws w cs new i c h.next n g at h.changed (exchanged_kept w cs i e.asked n.effect c e.mid h.next g e.asks d.requests e.exchanged d.delivers (g.agree i c at)) h.acts.does.stands h.acts.tells
+      sound_kept laws w cs new i c h.next n g at h.changed (exchanged_kept w cs i e.0 n.effect c e.1 h.next g e.2 d.requests e.3 d.delivers (g.agree i c at)) h.does.stands h.tells
 
   exchange_honest : (w : World) (cs : List ClientState) (i : ℕ) (effect : Effect) (c next : ClientState) → Good w cs → ExchangesWithKeeping w.catalogue (length w.sent) i effect c next → IfSome (answer_in effect) (λ a. StaysHonest a w.book)
   exchange_honest w cs i effect c next g h =
       let e = h.seen in
-      exchanged_honest w i e.asked effect e.mid next e.exchanged (asks_honest w cs i e.asked c e.mid g e.asks)
+      exchanged_honest w i e.0 effect e.1 next e.3 (asks_honest w cs i e.0 c e.1 g e.2)
 
   -- ---- deliveries
 
@@ -294,13 +297,13 @@ module _ (laws : LowerLaws) where
       → AtClient (if b then Some c else None) (Keeping (DeliversWithKeeping (cut_at cut a.text.items) i n.effect)) i n cs new → IsSound w new (Some i) n.report
   sound_delivery false w cs new i k a c cut n for sent at g h = sound_quiet w cs new (Some i) n g h.same h.report
   sound_delivery true w cs new i k a c cut n for sent at g h =
-      let d = h.acts.does.does.delivers in
+      let d = h.does.does.delivers in
       let kept : IsKept c h.next w.book = record {
         same = seen_same c h.next d.seen.same.name d.seen.same.query;
         agrees = λ later inc x. d.agrees later x (g.agree i c at later inc x)
             (laws.fronts.book a.text.items (name_of c) later (g.honest k a sent (name_of c) later for inc) (cut_at cut a.text.items) (front_is cut a.text.items));
       } in
-      sound_kept laws w cs new i c h.next n g at h.changed kept h.acts.does.stands h.acts.tells
+      sound_kept laws w cs new i c h.next n g at h.changed kept h.does.stands h.tells
 
   sound_deliver : (o : Option Answer) (oc : Option ClientState) (w : World) (cs new : List ClientState) (i k : ℕ) (cut : Option ℕ) (n : Entry) → slice_get w.sent k ≡ o → slice_get cs i ≡ oc → Good w cs → IsDeliveryKeeping o oc cut i n cs new → IsSound w new (Some i) n.report
   sound_deliver None oc w cs new i k cut n sent at g h = sound_quiet w cs new (Some i) n g h.same h.report
@@ -309,15 +312,15 @@ module _ (laws : LowerLaws) where
 
   deliver_honest : (o : Option Answer) (oc : Option ClientState) (book : Book) (i : ℕ) (cut : Option ℕ) (n : Entry) (cs new : List ClientState) → IsDeliveryKeeping o oc cut i n cs new → IfSome (answer_in n.effect) (λ a. StaysHonest a book)
   deliver_honest None oc book i cut n cs new h = nothing_sent n.effect _ book h.done refl
-  deliver_honest (Some a) oc book i cut n cs new h = client_honest (receiver a oc) (Keeping (DeliversWithKeeping (cut_at cut a.text.items) i n.effect)) book i n cs new (λ c next is d. nothing_sent n.effect _ book d.does.seen.done refl) h
+  deliver_honest (Some a) oc book i cut n cs new h = client_honest (receiver (Some a) oc) (Keeping (DeliversWithKeeping (cut_at cut a.text.items) i n.effect)) book i n cs new (λ c next is d. nothing_sent n.effect _ book d.does.seen.1 refl) h
 
   -- ---- checks
 
-  check_honest : (w : World) (cs : List ClientState) (i : ℕ) (c : ClientState) (o : Option AnsweredCheck) (effect : Effect) → Good w cs → IsChecked w.catalogue (length w.sent) i c o effect → IfSome (answer_in effect) (λ a. StaysHonest a w.book)
+  check_honest : (w : World) (cs : List ClientState) (i : ℕ) (c : ClientState) (o : Option AnsweredCheck) (effect : Effect) → Good w cs → IsCheckedKeeping w.catalogue (length w.sent) i c o effect → IfSome (answer_in effect) (λ a. StaysHonest a w.book)
   check_honest w cs i c None effect g h = let P : Effect → Type 0 = λ e. IfSome (answer_in e) (λ a. StaysHonest a w.book) in subst P (sym h.0) tt
   check_honest w cs i c (Some k) effect g h =
       let P : Effect → Type 0 = λ e. IfSome (answer_in e) (λ a. StaysHonest a w.book) in
-      subst P (sym h.0) (answer_honest w cs k.request.items k.answer g h.1.answered)
+      subst P (sym h.0) (answer_honest w cs k.request.items k.answer g h.1.seen.answered)
 
   check_sent : (o : Option ClientState) (w : World) (cs new : List ClientState) (i : ℕ) (n : Entry) → Good w cs → IsCheckBy o w.catalogue (length w.sent) i n cs new → IfSome (answer_in n.effect) (λ a. StaysHonest a w.book)
   check_sent None w cs new i n g h = nothing_sent n.effect _ w.book h.done refl
@@ -334,7 +337,7 @@ module _ (laws : LowerLaws) where
   honest_step w cs (Publish name file) n new g h = nothing_sent n.effect _ w.book h.done (none_published (next_of w name.items file.items).tag (refused_at w name.items file.items))
   honest_step w cs (Epoch e) n new g h = nothing_sent n.effect _ w.book h.1.done (none_restarted (nat_lt w.epoch e) e)
   honest_step w cs (NewClient name blocks) n new g h = made_honest (client_refusal host name.items blocks) w.book name.items blocks n cs new h
-  honest_step w cs (Open i q) n new g h = client_honest (slice_get cs i) (Keeping (OpensWithKeeping q i n.effect)) w.book i n cs new (λ c next is d. nothing_sent n.effect _ w.book d.does.seen.done refl) h
+  honest_step w cs (Open i q) n new g h = client_honest (slice_get cs i) (Keeping (OpensWithKeeping q i n.effect)) w.book i n cs new (λ c next is d. nothing_sent n.effect _ w.book d.does.done refl) h
   honest_step w cs (Forget i) n new g h = client_honest (slice_get cs i) (Keeping (ForgetsAll i n.effect)) w.book i n cs new (λ c next is d. nothing_sent n.effect _ w.book d.does.done refl) h
   honest_step w cs (Ask message) n new g h = subst (λ e. IfSome (answer_in e) (λ a. StaysHonest a w.book)) (sym h.0.done) (answer_honest w cs message.items h.0.answer g h.0.answered)
   honest_step w cs (AskFrom i) n new g h = client_honest (slice_get cs i) (Keeping (AsksWithKeeping w.catalogue (length w.sent) i n.effect)) w.book i n cs new (λ c next is d. ask_from_honest w cs i n.effect c next g d.does) h

@@ -1,7 +1,8 @@
 -- A run goes on by one event, and a whole run is a log.
 use Rattle.tiff_dir.specs.declared.tags.TheConstants.{BITS_PER_SAMPLE, GEO_ASCII_PARAMS, GEO_DOUBLE_PARAMS, MODEL_PIXEL_SCALE, MODEL_TIEPOINT, MODEL_TRANSFORMATION, SAMPLES_PER_PIXEL}
-use Rattle.std.proofs.Common.{◌≡◌, ℕ, suc, List, [], ◌∷◌, ◌++◌, length, map, take, Option, Some, None, refl, sym, ap, ◌∙◌, subst, inl, inr, ◌<◌, ◌≤◌, ◌+◌, get_or, Result, Ok, Err}
-use Rattle.std.specs.Prelude.{IfOk, IfSome, IsSomeAnd, OnOk, OnErr, option_and_then, slice_get}
+use Rattle.std.proofs.Common.{◌≡◌, ℕ, zero, suc, List, [], ◌∷◌, ◌++◌, length, map, take, Option, Some, None, refl, sym, ap, ◌∙◌, subst, inl, inr, ◌<◌, ◌≤◌, ◌+◌, get_or, Result, Ok, Err}
+use Rattle.std.specs.Prelude.{IfOk, IfSome, IsSomeAnd, OnOk, OnErr, if◌then◌else◌, is_some, option_and_then, slice_get}
+use Rattle.std.specs.Option.{option_map, option_map_or}
 use Rattle.std.proofs.Common.{Vec, Global}
 use Rattle.std.proofs.lemmas.List.{take_more, take_all}
 use Rattle.std.proofs.lemmas.Option.{none-some, same_Some}
@@ -13,6 +14,7 @@ use Rattle.tiff_dir.specs.Geo.{key_source}
 use Rattle.tiff_dir.specs.Level.{level_value}
 use Rattle.tiff_dir.specs.Query.{Rectangle, rectangle}
 use Rattle.geokeys.specs.Keys.{AreKeys}
+use Rattle.geokeys.specs.Same.{Content}
 use Rattle.http_range.specs.Book.{Publication, Book, Catalogue, In, Includes, HasDistinctTags}
 use Rattle.cog_reader.specs.declared.outcome.Info.{Info}
 use Rattle.cog_reader.specs.declared.outcome.Outcome.{Outcome}
@@ -25,21 +27,25 @@ use Rattle.cog_server.specs.declared.error.PublishError.{PublishError}
 use Rattle.cog_server.specs.declared.server.Answer.{Answer}
 use Rattle.cog_server.specs.Server.{ServerState}
 use Rattle.cog_client.specs.declared.report.Report.{Report}
-use Rattle.cog_client.specs.Report.{Facts, IsTrueReport, facts_of}
-use Rattle.cog_client.specs.Client.{ClientState, IsOfBook}
+use Rattle.cog_client.specs.Report.{IsTrueReport, Tells, Told, said_of, told}
+use Rattle.cog_client.specs.Client.{ClientState, IsOfBook, report_of}
 use Rattle.world.specs.declared.event.Event.{Event}
 use Rattle.world.specs.declared.event.Event.TheVariants.{Publish, Epoch, NewClient, Open, Forget, Ask, AskFrom, Deliver, Exchange, Check}
+use Rattle.world.specs.declared.event.AnsweredCheck.{AnsweredCheck}
+use Rattle.world.specs.declared.event.Effect.{Effect}
+use Rattle.world.specs.declared.event.Effect.TheVariants as effects
 use Rattle.world.specs.declared.event.Entry.{Entry}
 use Rattle.world.specs.Progress.{IsNeededEntry}
-use Rattle.world.specs.World.{World, Seen, start, answer_in, next_of, publish_by, after, after_all, client_of, AtEach, IsTrueAt, IsTrueEntry, IsToldIn, AreEqual, SayTheSame, AreAlike, AreOfBook, IsHonestEntry, IsExactEntry}
-use Rattle.world.specs.Run.{Answers, AtClient, IsDelivery, Step, Runs, IsBeginning, IsTrueLog, receiver}
-use Rattle.world.specs.State.{refused_at, server_of, AreKept, Does, IsAtAfter, IsDeliveryKeeping, IsState, Keeping, Publishes, RunsKeeping, StepKeeping, answer_at, noted}
+use Rattle.world.specs.World.{World, Seen, start, answer_in, next_of, publish_by, after, after_all, client_of, AtEach, IsTrueAt, IsTrueEntry, IsToldIn, SayTheSame, shown, AreAlike, AreOfBook, IsHonestEntry, IsExactEntry}
+use Rattle.world.specs.Run.{AtClient, DeliversWith, IsChecked, Step, Runs, IsBeginning, IsTrueLog, cut_at, news, receiver, told_of}
+use Rattle.world.specs.State.{refused_at, server_of, Answers, AreKept, Does, IsAtAfter, IsCheckBy, IsCheckedKeeping, IsDeliveryKeeping, IsState, Keeping, Publishes, RunsKeeping, StepKeeping, answer_at, noted}
 use Rattle.world.specs.LowerLaws.{LowerLaws}
 use Rattle.world.proofs.Good.{Good, good_start}
 use Rattle.world.proofs.Truth.{grows, honest_step, sound_step}
 use Rattle.world.proofs.Exact.{exact_step}
 use Rattle.world.proofs.Needed.{AllHosted, hosted_start, hosted_step, needed_step}
 use Rattle.world.proofs.Reached.{reached}
+use Rattle.world.proofs.Lists.{set_there}
 use Rattle.world.proofs.Kept.{kept_after, kept_at, kept_length}
 
 pub runs_more : (w : World) (cs : List ClientState) (es : List Event) (ns : List Entry) (mid : List ClientState) (e : Event) (n : Entry) (new : List ClientState) → RunsKeeping w cs es ns mid → StepKeeping (after_all w es ns) mid e n new → RunsKeeping w cs (es ++ e ∷ []) (ns ++ n ∷ []) new
@@ -98,16 +104,14 @@ source_at (Some s) w client later r inc h e = subst (λ t. IsSource t later) (sa
   told None h = absurd h
   told (Some x) h = record { source = h.source; published = inc h.source h.published; of_tag = h.of_tag; holds = h.holds }
 
-source_of : (w : World) (es : List Event) (ns : List Entry) (r : Report) → AtEach IsTrueEntry w es ns → IsToldIn r ns → IsSource r (after_all w es ns).book
-source_of w [] [] r t i = absurd i
-source_of w [] (n ∷ ns) r t i = absurd t
-source_of w (e ∷ es) [] r t i = absurd t
-source_of w (e ∷ es) (n ∷ ns) r t i =
+source_of : (w : World) (es : List Event) (ns : List Entry) (r : Report) (i : ℕ) → AtEach IsTrueEntry w es ns → IsSomeAnd (slice_get ns i) (λ n. n.report ≡ Some r) → IsSource r (after_all w es ns).book
+source_of w [] [] r i t is = absurd is
+source_of w [] (n ∷ ns) r i t is = absurd t
+source_of w (e ∷ es) [] r i t is = absurd t
+source_of w (e ∷ es) (n ∷ ns) r zero t is =
     let v = after w e n.effect in
-    elim i [
-      | inl is ↦ source_at n.report v (client_of e) (after_all v es ns).book r (grows_all v es ns) t.0 is
-      | inr old ↦ source_of v es ns r t.1 old
-    ]
+    source_at n.report v (client_of e) (after_all v es ns).book r (grows_all v es ns) t.0 is
+source_of w (e ∷ es) (n ∷ ns) r (suc i) t is = source_of (after w e n.effect) es ns r i t.1 is
 
 -- lists of sides are equal where each side is
 sides_same : (xs ys : List (ℕ × ℕ)) → map Some xs ≡ map Some ys → xs ≡ ys
@@ -119,38 +123,41 @@ sides_same (x ∷ xs) (y ∷ ys) e =
     let tail : map Some xs ≡ map Some ys = cc in
     ap (λ z. z ∷ xs) (same_Some _ _ head) ∙ ap (λ zs. y ∷ zs) (sides_same xs ys tail)
 
-facts_same : (a b : Facts) → a.sides ≡ b.sides → a.minor ≡ b.minor → a.keys ≡ b.keys → a.scale ≡ b.scale → a.tiepoints ≡ b.tiepoints → a.transformation ≡ b.transformation → a ≡ b
-facts_same a b sides minor keys scale tiepoints transformation =
-    ap (λ x. record a { sides = x }) sides
-    ∙ ap (λ x. record a { sides = b.sides; minor = x }) minor
-    ∙ ap (λ x. record b { keys = x; scale = a.scale; tiepoints = a.tiepoints; transformation = a.transformation }) keys
-    ∙ ap (λ x. record b { scale = x; tiepoints = a.tiepoints; transformation = a.transformation }) scale
-    ∙ ap (λ x. record b { tiepoints = x; transformation = a.transformation }) tiepoints
-    ∙ ap (λ x. record b { transformation = x }) transformation
+tells_same : (sides sides' : List (ℕ × ℕ)) (minor minor' : ℕ) (keys keys' : List (ℕ × Content)) (s s' t t' x x' : Option (List (List ℕ)))
+    → sides ≡ sides' → minor ≡ minor' → keys ≡ keys' → s ≡ s' → t ≡ t' → x ≡ x' → Tells sides minor keys s t x ≡ Tells sides' minor' keys' s' t' x'
+tells_same sides sides' minor minor' keys keys' s s' t t' x x' a b c d e f =
+    ap (λ v. Tells v minor keys s t x) a ∙ ap (λ v. Tells sides' v keys s t x) b ∙ ap (λ v. Tells sides' minor' v s t x) c
+    ∙ ap (λ v. Tells sides' minor' keys' v t x) d ∙ ap (λ v. Tells sides' minor' keys' s' v x) e ∙ ap (λ v. Tells sides' minor' keys' s' t' v) f
 
 -- what two answers to Info tell of one file is the same
-same_info : (laws : LowerLaws) (f : List ℕ) (i j : Info) → IsInfoOf f i → IsInfoOf f j → facts_of i ≡ facts_of j
+same_info : (laws : LowerLaws) (f : List ℕ) (i j : Info) → IsInfoOf f i → IsInfoOf f j → said_of (outcomes.Info i) ≡ said_of (outcomes.Info j)
 same_info laws f i j a b =
     let order : b.order ≡ a.order = same_Some _ _ (sym b.order_is ∙ a.order_is) in
     let keys = laws.geo (key_source f) a.order (geo_bytes f GEO_DOUBLE_PARAMS) (geo_bytes f GEO_ASCII_PARAMS) i.geo j.geo a.keys
     (subst (λ o. AreKeys (key_source f) o (geo_bytes f GEO_DOUBLE_PARAMS) (geo_bytes f GEO_ASCII_PARAMS) j.geo) order b.keys) in
-    facts_same (facts_of i) (facts_of j) (sides_same i.sides.items j.sides.items (a.sides_are ∙ sym b.sides_are)) keys.0 keys.1
+    tells_same _ _ _ _ _ _ _ _ _ _ _ _ (sides_same i.sides.items j.sides.items (a.sides_are ∙ sym b.sides_are)) keys.0 keys.1
     (a.scale ∙ sym (b.scale ∙ ap (λ o. items_of o f MODEL_PIXEL_SCALE) order))
     (a.tiepoints ∙ sym (b.tiepoints ∙ ap (λ o. items_of o f MODEL_TIEPOINT) order))
     (a.transformation ∙ sym (b.transformation ∙ ap (λ o. items_of o f MODEL_TRANSFORMATION) order))
 
+abbrev tuple_of : ℕ → ℕ → ℕ → ℕ → List ℕ → ℕ × ℕ × ℕ × ℕ × List ℕ
+tuple_of w h s b v = (w, h, s, b, v)
+
+shown_same : (w w' h h' s s' b b' : ℕ) (v v' : List ℕ) → w ≡ w' → h ≡ h' → s ≡ s' → b ≡ b' → v ≡ v' → tuple_of w h s b v ≡ tuple_of w' h' s' b' v'
+shown_same w w' h h' s s' b b' v v' c d e f g =
+    ap (λ x. tuple_of x h s b v) c ∙ ap (λ x. tuple_of w' x s b v) d ∙ ap (λ x. tuple_of w' h' x b v) e ∙ ap (λ x. tuple_of w' h' s' x v) f ∙ ap (λ x. tuple_of w' h' s' b' x) g
+
 -- two windows of one file for one query are equal
-same_windows : (laws : LowerLaws) (f : List ℕ) (q : Query) (v u : Window) → IsWindowOf f q v → IsWindowOf f q u → AreEqual v u
+same_windows : (laws : LowerLaws) (f : List ℕ) (q : Query) (v u : Window) → IsWindowOf f q v → IsWindowOf f q u → shown v ≡ shown u
 same_windows laws f q v u a b =
     let asked : a.asked ≡ b.asked = same_Some _ _ (sym a.asked_is ∙ b.asked_is) in
     let level : a.asked.level ≡ b.asked.level = ap (λ (r : Rectangle). r.level) asked in
-    record {
-      width = a.width ∙ ap (λ (r : Rectangle). r.width) asked ∙ sym b.width;
-      height = a.height ∙ ap (λ (r : Rectangle). r.height) asked ∙ sym b.height;
-      samples = same_Some _ _ (sym a.samples ∙ ap (λ n. level_value f n SAMPLES_PER_PIXEL 0) level ∙ b.samples);
-      bits = same_Some _ _ (sym a.bits ∙ ap (λ n. level_value f n BITS_PER_SAMPLE 0) level ∙ b.bits);
-      pixels = laws.window f q (samples_in v.bits v.pixels.items) (samples_in u.bits u.pixels.items) a.window b.window;
-    }
+    shown_same v.w u.w v.h u.h v.samples u.samples v.bits u.bits (samples_in v.bits v.pixels.items) (samples_in u.bits u.pixels.items)
+    (a.width ∙ ap (λ (r : Rectangle). r.width) asked ∙ sym b.width)
+    (a.height ∙ ap (λ (r : Rectangle). r.height) asked ∙ sym b.height)
+    (same_Some _ _ (sym a.samples ∙ ap (λ n. level_value f n SAMPLES_PER_PIXEL 0) level ∙ b.samples))
+    (same_Some _ _ (sym a.bits ∙ ap (λ n. level_value f n BITS_PER_SAMPLE 0) level ∙ b.bits))
+    (laws.window f q (samples_in v.bits v.pixels.items) (samples_in u.bits u.pixels.items) a.window b.window)
 
 -- Info asks for no window
 no_window : (f : List ℕ) (q : Query) (v : Window) → q ≡ queries.Info → IsWindowOf f q v → ⊥
@@ -161,13 +168,13 @@ no_window f q v is a =
 
 same_outcome : (laws : LowerLaws) (f : List ℕ) (q : Query) (x y : Outcome) → IsTrueOf f q x → IsTrueOf f q y → SayTheSame x y
 same_outcome laws f q (outcomes.Window v) (outcomes.Window u) x y = same_windows laws f q v u x y
-same_outcome laws f q (outcomes.Window v) (outcomes.Info i) x y = no_window f q v y.0 x
-same_outcome laws f q (outcomes.Window v) (outcomes.Fault k) x y = x.window.0 k y
-same_outcome laws f q (outcomes.Info i) (outcomes.Window u) x y = no_window f q u x.0 y
+same_outcome laws f q (outcomes.Window v) (outcomes.Info i) x y = absurd (no_window f q v y.0 x)
+same_outcome laws f q (outcomes.Window v) (outcomes.Fault k) x y = absurd (x.window.0 k y)
+same_outcome laws f q (outcomes.Info i) (outcomes.Window u) x y = absurd (no_window f q u x.0 y)
 same_outcome laws f q (outcomes.Info i) (outcomes.Info j) x y = same_info laws f i j x.1 y.1
-same_outcome laws f q (outcomes.Info i) (outcomes.Fault k) x y = x.1.sound k (subst (λ a. IsFaulty f a k) x.0 y)
-same_outcome laws f q (outcomes.Fault k) (outcomes.Window u) x y = y.window.0 k x
-same_outcome laws f q (outcomes.Fault k) (outcomes.Info j) x y = y.1.sound k (subst (λ a. IsFaulty f a k) y.0 x)
+same_outcome laws f q (outcomes.Info i) (outcomes.Fault k) x y = absurd (x.1.sound k (subst (λ a. IsFaulty f a k) x.0 y))
+same_outcome laws f q (outcomes.Fault k) (outcomes.Window u) x y = absurd (y.window.0 k x)
+same_outcome laws f q (outcomes.Fault k) (outcomes.Info j) x y = absurd (y.1.sound k (subst (λ a. IsFaulty f a k) y.0 x))
 same_outcome laws f q (outcomes.Fault k) (outcomes.Fault l) x y = tt
 
 alike : (laws : LowerLaws) (book : Book) (ns : List Entry) → HasDistinctTags book → ((r : Report) → IsToldIn r ns → IsSource r book) → AreAlike ns
@@ -183,23 +190,42 @@ alike laws book ns distinct sources r s i j tag query =
 
 at_seen : (o : Option ClientState) (R S : ClientState → ClientState → Type 0) → ((c next : ClientState) → R c next → S c next) → (i : ℕ) (n : Entry) (old new : List ClientState) → AtClient o (Keeping R) i n old new → AtClient o S i n old new
 at_seen None R S each i n old new h = h
-at_seen (Some c) R S each i n old new h = record { next = h.next; changed = h.changed; acts = record { does = each c h.next h.acts.does.does; tells = h.acts.tells } }
+at_seen (Some c) R S each i n old new h = record { next = h.next; changed = h.changed; does = each c h.next h.does.does; tells = h.tells }
 
-delivery_seen : (o : Option Answer) (client : Option ClientState) (cut : Option ℕ) (i : ℕ) (n : Entry) (old new : List ClientState) → IsDeliveryKeeping o client cut i n old new → IsDelivery o client cut i n old new
+delivery_seen : (o : Option Answer) (client : Option ClientState) (cut : Option ℕ) (i : ℕ) (n : Entry) (old new : List ClientState) → IsDeliveryKeeping o client cut i n old new
+    → AtClient (receiver o client) (DeliversWith (cut_at cut (option_map_or (λ (a : Answer). a.text.items) o [])) i n.effect) i n old new
 delivery_seen None client cut i n old new h = h
-delivery_seen (Some a) client cut i n old new h = at_seen (receiver a client) _ _ (λ c next d. d.seen) i n old new h
+delivery_seen (Some a) client cut i n old new h = at_seen (receiver (Some a) client) _ _ (λ c next d. d.seen) i n old new h
+
+checked_seen : (catalogue : Catalogue) (sent i : ℕ) (c : ClientState) (o : Option AnsweredCheck) (effect : Effect) → IsCheckedKeeping catalogue sent i c o effect → IsChecked catalogue sent i c effect
+checked_seen catalogue sent i c None effect h = subst (IsChecked catalogue sent i c) (sym h.0) (refl, h.1)
+checked_seen catalogue sent i c (Some k) effect h = subst (IsChecked catalogue sent i c) (sym h.0) h.1.seen
+
+-- what stands already is no news
+quiet_news : (c : ClientState) (t : Option Told) → t ≡ None → t ≡ news c c
+quiet_news c t none = by (report_of c) refl
+  where
+    by : (r : Option Report) → report_of c ≡ r → t ≡ news c c
+    by None is = none ∙ sym (ap (λ (o : Option Report). if is_some o then None else option_map told o) is)
+    by (Some r) is = none ∙ sym (ap (λ (o : Option Report). if is_some o then None else option_map told o) is)
+
+check_seen : (o : Option ClientState) (catalogue : Catalogue) (sent i : ℕ) (n : Entry) (old new : List ClientState) → slice_get old i ≡ o → IsCheckBy o catalogue sent i n old new
+    → AtClient o (λ c next. (next ≡ c) × IsChecked catalogue sent i c n.effect) i n old new
+check_seen None catalogue sent i n old new at h = h
+check_seen (Some c) catalogue sent i n old new at h =
+    record { next = c; changed = h.2.same ∙ sym (set_there old i c at); does = (refl, checked_seen catalogue sent i c h.0 n.effect h.1); tells = quiet_news c (told_of n) h.2.report }
 
 step_seen : (w : World) (cs : List ClientState) (e : Event) (n : Entry) (new : List ClientState) → StepKeeping w cs e n new → Step w cs e n new
 step_seen w cs (Publish name file) n new h = h
 step_seen w cs (Epoch e) n new h = h
 step_seen w cs (NewClient name blocks) n new h = h
-step_seen w cs (Open i q) n new h = at_seen (slice_get cs i) _ _ (λ c next d. d.seen) i n cs new h
-step_seen w cs (Forget i) n new h = at_seen (slice_get cs i) _ _ (λ c next d. d) i n cs new h
-step_seen w cs (Ask message) n new h = h
+step_seen w cs (Open i q) n new h = at_seen (slice_get cs i) _ _ (λ c next d. (d.done, d.opens.seen)) i n cs new h
+step_seen w cs (Forget i) n new h = at_seen (slice_get cs i) _ _ (λ c next d. (d.done, d.forgets)) i n cs new h
+step_seen w cs (Ask message) n new h = (h.0.answer, h.0.answered, record { done = h.0.done; report = h.0.report; same = h.1 })
 step_seen w cs (AskFrom i) n new h = at_seen (slice_get cs i) _ _ (λ c next d. d.seen) i n cs new h
-step_seen w cs (Deliver i a cut) n new h = delivery_seen (slice_get w.sent a) (slice_get cs i) cut i n cs new h
+step_seen w cs (Deliver i k cut) n new h = delivery_seen (slice_get w.sent k) (slice_get cs i) cut i n cs new h
 step_seen w cs (Exchange i) n new h = at_seen (slice_get cs i) _ _ (λ c next d. d.seen) i n cs new h
-step_seen w cs (Check i) n new h = h
+step_seen w cs (Check i) n new h = check_seen (slice_get cs i) w.catalogue (length w.sent) i n cs new refl h
 
 pub runs_seen : (w : World) (cs : List ClientState) (es : List Event) (ns : List Entry) (new : List ClientState) → RunsKeeping w cs es ns new → Runs w cs es ns new
 runs_seen w cs [] [] new h = h
@@ -226,7 +252,7 @@ run_truth laws es ns cs runs =
     record {
       whole = whole_run start [] es ns cs runs;
       true_reports = reports;
-      alike = alike laws (after_all start es ns).book ns good.distinct (λ r i. source_of start es ns r reports i);
+      alike = alike laws (after_all start es ns).book ns good.distinct (λ r i. source_of start es ns r i.0 reports i.1);
       needed = each_run IsNeededEntry laws (needed_step laws) start [] es ns cs good_start hosted_start runs;
       progress = reached laws es ns cs runs;
       checked = each_run IsExactEntry laws (λ w cs e n new g hosts step. exact_step laws w cs e n new g step) start [] es ns cs good_start hosted_start runs;

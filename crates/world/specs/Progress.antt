@@ -23,18 +23,12 @@ asked_in (effects.Asked a) = Some a
 asked_in (effects.Exchanged a what) = Some a
 asked_in effect = None
 
--- The span is of blocks that the client's query needs of the file that was published under its name with this tag.
-pub record IsOfPublished (w : World) (s : Seen) (tag : List ℕ) (span : Span) : Type 0 where
-  pub source : Publication
-  pub published : In source w.book
-  pub of_name : source.name ≡ s.name
-  pub of_tag : source.tag ≡ tag
-  pub needed : IsSomeAnd s.query (λ q. IsOfNeeded source.file q span)
-
--- without a revision the first 65,536 bytes, with one what is needed of its file
+-- Without a revision the span is that of the first 65,536 bytes, with one it is of blocks that the client's query needs of the
+-- file that was published under its name with this tag.
 abbrev pub IsNeededBy : World → Seen → Option (List ℕ) → Span → Type 0
 IsNeededBy w s None span = span ≡ first_span
-IsNeededBy w s (Some tag) span = IsOfPublished w s tag span
+IsNeededBy w s (Some tag) span = (p : Publication)
+    × In p w.book × (p.name ≡ s.name) × (p.tag ≡ tag) × IsSomeAnd s.query (λ q. IsOfNeeded p.file q span)
 
 -- The request has the text of its client's request for a span that is needed.
 pub record IsNeededIn (w : World) (a : AnsweredRequest) : Type 0 where
@@ -45,9 +39,7 @@ pub record IsNeededIn (w : World) (a : AnsweredRequest) : Type 0 where
 
 -- The request of an entry is for what is needed when it is made.
 abbrev pub IsNeededEntry : World → Event → Entry → Type 0
-IsNeededEntry w (AskFrom i) n = IfSome (asked_in n.effect) (IsNeededIn w)
-IsNeededEntry w (Exchange i) n = IfSome (asked_in n.effect) (IsNeededIn w)
-IsNeededEntry w e n = Unit {0}
+IsNeededEntry w e n = IfSome (asked_in n.effect) (IsNeededIn w)
 
 -- ---- when a report comes
 
@@ -55,23 +47,15 @@ IsNeededEntry w e n = Unit {0}
 abbrev pub stretch : ℕ → Query → ℕ → List Event
 stretch i q n = Open i q ∷ replicate n (Exchange i)
 
--- The events have such a stretch, and when it begins the catalogue has p under the client's name.
-pub record HasStretch (events : List Event) (entries : List Entry) (i : ℕ) (q : Query) (n : ℕ) (p : Publication) : Type 0 where
-  pub before : List Event
-  pub later : List Event
-  pub are : events ≡ before ++ stretch i q n ++ later
-  pub seen : Seen
-  pub there : slice_get (after_all start before entries).clients i ≡ Some seen
-  pub has : published seen.name (after_all start before entries).catalogue ≡ Some p
-
 -- at one of the events, which is this client's, a report for the query is told
 abbrev pub HasReport : ℕ → Query → List Event → List Entry → Type 0
 HasReport i q (e ∷ es) (n ∷ ns) = ((client_of e ≡ Some i) × IsSomeAnd n.report (λ r. r.query ≡ q)) ⊎ HasReport i q es ns
 HasReport i q es ns = ⊥
 
--- In each stretch of as many exchanges as the query costs of p's file, and one more, the client's report is told by the last
--- of these at the latest, whatever the client held before.
+-- Where the events have such a stretch, and the catalogue has p under the client's name when it begins, the client's report is
+-- told by exchange cost + 1, the cost being that of the query of p's file, whatever the client held before.
 abbrev pub AllReport : List Event → List Entry → Type 0
-AllReport events entries = (i : ℕ) (q : Query) (n : ℕ) (p : Publication) (s : HasStretch events entries i q n p) →
-    let from = suc (length s.before) in let most = suc (cost p.file q) in
+AllReport events entries = (i : ℕ) (q : Query) (n : ℕ) (before later : List Event) (s : Seen) (p : Publication) →
+    let w = after_all start before entries in let from = suc (length before) in let most = suc (cost p.file q) in
+    events ≡ before ++ stretch i q n ++ later → slice_get w.clients i ≡ Some s → published s.name w.catalogue ≡ Some p →
     most ≤ n → HasReport i q (take most (drop from events)) (take most (drop from entries))

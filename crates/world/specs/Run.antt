@@ -1,8 +1,8 @@
 -- A run: what each event does to the clients, and what is logged of it, by the contracts of the calls.
-use Rattle.std.specs.Prelude.{◌≡◌, ℕ, ◌^◌, ◌<◌, nat_lt, if◌then◌else◌, List, [], ◌∷◌, ◌++◌, length, take, Option, Some, None, IfSome, is_some, slice_get, slice_set}
-use Rattle.std.specs.Option.{option_map}
+use Rattle.std.specs.Prelude.{◌≡◌, ℕ, ◌^◌, ◌<◌, nat_lt, if◌then◌else◌, List, [], ◌∷◌, ◌++◌, length, take, Option, Some, None, IfSome, is_some, option_and_then, slice_get, slice_set}
+use Rattle.std.specs.Option.{option_map, option_map_or}
 use Rattle.tiff_dir.specs.declared.query.Query.{Query}
-use Rattle.http_range.specs.Ask.{CanCheck, check_text}
+use Rattle.http_range.specs.Ask.{check_text}
 use Rattle.http_range.specs.Book.{Catalogue, HasDistinctTags}
 use Rattle.cog_server.specs.declared.error.PublishError.{PublishError}
 use Rattle.cog_server.specs.declared.server.Answer.{Answer}
@@ -30,67 +30,40 @@ seen c = record { name = name_of c; query = query_of c }
 abbrev pub told_of : Entry → Option Told
 told_of n = option_map told n.report
 
--- the event does this, tells no report and leaves the clients
-pub record Quiet (n : Entry) (effect : Effect) (old new : List ClientState) : Type 0 where
+-- the event does this and tells no report, and these are the clients behind it
+pub record Quiet (n : Entry) (effect : Effect) (clients new : List ClientState) : Type 0 where
   pub done : n.effect ≡ effect
   pub report : told_of n ≡ None
-  pub same : new ≡ old
+  pub same : new ≡ clients
 
 -- what stands at a client after a call and did not stand before it
 abbrev pub news : ClientState → ClientState → Option Told
 news old new = if is_some (report_of old) then None else option_map told (report_of new)
 
--- what a call does to a client, and what is told of it
-pub record Acts (R : ClientState → ClientState → Type 0) (n : Entry) (old new : ClientState) : Type 0 where
-  pub does : R old new
-  pub tells : told_of n ≡ news old new
-
--- client i becomes another as R says, and the others stay
+-- client i becomes another as R says, what newly stands there is told, and the others stay
 pub record Changes (R : ClientState → ClientState → Type 0) (i : ℕ) (c : ClientState) (n : Entry) (old new : List ClientState) : Type 0 where
   pub next : ClientState
   pub changed : new ≡ slice_set old i next
-  pub acts : Acts R n c next
+  pub does : R c next
+  pub tells : told_of n ≡ news c next
 
--- the client's call with its effect, or nothing where there is no such client
+-- the client's call, or nothing where there is no such client
 abbrev pub AtClient : Option ClientState → (ClientState → ClientState → Type 0) → ℕ → Entry → List ClientState → List ClientState → Type 0
 AtClient None R i n old new = Quiet n effects.Skipped old new
 AtClient (Some c) R i n old new = Changes R i c n old new
 
 -- ---- the events
 
+-- a file is published, or refused
 abbrev pub publish_effect : List ℕ → Option PublishError → Effect
 publish_effect tag None = effects.Published tag
 publish_effect tag (Some refusal) = effects.Refused refusal
 
--- a message is answered from the catalogue
-pub record Answers (catalogue : Catalogue) (sent : ℕ) (message : List ℕ) (n : Entry) : Type 0 where
-  pub answer : Answer
-  pub done : n.effect ≡ effects.Answered sent answer
-  pub report : told_of n ≡ None
-  pub answered : IsAnswered catalogue message answer
-
--- a client is made
-pub record Adds (name : List ℕ) (blocks : ℕ) (n : Entry) (old new : List ClientState) : Type 0 where
-  pub made : ClientState
-  pub starts : Starts host name blocks made
-  pub done : n.effect ≡ effects.Made (length old)
-  pub report : told_of n ≡ None
-  pub added : new ≡ old ++ made ∷ []
-
--- or it is refused
+-- a client is made, or refused
 abbrev pub MakesBy : Option ClientError → List ℕ → ℕ → Entry → List ClientState → List ClientState → Type 0
-MakesBy None name blocks n old new = Adds name blocks n old new
+MakesBy None name blocks n old new =
+    (made : ClientState) × Starts host name blocks made × Quiet n (effects.Made (length old)) (old ++ made ∷ []) new
 MakesBy (Some refusal) name blocks n old new = Quiet n effects.Skipped old new
-
--- the client opens a query
-pub record OpensWith (query : Query) (i : ℕ) (effect : Effect) (c next : ClientState) : Type 0 where
-  pub done : effect ≡ effects.Opened i
-  pub opens : Opens query c next
-
--- the client forgets
-pub record ForgetsAll (i : ℕ) (effect : Effect) (c next : ClientState) : Type 0 where
-  pub done : effect ≡ effects.Forgot i
-  pub forgets : Forgets c next
 
 -- this is logged of a client's request that is answered from the catalogue
 pub record IsAnswerTo (catalogue : Catalogue) (sent i : ℕ) (c : ClientState) (a : AnsweredRequest) : Type 0 where
@@ -105,53 +78,37 @@ pub record Asks (catalogue : Catalogue) (sent i : ℕ) (asked : Option AnsweredR
   pub requests : Requests c (option_map (λ a. a.request.items) asked) next
   pub answered : IfSome asked (IsAnswerTo catalogue sent i next)
 
+-- what becomes of the answer: it is kept
 abbrev pub asked_effect : ℕ → Option AnsweredRequest → Effect
 asked_effect i None = effects.Nothing i
 asked_effect i (Some a) = effects.Asked a
 
--- the answer is kept
-pub record AsksWith (catalogue : Catalogue) (sent i : ℕ) (effect : Effect) (c next : ClientState) : Type 0 where
-  pub asked : Option AnsweredRequest
-  pub asks : Asks catalogue sent i asked c next
-  pub done : effect ≡ asked_effect i asked
+abbrev pub AsksWith : Catalogue → ℕ → ℕ → Effect → ClientState → ClientState → Type 0
+AsksWith catalogue sent i effect c next =
+    (asked : Option AnsweredRequest) × Asks catalogue sent i asked c next × (effect ≡ asked_effect i asked)
 
--- the answer, if there is one, is delivered whole
+-- or it is delivered whole
 abbrev pub IsExchanged : ℕ → Option AnsweredRequest → Effect → ClientState → ClientState → Type 0
 IsExchanged i None effect mid next = (effect ≡ effects.Nothing i) × (next ≡ mid)
 IsExchanged i (Some a) effect mid next =
     (what : Delivered) × (effect ≡ effects.Exchanged a what) × Delivers mid a.answer.text.items what next
 
-pub record ExchangesWith (catalogue : Catalogue) (sent i : ℕ) (effect : Effect) (c next : ClientState) : Type 0 where
-  pub asked : Option AnsweredRequest
-  pub mid : ClientState
-  pub asks : Asks catalogue sent i asked c mid
-  pub exchanged : IsExchanged i asked effect mid next
+abbrev pub ExchangesWith : Catalogue → ℕ → ℕ → Effect → ClientState → ClientState → Type 0
+ExchangesWith catalogue sent i effect c next =
+    (asked : Option AnsweredRequest) × (mid : ClientState) × Asks catalogue sent i asked c mid × IsExchanged i asked effect mid next
 
--- ---- an answer that was kept
+-- the client that gets a kept answer: the one that is meant, unless the answer is for another name
+abbrev pub receiver : Option Answer → Option ClientState → Option ClientState
+receiver None client = None
+receiver (Some a) client = option_and_then (λ c. if is_for a (name_of c) then Some c else None) client
 
--- the client, where the answer isn't for another name
-abbrev pub receiver : Answer → Option ClientState → Option ClientState
-receiver a None = None
-receiver a (Some c) = if is_for a (name_of c) then Some c else None
-
--- the first bytes of a text, or all
+-- the text that it gets: the first bytes, or all
 abbrev pub cut_at : Option ℕ → List ℕ → List ℕ
 cut_at None text = text
 cut_at (Some n) text = take n text
 
--- a text is delivered
-pub record DeliversWith (text : List ℕ) (i : ℕ) (effect : Effect) (c next : ClientState) : Type 0 where
-  pub what : Delivered
-  pub done : effect ≡ effects.Delivered i what
-  pub delivers : Delivers c text what next
-
--- the front of the answer is delivered, if it is there
-abbrev pub IsDelivery : Option Answer → Option ClientState → Option ℕ → ℕ → Entry → List ClientState → List ClientState → Type 0
-IsDelivery None client cut i n old new = Quiet n effects.Skipped old new
-IsDelivery (Some a) client cut i n old new =
-    AtClient (receiver a client) (DeliversWith (cut_at cut a.text.items) i n.effect) i n old new
-
--- ---- a check
+abbrev pub DeliversWith : List ℕ → ℕ → Effect → ClientState → ClientState → Type 0
+DeliversWith text i effect c next = (what : Delivered) × (effect ≡ effects.Delivered i what) × Delivers c text what next
 
 -- this is logged of a client's check that is answered from the catalogue
 pub record IsCheckOf (catalogue : Catalogue) (sent i : ℕ) (c : ClientState) (k : AnsweredCheck) : Type 0 where
@@ -159,33 +116,30 @@ pub record IsCheckOf (catalogue : Catalogue) (sent i : ℕ) (c : ClientState) (k
   pub number : k.number ≡ sent
   pub tag : tag_of c ≡ Some k.tag
   pub text : k.request.items ≡ check_text (host_of c) (name_of c) k.tag
-  pub lawful : CanCheck (host_of c) (name_of c) k.tag
   pub answered : IsAnswered catalogue k.request.items k.answer
   pub current : IsCurrent (Some k.tag) k.answer.text.items k.current
 
 -- what is logged where there is no check: the client has no revision
-abbrev pub IsChecked : Catalogue → ℕ → ℕ → ClientState → Option AnsweredCheck → Effect → Type 0
-IsChecked catalogue sent i c None effect = (effect ≡ effects.Unchecked i) × (tag_of c ≡ None)
-IsChecked catalogue sent i c (Some k) effect = (effect ≡ effects.Checked k) × IsCheckOf catalogue sent i c k
-
--- the client's check, if it has one, is answered, or nothing, where there is no such client; no client changes
-abbrev pub IsCheckBy : Option ClientState → Catalogue → ℕ → ℕ → Entry → List ClientState → List ClientState → Type 0
-IsCheckBy None catalogue sent i n old new = Quiet n effects.Skipped old new
-IsCheckBy (Some c) catalogue sent i n old new =
-    (check : Option AnsweredCheck) × IsChecked catalogue sent i c check n.effect × Quiet n n.effect old new
+abbrev pub IsChecked : Catalogue → ℕ → ℕ → ClientState → Effect → Type 0
+IsChecked catalogue sent i c (effects.Checked k) = IsCheckOf catalogue sent i c k
+IsChecked catalogue sent i c effect = (effect ≡ effects.Unchecked i) × (tag_of c ≡ None)
 
 -- One event, with what is logged of it.
 abbrev pub Step : World → List ClientState → Event → Entry → List ClientState → Type 0
 Step w old (Publish name file) n new = Quiet n (publish_effect (next_of w name.items file.items).tag (refusal_of w.count w.catalogue name.items file.items)) old new
 Step w old (Epoch e) n new = (e < 2 ^ 32) × Quiet n (if nat_lt w.epoch e then effects.Epoch e else effects.Skipped) old new
 Step w old (NewClient name blocks) n new = MakesBy (client_refusal host name.items blocks) name.items blocks n old new
-Step w old (Open i q) n new = AtClient (slice_get old i) (OpensWith q i n.effect) i n old new
-Step w old (Forget i) n new = AtClient (slice_get old i) (ForgetsAll i n.effect) i n old new
-Step w old (Ask message) n new = Answers w.catalogue (length w.sent) message.items n × (new ≡ old)
+Step w old (Open i q) n new = AtClient (slice_get old i) (λ c next. (n.effect ≡ effects.Opened i) × Opens q c next) i n old new
+Step w old (Forget i) n new = AtClient (slice_get old i) (λ c next. (n.effect ≡ effects.Forgot i) × Forgets c next) i n old new
+Step w old (Ask message) n new =
+    (answer : Answer) × IsAnswered w.catalogue message.items answer × Quiet n (effects.Answered (length w.sent) answer) old new
 Step w old (AskFrom i) n new = AtClient (slice_get old i) (AsksWith w.catalogue (length w.sent) i n.effect) i n old new
-Step w old (Deliver i a cut) n new = IsDelivery (slice_get w.sent a) (slice_get old i) cut i n old new
+Step w old (Deliver i k cut) n new =
+    let text = cut_at cut (option_map_or (λ (a : Answer). a.text.items) (slice_get w.sent k) []) in
+    AtClient (receiver (slice_get w.sent k) (slice_get old i)) (DeliversWith text i n.effect) i n old new
 Step w old (Exchange i) n new = AtClient (slice_get old i) (ExchangesWith w.catalogue (length w.sent) i n.effect) i n old new
-Step w old (Check i) n new = IsCheckBy (slice_get old i) w.catalogue (length w.sent) i n old new
+Step w old (Check i) n new =
+    AtClient (slice_get old i) (λ c next. (next ≡ c) × IsChecked w.catalogue (length w.sent) i c n.effect) i n old new
 
 -- The log of a run has an entry for each event, in order, with what the schedule makes of the world and of clients that keep
 -- their contracts; these are the clients before and after it.

@@ -4,24 +4,27 @@ use Rattle.std.specs.Prelude.{◌≡◌, ℕ, ◌+◌, ◌^◌, ◌<◌, ⊤, na
 use Rattle.std.specs.Option.{option_map}
 use Rattle.std.specs.Bool.{MatchBool}
 use Rattle.tiff_dir.specs.declared.query.Query.{Query}
+use Rattle.http_range.specs.Ask.{CanCheck}
 use Rattle.http_range.specs.Book.{Publication, Book, Catalogue, publish, publication_tag}
 use Rattle.cog_server.specs.declared.error.PublishError.{PublishError}
 use Rattle.cog_server.specs.declared.server.Answer.{Answer}
-use Rattle.cog_server.specs.Server.{ServerState, refusal_of}
+use Rattle.cog_server.specs.Server.{IsAnswered, ServerState, refusal_of}
 use Rattle.cog_client.specs.declared.delivered.Delivered.{Delivered}
 use Rattle.cog_client.specs.Report.{IsTrueReport}
-use Rattle.cog_client.specs.Client.{ClientAgrees, ClientState, name_of, query_of, report_of}
+use Rattle.cog_client.specs.Client.{ClientAgrees, ClientState, host_of, name_of, query_of, report_of, tag_of}
+use Rattle.cog_client.specs.Calls.{Forgets}
 use Rattle.cog_client.specs.Keeps.{DeliversKeeping, OpensKeeping, RequestsKeeping}
 use Rattle.world.specs.declared.calls.Call.{Call}
 use Rattle.world.specs.declared.calls.Call.TheVariants as calls
 use Rattle.world.specs.declared.event.Event.{Event}
-use Rattle.world.specs.declared.event.Event.TheVariants.{Open, Forget, AskFrom, Deliver, Exchange}
+use Rattle.world.specs.declared.event.Event.TheVariants.{Open, Forget, Ask, AskFrom, Deliver, Exchange, Check}
+use Rattle.world.specs.declared.event.AnsweredCheck.{AnsweredCheck}
 use Rattle.world.specs.declared.event.AnsweredRequest.{AnsweredRequest}
 use Rattle.world.specs.declared.event.Effect.{Effect}
 use Rattle.world.specs.declared.event.Effect.TheVariants as effects
 use Rattle.world.specs.declared.event.Entry.{Entry}
 use Rattle.world.specs.World.{World, after, answer_in}
-use Rattle.world.specs.Run.{AsksWith, AtClient, DeliversWith, ExchangesWith, ForgetsAll, OpensWith, Quiet, Step, cut_at, publish_effect, receiver, told_of}
+use Rattle.world.specs.Run.{AsksWith, AtClient, DeliversWith, ExchangesWith, IsCheckOf, Quiet, Step, cut_at, publish_effect, receiver, told_of}
 
 -- ---- what the calls keep
 
@@ -35,8 +38,12 @@ pub record Keeping (R : ClientState → ClientState → Type 0) (c next : Client
   pub stands : StandsTrue next
 
 pub record OpensWithKeeping (query : Query) (i : ℕ) (effect : Effect) (c next : ClientState) : Type 0 where
-  pub seen : OpensWith query i effect c next
+  pub done : effect ≡ effects.Opened i
   pub opens : OpensKeeping query c next
+
+pub record ForgetsAll (i : ℕ) (effect : Effect) (c next : ClientState) : Type 0 where
+  pub done : effect ≡ effects.Forgot i
+  pub forgets : Forgets c next
 
 -- the text of a client's request, if it has one
 abbrev pub request_in : Option AnsweredRequest → Option (List ℕ)
@@ -44,7 +51,7 @@ request_in asked = option_map (λ a. a.request.items) asked
 
 pub record AsksWithKeeping (catalogue : Catalogue) (sent i : ℕ) (effect : Effect) (c next : ClientState) : Type 0 where
   pub seen : AsksWith catalogue sent i effect c next
-  pub requests : RequestsKeeping c (request_in seen.asked) next
+  pub requests : RequestsKeeping c (request_in seen.0) next
 
 abbrev pub IsDeliveredKeeping : Option AnsweredRequest → ClientState → ClientState → Type 0
 IsDeliveredKeeping None mid next = ⊤
@@ -52,12 +59,12 @@ IsDeliveredKeeping (Some a) mid next = (what : Delivered) × DeliversKeeping mid
 
 pub record ExchangesWithKeeping (catalogue : Catalogue) (sent i : ℕ) (effect : Effect) (c next : ClientState) : Type 0 where
   pub seen : ExchangesWith catalogue sent i effect c next
-  pub requests : RequestsKeeping c (request_in seen.asked) seen.mid
-  pub delivers : IsDeliveredKeeping seen.asked seen.mid next
+  pub requests : RequestsKeeping c (request_in seen.0) seen.1
+  pub delivers : IsDeliveredKeeping seen.0 seen.1 next
 
 pub record DeliversWithKeeping (text : List ℕ) (i : ℕ) (effect : Effect) (c next : ClientState) : Type 0 where
   pub seen : DeliversWith text i effect c next
-  pub delivers : DeliversKeeping c text seen.what next
+  pub delivers : DeliversKeeping c text seen.0 next
 
 -- what a client does, by which of its calls an event makes
 abbrev pub CallsWith : Catalogue → ℕ → ℕ → Call → Effect → ClientState → ClientState → Type 0
@@ -70,15 +77,39 @@ CallsWith catalogue sent i (calls.Deliver text) effect c next = DeliversWithKeep
 abbrev pub IsDeliveryKeeping : Option Answer → Option ClientState → Option ℕ → ℕ → Entry → List ClientState → List ClientState → Type 0
 IsDeliveryKeeping None client cut i n old new = Quiet n effects.Skipped old new
 IsDeliveryKeeping (Some a) client cut i n old new =
-    AtClient (receiver a client) (Keeping (DeliversWithKeeping (cut_at cut a.text.items) i n.effect)) i n old new
+    AtClient (receiver (Some a) client) (Keeping (DeliversWithKeeping (cut_at cut a.text.items) i n.effect)) i n old new
+
+-- the check's request, by its contract
+pub record IsCheckOfKeeping (catalogue : Catalogue) (sent i : ℕ) (c : ClientState) (k : AnsweredCheck) : Type 0 where
+  pub seen : IsCheckOf catalogue sent i c k
+  pub lawful : CanCheck (host_of c) (name_of c) k.tag
+
+abbrev pub IsCheckedKeeping : Catalogue → ℕ → ℕ → ClientState → Option AnsweredCheck → Effect → Type 0
+IsCheckedKeeping catalogue sent i c None effect = (effect ≡ effects.Unchecked i) × (tag_of c ≡ None)
+IsCheckedKeeping catalogue sent i c (Some k) effect = (effect ≡ effects.Checked k) × IsCheckOfKeeping catalogue sent i c k
+
+-- the client's check, if it has one, is answered, or nothing, where there is no such client; no client changes
+abbrev pub IsCheckBy : Option ClientState → Catalogue → ℕ → ℕ → Entry → List ClientState → List ClientState → Type 0
+IsCheckBy None catalogue sent i n old new = Quiet n effects.Skipped old new
+IsCheckBy (Some c) catalogue sent i n old new =
+    (check : Option AnsweredCheck) × IsCheckedKeeping catalogue sent i c check n.effect × Quiet n n.effect old new
+
+-- a message is answered from the catalogue
+pub record Answers (catalogue : Catalogue) (sent : ℕ) (message : List ℕ) (n : Entry) : Type 0 where
+  pub answer : Answer
+  pub done : n.effect ≡ effects.Answered sent answer
+  pub report : told_of n ≡ None
+  pub answered : IsAnswered catalogue message answer
 
 -- one event, and all the events of a run
 abbrev pub StepKeeping : World → List ClientState → Event → Entry → List ClientState → Type 0
 StepKeeping w old (Open i q) n new = AtClient (slice_get old i) (Keeping (OpensWithKeeping q i n.effect)) i n old new
 StepKeeping w old (Forget i) n new = AtClient (slice_get old i) (Keeping (ForgetsAll i n.effect)) i n old new
 StepKeeping w old (AskFrom i) n new = AtClient (slice_get old i) (Keeping (AsksWithKeeping w.catalogue (length w.sent) i n.effect)) i n old new
+StepKeeping w old (Ask message) n new = Answers w.catalogue (length w.sent) message.items n × (new ≡ old)
 StepKeeping w old (Deliver i a cut) n new = IsDeliveryKeeping (slice_get w.sent a) (slice_get old i) cut i n old new
 StepKeeping w old (Exchange i) n new = AtClient (slice_get old i) (Keeping (ExchangesWithKeeping w.catalogue (length w.sent) i n.effect)) i n old new
+StepKeeping w old (Check i) n new = IsCheckBy (slice_get old i) w.catalogue (length w.sent) i n old new
 StepKeeping w old e n new = Step w old e n new
 
 abbrev pub RunsKeeping : World → List ClientState → List Event → List Entry → List ClientState → Type 0

@@ -17,7 +17,7 @@ use Rattle.cog_server.specs.Server.{refusal_of}
 use Rattle.cog_client.specs.declared.error.ClientError.{ClientError}
 use Rattle.cog_client.specs.declared.delivered.Current.TheVariants.{Same}
 use Rattle.cog_client.specs.declared.report.Report.{Report}
-use Rattle.cog_client.specs.Report.{IsTrueReport, facts_of}
+use Rattle.cog_client.specs.Report.{IsTrueReport, said_of}
 use Rattle.cog_client.specs.Client.{ClientState, IsOfBook, client_refusal}
 use Rattle.world.specs.declared.event.Event.{Event}
 use Rattle.world.specs.declared.event.Event.TheVariants.{Publish, Epoch, NewClient, Open, Forget, AskFrom, Deliver, Exchange, Check}
@@ -56,9 +56,6 @@ publish_by w p None = record w { count = w.count + 1; catalogue = publish p w.ca
 publish_by w p (Some refusal) = w
 
 -- only a greater epoch changes the epoch; its server has no files
-abbrev pub restart_by : World → ℕ → Bool → World
-restart_by w e greater = if greater then record w { epoch = e; count = 0; catalogue = [] } else w
-
 abbrev pub made_by : World → List ℕ → Option ClientError → World
 made_by w name None = record w { clients = w.clients ++ record { name = name; query = None } ∷ [] }
 made_by w name (Some refusal) = w
@@ -72,7 +69,7 @@ opened (s ∷ ss) (suc i) q = s ∷ opened ss i q
 -- what an event makes of the world, whatever is answered
 abbrev pub scheduled : World → Event → World
 scheduled w (Publish name file) = publish_by w (next_of w name.items file.items) (refusal_of w.count w.catalogue name.items file.items)
-scheduled w (Epoch e) = restart_by w e (nat_lt w.epoch e)
+scheduled w (Epoch e) = if nat_lt w.epoch e then record w { epoch = e; count = 0; catalogue = [] } else w
 scheduled w (NewClient name blocks) = made_by w name.items (client_refusal host name.items blocks)
 scheduled w (Open i q) = record w { clients = opened w.clients i q }
 scheduled w e = w
@@ -121,23 +118,17 @@ abbrev pub IsTrueEntry : World → Event → Entry → Type 0
 IsTrueEntry w e n = IfSome n.report (IsTrueAt (after w e n.effect) (client_of e))
 
 abbrev pub IsToldIn : Report → List Entry → Type 0
-IsToldIn r [] = ⊥
-IsToldIn r (n ∷ ns) = (n.report ≡ Some r) ⊎ IsToldIn r ns
+IsToldIn r ns = (i : ℕ) × IsSomeAnd (slice_get ns i) (λ n. n.report ≡ Some r)
 
--- the windows have the same sides, and the same samples of as many bits
-pub record AreEqual (a b : Window) : Type 0 where
-  pub width : a.w ≡ b.w
-  pub height : a.h ≡ b.h
-  pub samples : a.samples ≡ b.samples
-  pub bits : a.bits ≡ b.bits
-  pub pixels : samples_in a.bits a.pixels.items ≡ samples_in b.bits b.pixels.items
+-- the sides, the samples of a pixel, the bits of a sample, and all samples
+abbrev pub shown : Window → ℕ × ℕ × ℕ × ℕ × List ℕ
+shown v = (v.w, v.h, v.samples, v.bits, samples_in v.bits v.pixels.items)
 
 -- both are equal windows, or both tell the same of the file's levels, keys and geo fields, or both are faults
 abbrev pub SayTheSame : Outcome → Outcome → Type 0
-SayTheSame (outcomes.Window a) (outcomes.Window b) = AreEqual a b
-SayTheSame (outcomes.Info a) (outcomes.Info b) = facts_of a ≡ facts_of b
+SayTheSame (outcomes.Window a) (outcomes.Window b) = shown a ≡ shown b
 SayTheSame (outcomes.Fault fault) (outcomes.Fault other) = ⊤
-SayTheSame a b = ⊥
+SayTheSame a b = said_of a ≡ said_of b
 
 -- Reports of one tag for one query say the same.
 abbrev pub AreAlike : List Entry → Type 0
@@ -167,12 +158,7 @@ abbrev pub check_in : Effect → Option AnsweredCheck
 check_in (effects.Checked k) = Some k
 check_in effect = None
 
--- The check says "same" exactly where the catalogue that answered it has the tag under the client's name.
-abbrev pub IsExact : World → ℕ → AnsweredCheck → Type 0
-IsExact w i k =
-    IsSomeAnd (slice_get w.clients i) (λ s. (k.current ≡ Same) ↔ (option_map (λ p. p.tag) (published s.name w.catalogue) ≡ Some k.tag))
-
--- The check of an entry does.
+-- The check of an entry says "same" exactly where the catalogue that answered it has the tag under the client's name.
 abbrev pub IsExactEntry : World → Event → Entry → Type 0
-IsExactEntry w (Check i) n = IfSome (check_in n.effect) (IsExact w i)
-IsExactEntry w e n = Unit {0}
+IsExactEntry w e n = IfSome (check_in n.effect) (λ k. IsSomeAnd (slice_get w.clients k.client) (λ s.
+    (k.current ≡ Same) ↔ (option_map (λ p. p.tag) (published s.name w.catalogue) ≡ Some k.tag)))

@@ -5,8 +5,8 @@ ghost use Rattle.cog_client.specs.Client.{asked_of, host_of, name_of, tag_of};
 ghost use Rattle.cog_client.specs.Check.{check_of};
 ghost use Rattle.world.specs.declared.event.AnsweredCheck.{AnsweredCheck};
 ghost use Rattle.cog_client.specs.Keeps.{RequestsKeeping};
-ghost use Rattle.world.specs.Run.{Asks, IsAnswerTo, IsCheckBy, IsChecked, IsCheckOf, IsExchanged};
-ghost use Rattle.world.specs.State.{IsDeliveredKeeping, request_in};
+ghost use Rattle.world.specs.Run.{Asks, IsAnswerTo, IsExchanged};
+ghost use Rattle.world.specs.State.{IsCheckBy, IsCheckOfKeeping, IsCheckedKeeping, IsDeliveredKeeping, request_in};
 
 use crate::event::{AnsweredCheck, AnsweredRequest, Effect, Entry};
 use crate::handing::{Handing, hand_over};
@@ -97,7 +97,7 @@ fn answer_check(
     requires tag { tag_of client.now ≡ Some tag }
     requires request { check_of client.now ≡ Some request.items }
     requires lawful { CanCheck (host_of client.now) (name_of client.now) tag }
-    ensures { IfOk result (IsCheckOf server.now.catalogue number i client.now) }
+    ensures { IfOk result (IsCheckOfKeeping server.now.catalogue number i client.now) }
 {
     let answer = server.answer(&request)?;
     let current = client.current(&answer.text);
@@ -113,7 +113,7 @@ fn answer_check(
 
 /// The client's check, if it has one, and the server's answer.
 fn check_one(server: &Server, number: usize, client: &Client, i: u32) -> Result<Effect, Memory>
-    ensures { IfOk result (λ effect. (o : Option AnsweredCheck) × IsChecked server.now.catalogue number i client.now o effect) }
+    ensures { IfOk result (λ effect. (o : Option AnsweredCheck) × IsCheckedKeeping server.now.catalogue number i client.now o effect) }
 {
     let Some(tag) = tag_of(client) else {
         return Ok(Effect::Unchecked(i));

@@ -1,7 +1,7 @@
 //! What happens at the server.
 ghost use Rattle.std.specs.Prelude.{◌≡◌, None, IfOk};
-ghost use Rattle.world.specs.Run.{Answers, told_of};
-ghost use Rattle.world.specs.State.{Publishes, Restarts};
+ghost use Rattle.world.specs.Run.{told_of};
+ghost use Rattle.world.specs.State.{Answers, Publishes, Restarts};
 
 use crate::event::{Effect, Entry};
 use cog_server::{PublishError, Server};

@@ -7,7 +7,7 @@ use Rattle.cached_reader.proofs.ahead.extend.Goals as goal
 pub reach-end-requires-clause-low : goal.reach-end-requires-clause-low
 reach-end-requires-clause-low c =
     let a = c.args in
-    let l = lies c.missing_is_exact.ensures.run a.cache.now (complete_of a.reader.now) a.range a.missing c.present-present.result c.requires.missing c.present-present.ensures in
+    let l = lies c.missing_is_exact.ensures.run a.cache.now (complete_of a.reader.now) a.range a.missing c.present-present.result c.requires.missing.0 c.present-present.ensures in
     let least = c.capacity.ensures.sound.least in
     let exact = c.capacity.ensures.exact in
     omega (arith, l.from_is, l.to_is, l.some, l.fits, l.small, least, exact)
@@ -15,9 +15,9 @@ reach-end-requires-clause-low c =
 pub returns : goal.returns
 returns c =
     let a = c.args in
-    let l = lies c.missing_is_exact.ensures.run a.cache.now (complete_of a.reader.now) a.range a.missing c.present-present.result c.requires.missing c.present-present.ensures in
+    let l = lies c.missing_is_exact.ensures.run a.cache.now (complete_of a.reader.now) a.range a.missing c.present-present.result c.requires.missing.0 c.present-present.ensures in
     let least = c.capacity.ensures.sound.least in
     let exact = c.capacity.ensures.exact in
     let r = c.reach-end.ensures in
     looks_ahead (work a.reader.now a.cache.now) a.complete a.range a.missing _ a.ahead c.present-present.result c.capacity.result c.min-limit.result c.reach-end.result
-    c.requires.complete c.requires.missing l c.requires.next exact (omega (arith, l.fits, l.small, least, exact)) (omega arith) r.low r.high r.inside r.gone r.needed refl (omega arith)
+    c.requires.complete c.requires.missing.0 c.requires.missing.1 l c.requires.next exact (omega (arith, l.fits, l.small, least, exact)) (omega arith) r.low r.high r.inside r.gone r.needed refl (omega arith)

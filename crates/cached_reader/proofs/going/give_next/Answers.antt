@@ -2,7 +2,7 @@ use Rattle.std.proofs.Common.{◌≡◌, ℕ, ◌+◌, ◌-◌, length, arith, r
 use Rattle.std.specs.Prelude.{slice_range}
 use Rattle.tiff_dir.specs.Walk.{extent_of_span}
 use Rattle.range_cache.specs.Cache.{Blocks, bytes_at}
-use Rattle.cached_reader.specs.Going.{IsMissing}
+use Rattle.cached_reader.specs.Going.{IsMissingWithRoom}
 use Rattle.cached_reader.proofs.GoingLemmas.{given, lacking, read}
 use Rattle.cached_reader.proofs.going.give_next.Goals as goal
 
@@ -32,7 +32,7 @@ returns-in-Err-clause-given c =
     let complete = c.requires.complete in
     let len : ℕ = a.span.last - a.span.first + 1 in (
       refl,
-      subst (λ n. IsMissing c.touch.new.self n (extent_of_span a.span) 0 c.span_of.result) (sym complete)
+      subst (λ n. IsMissingWithRoom c.touch.new.self n (extent_of_span a.span) 0 c.span_of.result) (sym complete)
           (lacking c.missing_is_exact.ensures.run c.missing_is_exact.ensures.few a.cache.now c.touch.new.self a.complete len (extent_of_span a.span) c.in-Err.missing c.span_of.result
           (omega arith) (omega arith) (omega arith) (omega arith) (omega (arith, e.sound.least, ap (λ (b : Blocks). b.capacity) e.entries)) e.same e.exact e.led c.span_of.ensures.first c.span_of.ensures.last),
     )

@@ -2,8 +2,8 @@ use Rattle.std.proofs.Common.{List, length, refl, subst}
 use Rattle.std.specs.Prelude.{IfOk, slice_get}
 use Rattle.cog_client.specs.Client.{ClientState}
 use Rattle.world.specs.declared.event.Event.TheVariants.{AskFrom, Exchange, Check}
-use Rattle.world.specs.Run.{AtClient, IsCheckBy}
-use Rattle.world.specs.State.{AsksWithKeeping, ExchangesWithKeeping, Keeping}
+use Rattle.world.specs.Run.{AtClient}
+use Rattle.world.specs.State.{AsksWithKeeping, ExchangesWithKeeping, IsCheckBy, Keeping}
 use Rattle.world.proofs.Whole.{ok_ask, ok_call, ok_deliver, ok_publish}
 use Rattle.world.proofs.world.step.Goals as goal
 

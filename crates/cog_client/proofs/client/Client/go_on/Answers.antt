@@ -1,6 +1,9 @@
 use Rattle.std.proofs.Common.{◌≡◌, Some, None, refl, sym, ap, subst, ◌∙◌}
-use Rattle.cog_client.specs.Client.{IsClient, ClientState, report_of}
-use Rattle.cog_client.specs.Keeps.{GoesOnKeeping}
+use Rattle.std.specs.Prelude.{IfSome}
+use Rattle.cog_reader.specs.Reader.{complete_of}
+use Rattle.cached_reader.specs.Going.{CachedReader, IsFilled, IsMissingWithRoom, IsStopped, work}
+use Rattle.cog_client.specs.Client.{IsClient, IsReadingOf, ClientState, Knows, asked_of, blocks_of, how_of, query_of, report_of, revision_of, to_come}
+use Rattle.cog_client.specs.Keeps.{GoesOnKeeping, Misses}
 use Rattle.cog_client.proofs.ClientLemmas.{gone, goes_trans, known}
 use Rattle.cog_client.proofs.client.Client.go_on.Goals as goal
 
@@ -40,3 +43,18 @@ returns-in-None-clause-goes c =
     (subst (λ k. GoesOnKeeping k mid) (sym is ∙ c.self.view_is)
     (gone i.arrival i.how i.host.items i.name.items i.query i.asked s i.cache i.report (record s { reader = c.fill.new.reader }) c.fill.new.cache (subst (λ (k : ClientState). report_of k ≡ None) (sym c.self.view_is) c.requires.report) refl refl (subst IsClient is c.self.invariant) c.in_ok-missing.ensures.goes))
     c.stand.ensures.goes
+
+pub returns-in-Some-missing-clause-ok : goal.returns-in-Some-missing-clause-ok
+unfolding report_of asked_of query_of revision_of blocks_of how_of Knows to_come
+returns-in-Some-missing-clause-ok c =
+    let i = c.self.inside in
+    let s = c.in-Some.source in
+    let w : CachedReader = work c.fill.new.reader c.fill.new.cache in
+    let new : ClientState = known i.arrival i.how i.host.items i.name.items i.query i.asked (Some (record s { reader = w.reader })) w.cache i.report in
+    let reading : IsReadingOf i.query i.report s = subst (λ o. IfSome o (IsReadingOf i.query i.report)) c.in-Some.is c.self.invariant.reading in
+    let complete : complete_of w.reader ≡ s.complete = c.in_ok-missing.ensures.goes.complete ∙ sym reading.0 in
+    let l : IsStopped w i.how.ahead c.in-Some-missing.field-0 = subst (IsFilled w i.how.ahead) c.in-Some-missing.is c.in_ok-missing.ensures.filled in
+    let missing : IsMissingWithRoom w.cache s.complete l.range i.how.ahead c.in-Some-missing.field-0 =
+    subst (λ n. IsMissingWithRoom w.cache n l.range i.how.ahead c.in-Some-missing.field-0) complete (l.missing, l.room) in
+    subst (Misses new) (sym c.in-Some-missing.is)
+    (record { range = l.range; next = λ f k. l.first f k.reader; missing = missing.0; room = missing.1; needed = λ f k. l.needed f k.reader })
