@@ -201,11 +201,13 @@ lacking runs most old new complete len r missing span size some within small roo
       few = omega (arith, few, begins, ends);
       inside = omega (arith, touched, within, some, begins, more, ends);
       gone = g.gone;
-    } in
-    (m, record {
-      led = subst (λ n. IsLed ns (first_block r.first) (blocks r.first n)) size led;
-      room = omega (arith, runs ns n count e.from e.to begins ends g.gone, most ns n count, few, room);
-    })
+    } in (
+      m,
+      record {
+        led = subst (λ n. IsLed ns (first_block r.first) (blocks r.first n)) size led;
+        room = omega (arith, runs ns n count e.from e.to begins ends g.gone, most ns n count, few, room);
+      },
+    )
 
 -- what holds after every refusal
 pub refused : {A E : Type 0} (r : Result A E) (P : Type 0) → P → OnErr r P

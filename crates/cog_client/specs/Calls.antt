@@ -28,8 +28,15 @@ pub record SameClient (old new : ClientState) : Type 0 where
 -- It has nothing: no query, no revision, no block. Its requests close the connection, and it looks no block ahead.
 abbrev pub Starts : List ℕ → List ℕ → ℕ → ClientState → Type 0
 Starts host name blocks new = new ≡ record {
-  how = record { closes = true; ahead = 0 }; host = host; name = name; query = None; asked = None; source = None;
-  cache = record { entries = []; capacity = blocks }; report = None; feed = nothing_fed;
+  how = record { closes = true; ahead = 0 };
+  host = host;
+  name = name;
+  query = None;
+  asked = None;
+  source = None;
+  cache = record { entries = []; capacity = blocks };
+  report = None;
+  feed = nothing_fed;
 }
 
 -- The query is asked; revision and blocks stay, and an unfinished answer is dropped, as in each call from here on.

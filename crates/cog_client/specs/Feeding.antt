@@ -21,12 +21,12 @@ abbrev pub nothing_fed : Feed
 nothing_fed = waits []
 
 -- why an answer isn't used whose rest was dropped
-abbrev pub is_cut : why.Ignored
-is_cut = NotUsed Cut
+abbrev pub cut_off : why.Ignored
+cut_off = NotUsed Cut
 
 -- what is still to come of the answer is passed over
 abbrev pub rest_dropped : Feed
-rest_dropped = passed is_cut
+rest_dropped = passed cut_off
 
 -- no body is taken
 abbrev pub TakesNoBody : Feed → Type 0

@@ -7,7 +7,7 @@ use Rattle.cog_client.specs.declared.delivered.Delivered.TheVariants.{Ignored}
 use Rattle.cog_client.specs.Check.{IsCurrent, IsStillThere}
 use Rattle.cog_client.specs.Client.{ClientState, feed_of, tag_of}
 use Rattle.cog_client.specs.FedClient.{Fed}
-use Rattle.cog_client.specs.Feeding.{is_cut, nothing_fed, rest_dropped}
+use Rattle.cog_client.specs.Feeding.{cut_off, nothing_fed, rest_dropped}
 use Rattle.cog_client.specs.Keeps.{DeliversKeeping, StopsDelivery}
 use Rattle.delgunsai_c.specs.declared.said.Said.{Said}
 use Rattle.delgunsai_c.specs.Calls.{Stopped}
@@ -18,7 +18,7 @@ use Rattle.delgunsai_c.specs.Said.{said_of_current, said_of_delivered}
 -- It is the end of whatever answer this is. Of one whose rest is dropped it tells that it is cut.
 pub record Ends (what : Delivered) (old new : ClientState) : Type 0 where
   pub delivers : (s : ClientState) (p : List ℕ) → Fed s p old → DeliversKeeping s p what new
-  pub dropped : feed_of old ≡ rest_dropped → what ≡ Ignored is_cut
+  pub dropped : feed_of old ≡ rest_dropped → what ≡ Ignored cut_off
   pub ended : feed_of new ≡ nothing_fed
 
 -- Memory was wanting behind it.

@@ -64,7 +64,8 @@ pub fn fronts_are_read()
     parts_are_read();
 }
 
-/// The tests and functions that read tags and Content-Range are the forms of the standard.
+/// The tests and functions that read tags and Content-Range are the forms of the standard, of Content-Range that of this profile:
+/// `bytes a-b/l`.
 pub fn values_have_forms()
     ensures tags { TagsAreQuoted }
     ensures ranges { ContentRangesAreForms }

@@ -159,6 +159,6 @@ needs f q = needs_of_directories f ++ needs_of_query f q
 abbrev pub blocks_of_extent : Extent → ℕ
 blocks_of_extent r = blocks r.first r.len
 
--- The blocks of the ranges that the query needs and that end inside the file.
+-- The blocks of the ranges that the query needs and that end inside the file. One that several ranges touch counts for each.
 unfoldable pub cost : List ℕ → Query → ℕ
 cost f q = sum_by blocks_of_extent (filter (λ r. not (ends_past f r)) (needs f q))

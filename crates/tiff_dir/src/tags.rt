@@ -1,4 +1,4 @@
-//! The tags of the fields that are read, under the standard's names: of a level's fields (TIFF 6.0, sections 8 and 15), and of
+//! The tags of the fields that are read, under the standard's names: of a level's fields (TIFF 6.0, sections 8, 15 and 19), and of
 //! those that georeference an image (GeoTIFF 1.1, OGC 19-008, sections 7.1 and 8).
 
 pub const NEW_SUBFILE_TYPE: u16 = 254;

@@ -135,8 +135,7 @@ module _ (laws : LowerLaws) where
   unfolding ClientAgrees
   needed_under w c mid v span q is agrees asks name query queried =
       let k : KnowsOne mid w.book v = subst (λ o. IfSome o (KnowsOne mid w.book)) is agrees in
-      let needed = laws.one_range mid v k.source.file span is k.knows asks in
-      (
+      let needed = laws.one_range mid v k.source.file span is k.knows asks in (
         k.source,
         k.published,
         k.of_name ∙ name,

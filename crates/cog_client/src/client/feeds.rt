@@ -5,7 +5,7 @@ ghost use Rattle.cog_client.specs.declared.delivered.Delivered.TheVariants.{Igno
 ghost use Rattle.cog_client.specs.Arrival.{IsBounded};
 ghost use Rattle.cog_client.specs.Client.{ClientState, feed_of};
 ghost use Rattle.cog_client.specs.FedClient.{Fed, FedBefore, FedBy};
-ghost use Rattle.cog_client.specs.Feeding.{is_cut, nothing_fed, rest_dropped};
+ghost use Rattle.cog_client.specs.Feeding.{cut_off, nothing_fed, rest_dropped};
 ghost use Rattle.cog_client.specs.Keeps.{DeliversKeeping, StopsDelivery};
 
 use crate::case::{Case, case_of_head};
@@ -47,7 +47,7 @@ impl Client {
     pub fn end(&mut self) -> Result<Delivered, Memory>
         ensures ok { IfOk result (λ what. (s : ClientState) (p : List ℕ) → Fed s p self.old → DeliversKeeping s p what self.new) }
         ensures err { OnErr result ((s : ClientState) (p : List ℕ) → Fed s p self.old → StopsDelivery s p self.new) }
-        ensures dropped { feed_of self.old ≡ rest_dropped → result ≡ Ok (AnIgnored is_cut) }
+        ensures dropped { feed_of self.old ≡ rest_dropped → result ≡ Ok (AnIgnored cut_off) }
         ensures ended { feed_of self.new ≡ nothing_fed }
     {
         fronts_are_read();

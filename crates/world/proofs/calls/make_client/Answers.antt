@@ -7,8 +7,12 @@ use Rattle.world.proofs.calls.make_client.Goals as goal
 pub returns-in_ok-push-in-Ok : goal.returns-in_ok-push-in-Ok
 returns-in_ok-push-in-Ok c =
     let P : Option ClientError → Type 0 = λ o. MakesBy o c.args.name.now c.args.blocks c.quiet.result c.args.clients.now.items c.push.new.self.items in
-    subst P (sym c.in-Ok.ensures.ok) (c.in-Ok.client, c.in-Ok.ensures.starts, record {
-      done = c.quiet.ensures.effect ∙ ap (λ (m : ℕ). effects.Made m) (omega (arith, c.args.clients.now.ok.0));
-      report = c.quiet.ensures.report;
-      same = c.in_ok-push-in-Ok.ensures.items;
-    })
+    subst P (sym c.in-Ok.ensures.ok) (
+      c.in-Ok.client,
+      c.in-Ok.ensures.starts,
+      record {
+        done = c.quiet.ensures.effect ∙ ap (λ (m : ℕ). effects.Made m) (omega (arith, c.args.clients.now.ok.0));
+        report = c.quiet.ensures.report;
+        same = c.in_ok-push-in-Ok.ensures.items;
+      },
+    )
