@@ -1,5 +1,5 @@
 //! The ranges of a file that a query needs.
-ghost use Rattle.std.specs.Prelude.{◌≡◌, true, false, ◌++◌, ◌<◌, ◌≤◌, ◌^◌, ◌⊎◌, ℕ, IfOk, IfSome, IfNone, MatchOption, OnOk, Option, Some, None, List, ◌∷◌, if◌then◌else◌, map, not};
+ghost use Rattle.std.specs.Prelude.{◌≡◌, true, false, ◌++◌, ◌+◌, ◌<◌, ◌≤◌, ◌^◌, ◌⊎◌, ℕ, IfOk, IfSome, IfNone, MatchOption, OnOk, Option, Some, None, List, ◌∷◌, if◌then◌else◌, map, not};
 ghost use Rattle.std.specs.List.{flat_map, filter, sum_by};
 ghost use Rattle.std.specs.Option.{option_map, option_to_list};
 ghost use Rattle.tiff_dir.specs.File.{directories};

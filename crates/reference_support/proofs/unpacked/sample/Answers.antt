@@ -3,7 +3,7 @@ use Rattle.std.specs.Option.{option_map}
 use Rattle.tiff_dir.specs.Window.{tile_at, sample_in, place_in_tile}
 use Rattle.reference_support.specs.Modest.{layout_of, modest_level}
 use Rattle.reference_support.specs.Tile.{HasNoTile, IsTile}
-use Rattle.reference_support.proofs.SampleLemmas.{no_sample, no_tile_no_sample, some_sample}
+use Rattle.reference_support.proofs.SampleLemmas.{no_order, no_sample, no_tile_no_sample, some_sample}
 use Rattle.reference_support.proofs.unpacked.sample.Goals as goal
 
 pub returns-in_default-3-clause-none : goal.returns-in_default-3-clause-none
@@ -32,3 +32,6 @@ returns-clause-none c =
     λ some. no_sample c.one_text.ensures.text c.args.file.now c.in-Some.order c.args.n c.args.x c.args.y c.args.c l c.in-Some-3.plain.items c.sample_in.result (sym c.order_of.ensures ∙ c.in-Some.is) modest tile
     (c.sample_in.ensures ∙ ap (λ p. sample_in c.in-Some.order l.bits c.deref.result.now p) c.place_in_tile-place.ensures.place
     ∙ ap (λ xs. sample_in c.in-Some.order l.bits xs (place_in_tile l c.args.x c.args.y c.args.c)) c.deref.ensures.value)
+
+pub returns-in_default-clause-none : goal.returns-in_default-clause-none
+returns-in_default-clause-none c = λ some. no_order c.args.file.now c.args.n c.args.x c.args.y c.args.c (sym c.order_of.ensures ∙ c.in_default.is)

@@ -4,7 +4,7 @@ use Rattle.tiff_dir.specs.Level.{tile_total}
 use Rattle.tiff_dir.specs.Window.{tile_at, sample_in, place_in_tile}
 use Rattle.reference_support.specs.Modest.{grid_of, layout_of}
 use Rattle.reference_support.specs.Tile.{HasNoTile, IsTile}
-use Rattle.reference_support.proofs.SampleLemmas.{no_sample, no_tile_no_sample, some_sample}
+use Rattle.reference_support.proofs.SampleLemmas.{no_order, no_sample, no_tile_no_sample, some_sample}
 use Rattle.reference_support.proofs.RowLemmas.{tile_inside, tile_read, tile_there}
 use Rattle.reference_support.proofs.unpacked.sample_of.Goals as goal
 
@@ -47,3 +47,7 @@ returns-clause-none c = λ column row.
     no_sample c.one_text.ensures.text f c.in_ok-order.order c.args.n c.args.x c.args.y c.args.c l plain c.sample_in.result (sym c.order_of.ensures ∙ c.in_ok-order.was) c.requires.level tile
     (c.sample_in.ensures ∙ ap (λ p. sample_in c.in_ok-order.order l.bits c.deref.result.now p) c.place_in_tile-place.ensures.place
     ∙ ap (λ xs. sample_in c.in_ok-order.order l.bits xs (place_in_tile l c.args.x c.args.y c.args.c)) c.deref.ensures.value)
+
+pub returns-in_err-order-clause-none : goal.returns-in_err-order-clause-none
+returns-in_err-order-clause-none c = λ column row.
+    rw c.from_residual.ensures (no_order c.args.file.now c.args.n c.args.x c.args.y c.args.c (sym c.order_of.ensures ∙ c.in_err-order.was))
