@@ -71,7 +71,7 @@ each_run P laws each w cs (e ∷ es) [] new g hosts h = h
 each_run P laws each w cs (e ∷ es) (n ∷ ns) new g hosts (mid, step, rest) =
     (each w cs e n mid g hosts step, each_run P laws each (after w e n.effect) mid es ns new (sound_step laws w cs e n mid g step).good (hosted_step w cs e n mid step hosts) rest)
 
-good_run : (laws : LowerLaws) (w : World) (cs : List ClientState) (es : List Event) (ns : List Entry) (new : List ClientState) → Good w cs → RunsKeeping w cs es ns new → Good (after_all w es ns) new
+pub good_run : (laws : LowerLaws) (w : World) (cs : List ClientState) (es : List Event) (ns : List Entry) (new : List ClientState) → Good w cs → RunsKeeping w cs es ns new → Good (after_all w es ns) new
 good_run laws w cs [] [] new g h = subst (Good w) (sym h) g
 good_run laws w cs [] (n ∷ ns) new g h = absurd h
 good_run laws w cs (e ∷ es) [] new g h = absurd h
