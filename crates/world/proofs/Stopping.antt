@@ -1,11 +1,13 @@
 -- Where memory was wanting within a call or an event, what each client holds is still of the book.
-use Rattle.std.proofs.Common.{◌≡◌, ℕ, zero, suc, Bool, true, false, cond, List, [], ◌∷◌, ◌++◌, length, take, get_or, Option, Some, None, Result, Ok, Err, refl, sym, ap, ◌∙◌, subst, arith, ◌<◌, inl, inr, append-nil}
-use Rattle.std.specs.Prelude.{IfSome, IsSomeAnd, OnErr, OnOk, if◌then◌else◌, nat_lt, slice_get, slice_set}
+use Rattle.std.proofs.Common.{◌≡◌, ℕ, zero, suc, Bool, true, false, List, [], ◌∷◌, ◌++◌, length, take, get_or, Option, Some, None, Result, Ok, Err, refl, sym, ap, ◌∙◌, subst, arith, ◌<◌, inl, inr, append-nil}
+use Rattle.std.specs.Prelude.{IfSome, IsSomeAnd, OnErr, OnOk, if◌then◌else◌, nat_lt, option_and_then, slice_get, slice_set}
+use Rattle.std.proofs.lemmas.Bool.Decides.{nat_tests}
 use Rattle.std.proofs.lemmas.List.{append_assoc}
 use Rattle.std.proofs.lemmas.Option.{same_Some}
-use Rattle.http_range.specs.Book.{Book, Catalogue, HasDistinctTags, Includes}
+use Rattle.http_range.specs.Book.{Book, Catalogue, Includes}
 use Rattle.http_range.specs.Honest.{IsFront, IsPieceOfBook, IsReadAs}
 use Rattle.cog_server.specs.declared.server.Answer.{Answer}
+use Rattle.cog_server.specs.Server.{ServerState}
 use Rattle.cog_client.specs.declared.error.ClientError.{ClientError}
 use Rattle.cog_client.specs.Client.{ClientAgrees, ClientState, IsOfBook, asked_of, client_refusal, closes, host_of, name_of, revision_of, tag_of}
 use Rattle.cog_client.specs.Keeps.{RequestsKeeping, StopsDelivery}
@@ -17,9 +19,10 @@ use Rattle.world.specs.declared.event.Entry.{Entry}
 use Rattle.world.specs.declared.event.Event.{Event}
 use Rattle.world.specs.declared.event.Event.TheVariants.{Publish, Epoch, NewClient, Open, Forget, Ask, AskFrom, Deliver, Exchange, Check}
 use Rattle.world.specs.World.{World, AreOfBook, after, after_all, host, is_for, made_by, scheduled, start}
-use Rattle.world.specs.Run.{Asks, IsExchanged, cut_at, receiver}
-use Rattle.world.specs.State.{CallsWith, IsDeliveredKeeping, IsGiven, RunsKeeping, StepKeeping, StillAgrees, StopsAt, StopsDelivering, StopsStep, request_in}
+use Rattle.world.specs.Run.{Asks, IsExchanged, cut_at}
+use Rattle.world.specs.State.{CallsWith, IsDeliveredKeeping, IsGiven, IsState, RunsKeeping, StepKeeping, StillAgrees, StopsAt, StopsDelivering, StopsStep, answer_at, request_in}
 use Rattle.world.specs.LowerLaws.{LowerLaws}
+use Rattle.world.proofs.Kept.{kept_at, kept_length}
 use Rattle.world.proofs.Lists.{get-set, get_there}
 use Rattle.world.proofs.Good.{Good, good_start, nothing_agrees, restart_by}
 use Rattle.world.proofs.Whole.{good_run}
@@ -55,6 +58,9 @@ exchange_stops catalogue sent i (Some a) c mid next asks k (front, is, stops) bo
 pub delivery_stops : (text : List ℕ) (c next : ClientState) → ((front : List ℕ) × IsFront front text × StopsDelivery c front next) → StillAgrees (λ t. IsFront t text) c next
 delivery_stops text c next (front, is, stops) book distinct agrees given = stops.agrees book distinct agrees (given front is)
 
+pub is_inside : (i n : ℕ) → true ≡ nat_lt i n → i < n
+is_inside i n h = grind (arith, nat_tests)
+
 -- a call of the client that is there
 pub stops_at : (Given : ClientState → List ℕ → Type 0) (old : List ClientState) (i : ℕ) (c next : ClientState) → i < length old → c ≡ get_or old i c → StillAgrees (Given c) c next → StopsAt (slice_get old i) Given i old (slice_set old i next)
 stops_at Given old i c next inside is h =
@@ -69,6 +75,23 @@ stops_received a o cut i old new c at own h =
     let P : Option ClientState → Type 0 = λ o. StopsDelivering (Some a) o cut i old new in
     let Q : Bool → Type 0 = λ b. StopsAt (if b then Some c else None) Given i old new in
     subst P (sym at) (subst Q own (subst (λ o. StopsAt o Given i old new) at h))
+
+-- ---- within the code's step
+
+-- a call is left, where the code's state is the world's
+pub exchange_left : {T E : Type 0} (r : Result T E) (server : ServerState) (entries : List Entry) (places : List ℕ) (number : ℕ) (cs new : List ClientState) (e : Event) (i : ℕ) → e ≡ Exchange i → number ≡ length places
+    → OnErr r (StopsAt (slice_get cs i) (IsGiven server.catalogue number i calls.Exchange) i cs new) → OnErr r ((w : World) → IsState w server entries places → StopsStep w cs e new)
+exchange_left (Ok x) server entries places number cs new e i is at h = tt
+exchange_left (Err x) server entries places number cs new e i is at h = λ w state.
+    let R : Catalogue → ℕ → Type 0 = λ catalogue sent. StopsAt (slice_get cs i) (IsGiven catalogue sent i calls.Exchange) i cs new in
+    let sent : number ≡ length w.sent = at ∙ kept_length entries places w.sent state.kept in
+    subst (λ (f : Event). StopsStep w cs f new) (sym is) (subst (λ k. R w.catalogue k) sent (subst (λ (s : ServerState). R s.catalogue number) state.server_at h))
+
+pub deliver_left : {T E : Type 0} (r : Result T E) (server : ServerState) (entries : List Entry) (places : List ℕ) (cs new : List ClientState) (e : Event) (i k : ℕ) (cut : Option ℕ) (o : Option Answer) → e ≡ Deliver i k cut
+    → o ≡ option_and_then (answer_at entries) (slice_get places k) → OnErr r (StopsDelivering o (slice_get cs i) cut i cs new) → OnErr r ((w : World) → IsState w server entries places → StopsStep w cs e new)
+deliver_left (Ok x) server entries places cs new e i k cut o is found h = tt
+deliver_left (Err x) server entries places cs new e i k cut o is found h = λ w state.
+    subst (λ (f : Event). StopsStep w cs f new) (sym is) (subst (λ a. StopsDelivering a (slice_get cs i) cut i cs new) (found ∙ kept_at entries places w.sent k state.kept) h)
 
 -- ---- within an event
 

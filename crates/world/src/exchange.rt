@@ -1,5 +1,5 @@
 //! What happens between a client and the server.
-ghost use Rattle.std.specs.Prelude.{◌≡◌, ⊥, ℕ, List, Option, Some, IfOk, IsSomeAnd, OnErr, slice_get};
+ghost use Rattle.std.specs.Prelude.{◌≡◌, ℕ, List, Option, Some, IfOk, IsSomeAnd, OnErr, slice_get};
 ghost use Rattle.http_range.specs.Ask.{CanCheck};
 ghost use Rattle.http_range.specs.Honest.{IsFront};
 ghost use Rattle.cog_client.specs.Client.{asked_of, host_of, name_of, tag_of};

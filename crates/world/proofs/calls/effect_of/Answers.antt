@@ -1,11 +1,13 @@
 use Rattle.std.proofs.Common.{Option, Some, None, sym, subst}
-use Rattle.std.specs.Prelude.{IfOk}
+use Rattle.std.specs.Prelude.{IfOk, OnErr}
 use Rattle.cog_client.specs.Keeps.{RequestsKeeping}
 use Rattle.world.specs.declared.calls.Call.{Call}
 use Rattle.world.specs.declared.event.AnsweredRequest.{AnsweredRequest}
 use Rattle.world.specs.declared.event.Effect.TheVariants as effects
 use Rattle.world.specs.Run.{Asks}
-use Rattle.world.specs.State.{CallsWith, request_in}
+use Rattle.world.specs.State.{CallsWith, IsGiven, StillAgrees, request_in}
+use Rattle.world.proofs.Stopping.{delivery_stops, exchange_stops}
+use Rattle.world.proofs.Whole.{on_err_of, then_err_of}
 use Rattle.world.proofs.CallLemmas.{asks_keeping, delivers_keeping, exchanges_keeping}
 use Rattle.world.proofs.calls.effect_of.Goals as goal
 
@@ -33,3 +35,15 @@ pub returns-in_ok-delivered-in-Deliver-clause-ok : goal.returns-in_ok-delivered-
 returns-in_ok-delivered-in-Deliver-clause-ok c =
     subst (λ (k : Call). CallsWith c.args.server.now.catalogue c.args.number c.args.i k (effects.Delivered c.args.i c.in_ok-delivered-in-Deliver.delivered) c.args.client.now c.hand_over.new.client) (sym c.in-Deliver.is)
     (delivers_keeping _ _ _ _ c.in_ok-delivered-in-Deliver.delivered c.in_ok-delivered-in-Deliver.ensures.ok)
+
+pub returns-in_ok-asked-in-Exchange-clause-err : goal.returns-in_ok-asked-in-Exchange-clause-err
+returns-in_ok-asked-in-Exchange-clause-err c =
+    subst (λ (k : Call). OnErr c.deliver_whole.result (StillAgrees (IsGiven c.args.server.now.catalogue c.args.number c.args.i k c.args.client.now) c.args.client.now c.deliver_whole.new.client)) (sym c.in-Exchange.is)
+    (then_err_of c.deliver_whole.result (exchange_stops c.args.server.now.catalogue c.args.number c.args.i c.in_ok-asked-in-Exchange.asked c.args.client.now c.ask_from-in-Exchange.new.client c.deliver_whole.new.client
+    c.in_ok-asked-in-Exchange.ensures.seen c.in_ok-asked-in-Exchange.ensures.kept) c.deliver_whole.ensures.err)
+
+pub returns-in_err-delivered-in-Deliver-clause-err : goal.returns-in_err-delivered-in-Deliver-clause-err
+returns-in_err-delivered-in-Deliver-clause-err c =
+    on_err_of c.from_residual-in_err-delivered-in-Deliver.result _
+    (subst (λ (k : Call). StillAgrees (IsGiven c.args.server.now.catalogue c.args.number c.args.i k c.args.client.now) c.args.client.now c.hand_over.new.client) (sym c.in-Deliver.is)
+    (delivery_stops c.in-Deliver.text.now c.args.client.now c.hand_over.new.client c.in_err-delivered-in-Deliver.ensures.err))

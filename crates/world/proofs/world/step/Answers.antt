@@ -5,6 +5,7 @@ use Rattle.world.specs.declared.event.Event.TheVariants.{AskFrom, Exchange, Chec
 use Rattle.world.specs.Run.{AtClient}
 use Rattle.world.specs.State.{AsksWithKeeping, ExchangesWithKeeping, IsCheckBy, Keeping}
 use Rattle.world.proofs.Whole.{ok_ask, ok_call, ok_deliver, ok_publish}
+use Rattle.world.proofs.Stopping.{deliver_left, exchange_left}
 use Rattle.world.proofs.world.step.Goals as goal
 
 pub returns-in-Publish-clause-ok : goal.returns-in-Publish-clause-ok
@@ -39,3 +40,12 @@ returns-in-Check-clause-ok c =
     ok_call (λ i. Check i) (λ catalogue sent i n old new. IsCheckBy (slice_get old i) catalogue sent i n old new) (λ w i n old new h. (h, refl))
     c.check_at.result c.args.server.now c.args.entries.now c.args.places.now (length c.args.places.now) c.args.clients.now.items c.args.clients.now.items c.args.event.now c.in-Check.client c.in-Check.client
     c.in-Check.is refl refl (subst P c.deref-in-Check.ensures.value c.check_at.ensures)
+
+pub returns-in-Deliver-clause-err : goal.returns-in-Deliver-clause-err
+returns-in-Deliver-clause-err c =
+    deliver_left c.deliver_at.result c.args.server.now c.args.entries.now c.args.places.now c.args.clients.now.items _ c.args.event.now c.in-Deliver.client c.in-Deliver.answer c.in-Deliver.cut _ c.in-Deliver.is c.answer_of-answer.ensures c.deliver_at.ensures.err
+
+pub returns-in-Exchange-clause-err : goal.returns-in-Exchange-clause-err
+returns-in-Exchange-clause-err c =
+    exchange_left c.call_at-in-Exchange.result c.args.server.now c.args.entries.now c.args.places.now (length c.args.places.now) c.args.clients.now.items c.call_at-in-Exchange.new.clients.items c.args.event.now c.in-Exchange.client
+    c.in-Exchange.is refl c.call_at-in-Exchange.ensures.err
