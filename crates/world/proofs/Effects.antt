@@ -6,8 +6,6 @@ use Rattle.cog_server.specs.declared.server.Answer.{Answer}
 use Rattle.cog_client.specs.declared.delivered.Delivered.{Delivered}
 use Rattle.cog_client.specs.declared.error.ClientError.{ClientError}
 use Rattle.cog_client.specs.Client.{ClientState, client_refusal}
-use Rattle.world.specs.declared.event.AnsweredCheck.{AnsweredCheck}
-use Rattle.world.specs.declared.event.AnsweredRequest.{AnsweredRequest}
 use Rattle.world.specs.declared.event.Effect.{Effect}
 use Rattle.world.specs.declared.event.Effect.TheVariants as effects
 use Rattle.world.specs.declared.event.Entry.{Entry}

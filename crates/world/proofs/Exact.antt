@@ -19,7 +19,6 @@ use Rattle.cog_client.specs.declared.delivered.Current.TheVariants.{Same, Other}
 use Rattle.cog_client.specs.Check.{current_by}
 use Rattle.cog_client.specs.Client.{ClientState, host_of, name_of}
 use Rattle.world.specs.declared.event.Event.{Event}
-use Rattle.world.specs.declared.event.Event.TheVariants.{Publish, Epoch, NewClient, Open, Forget, Ask, AskFrom, Deliver, Exchange, Check}
 use Rattle.world.specs.declared.event.AnsweredCheck.{AnsweredCheck}
 use Rattle.world.specs.declared.event.AnsweredRequest.{AnsweredRequest}
 use Rattle.world.specs.declared.event.Effect.{Effect}

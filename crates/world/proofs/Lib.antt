@@ -8,3 +8,4 @@ pub mod Reached
 pub mod Kept
 pub mod CallLemmas
 pub mod Whole
+pub mod Stopping

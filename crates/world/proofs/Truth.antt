@@ -193,7 +193,7 @@ served_name laws name catalogue first last tag (Some p) e =
     by_case false inside named = inl (ap Some named)
 
 -- a client's request is that for a span
-asked_for : (c : ClientState) (o : Option Span) (request : List ℕ) → Some request ≡ request_for c o → IfSome o (λ s. CanAsk (host_of c) (name_of c) s.first s.last (tag_of c))
+pub asked_for : (c : ClientState) (o : Option Span) (request : List ℕ) → Some request ≡ request_for c o → IfSome o (λ s. CanAsk (host_of c) (name_of c) s.first s.last (tag_of c))
     → (s : Span) × (request ≡ request_by (closes c) (host_of c) (name_of c) s.first s.last (tag_of c)) × CanAsk (host_of c) (name_of c) s.first s.last (tag_of c)
 asked_for c None request e can = absurd (none-some request (sym e))
 asked_for c (Some s) request e can = (s, same_Some _ _ e, can)
@@ -208,13 +208,13 @@ for_named name None h = refl
 for_named name (Some other) (inl is) = (bytes_eq-Decides other.items name).1 (same_Some _ _ is)
 for_named name (Some other) (inr none) = absurd (none-some _ (sym none))
 
-front_is : (cut : Option ℕ) (text : List ℕ) → IsFront (cut_at cut text) text
+pub front_is : (cut : Option ℕ) (text : List ℕ) → IsFront (cut_at cut text) text
 front_is None text = ([], append-nil text)
 front_is (Some n) text = (drop n text, take-append-drop n text)
 
 module _ (laws : LowerLaws) where
   -- what the server of the world answers is honest in every later book
-  answer_honest : (w : World) (cs : List ClientState) (message : List ℕ) (a : Answer) → Good w cs → IsAnswered w.catalogue message a → StaysHonest a w.book
+  pub answer_honest : (w : World) (cs : List ClientState) (message : List ℕ) (a : Answer) → Good w cs → IsAnswered w.catalogue message a → StaysHonest a w.book
   answer_honest w cs message a g h = λ name later for inc.
       let Q : List ℕ → Type 0 = λ t. IsHonest t name later in
       let for_it = named_for name a.name for in
@@ -222,7 +222,7 @@ module _ (laws : LowerLaws) where
       subst Q (sym h.shows.text) (laws.honest.answered w.catalogue later message h.response name g.lawful (λ m p found. inc p (g.covers m p found)) h.answers named)
 
   -- the answer to a client's own request is for its name
-  answer_for : (catalogue : Catalogue) (close : Bool) (host name : List ℕ) (tag : Option (List ℕ)) (s : Span) (request : List ℕ) (a : Answer)
+  pub answer_for : (catalogue : Catalogue) (close : Bool) (host name : List ℕ) (tag : Option (List ℕ)) (s : Span) (request : List ℕ) (a : Answer)
       → request ≡ request_by close host name s.first s.last tag → CanAsk host name s.first s.last tag → IsAnswered catalogue request a → is_for a name ≡ true
   answer_for catalogue close host name tag s request a is can h =
       let text : request ≡ request_by close host name s.first s.last tag ++ [] = is ∙ sym (append-nil _) in

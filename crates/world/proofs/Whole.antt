@@ -1,6 +1,6 @@
 -- A run goes on by one event, and a whole run is a log.
 use Rattle.tiff_dir.specs.declared.tags.TheConstants.{BITS_PER_SAMPLE, GEO_ASCII_PARAMS, GEO_DOUBLE_PARAMS, MODEL_PIXEL_SCALE, MODEL_TIEPOINT, MODEL_TRANSFORMATION, SAMPLES_PER_PIXEL}
-use Rattle.std.proofs.Common.{◌≡◌, ℕ, zero, suc, List, [], ◌∷◌, ◌++◌, length, map, take, Option, Some, None, refl, sym, ap, ◌∙◌, subst, inl, inr, ◌<◌, ◌≤◌, ◌+◌, get_or, Result, Ok, Err}
+use Rattle.std.proofs.Common.{◌≡◌, ℕ, zero, suc, List, [], ◌∷◌, ◌++◌, length, map, take, Option, Some, None, refl, sym, ap, ◌∙◌, subst, ◌<◌, ◌≤◌, ◌+◌, get_or, Result, Ok, Err}
 use Rattle.std.specs.Prelude.{IfOk, IfSome, IsSomeAnd, OnOk, OnErr, if◌then◌else◌, is_some, option_and_then, slice_get}
 use Rattle.std.specs.Option.{option_map, option_map_or}
 use Rattle.std.proofs.Common.{Vec, Global}
@@ -33,7 +33,6 @@ use Rattle.world.specs.declared.event.Event.{Event}
 use Rattle.world.specs.declared.event.Event.TheVariants.{Publish, Epoch, NewClient, Open, Forget, Ask, AskFrom, Deliver, Exchange, Check}
 use Rattle.world.specs.declared.event.AnsweredCheck.{AnsweredCheck}
 use Rattle.world.specs.declared.event.Effect.{Effect}
-use Rattle.world.specs.declared.event.Effect.TheVariants as effects
 use Rattle.world.specs.declared.event.Entry.{Entry}
 use Rattle.world.specs.Progress.{IsNeededEntry}
 use Rattle.world.specs.World.{World, Seen, start, answer_in, next_of, publish_by, after, after_all, client_of, AtEach, IsTrueAt, IsTrueEntry, IsToldIn, SayTheSame, shown, AreAlike, AreOfBook, IsHonestEntry, IsExactEntry}
@@ -71,7 +70,7 @@ each_run P laws each w cs (e ∷ es) [] new g hosts h = h
 each_run P laws each w cs (e ∷ es) (n ∷ ns) new g hosts (mid, step, rest) =
     (each w cs e n mid g hosts step, each_run P laws each (after w e n.effect) mid es ns new (sound_step laws w cs e n mid g step).good (hosted_step w cs e n mid step hosts) rest)
 
-good_run : (laws : LowerLaws) (w : World) (cs : List ClientState) (es : List Event) (ns : List Entry) (new : List ClientState) → Good w cs → RunsKeeping w cs es ns new → Good (after_all w es ns) new
+pub good_run : (laws : LowerLaws) (w : World) (cs : List ClientState) (es : List Event) (ns : List Entry) (new : List ClientState) → Good w cs → RunsKeeping w cs es ns new → Good (after_all w es ns) new
 good_run laws w cs [] [] new g h = subst (Good w) (sym h) g
 good_run laws w cs [] (n ∷ ns) new g h = absurd h
 good_run laws w cs (e ∷ es) [] new g h = absurd h

@@ -8,7 +8,7 @@ use Rattle.http_range.specs.Book.{Publication, In, published}
 use Rattle.cog_client.specs.Take.{first_span}
 use Rattle.cog_client.specs.Progress.{IsOfNeeded}
 use Rattle.world.specs.declared.event.Event.{Event}
-use Rattle.world.specs.declared.event.Event.TheVariants.{Open, AskFrom, Exchange}
+use Rattle.world.specs.declared.event.Event.TheVariants.{Open, Exchange}
 use Rattle.world.specs.declared.event.AnsweredRequest.{AnsweredRequest}
 use Rattle.world.specs.declared.event.Effect.{Effect}
 use Rattle.world.specs.declared.event.Effect.TheVariants as effects

@@ -1,7 +1,6 @@
 -- A run: what each event does to the clients, and what is logged of it, by the contracts of the calls.
 use Rattle.std.specs.Prelude.{◌≡◌, ℕ, ◌^◌, ◌<◌, nat_lt, if◌then◌else◌, List, [], ◌∷◌, ◌++◌, length, take, Option, Some, None, IfSome, is_some, option_and_then, slice_get, slice_set}
 use Rattle.std.specs.Option.{option_map, option_map_or}
-use Rattle.tiff_dir.specs.declared.query.Query.{Query}
 use Rattle.http_range.specs.Ask.{check_text}
 use Rattle.http_range.specs.Book.{Catalogue, HasDistinctTags}
 use Rattle.cog_server.specs.declared.error.PublishError.{PublishError}
@@ -126,7 +125,8 @@ IsChecked catalogue sent i c effect = (effect ≡ effects.Unchecked i) × (tag_o
 
 -- One event, with what is logged of it.
 abbrev pub Step : World → List ClientState → Event → Entry → List ClientState → Type 0
-Step w old (Publish name file) n new = Quiet n (publish_effect (next_of w name.items file.items).tag (refusal_of w.count w.catalogue name.items file.items)) old new
+Step w old (Publish name file) n new =
+    Quiet n (publish_effect (next_of w name.items file.items).tag (refusal_of w.count w.catalogue name.items file.items)) old new
 Step w old (Epoch e) n new = (e < 2 ^ 32) × Quiet n (if nat_lt w.epoch e then effects.Epoch e else effects.Skipped) old new
 Step w old (NewClient name blocks) n new = MakesBy (client_refusal host name.items blocks) name.items blocks n old new
 Step w old (Open i q) n new = AtClient (slice_get old i) (λ c next. (n.effect ≡ effects.Opened i) × Opens q c next) i n old new

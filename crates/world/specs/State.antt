@@ -1,11 +1,12 @@
 -- What only the code's steps and their proofs need: what the calls of clients keep of the files that these know, and how the
 -- code holds the world.
-use Rattle.std.specs.Prelude.{◌≡◌, ℕ, ◌+◌, ◌^◌, ◌<◌, ⊤, nat_lt, if◌then◌else◌, List, [], ◌∷◌, ◌++◌, length, Option, Some, None, IfSome, slice_get, option_and_then}
+use Rattle.std.specs.Prelude.{◌≡◌, ℕ, ◌+◌, ◌^◌, ◌<◌, ⊤, nat_lt, if◌then◌else◌, List, [], ◌∷◌, ◌++◌, length, Option, Some, None, IfSome, slice_get, slice_set, option_and_then}
 use Rattle.std.specs.Option.{option_map}
 use Rattle.std.specs.Bool.{MatchBool}
 use Rattle.tiff_dir.specs.declared.query.Query.{Query}
 use Rattle.http_range.specs.Ask.{CanCheck}
-use Rattle.http_range.specs.Book.{Publication, Book, Catalogue, publish, publication_tag}
+use Rattle.http_range.specs.Book.{Publication, Book, Catalogue, HasDistinctTags, publish, publication_tag}
+use Rattle.http_range.specs.Honest.{IsFront, IsPieceOfBook, IsReadAs}
 use Rattle.cog_server.specs.declared.error.PublishError.{PublishError}
 use Rattle.cog_server.specs.declared.server.Answer.{Answer}
 use Rattle.cog_server.specs.Server.{IsAnswered, ServerState, refusal_of}
@@ -24,7 +25,7 @@ use Rattle.world.specs.declared.event.Effect.{Effect}
 use Rattle.world.specs.declared.event.Effect.TheVariants as effects
 use Rattle.world.specs.declared.event.Entry.{Entry}
 use Rattle.world.specs.World.{World, after, answer_in}
-use Rattle.world.specs.Run.{AsksWith, AtClient, DeliversWith, ExchangesWith, IsCheckOf, Quiet, Step, cut_at, publish_effect, receiver, told_of}
+use Rattle.world.specs.Run.{Asks, AsksWith, AtClient, DeliversWith, ExchangesWith, IsCheckOf, Quiet, Step, cut_at, publish_effect, receiver, told_of}
 
 -- ---- what the calls keep
 
@@ -117,6 +118,39 @@ RunsKeeping w old [] [] new = new ≡ old
 RunsKeeping w old [] (n ∷ ns) new = ⊥
 RunsKeeping w old (e ∷ es) [] new = ⊥
 RunsKeeping w old (e ∷ es) (n ∷ ns) new = (mid : List ClientState) × StepKeeping w old e n mid × RunsKeeping (after w e n.effect) mid es ns new
+
+-- ---- want of memory
+
+-- The client agrees with each book that it agreed with, as far as the texts that it may have been given show pieces of this book.
+abbrev pub StillAgrees : (List ℕ → Type 0) → ClientState → ClientState → Type 0
+StillAgrees Given c next = (book : Book) → HasDistinctTags book → ClientAgrees c book
+    → ((text : List ℕ) → Given text → IsReadAs (IsPieceOfBook (name_of c) book) text) → ClientAgrees next book
+
+-- the texts that a client may have been given, by which of its calls was left
+abbrev pub IsGiven : Catalogue → ℕ → ℕ → Call → ClientState → List ℕ → Type 0
+IsGiven catalogue sent i calls.Exchange c text = (a : AnsweredRequest) × (mid : ClientState)
+    × Asks catalogue sent i (Some a) c mid × RequestsKeeping c (Some a.request.items) mid × IsFront text a.answer.text.items
+IsGiven catalogue sent i (calls.Deliver whole) c text = IsFront text whole.now
+IsGiven catalogue sent i call c text = ⊥
+
+-- a call of client i was left, and the others stay
+abbrev pub StopsAt : Option ClientState → (ClientState → List ℕ → Type 0) → ℕ → List ClientState → List ClientState → Type 0
+StopsAt None Given i old new = new ≡ old
+StopsAt (Some c) Given i old new = (next : ClientState) × (new ≡ slice_set old i next) × StillAgrees (Given c) c next
+
+abbrev pub StopsDelivering : Option Answer → Option ClientState → Option ℕ → ℕ → List ClientState → List ClientState → Type 0
+StopsDelivering None client cut i old new = new ≡ old
+StopsDelivering (Some a) client cut i old new =
+    StopsAt (receiver (Some a) client) (λ c text. IsFront text (cut_at cut a.text.items)) i old new
+
+-- an event was left
+abbrev pub StopsStep : World → List ClientState → Event → List ClientState → Type 0
+StopsStep w old (Open i q) new = StopsAt (slice_get old i) (λ c text. ⊥) i old new
+StopsStep w old (Forget i) new = StopsAt (slice_get old i) (λ c text. ⊥) i old new
+StopsStep w old (AskFrom i) new = StopsAt (slice_get old i) (λ c text. ⊥) i old new
+StopsStep w old (Exchange i) new = StopsAt (slice_get old i) (IsGiven w.catalogue (length w.sent) i calls.Exchange) i old new
+StopsStep w old (Deliver i k cut) new = StopsDelivering (slice_get w.sent k) (slice_get old i) cut i old new
+StopsStep w old e new = new ≡ old
 
 -- ---- the server
 

@@ -1,9 +1,9 @@
 //! The answers that were sent, which stand in the entries of the log, and their delivery.
-ghost use Rattle.std.specs.Prelude.{◌≡◌, ◌++◌, ◌∷◌, [], IfOk, OnOk, option_and_then, option_copied, slice_get};
+ghost use Rattle.std.specs.Prelude.{◌≡◌, ◌++◌, ◌∷◌, [], IfOk, OnErr, OnOk, option_and_then, option_copied, slice_get};
 ghost use Rattle.cog_client.specs.Client.{name_of};
 ghost use Rattle.world.specs.World.{answer_in, is_for};
 ghost use Rattle.world.specs.Run.{cut_at};
-ghost use Rattle.world.specs.State.{IsDeliveryKeeping, answer_at, noted};
+ghost use Rattle.world.specs.State.{IsDeliveryKeeping, StopsDelivering, answer_at, noted};
 
 use crate::calls::{Call, call_at};
 use crate::event::{Effect, Entry};
@@ -53,7 +53,8 @@ pub fn deliver_at(
     cut: Option<u32>,
     how: Handing,
 ) -> Result<Entry, Memory>
-    ensures { IfOk result (λ n. IsDeliveryKeeping (option_copied answer.entry) (slice_get clients.old.items i) cut i n clients.old.items clients.new.items) }
+    ensures ok { IfOk result (λ n. IsDeliveryKeeping (option_copied answer.entry) (slice_get clients.old.items i) cut i n clients.old.items clients.new.items) }
+    ensures err { OnErr result (StopsDelivering (option_copied answer.entry) (slice_get clients.old.items i) cut i clients.old.items clients.new.items) }
 {
     let Some(answer) = answer else {
         return Ok(quiet(Effect::Skipped));

@@ -1,11 +1,11 @@
 //! What happens at a client.
-ghost use Rattle.std.specs.Prelude.{◌≡◌, IfOk, None, if◌then◌else◌, is_some, slice_get};
+ghost use Rattle.std.specs.Prelude.{◌≡◌, IfOk, None, OnErr, if◌then◌else◌, is_some, slice_get};
 ghost use Rattle.std.specs.Option.{option_map};
 ghost use Rattle.cog_client.specs.Report.{told};
 ghost use Rattle.cog_client.specs.Client.{client_refusal, report_of};
 ghost use Rattle.world.specs.World.{host};
 ghost use Rattle.world.specs.Run.{AtClient, MakesBy};
-ghost use Rattle.world.specs.State.{CallsWith, Keeping, StandsTrue};
+ghost use Rattle.world.specs.State.{CallsWith, IsGiven, Keeping, StandsTrue, StillAgrees, StopsAt};
 
 use crate::event::{Effect, Entry};
 use crate::exchange::{ask_from, deliver_whole};
@@ -59,7 +59,8 @@ pub fn make_client(
     name: &[u8],
     blocks: u32,
 ) -> Result<Entry, Memory>
-    ensures { IfOk result (λ n. MakesBy (client_refusal host name.now blocks) name.now blocks n clients.old.items clients.new.items) }
+    ensures ok { IfOk result (λ n. MakesBy (client_refusal host name.now blocks) name.now blocks n clients.old.items clients.new.items) }
+    ensures err { OnErr result (clients.new.items ≡ clients.old.items) }
 {
     let number = clients.len();
     match Client::new(alloc, b"cog.test", name, blocks) {
@@ -81,7 +82,8 @@ fn effect_of(
     what: Call<'_>,
     how: Handing,
 ) -> Result<Effect, Memory>
-    ensures { IfOk result (λ effect. CallsWith server.now.catalogue number i what.entry effect client.old client.new) }
+    ensures ok { IfOk result (λ effect. CallsWith server.now.catalogue number i what.entry effect client.old client.new) }
+    ensures err { OnErr result (StillAgrees (IsGiven server.now.catalogue number i what.entry client.old) client.old client.new) }
 {
     match what {
         Call::Open(query) => {
@@ -120,7 +122,8 @@ pub fn call_at(
     what: Call<'_>,
     how: Handing,
 ) -> Result<Entry, Memory>
-    ensures { IfOk result (λ n. AtClient (slice_get clients.old.items i) (Keeping (CallsWith server.now.catalogue number i what.entry n.effect)) i n clients.old.items clients.new.items) }
+    ensures ok { IfOk result (λ n. AtClient (slice_get clients.old.items i) (Keeping (CallsWith server.now.catalogue number i what.entry n.effect)) i n clients.old.items clients.new.items) }
+    ensures err { OnErr result (StopsAt (slice_get clients.old.items i) (IsGiven server.now.catalogue number i what.entry) i clients.old.items clients.new.items) }
 {
     let Some(client) = clients.get_mut(i as usize) else {
         return Ok(quiet(Effect::Skipped));

@@ -1,12 +1,13 @@
 //! What happens between a client and the server.
-ghost use Rattle.std.specs.Prelude.{◌≡◌, Option, Some, IfOk, slice_get};
+ghost use Rattle.std.specs.Prelude.{◌≡◌, ℕ, List, Option, Some, IfOk, IsSomeAnd, OnErr, slice_get};
 ghost use Rattle.http_range.specs.Ask.{CanCheck};
+ghost use Rattle.http_range.specs.Honest.{IsFront};
 ghost use Rattle.cog_client.specs.Client.{asked_of, host_of, name_of, tag_of};
 ghost use Rattle.cog_client.specs.Check.{check_of};
 ghost use Rattle.world.specs.declared.event.AnsweredCheck.{AnsweredCheck};
-ghost use Rattle.cog_client.specs.Keeps.{RequestsKeeping};
+ghost use Rattle.cog_client.specs.Keeps.{RequestsKeeping, StopsDelivery};
 ghost use Rattle.world.specs.Run.{Asks, IsAnswerTo, IsExchanged};
-ghost use Rattle.world.specs.State.{IsCheckBy, IsCheckOfKeeping, IsCheckedKeeping, IsDeliveredKeeping, request_in};
+ghost use Rattle.world.specs.State.{IsCheckBy, IsCheckOfKeeping, IsCheckedKeeping, IsDeliveredKeeping, StillAgrees, request_in};
 
 use crate::event::{AnsweredCheck, AnsweredRequest, Effect, Entry};
 use crate::handing::{Handing, hand_over};
@@ -58,6 +59,7 @@ pub fn ask_from(
 ) -> Result<Option<AnsweredRequest>, Memory>
     ensures seen { IfOk result (λ asked. Asks server.now.catalogue number i asked client.old client.new) }
     ensures kept { IfOk result (λ asked. RequestsKeeping client.old (request_in asked) client.new) }
+    ensures err { OnErr result (StillAgrees (λ text. ⊥) client.old client.new) }
 {
     let request = client.request()?;
     let Some(request) = request else {
@@ -77,6 +79,7 @@ pub fn deliver_whole(
 ) -> Result<Effect, Memory>
     ensures seen { IfOk result (λ effect. IsExchanged i asked effect client.old client.new) }
     ensures kept { IfOk result (λ effect. IsDeliveredKeeping asked client.old client.new) }
+    ensures err { OnErr result (IsSomeAnd asked (λ a. (front : List ℕ) × IsFront front a.answer.text.items × StopsDelivery client.old front client.new)) }
 {
     let Some(asked) = asked else {
         return Ok(Effect::Nothing(i));

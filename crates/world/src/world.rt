@@ -5,7 +5,7 @@ ghost use Rattle.http_range.specs.Book.{HasDistinctTags};
 ghost use Rattle.world.specs.World.{AreAlike, AreOfBook, AtEach, IsExactEntry, IsHonestEntry, IsTrueEntry, World, after_all, start};
 ghost use Rattle.world.specs.Progress.{AllReport, IsNeededEntry};
 ghost use Rattle.world.specs.Run.{IsBeginning, IsTrueLog, Runs};
-ghost use Rattle.world.specs.State.{Does, IsState};
+ghost use Rattle.world.specs.State.{Does, IsState, StopsStep};
 
 use crate::answers::{answer_of, deliver_at, keep};
 use crate::calls::{Call, call_at, make_client};
@@ -27,7 +27,7 @@ use std::alloc::Global;
 use tiff_dir::one_window;
 
 /// Runs the events in order and logs each. Want of memory ends the run: then the log has the entries of as many first events, not of
-/// all, and of the clients that it leaves nothing is said.
+/// all.
 ///
 /// ```
 /// let events = vec![in rt.alloc(); Event::Epoch(1), Event::Publish { name, file }]?;
@@ -65,8 +65,8 @@ pub fn run(alloc: Global, events: &[Event], log: &mut Log) -> Result<(), Memory>
     ensures honest { OnOk result (AtEach IsHonestEntry start events.now log.new.entries.items) }
 
     // Each client that the log leaves and that reads a revision has the name, tag and length of one publication of the whole
-    // schedule, and its blocks are that file's.
-    ensures clients { OnOk result (AreOfBook log.new.clients.items (after_all start events.now log.new.entries.items).book) }
+    // schedule, and its blocks are that file's: after want of memory too, and then of one of the events before.
+    ensures clients { AreOfBook log.new.clients.items (after_all start events.now log.new.entries.items).book }
 
     // The entries, and the clients that the log leaves, are those that the schedule and the contracts of the clients' calls
     // make: an event makes a client, or changes only the one that it names, and a report in an entry is that client's.
@@ -92,7 +92,7 @@ pub fn run_cut(alloc: Global, events: &[Event], piece: usize, log: &mut Log) -> 
     ensures checked { OnOk result (AtEach IsExactEntry start events.now log.new.entries.items) }
     ensures distinct { OnOk result (HasDistinctTags (after_all start events.now log.new.entries.items).book) }
     ensures honest { OnOk result (AtEach IsHonestEntry start events.now log.new.entries.items) }
-    ensures clients { OnOk result (AreOfBook log.new.clients.items (after_all start events.now log.new.entries.items).book) }
+    ensures clients { AreOfBook log.new.clients.items (after_all start events.now log.new.entries.items).book }
     ensures logged { OnOk result (Runs start [] events.now log.new.entries.items log.new.clients.items) }
     ensures memory { OnErr result (IsBeginning events.now log.new.entries.items) }
 {
@@ -106,6 +106,7 @@ fn run_by(alloc: Global, events: &[Event], how: Handing, log: &mut Log) -> Resul
     ensures truth { OnOk result (IsTrueLog events.now log.new.entries.items log.new.clients.items) }
     ensures logged { OnOk result (Runs start [] events.now log.new.entries.items log.new.clients.items) }
     ensures memory { OnErr result (IsBeginning events.now log.new.entries.items) }
+    ensures left { OnErr result (AreOfBook log.new.clients.items (after_all start events.now log.new.entries.items).book) }
 {
     lower_laws();
     let mut server = Server::new(alloc, 0);
@@ -156,8 +157,10 @@ fn step(
     event: &Event,
     how: Handing,
 ) -> Result<Entry, Memory>
-    ensures { IfOk result (λ n. (w : World) → IsState w server.old entries.now places.now →
+    ensures ok { IfOk result (λ n. (w : World) → IsState w server.old entries.now places.now →
         Does w clients.old.items event.now n clients.new.items server.new) }
+    ensures err { OnErr result ((w : World) → IsState w server.old entries.now places.now →
+        StopsStep w clients.old.items event.now clients.new.items) }
 {
     let number = places.len();
     match event {

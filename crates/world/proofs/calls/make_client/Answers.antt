@@ -4,8 +4,8 @@ use Rattle.world.specs.declared.event.Effect.TheVariants as effects
 use Rattle.world.specs.Run.{MakesBy}
 use Rattle.world.proofs.calls.make_client.Goals as goal
 
-pub returns-in_ok-push-in-Ok : goal.returns-in_ok-push-in-Ok
-returns-in_ok-push-in-Ok c =
+pub returns-in_ok-push-in-Ok-clause-ok : goal.returns-in_ok-push-in-Ok-clause-ok
+returns-in_ok-push-in-Ok-clause-ok c =
     let P : Option ClientError → Type 0 = λ o. MakesBy o c.args.name.now c.args.blocks c.quiet.result c.args.clients.now.items c.push.new.self.items in
     subst P (sym c.in-Ok.ensures.ok) (
       c.in-Ok.client,

@@ -1,6 +1,7 @@
 use Rattle.std.proofs.Common.{ℕ, [], arith, ap, ◌∙◌}
 use Rattle.world.specs.World.{answer_in, start}
 use Rattle.world.specs.State.{noted}
+use Rattle.world.proofs.Stopping.{event_left, made_event_left}
 use Rattle.world.proofs.Whole.{begun, more, runs_seen, state_at, whole, beginning, whole_truth, on_err_of}
 use Rattle.world.proofs.world.run_by.Goals as goal
 
@@ -13,7 +14,7 @@ pub loop-event-preserved : goal.loop-event-preserved
 loop-event-preserved c =
     let v = c.loop-event in
     let h = more c.args.events.now v.event-index v.log.entries.items v.log.clients.items c.step.new.clients.items c.event-item.result c.in_ok-entry.entry c.push.new.self.items v.server c.step.new.server v.places.items c.keep.new.places.items
-    c.loop-event-test.true c.event-item.is c.in_ok-push.ensures.items (c.in_ok-keep.ensures ∙ ap (λ (k : ℕ). noted (answer_in c.in_ok-entry.entry.effect) k v.places.items) (omega (arith, v.log.entries.ok.0))) v.invariant.runs v.invariant.state (c.in_ok-entry.ensures _ (state_at _ v.server v.log.entries.items c.deref.result.now v.places.items c.deref-in-loop-event.result.now c.deref.ensures.value c.deref-in-loop-event.ensures.value v.invariant.state)) in
+    c.loop-event-test.true c.event-item.is c.in_ok-push.ensures.items (c.in_ok-keep.ensures ∙ ap (λ (k : ℕ). noted (answer_in c.in_ok-entry.entry.effect) k v.places.items) (omega (arith, v.log.entries.ok.0))) v.invariant.runs v.invariant.state (c.in_ok-entry.ensures.ok _ (state_at _ v.server v.log.entries.items c.deref.result.now v.places.items c.deref-in-loop-event.result.now c.deref.ensures.value c.deref-in-loop-event.ensures.value v.invariant.state)) in
     record { runs = h.0; state = h.1 }
 
 pub returns-clause-logged : goal.returns-clause-logged
@@ -37,3 +38,21 @@ returns-in_err-keep-clause-memory c =
 pub returns-in_err-push-clause-memory : goal.returns-in_err-push-clause-memory
 returns-in_err-push-clause-memory c =
     on_err_of c.from_residual-in_err-push.result _ (rw c.in_err-push.ensures.items (beginning c.lower_laws.ensures c.args.events.now c.loop-event.event-index c.loop-event.log.entries.items c.loop-event.log.clients.items c.loop-event-test.true c.loop-event.invariant.runs))
+
+pub returns-in_err-entry-clause-left : goal.returns-in_err-entry-clause-left
+returns-in_err-entry-clause-left c =
+    let v = c.loop-event in
+    on_err_of c.from_residual.result _ (event_left c.lower_laws.ensures c.args.events.now v.event-index v.log.entries.items v.log.clients.items c.event-item.result c.step.new.clients.items v.invariant.runs
+    (c.in_err-entry.ensures.err _ (state_at _ v.server v.log.entries.items c.deref.result.now v.places.items c.deref-in-loop-event.result.now c.deref.ensures.value c.deref-in-loop-event.ensures.value v.invariant.state)))
+
+pub returns-in_err-keep-clause-left : goal.returns-in_err-keep-clause-left
+returns-in_err-keep-clause-left c =
+    let v = c.loop-event in
+    on_err_of c.from_residual-in_err-keep.result _ (made_event_left c.lower_laws.ensures c.args.events.now v.event-index v.log.entries.items v.log.clients.items c.event-item.result c.in_ok-entry.entry c.step.new.clients.items v.invariant.runs
+    (c.in_ok-entry.ensures.ok _ (state_at _ v.server v.log.entries.items c.deref.result.now v.places.items c.deref-in-loop-event.result.now c.deref.ensures.value c.deref-in-loop-event.ensures.value v.invariant.state)).step)
+
+pub returns-in_err-push-clause-left : goal.returns-in_err-push-clause-left
+returns-in_err-push-clause-left c =
+    let v = c.loop-event in
+    on_err_of c.from_residual-in_err-push.result _ (rw c.in_err-push.ensures.items (made_event_left c.lower_laws.ensures c.args.events.now v.event-index v.log.entries.items v.log.clients.items c.event-item.result c.in_ok-entry.entry c.step.new.clients.items v.invariant.runs
+    (c.in_ok-entry.ensures.ok _ (state_at _ v.server v.log.entries.items c.deref.result.now v.places.items c.deref-in-loop-event.result.now c.deref.ensures.value c.deref-in-loop-event.ensures.value v.invariant.state)).step))

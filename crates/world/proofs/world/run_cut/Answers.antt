@@ -1,5 +1,6 @@
 use Rattle.world.specs.Run.{IsTrueLog}
 use Rattle.world.proofs.Whole.{then_ok_of}
+use Rattle.world.proofs.Stopping.{of_both}
 use Rattle.world.proofs.world.run_cut.Goals as goal
 
 pub returns-clause-whole : goal.returns-clause-whole
@@ -27,4 +28,5 @@ pub returns-clause-honest : goal.returns-clause-honest
 returns-clause-honest c = then_ok_of c.run_by.result (λ (t : IsTrueLog c.args.events.now c.run_by.new.log.entries.items c.run_by.new.log.clients.items). t.honest) c.run_by.ensures.truth
 
 pub returns-clause-clients : goal.returns-clause-clients
-returns-clause-clients c = then_ok_of c.run_by.result (λ (t : IsTrueLog c.args.events.now c.run_by.new.log.entries.items c.run_by.new.log.clients.items). t.clients) c.run_by.ensures.truth
+returns-clause-clients c =
+    of_both c.run_by.result (then_ok_of c.run_by.result (λ (t : IsTrueLog c.args.events.now c.run_by.new.log.entries.items c.run_by.new.log.clients.items). t.clients) c.run_by.ensures.truth) c.run_by.ensures.left
