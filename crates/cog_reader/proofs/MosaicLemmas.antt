@@ -18,7 +18,7 @@ use Rattle.tiff_dir.specs.Query.{window_tiles}
 use Rattle.tiff_dir.specs.Walk.{extent_of_span, bytes_in}
 use Rattle.tile_plan.specs.declared.asked.Rectangle.{Rectangle}
 use Rattle.tile_plan.specs.declared.plan.Group.{Group}
-use Rattle.tile_plan.specs.Levels.{rectangle_of, IsSmall}
+use Rattle.tile_plan.specs.Levels.{IsSmall}
 use Rattle.tile_plan.specs.Plan.{AreGroups, Adjoin, tiles_of, group_of, IsGroup, IsPlanned}
 use Rattle.tile_plan.specs.Canvas.{Picture, picture_size}
 use Rattle.cog_reader.specs.declared.arrays.Arrays.{Arrays}

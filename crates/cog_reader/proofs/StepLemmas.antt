@@ -1,5 +1,5 @@
 -- What a state becomes without another byte.
-use Rattle.std.proofs.Common.{◌≡◌, ℕ, suc, ◌+◌, ◌*◌, ◌<◌, ◌≤◌, ◌++◌, ◌∷◌, [], inl, inr, Bool, true, false, if◌then◌else◌, List, length, drop, map, get_or, Option, Some, None, refl, sym, subst, ap, ◌∙◌, arith, length-append, eq-eqb}
+use Rattle.std.proofs.Common.{◌≡◌, ℕ, suc, ◌+◌, ◌*◌, ◌<◌, ◌≤◌, ◌++◌, ◌∷◌, [], inl, inr, Bool, true, false, if◌then◌else◌, List, length, drop, get_or, Option, Some, None, refl, sym, subst, ap, ◌∙◌, arith, eq-eqb}
 use Rattle.std.specs.Prelude.{Result, Ok, Err, IfOk, IsSome, ◌||◌, ◌⊎◌, ◌==◌, slice_get, IsSomeAnd}
 use Rattle.std.specs.Option.{option_map, option_map_or, option_to_list}
 use Rattle.std.specs.List.{cons_option, filter, flat_map, list_any, range_with_len}

@@ -1,6 +1,6 @@
 -- A client's requests: for a range of a file, and a check whether it is still the same (RFC 9110, sections 13.1.2, 13.1.5
 -- and 14.2; RFC 9112, section 3).
-use Rattle.std.specs.Prelude.{ℕ, ◌^◌, ◌<◌, Bool, true, false, IsTrue, IfSome, List, [], ◌∷◌, ◌++◌, codes, decimal, Option, Some, None, option_map}
+use Rattle.std.specs.Prelude.{ℕ, ◌^◌, ◌<◌, Bool, true, IsTrue, IfSome, List, ◌∷◌, ◌++◌, codes, decimal, Option, option_map}
 use Rattle.std.specs.Option.{option_to_list}
 use Rattle.http_parts.specs.Tag.{is_kept_tag}
 use Rattle.http_parts.specs.Names.{is_name, is_host}

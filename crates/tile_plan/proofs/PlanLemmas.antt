@@ -21,7 +21,7 @@ use Rattle.tiff_dir.specs.Needs.{Extent, ends_past}
 use Rattle.tiff_dir.specs.Described.{grid_of, layout_of}
 use Rattle.tiff_dir.specs.Walk.{IsArrayOf, IsDescribed}
 use Rattle.tiff_dir.specs.Faulty.{HasTile, HasBadTile, IsNotPlainSize, IsFaultOfWindow, is_byte_count}
-use Rattle.tiff_dir.specs.Query.{joined_after, tile_range, tile_ranges, tiles_in, window_tiles, rectangle, is_refused, array_ranges}
+use Rattle.tiff_dir.specs.Query.{joined_after, tile_range, tile_ranges, window_tiles, rectangle, array_ranges}
 use Rattle.tile_plan.specs.declared.asked.Rectangle.{Rectangle}
 use Rattle.tile_plan.specs.declared.plan.Group.{Group}
 use Rattle.tile_plan.specs.Groups as groups

@@ -1,5 +1,4 @@
 use Rattle.std.proofs.Common.{◌≡◌, ℕ, ◌<◌, map}
-use Rattle.std.specs.Prelude.{Some}
 use Rattle.std.specs.List.{range_with_len}
 use Rattle.tile_plan.specs.Block.{tile_of_block}
 use Rattle.tile_plan.specs.Groups.{grouped}
