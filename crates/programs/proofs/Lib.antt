@@ -1,2 +1,3 @@
 mod FileLemmas
+pub mod OpenLemmas
 pub mod WholeLemmas

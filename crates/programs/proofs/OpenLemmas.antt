@@ -1,0 +1,77 @@
+-- What a client is that has been asked a query and has exchanged since.
+use Rattle.std.proofs.Common.{◌≡◌, ◌≤◌, ◌⊎◌, ℕ, List, Option, Some, None, inl, inr, sym, ap, ◌∙◌, subst}
+use Rattle.std.specs.Prelude.{IfSome, IsSome, OnOk, Result, Ok, Err}
+use Rattle.std.proofs.lemmas.Option.{none-some}
+use Rattle.tiff_dir.specs.declared.query.Query.{Query}
+use Rattle.http_range.specs.Book.{Publication, Book, In}
+use Rattle.cog_client.specs.declared.report.Report.{Report}
+use Rattle.cog_client.specs.Calls.{IsIdle}
+use Rattle.cog_client.specs.Client.{ClientState, name_of, query_of, report_of}
+use Rattle.cog_client.specs.Keeps.{OpensKeeping}
+use Rattle.cog_client.specs.Transport.{KeepsReading, ReadsBook}
+use Rattle.programs.specs.declared.reading.Asked.{Asked}
+use Rattle.programs.specs.declared.reading.Asked.TheVariants as asked
+use Rattle.programs.specs.Exchanges.{AsksOf, Ends}
+use Rattle.programs.specs.Text.{IsFor, IsOfWholeBy}
+
+opened_name : (q : Query) (old opened : ClientState) → OpensKeeping q old opened → name_of opened ≡ name_of old
+unfolding name_of
+opened_name q old opened opens = ap name_of opens.seen.1
+
+pub opened_query : (q : Query) (old opened : ClientState) → OpensKeeping q old opened → query_of opened ≡ Some q
+unfolding query_of
+opened_query q old opened opens = ap query_of opens.seen.1
+
+pub opened_reads : (speaks : Book → Type 0) (q : Query) (old opened : ClientState) (book : Book) → OpensKeeping q old opened → ReadsBook speaks old book → ReadsBook speaks opened book
+opened_reads speaks q old opened book opens reads = record {
+  named = λ p among. reads.named p among ∙ sym (opened_name q old opened opens);
+  distinct = reads.distinct;
+  spoken = reads.spoken;
+  agrees = opens.agrees book reads.agrees;
+}
+
+pub asks_query : (before after : Book → Type 0) (q : Query) (old opened new : ClientState) → OpensKeeping q old opened → KeepsReading before after opened new → query_of new ≡ Some q
+asks_query before after q old opened new opens keeps = keeps.same.query ∙ opened_query q old opened opens
+
+-- the report of the query that was asked, if it stands, is for what is asked
+pub asks_of : (book : Book) (a : Asked) (q : Query) (c : ClientState) → query_of c ≡ Some q → IfSome (report_of c) (λ r. (p : Publication) → In p book → p.tag ≡ r.tag → IsFor p.file a q) → AsksOf book a c
+asks_of book a q c is for = by (report_of c) for
+  where
+    by : (o : Option Report) → IfSome o (λ r. (p : Publication) → In p book → p.tag ≡ r.tag → IsFor p.file a q) → IfSome o (λ r. (p : Publication) → In p book → p.tag ≡ r.tag → IfSome (query_of c) (IsFor p.file a))
+    by None h = tt
+    by (Some r) h = λ p among tag. subst (λ o. IfSome o (IsFor p.file a)) (sym is) (h p among tag)
+
+-- where nothing is to do, the report stands
+pub ends_of : (q : Query) (c : ClientState) (most count : ℕ) → query_of c ≡ Some q → (most ≤ count) ⊎ IsIdle c → (most ≤ count) ⊎ IsSome (report_of c)
+ends_of q c most count is (inl all) = inl all
+ends_of q c most count is (inr (inl none)) = absurd (none-some q (sym none ∙ is))
+ends_of q c most count is (inr (inr stands)) = inr stands
+
+pub ends_for : (a : Asked) (c : ClientState) (most count : ℕ) → (most ≤ count) ⊎ IsSome (report_of c) → Ends a most count c
+ends_for (asked.Query query) c most count h = h
+ends_for (asked.Whole level) c most count h = tt
+ends_for (asked.Description form) c most count h = h
+
+pub ended : {T E : Type 0} (r : Result T E) (a : Asked) (q : Query) (c : ClientState) (most count : ℕ) → query_of c ≡ Some q → OnOk r ((most ≤ count) ⊎ IsIdle c) → OnOk r (Ends a most count c)
+ended (Ok x) a q c most count is h = ends_for a c most count (ends_of q c most count is h)
+ended (Err e) a q c most count is h = tt
+
+-- each report of the query is for what is asked
+pub asks_same : (book : Book) (a : Asked) (q : Query) (c : ClientState) → query_of c ≡ Some q → ((p : Publication) → IsFor p.file a q) → AsksOf book a c
+asks_same book a q c is for = asks_of book a q c is (by (report_of c))
+  where
+    by : (o : Option Report) → IfSome o (λ r. (p : Publication) → In p book → p.tag ≡ r.tag → IsFor p.file a q)
+    by None = tt
+    by (Some r) = λ p among tag. for p
+
+-- the window of a whole level, where the report still has the tag under which its sides were told
+pub asks_whole : (book : Book) (level : ℕ) (tag : List ℕ) (q : Query) (c : ClientState) → query_of c ≡ Some q → IfSome (report_of c) (λ r. r.tag ≡ tag) → IsOfWholeBy book tag level q → AsksOf book (asked.Whole level) c
+asks_whole book level tag q c is same whole = asks_of book (asked.Whole level) q c is (by (report_of c) same)
+  where
+    by : (o : Option Report) → IfSome o (λ r. r.tag ≡ tag) → IfSome o (λ r. (p : Publication) → In p book → p.tag ≡ r.tag → IsFor p.file (asked.Whole level) q)
+    by None h = tt
+    by (Some r) h = λ p among told. inr (whole p among (told ∙ h))
+
+pub on_ok : {T E : Type 0} (r : Result T E) (P : Type 0) → P → OnOk r P
+on_ok (Ok x) P h = h
+on_ok (Err e) P h = tt

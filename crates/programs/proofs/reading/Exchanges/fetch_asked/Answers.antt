@@ -1,0 +1,26 @@
+use Rattle.std.proofs.Common.{subst, sym}
+use Rattle.programs.specs.declared.reading.Asked.{Asked}
+use Rattle.programs.specs.Text.{IsFor}
+use Rattle.programs.specs.Exchanges.{AsksOf}
+use Rattle.programs.proofs.OpenLemmas.{asks_query, asks_same, ended, on_ok, opened_reads}
+use Rattle.http_range.specs.Book.{Publication}
+use Rattle.programs.proofs.reading.Exchanges.fetch_asked.Goals.{in-Query, in-Description}
+use Rattle.programs.proofs.reading.Exchanges.fetch_asked.Goals as goal
+
+pub returns-clause-reads : goal.returns-clause-reads
+returns-clause-reads g c = λ book reads.
+    c.fetch.ensures.keeps.reads book (opened_reads _ c.match-asked.query c.args.client.now c.open.new.self book c.open.ensures reads)
+
+pub returns-clause-asks : goal.returns-clause-asks
+returns-clause-asks g c = λ book reads.
+    let is = asks_query _ _ c.match-asked.query c.args.client.now c.open.new.self c.fetch.new.client c.open.ensures c.fetch.ensures.keeps in
+    let for : (p : Publication) → IsFor p.file c.args.asked c.match-asked.query = elim c.match-asked.branch [
+      | in-Query w ↦ λ p. subst (λ (a : Asked). IsFor p.file a c.match-asked.query) (sym w.in-Query.is) w.query-is
+      | in-Description w ↦ λ p. subst (λ (a : Asked). IsFor p.file a c.match-asked.query) (sym w.in-Description.is) w.query-is
+    ] in
+    on_ok c.fetch.result (AsksOf book c.args.asked c.fetch.new.client) (asks_same book c.args.asked c.match-asked.query c.fetch.new.client is for)
+
+pub returns-clause-ends : goal.returns-clause-ends
+returns-clause-ends g c =
+    let is = asks_query _ _ c.match-asked.query c.args.client.now c.open.new.self c.fetch.new.client c.open.ensures c.fetch.ensures.keeps in
+    ended c.fetch.result c.args.asked c.match-asked.query c.fetch.new.client _ _ is c.fetch.ensures.ends

@@ -1,0 +1,49 @@
+use Rattle.std.proofs.Common.{inl, refl}
+use Rattle.tiff_dir.specs.declared.query.Query.TheVariants.{Info}
+use Rattle.programs.specs.declared.reading.Asked.TheVariants.{Whole}
+use Rattle.programs.proofs.OpenLemmas.{asks_query, asks_same, asks_whole, opened_query, opened_reads}
+use Rattle.programs.proofs.reading.Exchanges.fetch_whole.Goals as goal
+
+pub returns-in_err-fetch-clause-reads : goal.returns-in_err-fetch-clause-reads
+returns-in_err-fetch-clause-reads g c = λ book reads.
+    c.fetch.ensures.keeps.reads book (opened_reads _ Info c.loop.client c.open.new.self book c.open.ensures (c.loop.invariant.reads book reads))
+
+pub returns-in_default-clause-reads : goal.returns-in_default-clause-reads
+returns-in_default-clause-reads g c = λ book reads.
+    c.fetch.ensures.keeps.reads book (opened_reads _ Info c.loop.client c.open.new.self book c.open.ensures (c.loop.invariant.reads book reads))
+
+pub returns-in_default-clause-asks : goal.returns-in_default-clause-asks
+returns-in_default-clause-asks g c = λ book reads.
+    let is = asks_query _ _ Info c.loop.client c.open.new.self c.fetch.new.client c.open.ensures c.fetch.ensures.keeps in
+    asks_same book (Whole c.args.level) Info c.fetch.new.client is (λ p. inl refl)
+
+pub returns-in_err-fetch-2-clause-reads : goal.returns-in_err-fetch-2-clause-reads
+returns-in_err-fetch-2-clause-reads g c = λ book reads.
+    let first = c.fetch.ensures.keeps.reads book (opened_reads _ Info c.loop.client c.open.new.self book c.open.ensures (c.loop.invariant.reads book reads)) in
+    c.fetch-in-loop.ensures.keeps.reads book (opened_reads _ c.in-Some.window c.fetch.new.client c.open-in-loop.new.self book c.open-in-loop.ensures first)
+
+pub returns-then-not-has_another_tag-clause-reads : goal.returns-then-not-has_another_tag-clause-reads
+returns-then-not-has_another_tag-clause-reads g c = λ book reads.
+    let first = c.fetch.ensures.keeps.reads book (opened_reads _ Info c.loop.client c.open.new.self book c.open.ensures (c.loop.invariant.reads book reads)) in
+    c.fetch-in-loop.ensures.keeps.reads book (opened_reads _ c.in-Some.window c.fetch.new.client c.open-in-loop.new.self book c.open-in-loop.ensures first)
+
+pub returns-then-not-has_another_tag-clause-asks : goal.returns-then-not-has_another_tag-clause-asks
+returns-then-not-has_another_tag-clause-asks g c = λ book reads.
+    let first = c.fetch.ensures.keeps.reads book (opened_reads _ Info c.loop.client c.open.new.self book c.open.ensures (c.loop.invariant.reads book reads)) in
+    let is = asks_query _ _ c.in-Some.window c.fetch.new.client c.open-in-loop.new.self c.fetch-in-loop.new.client c.open-in-loop.ensures c.fetch-in-loop.ensures.keeps in
+    asks_whole book c.args.level c.in-Some.tag c.in-Some.window c.fetch-in-loop.new.client is (c.has_another_tag.ensures c.if-not-has_another_tag.true) (c.in-Some.ensures book first.distinct first.agrees)
+
+pub loop-preserved : goal.loop-preserved
+loop-preserved g c = record {
+  reads = λ book reads.
+      let first = c.fetch.ensures.keeps.reads book (opened_reads _ Info c.loop.client c.open.new.self book c.open.ensures (c.loop.invariant.reads book reads)) in
+      c.fetch-in-loop.ensures.keeps.reads book (opened_reads _ c.in-Some.window c.fetch.new.client c.open-in-loop.new.self book c.open-in-loop.ensures first);
+  few = λ start. c.fetch-in-loop.ensures.few (c.fetch.ensures.few (c.loop.invariant.few start));
+}
+
+pub returns-clause-reads : goal.returns-clause-reads
+returns-clause-reads g c = λ book reads. opened_reads _ Info c.loop.client c.open-2.new.self book c.open-2.ensures (c.loop.invariant.reads book reads)
+
+pub returns-clause-asks : goal.returns-clause-asks
+returns-clause-asks g c = λ book reads.
+    asks_same book (Whole c.args.level) Info c.open-2.new.self (opened_query Info c.loop.client c.open-2.new.self c.open-2.ensures) (λ p. inl refl)
