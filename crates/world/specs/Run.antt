@@ -118,7 +118,7 @@ pub record IsCheckOf (catalogue : Catalogue) (sent i : ℕ) (c : ClientState) (k
   pub answered : IsAnswered catalogue k.request.items k.answer
   pub current : IsCurrent (Some k.tag) k.answer.text.items k.current
 
--- what is logged where there is no check: the client has no revision
+-- what is logged of a check: that one, or that there is none, where the client has no revision
 abbrev pub IsChecked : Catalogue → ℕ → ℕ → ClientState → Effect → Type 0
 IsChecked catalogue sent i c (effects.Checked k) = IsCheckOf catalogue sent i c k
 IsChecked catalogue sent i c effect = (effect ≡ effects.Unchecked i) × (tag_of c ≡ None)

@@ -55,7 +55,7 @@ abbrev pub publish_by : World → Publication → Option PublishError → World
 publish_by w p None = record w { count = w.count + 1; catalogue = publish p w.catalogue; book = p ∷ w.book }
 publish_by w p (Some refusal) = w
 
--- only a greater epoch changes the epoch; its server has no files
+-- a client is made, or refused
 abbrev pub made_by : World → List ℕ → Option ClientError → World
 made_by w name None = record w { clients = w.clients ++ record { name = name; query = None } ∷ [] }
 made_by w name (Some refusal) = w
@@ -66,7 +66,7 @@ opened [] i q = []
 opened (s ∷ ss) zero q = record s { query = Some q } ∷ ss
 opened (s ∷ ss) (suc i) q = s ∷ opened ss i q
 
--- what an event makes of the world, whatever is answered
+-- what an event makes of the world, whatever is answered; only a greater epoch changes the epoch, and its server has no files
 abbrev pub scheduled : World → Event → World
 scheduled w (Publish name file) = publish_by w (next_of w name.items file.items) (refusal_of w.count w.catalogue name.items file.items)
 scheduled w (Epoch e) = if nat_lt w.epoch e then record w { epoch = e; count = 0; catalogue = [] } else w
