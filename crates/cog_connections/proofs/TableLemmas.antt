@@ -1,5 +1,5 @@
 -- The table of connections.
-use Rattle.std.proofs.Common.{◌≡◌, ◌≢◌, ℕ, ◌+◌, ◌-◌, ◌<◌, Bool, true, false, cond, nat_eq, [], ◌∷◌, length, take, Option, Some, None, Result, Ok, Err, refl, sym, ap, ◌∙◌, subst, arith, inl, inr}
+use Rattle.std.proofs.Common.{◌≡◌, ◌≢◌, ℕ, ◌+◌, ◌-◌, ◌<◌, ◌≤◌, Bool, true, false, cond, nat_eq, [], ◌∷◌, length, take, Option, Some, None, Result, Ok, Err, refl, sym, ap, ◌∙◌, subst, arith, inl, inr}
 use Rattle.std.specs.Prelude.{if◌then◌else◌, OnErr, option_map, is_some, is_none}
 use Rattle.std.specs.Map.{lookup_entry, remove_entry, set_value}
 use Rattle.std.proofs.lemmas.Bool.{cases_Bool}
@@ -10,7 +10,7 @@ use Rattle.lru.specs.LruCache.{LruCache, put_entries}
 use Rattle.http_range.specs.Book.{Catalogue}
 use Rattle.cog_server.specs.Status.{GoesOn}
 use Rattle.cog_connections.specs.declared.timed.Timed.{Timed}
-use Rattle.cog_connections.specs.Table.{Table, timed_at, OthersStay, Changes, Becomes, GoesOnAt, AreBelow}
+use Rattle.cog_connections.specs.Table.{Table, timed_at, OthersStay, Changes, Becomes, GoesOnAt, AreFalling}
 
 pub anyway : {A E : Type 0} {P : Type 0} (r : Result A E) → P → OnErr r P
 anyway (Ok a) p = tt
@@ -77,54 +77,57 @@ goes_on_at catalogue k now table p w went found goes progress =
 
 -- ---- numbers
 
-same_presence : (k j : ℕ) (table : Table) (w : Timed) → is_none (timed_at j (set_value (nat_eq k) table w)) ≡ is_none (timed_at j table)
-same_presence k j [] w = refl
-same_presence k j (x ∷ table) w =
+pub falling_set : (k n : ℕ) (table : Table) (w : Timed) → AreFalling n table → AreFalling n (set_value (nat_eq k) table w)
+falling_set k n [] w h = tt
+falling_set k n (x ∷ table) w h =
     elim (cases_Bool (nat_eq k x.0)) [
-      | inl same ↦ elim (cases_Bool (nat_eq j x.0)) [
-        | inl here ↦ rw (same, here) refl
-        | inr there ↦ rw (same, there) refl
-      ]
-      | inr other ↦ elim (cases_Bool (nat_eq j x.0)) [
-        | inl here ↦ rw (other, here) refl
-        | inr there ↦ rw (other, there) (same_presence k j table w)
-      ]
+      | inl same ↦ rw same h
+      | inr other ↦ rw other (h.0, falling_set k x.0 table w h.1)
     ]
 
-pub below_set : (k n : ℕ) (table : Table) (w : Timed) → AreBelow n table → AreBelow n (set_value (nat_eq k) table w)
-below_set k n table w h j le = same_presence k j table w ∙ h j le
+-- they fall from below any greater number, too
+further : (n m : ℕ) (table : Table) → n ≤ m → AreFalling n table → AreFalling m table
+further n m [] le h = tt
+further n m (x ∷ table) le h = (omega (arith, le, h.0), h.1)
 
-none_removed : (k j : ℕ) (table : Table) → is_none (timed_at j table) ≡ true → is_none (timed_at j (remove_entry (nat_eq k) table)) ≡ true
-none_removed k j [] e = refl
-none_removed k j (x ∷ table) e =
-    elim (cases_Bool (nat_eq j x.0)) [
-      | inl here ↦ (let clash : false ≡ true = rw here at e in absurd (let f : true ≡ false = sym clash in cc))
-      | inr there ↦ (let rest : is_none (timed_at j table) ≡ true = rw there at e in
-          elim (cases_Bool (nat_eq k x.0)) [
-            | inl same ↦ rw same rest
-            | inr other ↦ rw (other, there) (none_removed k j table rest)
-          ])
+falling_without : (k n : ℕ) (table : Table) → AreFalling n table → AreFalling n (remove_entry (nat_eq k) table)
+falling_without k n [] h = tt
+falling_without k n (x ∷ table) h =
+    elim (cases_Bool (nat_eq k x.0)) [
+      | inl same ↦ rw same (further x.0 n table (omega (arith, h.0)) h.1)
+      | inr other ↦ rw other (h.0, falling_without k x.0 table h.1)
     ]
 
-pub below_removed : (k n : ℕ) (table new : Table) → new ≡ remove_entry (nat_eq k) table → AreBelow n table → AreBelow n new
-below_removed k n table new is h = subst (AreBelow n) (sym is) (λ j le. none_removed k j table (h j le))
+pub falling_removed : (k n : ℕ) (table new : Table) → new ≡ remove_entry (nat_eq k) table → AreFalling n table → AreFalling n new
+falling_removed k n table new is h = subst (AreFalling n) (sym is) (falling_without k n table h)
 
-absent : (n : ℕ) (table : Table) → is_none (timed_at n table) ≡ true → (lookup_entry (nat_eq n) table ≡ None) × (timed_at n table ≡ None)
-absent n [] e = (refl, refl)
-absent n (x ∷ table) e =
-    elim (cases_Bool (nat_eq n x.0)) [
-      | inl here ↦ (let clash : false ≡ true = rw here at e in absurd (let f : true ≡ false = sym clash in cc))
-      | inr there ↦ rw there (absent n table (rw there at e))
+-- a number that isn't below that one isn't there
+absent : (k n : ℕ) (table : Table) → AreFalling n table → n ≤ k → (lookup_entry (nat_eq k) table ≡ None) × (timed_at k table ≡ None)
+absent k n [] h le = (refl, refl)
+absent k n (x ∷ table) h le =
+    let no : nat_eq k x.0 ≡ false = other_number k x.0 (omega (arith, le, h.0)) in
+    rw no (absent k x.0 table h.1 (omega (arith, le, h.0)))
+
+pub new_number : (n : ℕ) (table : Table) → AreFalling n table → timed_at n table ≡ None
+new_number n table h = (absent n n table h (omega arith)).1
+
+-- each number is there once
+removed : (k n : ℕ) (table : Table) → AreFalling n table → timed_at k (remove_entry (nat_eq k) table) ≡ None
+removed k n [] h = refl
+removed k n (x ∷ table) h =
+    elim (cases_Bool (nat_eq k x.0)) [
+      | inl same ↦ rw same (absent k x.0 table h.1 (let is : x.0 ≡ k = is_number k x.0 same in omega (arith, is))).1
+      | inr other ↦ rw (other, other) (removed k x.0 table h.1)
     ]
 
-pub new_number : (n : ℕ) (table : Table) → AreBelow n table → timed_at n table ≡ None
-new_number n table h = (absent n table (h n (omega arith))).1
+pub gone : (k n : ℕ) (table new : Table) → new ≡ remove_entry (nat_eq k) table → AreFalling n table → timed_at k new ≡ None
+gone k n table new is h = ap (timed_at k) is ∙ removed k n table h
 
-pub accepted : (c : LruCache ℕ Timed) (n : ℕ) (p : Timed) → AreBelow n c.entries → length c.entries < c.cap
+pub accepted : (c : LruCache ℕ Timed) (n : ℕ) (p : Timed) → AreFalling n c.entries → length c.entries < c.cap
     → put_entries nat_eq c n p ≡ (n, p) ∷ c.entries
 accepted c n p h room =
     let all : take (c.cap - 1) c.entries ≡ c.entries = take_all (c.cap - 1) c.entries (omega (arith, room)) in
-    rw (absent n c.entries (h n (omega arith))).0 (ap (λ (t : Table). (n, p) ∷ t) all)
+    rw (absent n n c.entries h (omega arith)).0 (ap (λ (t : Table). (n, p) ∷ t) all)
 
 pub becomes_new : (n : ℕ) (p : Timed) (table new : Table) → new ≡ (n, p) ∷ table → Becomes n (Some p) table new
 becomes_new n p table new is =
@@ -133,9 +136,8 @@ becomes_new n p table new is =
       others = λ other ne. (let no : nat_eq other n ≡ false = other_number other n ne in rw no refl);
     })
 
-pub below_accepted : (n : ℕ) (p : Timed) (table new : Table) → AreBelow n table → new ≡ (n, p) ∷ table → AreBelow (n + 1) new
-below_accepted n p table new h is =
-    subst (AreBelow (n + 1)) (sym is) (λ k le. (let no : nat_eq k n ≡ false = other_number k n (omega (arith, le)) in rw no (h k (omega (arith, le)))))
+pub falling_accepted : (n : ℕ) (p : Timed) (table new : Table) → AreFalling n table → new ≡ (n, p) ∷ table → AreFalling (n + 1) new
+falling_accepted n p table new h is = subst (AreFalling (n + 1)) (sym is) (omega arith, h)
 
 -- ---- the one that is taken away
 

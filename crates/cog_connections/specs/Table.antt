@@ -1,5 +1,6 @@
 -- A table of connections by number.
-use Rattle.std.specs.Prelude.{◌≡◌, ◌≢◌, ◌≤◌, ◌==◌, ℕ, Bool, true, false, if◌then◌else◌, nat_eq, List, Option, Some, None, option_map, is_none}
+use Rattle.std.specs.Prelude.{◌≡◌, ◌≢◌, ◌<◌, ◌==◌, ℕ, Bool, true, false, if◌then◌else◌, nat_eq, List, [], ◌∷◌, Option, Some, None, option_map, ⊤}
+use Rattle.std.specs.Coded.{le_prop}
 use Rattle.std.specs.Map.{lookup}
 use Rattle.http_range.specs.Book.{Catalogue}
 use Rattle.cog_server.specs.Status.{Status, GoesOn, after_write}
@@ -37,6 +38,12 @@ GoesOnAt catalogue k now (Some p) old new went =
     (s : Status) × GoesOn catalogue p.connection s went
     × Becomes k (Some (record { connection = s; progress = if went then now else p.progress })) old new
 
--- no number from this one on is given
-abbrev pub AreBelow : ℕ → Table → Type 0
-AreBelow n table = (k : ℕ) → n ≤ k → is_none (timed_at k table) ≡ true
+-- the connections stand as they came, the newest first: their numbers fall, from below this one on
+abbrev pub AreFalling : ℕ → Table → Type 0
+AreFalling n [] = ⊤
+AreFalling n (e ∷ table) = (e.0 < n) × AreFalling e.0 table
+
+-- that they fall is one fact, however it is shown
+pub falling_once : (n : ℕ) (table : Table) → IsProp (AreFalling n table)
+falling_once n [] p q = λ i. p
+falling_once n (e ∷ table) p q = λ i. (le_prop p.0 q.0 i, falling_once e.0 table p.1 q.1 i)

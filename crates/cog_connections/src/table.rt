@@ -3,7 +3,7 @@ ghost use Rattle.std.specs.Prelude.{◌≡◌, ◌≢◌, ◌+◌, ◌<◌, ◌�
 ghost use Rattle.std.specs.Map.{remove_entry};
 ghost use Rattle.std.specs.NonZero.{non_zero_usize_get};
 ghost use Rattle.cog_server.specs.Status.{start, room_of, after_bytes, after_end};
-ghost use Rattle.cog_connections.specs.Table.{AreBelow, Becomes, Changes, GoesOnAt, OthersStay, timed_after_write, timed_at};
+ghost use Rattle.cog_connections.specs.Table.{AreFalling, Becomes, Changes, GoesOnAt, OthersStay, falling_once, timed_after_write, timed_at};
 ghost use Rattle.cog_connections.specs.Yielding.{WakesAt, Yields};
 
 use crate::sought::Sought;
@@ -21,7 +21,7 @@ pub struct Connections {
     alloc: Global,
     pub table: LruCache<u64, Timed>,
     pub next: u64,
-    ghost fresh: { AreBelow next table.entries },
+    ghost fresh: { AreFalling next table.entries } by { falling_once next table.entries },
 }
 
 impl Connections {
@@ -124,6 +124,7 @@ impl Connections {
 
     /// Takes a connection away.
     pub fn close(&mut self, number: u64)
+        ensures gone { timed_at number self.new.table.entries ≡ None }
         ensures others { OthersStay number self.old.table.entries self.new.table.entries }
         ensures entries { self.new.table.entries ≡ remove_entry (nat_eq number) self.old.table.entries }
         ensures cap { self.new.table.cap ≡ self.old.table.cap }

@@ -1,2 +1,3 @@
+pub mod HeldLemmas
 pub mod RefusalLemmas
 pub mod TurnLemmas

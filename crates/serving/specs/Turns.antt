@@ -1,5 +1,6 @@
 -- What a connection's turn does, and when it comes to an end.
-use Rattle.std.specs.Prelude.{◌≡◌, ℕ, nat_eq, IfSome, IsTrue, Some}
+use Rattle.std.specs.Prelude.{◌≡◌, ℕ, nat_eq, IfSome, IsTrue, Some, is_some}
+use Rattle.std.specs.HashMap.{HashMap, get}
 use Rattle.std.specs.Map.{remove_entry}
 use Rattle.cog_server.specs.Status.{EndsBy, is_drained}
 use Rattle.cog_server.specs.declared.served.Ended.{Ended}
@@ -7,8 +8,9 @@ use Rattle.cog_connections.specs.declared.table.Connections.{Connections}
 use Rattle.cog_connections.specs.Table.{Table, OthersStay, timed_at}
 use Rattle.cog_connections.specs.Yielding.{Yields}
 
--- every connection but k is as it was, there may be as many, and the next number is the same
-pub record KeepsOthers (k : ℕ) (old new : Connections) : Type 0 where
+-- every connection but k is as it was, k has its place or none as before, there may be as many, and the next number is the same
+pub record KeepsPlaces (k : ℕ) (old new : Connections) : Type 0 where
+  pub here : is_some (timed_at k new.table.entries) ≡ is_some (timed_at k old.table.entries)
   pub others : OthersStay k old.table.entries new.table.entries
   pub cap : new.table.cap ≡ old.table.cap
   pub next : new.next ≡ old.next
@@ -25,3 +27,7 @@ IsDrainedAt k table = IfSome (timed_at k table) (λ p. IsTrue (is_drained p.conn
 abbrev pub GivesPlace : ℕ → ℕ → Table → Table → Type 0
 GivesPlace now patience old new =
     (k : ℕ) × Yields now patience old (Some k) × (new ≡ remove_entry (nat_eq k) old)
+
+-- a connection has a socket exactly as long as it has a place
+abbrev pub HaveSockets : {Socket S : Type 0} → HashMap ℕ Socket S → Table → Type 0
+HaveSockets sockets table = (k : ℕ) → is_some (get nat_eq sockets k) ≡ is_some (timed_at k table)

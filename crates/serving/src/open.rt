@@ -1,10 +1,10 @@
 //! The connections that have a place, with their sockets.
-ghost use Rattle.std.specs.Prelude.{◌≡◌, ◌≢◌, ◌⊎◌, ◌↔◌, ◌<◌, [], IfOk, IsTrue, None, length, nat_eq};
+ghost use Rattle.std.specs.Prelude.{◌≡◌, ◌≢◌, ◌⊎◌, ◌↔◌, ◌<◌, ℕ, [], IfOk, IsTrue, None, OnErr, length, nat_eq};
 ghost use Rattle.std.specs.Map.{remove_entry};
 ghost use Rattle.std.specs.NonZero.{non_zero_usize_get};
-ghost use Rattle.cog_connections.specs.Table.{OthersStay};
+ghost use Rattle.cog_connections.specs.Table.{OthersStay, timed_at};
 ghost use Rattle.cog_connections.specs.Yielding.{WakesAt, Yields};
-ghost use Rattle.serving.specs.Turns.{HasEndedAt, IsDrainedAt, KeepsOthers};
+ghost use Rattle.serving.specs.Turns.{HasEndedAt, HaveSockets, IsDrainedAt, KeepsPlaces};
 ghost use Rattle.serving.specs.declared.turn.Turn.TheVariants.{Ended};
 
 use crate::answered::{Asked, Audience, Teller};
@@ -43,6 +43,7 @@ pub struct Open {
     pub connections: Connections,
     sockets: HashMap<u64, Socket>,
     ended: u32,
+    ghost placed: { HaveSockets sockets connections.table.entries },
 }
 
 impl Open {
@@ -65,8 +66,10 @@ impl Open {
     }
 
     /// Whether there is none.
-    pub fn is_empty(&self) -> bool {
-        self.sockets.is_empty()
+    pub fn is_empty(&self) -> bool
+        ensures { IsTrue result ↔ (self.now.connections.table.entries ≡ []) }
+    {
+        self.connections.count() == 0
     }
 
     /// Whether there is a place.
@@ -106,7 +109,9 @@ impl Open {
         }
     }
 
+    /// Adds a connection, or none: one without a socket has no place.
     fn try_add(&mut self, poll: &Poll, mut stream: TcpStream, now: u64) -> io::Result<()>
+        ensures err { OnErr result ((k : ℕ) → timed_at k self.new.connections.table.entries ≡ timed_at k self.old.connections.table.entries) }
         ensures others { OthersStay self.old.connections.next self.old.connections.table.entries self.new.connections.table.entries }
         ensures cap { self.new.connections.table.cap ≡ self.old.connections.table.cap }
     {
@@ -134,9 +139,11 @@ impl Open {
         Ok(())
     }
 
-    /// Takes a connection's place away.
+    /// Takes a connection's place and its socket away.
     pub fn close(&mut self, number: u64)
-        ensures kept { KeepsOthers number self.old.connections self.new.connections }
+        ensures others { OthersStay number self.old.connections.table.entries self.new.connections.table.entries }
+        ensures gone { timed_at number self.new.connections.table.entries ≡ None }
+        ensures cap { self.new.connections.table.cap ≡ self.old.connections.table.cap }
         ensures entries { self.new.connections.table.entries ≡ remove_entry (nat_eq number) self.old.connections.table.entries }
     {
         if let Some(socket) = self.sockets.remove(&number)
@@ -171,7 +178,7 @@ impl Open {
         now: u64,
         audience: &mut A,
     ) -> Turn
-        ensures kept { KeepsOthers number self.old.connections self.new.connections }
+        ensures kept { KeepsPlaces number self.old.connections self.new.connections }
         ensures ended { result ≡ Ended → HasEndedAt number self.new.connections.table.entries
             ⊎ IsDrainedAt number self.new.connections.table.entries }
     {

@@ -1,6 +1,7 @@
 //! The sockets of a server: who gets a place, whose turn it is, and how long to wait.
-ghost use Rattle.std.specs.Prelude.{◌≡◌, IfOk, OnErr, OnOk, false, true};
+ghost use Rattle.std.specs.Prelude.{◌≡◌, ◌+◌, ◌<◌, ◌≤◌, ◌^◌, ◌↔◌, [], IfOk, IsTrue, OnErr, OnOk, false, true};
 ghost use Rattle.cog_connections.specs.Table.{OthersStay};
+ghost use Rattle.serving.specs.Held.{NobodyComes, accepted_of, limits_of, places_of};
 ghost use Rattle.serving.specs.Refusals.{HasNoRoom, IsPassing};
 ghost use Rattle.serving.specs.Turns.{GivesPlace};
 
@@ -69,7 +70,10 @@ impl Serving {
         rt: &R,
         listener: net::TcpListener,
         limits: Limits,
-    ) -> io::Result<Self> {
+    ) -> io::Result<Self>
+        ensures none { IfOk result (λ s. (accepted_of s ≡ 0) × (places_of s ≡ [])) }
+        ensures limits { IfOk result (λ s. limits_of s ≡ limits) }
+    {
         listener.set_nonblocking(true)?;
         let mut listener = TcpListener::from_std(listener);
         let poll = Poll::new(rt)?;
@@ -100,12 +104,19 @@ impl Serving {
     }
 
     /// Whether all connections were accepted, and each is closed.
-    pub fn is_over(&self) -> bool {
+    pub fn is_over(&self) -> bool
+        ensures { IsTrue result ↔ ((limits_of self.now).connections ≤ accepted_of self.now) × (places_of self.now ≡ []) }
+    {
         self.accepted >= self.limits.connections && self.held.is_empty()
     }
 
-    /// Accepts the newcomers that get a place, and tells how many.
-    pub fn accept(&mut self, now: u64) -> Result<u32, AcceptError> {
+    /// Accepts the newcomers that get a place, and tells how many: in all no more than there may be.
+    pub fn accept(&mut self, now: u64) -> Result<u32, AcceptError>
+        ensures counted { IfOk result (λ count. accepted_of self.new ≡ accepted_of self.old + count) }
+        ensures few { accepted_of self.old ≤ (limits_of self.old).connections
+            → accepted_of self.new ≤ (limits_of self.old).connections }
+        ensures limits { limits_of self.new ≡ limits_of self.old }
+    {
         let before = self.accepted;
         for _ in 0..u32::MAX {
             if !self.is_awaited() || !(self.held.has_place() || self.displace(now)) {
@@ -124,7 +135,10 @@ impl Serving {
     }
 
     /// Gives each connection that may go on its turn, and closes those whose drain ends. The audience is told of each answer.
-    pub fn turns<A: Audience>(&mut self, server: &Server, now: u64, audience: &mut A) {
+    #[tactic(auto, using(crate::proofs::HeldLemmas::nobody_yet))]
+    pub fn turns<A: Audience>(&mut self, server: &Server, now: u64, audience: &mut A)
+        ensures nobody { NobodyComes self.old self.new }
+    {
         for _ in 0..self.ready.len() {
             if let Some(number) = self.ready.pop_front() {
                 self.turn(number, server, now, audience);
@@ -134,7 +148,10 @@ impl Serving {
     }
 
     /// Waits until something may go on.
-    pub fn wait(&mut self, now: u64) -> io::Result<()> {
+    #[tactic(auto, using(crate::proofs::HeldLemmas::nobody_yet))]
+    pub fn wait(&mut self, now: u64) -> io::Result<()>
+        ensures nobody { NobodyComes self.old self.new }
+    {
         let timeout = self.timeout(now);
         self.poll.poll(&mut self.events, timeout)?;
         for event in &self.events {
@@ -149,7 +166,10 @@ impl Serving {
     }
 
     /// Whether a newcomer may wait that is to be accepted.
-    fn is_awaited(&self) -> bool {
+    fn is_awaited(&self) -> bool
+        ensures fewer { IsTrue result → accepted_of self.now < (limits_of self.now).connections }
+        ensures counts { IsTrue result → accepted_of self.now + 1 < 2 ^ 32 }
+    {
         self.knocks && self.accepted < self.limits.connections
     }
 
@@ -159,6 +179,7 @@ impl Serving {
         ensures no { result ≡ false → self.new.held.connections ≡ self.old.held.connections }
         ensures yes { result ≡ true → GivesPlace now self.old.limits.patience self.old.held.connections.table.entries
             self.new.held.connections.table.entries }
+        ensures nobody { NobodyComes self.old self.new }
     {
         match self.held.yields(now, self.limits.patience) {
             Some(number) => {
@@ -171,7 +192,8 @@ impl Serving {
 
     /// Asks the system whether a newcomer waits. Until it says so, nobody is displaced for one.
     fn ask(&mut self) -> Result<(), AcceptError>
-        ensures { self.new.held ≡ self.old.held }
+        ensures held { self.new.held ≡ self.old.held }
+        ensures nobody { NobodyComes self.old self.new }
     {
         self.knocks = false;
         let registry = self.poll.registry();
@@ -182,8 +204,10 @@ impl Serving {
 
     /// Gives a newcomer its place.
     fn welcome(&mut self, stream: TcpStream, now: u64) -> Result<(), AcceptError>
-        ensures { OthersStay self.old.held.connections.next self.old.held.connections.table.entries
+        ensures others { OthersStay self.old.held.connections.next self.old.held.connections.table.entries
             self.new.held.connections.table.entries }
+        ensures accepted { accepted_of self.old + 1 < 2 ^ 32 → accepted_of self.new ≡ accepted_of self.old + 1 }
+        ensures limits { limits_of self.new ≡ limits_of self.old }
     {
         self.accepted = self.accepted.saturating_add(1);
         self.held.add(&self.poll, stream, now);
@@ -202,6 +226,7 @@ impl Serving {
         ensures kept { IfOk result (λ again. again ≡ false → self.new.held.connections ≡ self.old.held.connections) }
         ensures passing { OnOk result (IsPassing error) }
         ensures err { OnErr result (self.new.held.connections ≡ self.old.held.connections) }
+        ensures nobody { NobodyComes self.old self.new }
     {
         if error.kind() == ErrorKind::WouldBlock {
             self.knocks = false;
@@ -225,7 +250,8 @@ impl Serving {
 
     /// A connection goes on.
     fn turn<A: Audience>(&mut self, number: u64, server: &Server, now: u64, audience: &mut A)
-        ensures { OthersStay number self.old.held.connections.table.entries self.new.held.connections.table.entries }
+        ensures others { OthersStay number self.old.held.connections.table.entries self.new.held.connections.table.entries }
+        ensures nobody { NobodyComes self.old self.new }
     {
         let buffer = &mut self.buffer;
         match self.held.turn(number, server, buffer, now, audience) {
@@ -245,7 +271,8 @@ impl Serving {
 
     /// A connection may go on. Without memory it is closed.
     fn make_ready(&mut self, number: u64)
-        ensures { OthersStay number self.old.held.connections.table.entries self.new.held.connections.table.entries }
+        ensures others { OthersStay number self.old.held.connections.table.entries self.new.held.connections.table.entries }
+        ensures nobody { NobodyComes self.old self.new }
     {
         if self.ready.push_back(number).is_err() {
             self.held.close(number);
@@ -253,7 +280,10 @@ impl Serving {
     }
 
     /// Closes the connections whose drain ends.
-    fn end_drains(&mut self, now: u64) {
+    #[tactic(auto, using(crate::proofs::HeldLemmas::nobody_yet))]
+    fn end_drains(&mut self, now: u64)
+        ensures nobody { NobodyComes self.old self.new }
+    {
         for _ in 0..self.drains.len() {
             let Some((ends, number)) = self.drains.front().copied() else {
                 return;

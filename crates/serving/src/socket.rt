@@ -2,7 +2,7 @@
 ghost use Rattle.std.specs.Prelude.{◌≤◌, IfOk, OnErr, length, take};
 ghost use Rattle.cog_server.specs.Received.{after_read};
 ghost use Rattle.cog_connections.specs.Table.{Changes, GoesOnAt, timed_after_write, timed_at};
-ghost use Rattle.serving.specs.Turns.{KeepsOthers};
+ghost use Rattle.serving.specs.Turns.{KeepsPlaces};
 
 use cog_connections::Connections;
 use cog_server::Server;
@@ -29,7 +29,7 @@ pub fn write_some(
     ensures wrote { IfOk result (λ n. Changes number (timed_after_write n now)
         connections.old.table.entries connections.new.table.entries) }
     ensures err { OnErr result (Changes number (λ p. p) connections.old.table.entries connections.new.table.entries) }
-    ensures kept { KeepsOthers number connections.old connections.new }
+    ensures kept { KeepsPlaces number connections.old connections.new }
 {
     let Some(timed) = connections.get(number) else {
         return Ok(0);
@@ -61,7 +61,7 @@ pub fn read_some(
     ensures came { IfOk result (λ n. Changes number (λ p. record p { connection = after_read (take n buffer.new) p.connection })
         connections.old.table.entries connections.new.table.entries) }
     ensures err { OnErr result (Changes number (λ p. p) connections.old.table.entries connections.new.table.entries) }
-    ensures kept { KeepsOthers number connections.old connections.new }
+    ensures kept { KeepsPlaces number connections.old connections.new }
 {
     let Some(timed) = connections.get(number) else {
         return Ok(0);
@@ -86,7 +86,7 @@ pub fn answer(
     ensures ok { IfOk result (GoesOnAt server.now.catalogue number now (timed_at number connections.old.table.entries)
         connections.old.table.entries connections.new.table.entries) }
     ensures err { OnErr result (Changes number (λ p. p) connections.old.table.entries connections.new.table.entries) }
-    ensures kept { KeepsOthers number connections.old connections.new }
+    ensures kept { KeepsPlaces number connections.old connections.new }
 {
     connections.go_on(number, server, now).map_err(memory)
 }

@@ -3,7 +3,7 @@ ghost use Rattle.std.specs.Prelude.{◌≡◌, ◌≢◌, ◌<◌, ◌↔◌, le
 ghost use Rattle.std.specs.IoError.{error_kind};
 ghost use Rattle.cog_connections.specs.Table.{timed_at};
 ghost use Rattle.std.specs.declared.io.ErrorKind.TheVariants.{Interrupted, WouldBlock};
-ghost use Rattle.serving.specs.Turns.{HasEndedAt, IsDrainedAt, KeepsOthers};
+ghost use Rattle.serving.specs.Turns.{HasEndedAt, IsDrainedAt, KeepsPlaces};
 ghost use Rattle.serving.specs.declared.turn.Turn.TheVariants.{Ended, GoesOn, Waits};
 
 use crate::answered::{Audience, Teller};
@@ -95,7 +95,7 @@ fn step<A: Audience>(
     bounds: Bounds,
     teller: &mut Teller<'_, A>,
 ) -> io::Result<Option<usize>>
-    ensures kept { KeepsOthers number connections.old connections.new }
+    ensures kept { KeepsPlaces number connections.old connections.new }
     ensures ended { IfOk result (λ count. count ≡ None → HasEndedAt number connections.new.table.entries) }
     ensures asked { teller.new.asked.ghost_name ≡ teller.old.asked.ghost_name }
 {
@@ -126,7 +126,7 @@ pub fn serve_turn<A: Audience>(
     now: u64,
     teller: &mut Teller<'_, A>,
 ) -> Turn
-    ensures kept { KeepsOthers number connections.old connections.new }
+    ensures kept { KeepsPlaces number connections.old connections.new }
     ensures ended { result ≡ Ended → HasEndedAt number connections.new.table.entries }
     ensures asked { teller.new.asked.ghost_name ≡ teller.old.asked.ghost_name }
 {
@@ -157,7 +157,7 @@ pub fn drain_turn(
     stream: &TcpStream,
     buffer: &mut [u8],
 ) -> Turn
-    ensures kept { KeepsOthers number connections.old connections.new }
+    ensures kept { KeepsPlaces number connections.old connections.new }
     ensures ended { result ≡ Ended → IsDrainedAt number connections.new.table.entries }
 {
     for _ in 0..STEP_LIMIT {

@@ -1,9 +1,9 @@
 use Rattle.std.proofs.Common.{◌≡◌}
-use Rattle.serving.specs.Turns.{KeepsOthers}
+use Rattle.serving.specs.Turns.{KeepsPlaces}
 use Rattle.serving.proofs.turn.serve_turn.Given as goal
 
 abbrev pub invariant-loop : goal.invariant-loop
 invariant-loop g l = record {
-  kept : KeepsOthers l.number l.fn.connections l.connections;
+  kept : KeepsPlaces l.number l.fn.connections l.connections;
   asked : l.teller.asked.ghost_name ≡ l.fn.teller.asked.ghost_name;
 }

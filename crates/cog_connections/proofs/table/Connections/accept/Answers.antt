@@ -2,7 +2,7 @@ use Rattle.std.proofs.Common.{ap, ◌∙◌, subst, Some}
 use Rattle.cog_server.specs.Status.{Status}
 use Rattle.cog_connections.specs.declared.timed.Timed.{Timed}
 use Rattle.cog_connections.specs.Table.{Becomes}
-use Rattle.cog_connections.proofs.TableLemmas.{accepted, becomes_new, below_accepted}
+use Rattle.cog_connections.proofs.TableLemmas.{accepted, becomes_new, falling_accepted, new_number}
 use Rattle.cog_connections.proofs.table.Connections.accept.Goals as goal
 
 pub invariant_of-self-2 : goal.invariant_of-self-2
@@ -10,7 +10,7 @@ invariant_of-self-2 c =
     let s = c.args.self.now in
     let p : Timed = record { connection = c.new-connection.result; progress = c.args.now } in
     record {
-      fresh = below_accepted s.next p s.table.entries _ s.fresh
+      fresh = falling_accepted s.next p s.table.entries _ s.fresh
           (ap (λ x. x.entries) c.in_ok-push.ensures.entries ∙ accepted s.table s.next p s.fresh c.requires);
     }
 
@@ -20,3 +20,6 @@ returns-clause-table c =
     let p : Timed = record { connection = c.new-connection.result; progress = c.args.now } in
     subst (λ (t : Status). Becomes s.next (Some (record { connection = t; progress = c.args.now })) s.table.entries c.push.new.self.entries) c.new-connection.ensures
     (becomes_new s.next p s.table.entries _ (ap (λ x. x.entries) c.in_ok-push.ensures.entries ∙ accepted s.table s.next p s.fresh c.requires))
+
+pub returns-clause-unused : goal.returns-clause-unused
+returns-clause-unused c = new_number c.args.self.now.next c.args.self.now.table.entries c.args.self.now.fresh

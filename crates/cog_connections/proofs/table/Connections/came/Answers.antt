@@ -1,12 +1,12 @@
 use Rattle.std.proofs.Common.{sym}
 use Rattle.cog_server.specs.Status.{after_bytes}
 use Rattle.cog_connections.specs.declared.timed.Timed.{Timed}
-use Rattle.cog_connections.proofs.TableLemmas.{anyway, changes, below_set}
+use Rattle.cog_connections.proofs.TableLemmas.{anyway, changes, falling_set}
 use Rattle.cog_connections.proofs.table.Connections.came.Goals as goal
 
 pub invariant_of-self-2 : goal.invariant_of-self-2
 invariant_of-self-2 c =
-    record { fresh = below_set c.args.number c.args.self.now.next c.args.self.now.table.entries c.came.new.self c.args.self.now.fresh }
+    record { fresh = falling_set c.args.number c.args.self.now.next c.args.self.now.table.entries c.came.new.self c.args.self.now.fresh }
 
 pub returns-in_err-came-clause-err : goal.returns-in_err-came-clause-err
 returns-in_err-came-clause-err c =

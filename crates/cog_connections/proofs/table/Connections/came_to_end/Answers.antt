@@ -1,12 +1,12 @@
 use Rattle.std.proofs.Common.{sym}
 use Rattle.cog_server.specs.Status.{after_end}
 use Rattle.cog_connections.specs.declared.timed.Timed.{Timed}
-use Rattle.cog_connections.proofs.TableLemmas.{changes, below_set}
+use Rattle.cog_connections.proofs.TableLemmas.{changes, falling_set}
 use Rattle.cog_connections.proofs.table.Connections.came_to_end.Goals as goal
 
 pub invariant_of-self-2 : goal.invariant_of-self-2
 invariant_of-self-2 c =
-    record { fresh = below_set c.args.number c.args.self.now.next c.args.self.now.table.entries c.came_to_end.new.self c.args.self.now.fresh }
+    record { fresh = falling_set c.args.number c.args.self.now.next c.args.self.now.table.entries c.came_to_end.new.self c.args.self.now.fresh }
 
 pub returns-clause-table : goal.returns-clause-table
 returns-clause-table c =

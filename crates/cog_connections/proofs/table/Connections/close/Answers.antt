@@ -1,10 +1,13 @@
 use Rattle.std.proofs.Common.{ap}
-use Rattle.cog_connections.proofs.TableLemmas.{others_still, below_removed}
+use Rattle.cog_connections.proofs.TableLemmas.{falling_removed, gone, others_still}
 use Rattle.cog_connections.proofs.table.Connections.close.Goals as goal
 
 pub invariant_of-self : goal.invariant_of-self
 invariant_of-self c =
-    record { fresh = below_removed c.args.number c.args.self.now.next c.args.self.now.table.entries _ (ap (λ x. x.entries) c.pop.ensures.entries) c.args.self.now.fresh }
+    record { fresh = falling_removed c.args.number c.args.self.now.next c.args.self.now.table.entries _ (ap (λ x. x.entries) c.pop.ensures.entries) c.args.self.now.fresh }
 
 pub returns-clause-others : goal.returns-clause-others
 returns-clause-others c = others_still c.args.number c.args.self.now.table.entries _ (ap (λ x. x.entries) c.pop.ensures.entries)
+
+pub returns-clause-gone : goal.returns-clause-gone
+returns-clause-gone c = gone c.args.number c.args.self.now.next c.args.self.now.table.entries _ (ap (λ x. x.entries) c.pop.ensures.entries) c.args.self.now.fresh

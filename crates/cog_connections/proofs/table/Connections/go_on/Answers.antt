@@ -1,10 +1,10 @@
 use Rattle.std.proofs.Common.{sym}
-use Rattle.cog_connections.proofs.TableLemmas.{anyway, changes, below_set, goes_on_at}
+use Rattle.cog_connections.proofs.TableLemmas.{anyway, changes, falling_set, goes_on_at}
 use Rattle.cog_connections.proofs.table.Connections.go_on.Goals as goal
 
 pub invariant_of-self-2 : goal.invariant_of-self-2
 invariant_of-self-2 c =
-    record { fresh = below_set c.args.number c.args.self.now.next c.args.self.now.table.entries c.go_on.new.self c.args.self.now.fresh }
+    record { fresh = falling_set c.args.number c.args.self.now.next c.args.self.now.table.entries c.go_on.new.self c.args.self.now.fresh }
 
 pub returns-in_err-went-clause-err : goal.returns-in_err-went-clause-err
 returns-in_err-went-clause-err c =

@@ -1,0 +1,23 @@
+-- What others know of a server's sockets.
+use Rattle.std.specs.Prelude.{◌≡◌, ℕ, None}
+use Rattle.cog_connections.specs.Table.{Table, timed_at}
+use Rattle.serving.specs.declared.serving.Limits.{Limits}
+use Rattle.serving.specs.declared.serving.Serving.{Serving}
+
+-- how many connections were accepted
+abbrev pub accepted_of : Serving → ℕ
+accepted_of s = s.accepted
+
+-- how many there may be, and how long one keeps its place
+abbrev pub limits_of : Serving → Limits
+limits_of s = s.limits
+
+-- the connections that have a place
+abbrev pub places_of : Serving → Table
+places_of s = s.held.connections.table.entries
+
+-- nobody is accepted, and nobody gets a place
+pub record NobodyComes (old new : Serving) : Type 0 where
+  pub places : (k : ℕ) → timed_at k (places_of old) ≡ None → timed_at k (places_of new) ≡ None
+  pub accepted : accepted_of new ≡ accepted_of old
+  pub limits : limits_of new ≡ limits_of old
