@@ -1,6 +1,6 @@
 //! A source of answers in pieces that is another one, and notes what came of the last exchange.
-ghost use Rattle.std.specs.Prelude.{◌≡◌};
-ghost use Rattle.exchange_notes.specs.Noted.{source_of};
+ghost use Rattle.std.specs.Prelude.{◌≡◌, ◌+◌, [], false, length, min};
+ghost use Rattle.exchange_notes.specs.Noted.{HasCome, bytes_of, front_of, sent_of, source_of};
 
 use cog_client::{Lost, Pieces, Why};
 use http_range::{Head, HeadReading, read_head, read_request};
@@ -81,7 +81,9 @@ impl<P> Noted<P> {
     }
 
     /// What came of the last exchange.
-    pub fn came(&self) -> Came {
+    pub fn came(&self) -> Came
+        ensures { HasCome self.now result }
+    {
         if !self.is_sent {
             return Came::Unsent;
         }
@@ -111,7 +113,10 @@ impl<P> Noted<P> {
 
     /// Notes a request, and drops what was noted before, but for how far it had come. What there is no memory for isn't noted.
     fn note_request(&mut self, request: &[u8])
-        ensures { source_of self.new ≡ source_of self.old }
+        ensures source { source_of self.new ≡ source_of self.old }
+        ensures sent { sent_of self.new ≡ false }
+        ensures bytes { bytes_of self.new ≡ 0 }
+        ensures front { front_of self.new ≡ [] }
     {
         self.before = self.progress();
         self.before.asked = self.before.asked.saturating_add(1);
@@ -128,7 +133,9 @@ impl<P> Noted<P> {
 
     /// Notes the next bytes of the answer.
     fn note_piece(&mut self, piece: &[u8])
-        ensures { source_of self.new ≡ source_of self.old }
+        ensures source { source_of self.new ≡ source_of self.old }
+        ensures sent { sent_of self.new ≡ sent_of self.old }
+        ensures bytes { bytes_of self.new ≡ min (bytes_of self.old + length piece.now) 18446744073709551615 }
     {
         let room = FRONT_ROOM.saturating_sub(self.front.len());
         let count = piece.len().min(room);
