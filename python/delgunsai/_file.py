@@ -1,6 +1,7 @@
 """A file that is read by windows."""
 from __future__ import annotations
 
+import dataclasses
 import numbers
 import operator
 import os
@@ -169,7 +170,7 @@ class File:
             self._core.open_info()
             self._report()
             self._info = read_info(self._core.info())
-        return self._info
+        return dataclasses.replace(self._info, keys=dict(self._info.keys))     # a caller may change its own
 
     def _ask(self) -> bool:
         request = self._core.check()

@@ -18,6 +18,7 @@ PIECE = 1 << 17
 HEAD_ROOM = 4096
 FRONT = 65536
 """How many bytes of a file that was replaced are of use."""
+STATUS = len(b'HTTP/1.1 200')
 INTERIM = 16
 DEPTH = 8
 LOSSES = 3
@@ -164,7 +165,7 @@ class Host:
             late = False
             try:
                 self._send([request, *later])
-                first = self._more()
+                first = self._beginning()
                 if first and first[8:12] != b' 408':
                     self._losses = 0 if self._ahead else self._losses
                     return first
@@ -208,6 +209,19 @@ class Host:
         poll = select.poll()
         poll.register(self._connection.sock, select.POLLIN)
         return not poll.poll(0)
+
+    def _beginning(self) -> memoryview:
+        """The next bytes that came, the status of an answer whole, unless the connection ends before."""
+        kept = bytes(self._room[self._begin:self._end][:STATUS])
+        if len(kept) < STATUS:
+            self._room[:len(kept)] = kept
+            self._begin, self._end = 0, len(kept)
+            while self._end < STATUS:
+                count = self._connection.sock.recv_into(self._room[self._end:])
+                if count == 0:
+                    break
+                self._end += count
+        return self._more()
 
     def _more(self, most: int = PIECE) -> memoryview:
         """The next bytes that came, at most so many; none at the end of the connection."""

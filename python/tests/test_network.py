@@ -343,7 +343,9 @@ class Unneeded(unittest.TestCase):
     def test_idle_for_too_long(self):
         """408 on a connection that was kept is no answer, and on a new one it is."""
         late = Ends(head(b'408 Request Timeout', b'Content-Length: 0', b'Connection: close'))
-        with Made(lambda request, number: late if number == 2 else served(request, TEXT)) as server, delgunsai.open(server.url()) as file:
-            self.assertTrue(right(file, 0, 0, 10) and right(file, 800, 800))
-            self.assertEqual(server.connections, 2)
+        for answer in late, [late[:4], late[4:10], late[10:]]:
+            with Made(lambda request, number: answer if number == 2 else served(request, TEXT)) as server, \
+                    delgunsai.open(server.url()) as file:
+                self.assertTrue(right(file, 0, 0, 10) and right(file, 800, 800))
+                self.assertEqual(server.connections, 2)
         self.refused(late, 3, 408)
