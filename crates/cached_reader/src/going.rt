@@ -1,5 +1,5 @@
 //! Going on: the reader is given what the cache has.
-ghost use Rattle.std.specs.Prelude.{◌≡◌, ◌+◌, ◌<◌, ◌≤◌, ◌^◌, Some, IfOk, OnErr, OnOk, length};
+ghost use Rattle.std.specs.Prelude.{max, ◌≡◌, ◌+◌, ◌<◌, ◌≤◌, ◌^◌, Some, IfOk, OnErr, OnOk, length};
 ghost use Rattle.tiff_dir.specs.declared.limits.TheConstants.{MAX_RANGE_BYTES};
 ghost use Rattle.tiff_dir.specs.Walk.{extent_of_span};
 ghost use Rattle.cog_reader.specs.Reader.{complete_of, wanted, IsWanted, Takes};
@@ -46,6 +46,7 @@ fn give_held(
     requires fits { first + len < 2 ^ 64 }
     ensures takes { OnOk result (Takes (bytes_at cache.now first len) reader.old reader.new) }
     ensures err { OnErr result (reader.new ≡ reader.old) }
+    ensures room { length buffer.new.items ≤ max (length buffer.old.items) len }
 {
     if reader.wants_plain_tiles() {
         reader.paint(&HeldRange::new(cache, first, len));
@@ -71,6 +72,7 @@ fn give_next(
     requires complete { complete_of reader.old ≡ complete }
     ensures goes { ReaderGoesOn (work reader.old cache.old) (work reader.new cache.new) }
     ensures given { IfOk result (IsGiven (extent_of_span span) (work reader.old cache.old) (work reader.new cache.new)) }
+    ensures room { length buffer.new.items ≤ max (length buffer.old.items) MAX_RANGE_BYTES }
 {
     lengths_are_known();
     missing_is_exact();
@@ -96,6 +98,7 @@ pub fn fill(
     requires { complete_of reader.old ≡ complete }
     ensures goes { ReaderGoesOn (work reader.old cache.old) (work reader.new cache.new) }
     ensures filled { IfOk result (IsFilled (work reader.new cache.new) ahead) }
+    ensures room { length buffer.new.items ≤ max (length buffer.old.items) MAX_RANGE_BYTES }
 {
     nothing_comes();
     while let Some(span) = reader.need()? {

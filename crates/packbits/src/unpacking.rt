@@ -1,46 +1,44 @@
 //! What packets stand for.
 ghost use Rattle.std.specs.Prelude.{◌≡◌, ◌<◌, ◌≤◌, IfSome, IfNone, OnOk, IfErr, length, take, min, replicate};
 ghost use Rattle.tiff_dir.specs.Packets.{Packs};
-ghost use Rattle.packbits.specs.declared.unpacking.TheConstants.{MOST};
+ghost use Rattle.tiff_dir.specs.declared.limits.TheConstants.{MAX_PACKET_BYTES};
 ghost use Rattle.packbits.specs.Unpacking.{IsFirst, HasNoFirst, IsNotPacked};
 
+use tiff_dir::limits::MAX_PACKET_BYTES;
 use tiff_dir::{FileFault, one_text};
 
 /// The head of a packet that stands for nothing; below it a packet copies, above it one repeats.
 const NO_OP: usize = 128;
 
-/// The most bytes that a packet stands for.
-const MOST: usize = 128;
-
-/// So many bytes are written at once for a packet of at most as many, and `MOST` for one of more: neither costs a call.
+/// So many bytes are written at once for a packet of at most as many, and `MAX_PACKET_BYTES` for one of more: neither costs a call.
 const AT_ONCE: usize = 16;
 
 /// Writes a byte so many times. What follows in `out` may be overwritten.
 #[inline(always)]
 fn repeat(byte: u8, times: usize, out: &mut [u8])
-    requires few { times ≤ MOST }
-    requires room { MOST ≤ length out.old }
+    requires few { times ≤ MAX_PACKET_BYTES }
+    requires room { MAX_PACKET_BYTES ≤ length out.old }
     ensures { take times out.new ≡ replicate times byte }
 {
     if times <= AT_ONCE {
         out[..AT_ONCE].copy_from_slice(&[byte; AT_ONCE]);
     } else {
-        out[..MOST].copy_from_slice(&[byte; MOST]);
+        out[..MAX_PACKET_BYTES].copy_from_slice(&[byte; MAX_PACKET_BYTES]);
     }
 }
 
 /// Copies the first `len` bytes. What follows in `out` may be overwritten.
 #[inline(always)]
 fn copy(bytes: &[u8], len: usize, out: &mut [u8])
-    requires few { len ≤ MOST }
-    requires there { MOST ≤ length bytes.now }
-    requires room { MOST ≤ length out.old }
+    requires few { len ≤ MAX_PACKET_BYTES }
+    requires there { MAX_PACKET_BYTES ≤ length bytes.now }
+    requires room { MAX_PACKET_BYTES ≤ length out.old }
     ensures { take len out.new ≡ take len bytes.now }
 {
     if len <= AT_ONCE {
         out[..AT_ONCE].copy_from_slice(&bytes[..AT_ONCE]);
     } else {
-        out[..MOST].copy_from_slice(&bytes[..MOST]);
+        out[..MAX_PACKET_BYTES].copy_from_slice(&bytes[..MAX_PACKET_BYTES]);
     }
 }
 
@@ -67,8 +65,8 @@ fn copy_last(bytes: &[u8], len: usize, out: &mut [u8])
 /// for. There are bytes for any packet, and `out` has room for what any stands for.
 #[inline(always)]
 fn unpack_next(bytes: &[u8], room: usize, out: &mut [u8]) -> Option<(usize, usize)>
-    requires there { MOST < length bytes.now }
-    requires fits { MOST ≤ length out.old }
+    requires there { MAX_PACKET_BYTES < length bytes.now }
+    requires fits { MAX_PACKET_BYTES ≤ length out.old }
     ensures first { IfSome result (λ n. (n.0 ≤ length bytes.now) × (n.1 ≤ room) × (n.1 ≤ length out.old)
         × IsFirst bytes.now n.0 (take n.1 out.new)) }
     ensures none { IfNone result (HasNoFirst bytes.now (min room (length out.old))) }
@@ -131,7 +129,7 @@ fn unpack_first(bytes: &[u8], room: usize, out: &mut [u8]) -> Option<(usize, usi
         × IsFirst bytes.now n.0 (take n.1 out.new)) }
     ensures none { IfNone result (HasNoFirst bytes.now (min room (length out.old))) }
 {
-    if MOST < bytes.len() && MOST <= out.len() {
+    if MAX_PACKET_BYTES < bytes.len() && MAX_PACKET_BYTES <= out.len() {
         unpack_next(bytes, room, out)
     } else {
         unpack_last(bytes, room, out)

@@ -1,6 +1,7 @@
 //! Laws of the definitions, which upper crates rest on. Each function does nothing: its contract is the law.
 ghost use Rattle.std.specs.Prelude.{◌≡◌, ℕ, List, [], Some, slice_get};
 ghost use Rattle.tiff_dir.specs.declared.limits.TheConstants.{BLOCK_SIZE, MAX_DIRECTORIES, MAX_ENTRIES, MAX_GEO_BYTES, MAX_PACKET_BYTES, MAX_RANGE_BYTES, MAX_TILES, MAX_TILE_BYTES, MAX_WINDOW_SAMPLES};
+ghost use Rattle.tiff_dir.specs.declared.tags.TheConstants.{BITS_PER_SAMPLE, COMPRESSION, GEO_ASCII_PARAMS, GEO_DOUBLE_PARAMS, GEO_KEY_DIRECTORY, IMAGE_LENGTH, IMAGE_WIDTH, MODEL_PIXEL_SCALE, MODEL_TIEPOINT, MODEL_TRANSFORMATION, NEW_SUBFILE_TYPE, PHOTOMETRIC_INTERPRETATION, PLANAR_CONFIGURATION, SAMPLES_PER_PIXEL, SAMPLE_FORMAT, TILE_BYTE_COUNTS, TILE_LENGTH, TILE_OFFSETS, TILE_WIDTH};
 ghost use Rattle.tiff_dir.specs.declared.query.Query.{Query};
 ghost use Rattle.tiff_dir.specs.declared.query.Query.TheVariants.{Window};
 ghost use Rattle.tiff_dir.specs.declared.query.Pick.{Pick};
@@ -25,6 +26,29 @@ pub fn profile_limits_are()
     ensures window { MAX_WINDOW_SAMPLES ≡ 4194304 }
     ensures packet { MAX_PACKET_BYTES ≡ 128 }
     ensures block { BLOCK_SIZE ≡ 16384 }
+{}
+
+/// The numbers of the tags (TIFF 6.0, sections 8, 15 and 19; GeoTIFF 1.1, OGC 19-008, sections 7.1 and 8).
+pub fn tags_are()
+    ensures new_subfile_type { NEW_SUBFILE_TYPE ≡ 254 }
+    ensures image_width { IMAGE_WIDTH ≡ 256 }
+    ensures image_length { IMAGE_LENGTH ≡ 257 }
+    ensures bits_per_sample { BITS_PER_SAMPLE ≡ 258 }
+    ensures compression { COMPRESSION ≡ 259 }
+    ensures photometric_interpretation { PHOTOMETRIC_INTERPRETATION ≡ 262 }
+    ensures samples_per_pixel { SAMPLES_PER_PIXEL ≡ 277 }
+    ensures planar_configuration { PLANAR_CONFIGURATION ≡ 284 }
+    ensures tile_width { TILE_WIDTH ≡ 322 }
+    ensures tile_length { TILE_LENGTH ≡ 323 }
+    ensures tile_offsets { TILE_OFFSETS ≡ 324 }
+    ensures tile_byte_counts { TILE_BYTE_COUNTS ≡ 325 }
+    ensures sample_format { SAMPLE_FORMAT ≡ 339 }
+    ensures model_pixel_scale { MODEL_PIXEL_SCALE ≡ 33550 }
+    ensures model_tiepoint { MODEL_TIEPOINT ≡ 33922 }
+    ensures model_transformation { MODEL_TRANSFORMATION ≡ 34264 }
+    ensures geo_key_directory { GEO_KEY_DIRECTORY ≡ 34735 }
+    ensures geo_double_params { GEO_DOUBLE_PARAMS ≡ 34736 }
+    ensures geo_ascii_params { GEO_ASCII_PARAMS ≡ 34737 }
 {}
 
 /// A file has one window for a query.

@@ -26,7 +26,8 @@ mod walk;
 pub use fault::{FileFault, WalkError};
 pub use geo::GeoPlaces;
 pub use laws::{
-    levels_are_described, one_text, one_window, profile_limits_are, some_window, what_comes,
+    levels_are_described, one_text, one_window, profile_limits_are, some_window, tags_are,
+    what_comes,
 };
 pub use level::{Compression, Kind, Level, Place};
 pub use memory::Memory;
