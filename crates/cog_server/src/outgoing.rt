@@ -1,5 +1,5 @@
 //! An answer on its way out.
-ghost use Rattle.std.specs.Prelude.{◌≡◌, ◌≤◌, ◌++◌, ◌==◌, [], not, OnErr, OnOk, length, drop, map, slice_range};
+ghost use Rattle.std.specs.Prelude.{◌≡◌, ◌≤◌, ◌++◌, ◌==◌, [], not, None, OnErr, OnOk, length, drop, map, slice_range};
 ghost use Rattle.cog_server.specs.Catalogue.{publication};
 ghost use Rattle.cog_server.specs.Outgoing.{IsOutgoing, body_of, waiting_of};
 
@@ -41,6 +41,7 @@ impl Outgoing {
 
     /// Drops what is there but for the room of the head.
     fn clear(&mut self)
+        ensures file { self.new.file ≡ None }
         ensures waiting { waiting_of self.new ≡ [] }
         ensures head { self.new.head.items ≡ [] }
         ensures sent { self.new.sent ≡ 0 }
@@ -103,12 +104,16 @@ impl Outgoing {
         !head.is_empty() || !body.is_empty()
     }
 
-    /// Notes that some bytes are written.
+    /// Notes that some bytes are written. Behind the last one the file's bytes are held no longer.
     pub fn wrote(&mut self, n: usize)
         requires { n ≤ length (waiting_of self.old) }
-        ensures { waiting_of self.new ≡ drop n (waiting_of self.old) }
+        ensures waiting { waiting_of self.new ≡ drop n (waiting_of self.old) }
+        ensures freed { waiting_of self.new ≡ [] → self.new.file ≡ None }
     {
         self.sent += n;
+        if !self.is_waiting() {
+            self.clear();
+        }
     }
 }
 

@@ -9,15 +9,29 @@ use cog_server::Server;
 use disk_files::Watched;
 use exchange_notes::moment;
 use serving::{Limits, Serving};
-use std::net::{Net, TcpListener, TcpStream};
+use std::io;
+use std::io::ErrorKind;
+use std::net::{Net, TcpListener, TcpStream, ToSocketAddrs};
 use std::rt::{Clock, Files};
+
+/// Listens at the first address of a place where that can be done. As many newcomers may wait as the system allows.
+fn bind<R: Net>(rt: &R, place: &str) -> io::Result<TcpListener> {
+    let mut last = io::Error::from(ErrorKind::AddrNotAvailable);
+    for address in place.to_socket_addrs(rt)? {
+        match mio::net::TcpListener::bind(rt, address) {
+            Ok(listener) => return Ok(TcpListener::from(listener)),
+            Err(error) => last = error,
+        }
+    }
+    Err(last)
+}
 
 /// Listens at a place, as `HOST:PORT`, and tells so by these words. The log tells the address that the system gave.
 pub fn listen<R>(log: &Log<'_, R>, place: &str) -> Result<TcpListener, ServeError<'static>>
 where
     R: Print + Eprint + Net<Listener = TcpListener, Stream = TcpStream>,
 {
-    let listener = match TcpListener::bind(log.rt, place) {
+    let listener = match bind(log.rt, place) {
         Ok(listener) => listener,
         Err(error) => return Err(ServeError::CantListen(error)),
     };

@@ -1,9 +1,11 @@
 //! The sockets of a server: who gets a place, whose turn it is, and how long to wait.
-ghost use Rattle.std.specs.Prelude.{◌≡◌, ◌+◌, ◌<◌, ◌≤◌, ◌^◌, ◌↔◌, [], IfOk, IsTrue, OnErr, OnOk, false, true};
+ghost use Rattle.std.specs.Prelude.{◌≡◌, ◌≢◌, ◌+◌, ◌-◌, ◌*◌, ◌<◌, ◌≤◌, ◌^◌, ◌⊎◌, ◌↔◌, [], IfOk, IfSome, IsSomeAnd, IsTrue, OnErr, OnOk, Some, false, slice_get, true};
+ghost use Rattle.std.specs.Duration.{as_nanos};
 ghost use Rattle.cog_connections.specs.Table.{OthersStay};
 ghost use Rattle.serving.specs.Held.{NobodyComes, accepted_of, limits_of, places_of};
 ghost use Rattle.serving.specs.Refusals.{HasNoRoom, IsPassing};
 ghost use Rattle.serving.specs.Turns.{GivesPlace};
+ghost use Rattle.serving.specs.declared.serving.TheConstants.{RETRY};
 
 use crate::answered::Audience;
 use crate::open::Open;
@@ -28,6 +30,21 @@ const EVENTS: usize = 1024;
 
 /// So many milliseconds a connection whose answers are written waits for its peer's end.
 const DRAIN: u64 = 2_000;
+
+/// After so many milliseconds a newcomer for which there was no room is tried again.
+const RETRY: u64 = 1_000;
+
+/// The earlier of two moments, where there are such.
+fn earlier(one: Option<u64>, other: Option<u64>) -> Option<u64>
+    ensures one { IfSome one (λ moment. IsSomeAnd result (λ first. first ≤ moment)) }
+    ensures other { IfSome other (λ moment. IsSomeAnd result (λ first. first ≤ moment)) }
+    ensures among { IfSome result (λ first. (one ≡ Some first) ⊎ (other ≡ Some first)) }
+{
+    match (one, other) {
+        (Some(one), Some(other)) => Some(one.min(other)),
+        (one, other) => one.or(other),
+    }
+}
 
 /// How many connections there may be, and how long one keeps its place.
 #[derive(Clone, Copy, Debug, PartialEq, Eq)]
@@ -167,7 +184,7 @@ impl Serving {
 
     /// Whether a newcomer may wait that is to be accepted.
     fn is_awaited(&self) -> bool
-        ensures fewer { IsTrue result → accepted_of self.now < (limits_of self.now).connections }
+        ensures awaited { IsTrue result ↔ (self.now.knocks ≡ true) × (accepted_of self.now < (limits_of self.now).connections) }
         ensures counts { IsTrue result → accepted_of self.now + 1 < 2 ^ 32 }
     {
         self.knocks && self.accepted < self.limits.connections
@@ -296,21 +313,35 @@ impl Serving {
         }
     }
 
-    /// How long to wait: until a drain ends, or where a newcomer waits, until a connection may lose its place.
-    fn timeout(&self, now: u64) -> Option<Duration> {
+    /// When a newcomer that waits is looked at again: where a connection may lose its place, and after a second where there was no room for
+    /// it.
+    fn looks_at(&self, now: u64) -> Option<u64>
+        ensures { self.now.is_starved ≡ true → self.now.knocks ≡ true → accepted_of self.now < (limits_of self.now).connections
+            → IsSomeAnd result (λ moment. moment ≤ now + RETRY) }
+    {
+        if !self.is_awaited() {
+            return None;
+        }
+        let place = self.held.wakes_at(self.limits.patience);
+        let again = if self.is_starved {
+            Some(now.saturating_add(RETRY))
+        } else {
+            None
+        };
+        earlier(place, again)
+    }
+
+    /// How long to wait: until a drain ends, or a newcomer that waits is looked at again.
+    fn timeout(&self, now: u64) -> Option<Duration>
+        ensures ready { self.now.ready.items ≢ [] → IsSomeAnd result (λ wait. as_nanos wait ≡ 0) }
+        ensures drain { IfSome (slice_get self.now.drains.items 0) (λ drain.
+            IsSomeAnd result (λ wait. as_nanos wait ≤ (drain.0 - now) * 1000000)) }
+    {
         if !self.ready.is_empty() {
             return Some(Duration::ZERO);
         }
         let drain = self.drains.front().map(|(ends, _)| *ends);
-        let place = if self.is_awaited() {
-            self.held.wakes_at(self.limits.patience)
-        } else {
-            None
-        };
-        let moment = match (drain, place) {
-            (Some(drain), Some(place)) => drain.min(place),
-            (drain, place) => drain.or(place)?,
-        };
+        let moment = earlier(drain, self.looks_at(now))?;
         Some(Duration::from_millis(moment.saturating_sub(now)))
     }
 }
