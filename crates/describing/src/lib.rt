@@ -9,4 +9,4 @@ mod words;
 
 pub use description::{Description, Form};
 pub use facts::{CoordinateSystem, LevelFacts, RasterType};
-pub use placement::{Corners, Placement};
+pub use placement::{Corners, Placement, halves_are};

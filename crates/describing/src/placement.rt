@@ -1,7 +1,8 @@
 //! Where the columns and rows of an image lie (GeoTIFF 1.1, OGC 19-008, section 7.3).
-ghost use Rattle.std.specs.Prelude.{◌≡◌, from_bits};
+ghost use Rattle.std.specs.Prelude.{◌≡◌, from_bits, pos};
 ghost use Rattle.std.specs.Int.{w64, from_be_bytes};
-ghost use Rattle.std.specs.Float.Ieee.{binary64};
+ghost use Rattle.std.specs.Float.Ieee.{binary64, div, neg, of_int};
+ghost use Rattle.describing.specs.declared.placement.TheConstants.{HALF_BEFORE, NOTHING, TWO};
 ghost use Rattle.describing.specs.Placement.{double_at, said_of, scaled, transformed};
 
 use cog_client::Info;
@@ -16,6 +17,13 @@ const HALF_BEFORE: f64 = -0.5;
 
 /// A side has two halves.
 const TWO: f64 = 2.0;
+
+/// The numbers of the constants, which the definitions name. It does nothing: its contract is the law.
+pub fn halves_are()
+    ensures nothing { NOTHING ≡ of_int binary64 (pos 0) }
+    ensures two { TWO ≡ of_int binary64 (pos 2) }
+    ensures half { HALF_BEFORE ≡ neg (div binary64 (of_int binary64 (pos 1)) (of_int binary64 (pos 2))) }
+{}
 
 /// The place of a column and a row, which may have fractions: `left + across.0 * column + down.0 * row` to the right, and
 /// `top + across.1 * column + down.1 * row` upwards, in the units of the coordinate system.
