@@ -1,5 +1,5 @@
 -- What a description says of a file.
-use Rattle.std.specs.Prelude.{◌≡◌, ◌⊎◌, ℕ, Bool, true, false, List, [], slice_get, Option, Some, None, IfSome, IsSomeAnd, MatchOption, option_map, ⊤}
+use Rattle.std.specs.Prelude.{◌≡◌, ℕ, Bool, true, false, List, [], slice_get, Option, Some, IfSome, IsSomeAnd, MatchOption, option_map, ⊤}
 use Rattle.std.specs.Option.{unwrap_or}
 use Rattle.std.specs.Cow.{cow_str_bytes}
 use Rattle.std.specs.Str.Lossy.{utf8_lossy}

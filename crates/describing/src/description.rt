@@ -80,7 +80,11 @@ impl<'a> Description<'a> {
     pub fn text(&self, alloc: Global, form: Form) -> Result<String, Memory> {
         match form {
             Form::Words => Ok(format!(in alloc; "{self}")?),
-            Form::Json => Ok(format!(in alloc; "{}\n", json_text(alloc, self)?)?),
+            Form::Json => {
+                let mut text = json_text(alloc, self)?;
+                text.push('\n')?;
+                Ok(text)
+            }
         }
     }
 }
