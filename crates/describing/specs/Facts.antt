@@ -82,9 +82,13 @@ text_in (Ascii bytes) = Some (without_end bytes.items)
 abbrev pub text_of : ℕ → List Key → Option (List ℕ)
 text_of id keys = option_and_then text_in (value_of id keys)
 
--- ProjectedCRSGeoKey, and else GeodeticCRSGeoKey
+-- 0 is undefined and 32767 user-defined, and neither numbers a system (requirements of ProjectedCRSGeoKey and GeodeticCRSGeoKey)
+abbrev pub numbered : ℕ → Option ℕ
+numbered n = if (n == 0) || (n == 32767) then None else Some n
+
+-- by ProjectedCRSGeoKey, and by GeodeticCRSGeoKey only where that isn't there
 abbrev pub system_number : List Key → Option ℕ
-system_number keys = option_or (number_of 3072 keys) (number_of 2048 keys)
+system_number keys = option_and_then numbered (option_and_then number_in (option_or (value_of 3072 keys) (value_of 2048 keys)))
 
 -- ProjectedCitationGeoKey, else GeodeticCitationGeoKey, and else GTCitationGeoKey
 abbrev pub citation : List Key → Option (List ℕ)

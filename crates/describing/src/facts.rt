@@ -2,7 +2,7 @@
 ghost use Rattle.std.specs.Prelude.{◌≡◌, ◌==◌, IfOk, find, option_copied, option_map};
 ghost use Rattle.std.specs.Cow.{cow_str_bytes};
 ghost use Rattle.std.specs.Str.Lossy.{utf8_lossy};
-ghost use Rattle.describing.specs.Facts.{citation, compression_name, number_of, raster_type_by, raster_type_of, system_number, text_of, type_name, value_of, without_end, IsFactsOf, IsSystemBy};
+ghost use Rattle.describing.specs.Facts.{citation, compression_name, number_of, numbered, raster_type_by, raster_type_of, system_number, text_of, type_name, value_of, without_end, IsFactsOf, IsSystemBy};
 
 use cog_client::Info;
 use geokeys::{Key, KeyValue};
@@ -56,6 +56,12 @@ const PROJECTED: u16 = 3072;
 
 /// GeodeticCRSGeoKey.
 const GEODETIC: u16 = 2048;
+
+/// The system isn't defined.
+const UNDEFINED: u16 = 0;
+
+/// Other keys define the system.
+const USER_DEFINED: u16 = 32767;
 
 /// ProjectedCitationGeoKey.
 const PROJECTED_CITATION: u16 = 3073;
@@ -147,11 +153,24 @@ fn text_of(keys: &[Key], id: u16) -> Option<&[u8]>
     }
 }
 
-/// The number of the system, of the projected one first.
+/// A number of ProjectedCRSGeoKey or GeodeticCRSGeoKey, if it numbers a system.
+fn numbered(number: u16) -> Option<u16>
+    ensures { result ≡ numbered number }
+{
+    match number {
+        UNDEFINED | USER_DEFINED => None,
+        _ => Some(number),
+    }
+}
+
+/// The number of the system: of the projected one, where its key is there.
 fn system_number(keys: &[Key]) -> Option<u16>
     ensures { result ≡ system_number keys.now }
 {
-    number_of(keys, PROJECTED).or(number_of(keys, GEODETIC))
+    match value_of(keys, PROJECTED).or(value_of(keys, GEODETIC)) {
+        Some(KeyValue::Short(number)) => numbered(*number),
+        _ => None,
+    }
 }
 
 /// The text of the first citation.
