@@ -136,7 +136,7 @@ class TileSize(FileFault):
 
 
 class Packet(FileFault):
-    """The packed bytes of a tile are no packets that fill it."""
+    """The packed bytes of a tile are no packets that fill it exactly, row by row."""
     number = 13
 
 

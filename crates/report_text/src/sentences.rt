@@ -1,7 +1,7 @@
 //! Sentences for people: what is wrong with a file, and why an answer isn't used.
 use cog_client::{ClientError, Why};
 use std::fmt;
-use tiff_dir::FileFault;
+use tiff_dir::{FileFault, tags};
 
 /// A fault of a file, as a sentence without its end.
 #[derive(Clone, Copy, Debug, PartialEq, Eq)]
@@ -15,25 +15,25 @@ impl fmt::Display for FieldName {
     fn fmt<W: fmt::Write>(&self, f: &mut fmt::Formatter<W>) -> fmt::Result {
         let tag = self.0;
         let name = match tag {
-            254 => "NewSubfileType",
-            256 => "ImageWidth",
-            257 => "ImageLength",
-            258 => "BitsPerSample",
-            259 => "Compression",
-            262 => "PhotometricInterpretation",
-            277 => "SamplesPerPixel",
-            284 => "PlanarConfiguration",
-            322 => "TileWidth",
-            323 => "TileLength",
-            324 => "TileOffsets",
-            325 => "TileByteCounts",
-            339 => "SampleFormat",
-            33550 => "ModelPixelScale",
-            33922 => "ModelTiepoint",
-            34264 => "ModelTransformation",
-            34735 => "GeoKeyDirectory",
-            34736 => "GeoDoubleParams",
-            34737 => "GeoAsciiParams",
+            tags::NEW_SUBFILE_TYPE => "NewSubfileType",
+            tags::IMAGE_WIDTH => "ImageWidth",
+            tags::IMAGE_LENGTH => "ImageLength",
+            tags::BITS_PER_SAMPLE => "BitsPerSample",
+            tags::COMPRESSION => "Compression",
+            tags::PHOTOMETRIC_INTERPRETATION => "PhotometricInterpretation",
+            tags::SAMPLES_PER_PIXEL => "SamplesPerPixel",
+            tags::PLANAR_CONFIGURATION => "PlanarConfiguration",
+            tags::TILE_WIDTH => "TileWidth",
+            tags::TILE_LENGTH => "TileLength",
+            tags::TILE_OFFSETS => "TileOffsets",
+            tags::TILE_BYTE_COUNTS => "TileByteCounts",
+            tags::SAMPLE_FORMAT => "SampleFormat",
+            tags::MODEL_PIXEL_SCALE => "ModelPixelScale",
+            tags::MODEL_TIEPOINT => "ModelTiepoint",
+            tags::MODEL_TRANSFORMATION => "ModelTransformation",
+            tags::GEO_KEY_DIRECTORY => "GeoKeyDirectory",
+            tags::GEO_DOUBLE_PARAMS => "GeoDoubleParams",
+            tags::GEO_ASCII_PARAMS => "GeoAsciiParams",
             _ => "the field",
         };
         write!(f, "{name} ({tag})")
@@ -43,12 +43,12 @@ impl fmt::Display for FieldName {
 /// What is read of a field whose value isn't.
 fn taken(tag: u16) -> &'static str {
     match tag {
-        258 => "only 8 or 16 bits are read, the same for all samples",
-        259 => "only none (1) and PackBits (32773) are read",
-        262 => "only grey, black being 0 (1), and RGB (2) are read",
-        277 => "only one sample that is grey, or three that are RGB, are read",
-        284 => "only samples side by side (1) are read",
-        339 => "only samples without a sign (1) are read",
+        tags::BITS_PER_SAMPLE => "only 8 or 16 bits are read, the same for all samples",
+        tags::COMPRESSION => "only none (1) and PackBits (32773) are read",
+        tags::PHOTOMETRIC_INTERPRETATION => "only grey, black being 0 (1), and RGB (2) are read",
+        tags::SAMPLES_PER_PIXEL => "only one sample that is grey, or three that are RGB, are read",
+        tags::PLANAR_CONFIGURATION => "only samples side by side (1) are read",
+        tags::SAMPLE_FORMAT => "only samples without a sign (1) are read",
         _ => "such a value isn't read",
     }
 }
@@ -56,7 +56,7 @@ fn taken(tag: u16) -> &'static str {
 /// What is missing without a field.
 fn needed(tag: u16) -> &'static str {
     match tag {
-        322 | 323 => "only tiles are read, no strips",
+        tags::TILE_WIDTH | tags::TILE_LENGTH => "only tiles are read, no strips",
         _ => "it is needed",
     }
 }
@@ -92,12 +92,16 @@ fn plain_sentence(fault: FileFault) -> &'static str {
         FileFault::DirCount => "a directory has no entries, or more than 256",
         FileFault::TagOrder => "the tags of a directory don't ascend",
         FileFault::TooManyDirs => "there are more than 16 directories",
-        FileFault::LevelShape => "a side is 0, or a level isn't smaller than the one before",
+        FileFault::LevelShape => {
+            "a side is 0, the first image is a reduced one, or a level isn't smaller than the one before"
+        }
         FileFault::TileArray => {
             "the array of tiles has not as many values as there are tiles, or more than 65536"
         }
         FileFault::TileSize => "a tile's side, plain size or byte count is wrong",
-        FileFault::Packet => "the packed bytes of a tile don't fill it",
+        FileFault::Packet => {
+            "the packed bytes of a tile are no packets that fill it exactly, row by row"
+        }
         FileFault::Outside => {
             "the window is empty or passes its level, there is no such level, or 0 columns are asked for"
         }
@@ -137,11 +141,12 @@ impl fmt::Display for WhySentence {
             Why::Status(status) => return write!(f, "{status}: {}", status_words(status)),
             Why::Cut => "the answer ends inside its head",
             Why::Head => "no head of HTTP/1.1 in 4096 bytes, or more than 32 fields",
-            Why::NoTag => "no ETag: the server doesn't say which content it is",
+            Why::NoTag =>
+                "no ETag, several, or a malformed one: the server doesn't say which content it is",
             Why::WeakTag => "weak tag: the server doesn't say that the bytes are the same",
             Why::TagTooLong => "the ETag is too long",
             Why::NoRange => "206 without a Content-Range that is read",
-            Why::NoLength => "no Content-Length",
+            Why::NoLength => "no Content-Length, or another than the part's",
             Why::Coding => "the answer is coded: by a transfer coding, or compressed",
         };
         f.write_str(words)
