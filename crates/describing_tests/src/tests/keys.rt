@@ -37,7 +37,8 @@ fn texts(alloc: Global, keys: &[(u16, &[u8])]) -> Result<Vec<Key>, AllocError> {
     Ok(made)
 }
 
-/// A projected system is told before the geodetic one that it stands on.
+/// A projected system is told before the geodetic one that it stands on, which isn't told in its place. The numbers 0 (undefined) and
+/// 32767 (user-defined) are none.
 #[test]
 fn tells_the_number_of_a_system(rt: HostRuntime) -> Result<(), Fail> {
     let alloc = rt.alloc();
@@ -45,6 +46,10 @@ fn tells_the_number_of_a_system(rt: HostRuntime) -> Result<(), Fail> {
         ([(2048, 4326), (3072, 32633)].as_slice(), Some(32633)),
         (&[(1024, 2), (2048, 4326)], Some(4326)),
         (&[(1024, 2)], None),
+        (&[(2048, 0)], None),
+        (&[(2048, 32767)], None),
+        (&[(2048, 4326), (3072, 0)], None),
+        (&[(2048, 4326), (3072, 32767)], None),
     ] {
         let info = info_of(alloc, numbers(alloc, keys)?)?;
         let number = match CoordinateSystem::of(alloc, &info)? {
