@@ -1,5 +1,5 @@
 //! A file of the disk that is written whole, or not at all.
-use std::fs::File;
+use std::fs::{File, OpenFile};
 use std::io::Write;
 use std::rt::Files;
 use std::{fs, io};
@@ -11,7 +11,15 @@ fn write_both<R: Files>(rt: &R, path: &str, head: &[u8], rest: &[u8]) -> io::Res
     file.write_all(rest)
 }
 
-/// Writes a file beside another, and renames it to that one.
+/// Writes them to a new file at a path, until the disk has them: what is there already is neither written nor followed.
+fn write_new<R: Files>(rt: &R, path: &str, head: &[u8], rest: &[u8]) -> io::Result<()> {
+    let mut file = File::create_new(rt, path)?;
+    file.write_all(head)?;
+    file.write_all(rest)?;
+    file.sync_all()
+}
+
+/// Writes a new file beside another, in the place of what was left there, and renames it to that one.
 fn write_beside<R: Files>(
     rt: &R,
     path: &str,
@@ -19,7 +27,8 @@ fn write_beside<R: Files>(
     head: &[u8],
     rest: &[u8],
 ) -> io::Result<()> {
-    write_both(rt, beside, head, rest)?;
+    let _ = fs::remove_file(rt, beside);
+    write_new(rt, beside, head, rest)?;
     fs::rename(rt, beside, path)
 }
 
@@ -31,8 +40,8 @@ fn is_special<R: Files>(rt: &R, path: &str) -> bool {
     }
 }
 
-/// Writes a head and what comes behind it to the file at a path, which is replaced once all of it stands in `PATH.part`: after an error
-/// it is as it was. What is no plain file is written as it stands.
+/// Writes a head and what comes behind it to the file at a path, which is replaced once all of it stands in `PATH.part`, a new file: after
+/// an error it is as it was. What is no plain file is written as it stands.
 pub fn replace_file<R: Files + AllocGlobal>(
     rt: &R,
     path: &str,
