@@ -1,4 +1,5 @@
 //! Tests of a client and a server over sockets of one process.
+mod closed;
 mod early;
 mod kept;
 mod loopback;
