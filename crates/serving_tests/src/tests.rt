@@ -4,6 +4,7 @@ use fixtures_support::f1;
 use std::alloc::Global;
 use std::test::Fail;
 
+mod large;
 mod lines;
 mod logs;
 mod places;

@@ -1,4 +1,5 @@
 //! Connections of `cogserve` with the lines that it prints: the file of the disk is written anew between them.
+use super::server_of_f1;
 use cog_server::Server;
 use disk_files::Watched;
 use fixtures_support::f1;
@@ -174,6 +175,26 @@ fn counts_each_connection(rt: HostRuntime) -> Result<(), Fail> {
         capture.into_texts().0.as_slice(),
         b"served 1\nserved 2\nserved 3\n".as_slice()
     );
+    Ok(())
+}
+
+const LAST: &str = "GET /a HTTP/1.1\r\nHost: h\r\nRange: bytes=1-4\r\nConnection: close\r\n\r\n";
+
+/// A client that stays behind its last answer, and does nothing, holds the server for two seconds, and not for three.
+#[test]
+fn ends_where_a_client_stays(rt: HostRuntime) -> Result<(), Fail> {
+    let mut server = server_of_f1(rt.alloc())?;
+    let listener = TcpListener::bind(&rt, "127.0.0.1:0")?;
+    let mut client = TcpStream::connect(&rt, listener.local_addr()?)?;
+    client.write_all(LAST.as_bytes())?;
+    let capture = Capture::new(&rt);
+    let mut log = unlogged(&capture);
+    let limit = rt.monotonic()?.saturating_add(Duration::from_secs(3));
+    assert!(rt; serve_connections(&mut log, &mut server, &mut [], listener, limits(1)).is_ok());
+    assert!(rt; rt.monotonic()? < limit);
+    let answer = io::read_to_string(rt.alloc(), client)?;
+    assert!(rt; answer.as_str().starts_with("HTTP/1.1 206 Partial Content\r\n"));
+    assert!(rt; answer.as_str().ends_with("\r\n\r\nI*\0\x08"));
     Ok(())
 }
 

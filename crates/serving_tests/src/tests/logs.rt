@@ -1,11 +1,12 @@
 //! The log of `cogserve`: a line for each answer, why a file isn't taken anew, and where it listens.
 use super::lines::{connect, limits};
-use super::server_of_f1;
+use super::{places, server_of_f1};
 use cog_server::Server;
 use disk_files::Watched;
 use programs_support::Capture;
 use served_files::{Log, ServeError, listen, publish_all, serve_connections};
 use std::fs;
+use std::io::Write;
 use std::net::{Net, TcpListener, TcpStream};
 use std::rt::{Clock, Files};
 use std::test::Fail;
@@ -51,6 +52,28 @@ fn tells_each_answer(rt: HostRuntime) -> Result<(), Fail> {
     let mut server = server_of_f1(rt.alloc())?;
     let told = told_of(&rt, &mut server, &mut [], MESSAGES)?;
     assert_eq!(rt; told.as_str(), ANSWERS);
+    Ok(())
+}
+
+/// The head of a request comes in two pieces.
+#[test]
+fn tells_the_whole_of_a_request_that_comes_in_pieces(rt: HostRuntime) -> Result<(), Fail> {
+    let (mut serving, server, address) = places::serving(&rt, 2)?;
+    let mut client = places::connect(&rt, address, "GET /a HTTP/1.1\r\nHost: h\r\nRan")?;
+    let capture = Capture::new(&rt);
+    let mut log = logged(&capture);
+    if !matches!(serving.accept(0), Ok(1)) {
+        return Err(Fail::new("not accepted"));
+    }
+    serving.wait(0)?;
+    serving.turns(&server, 0, &mut log);
+    client.write_all(b"ge: bytes=1-4\r\n\r\n")?;
+    serving.wait(1)?;
+    serving.turns(&server, 1, &mut log);
+    assert_eq!(rt;
+        str::from_utf8(&capture.into_texts().1),
+        Ok("cogserve: connection 1: GET /a bytes=1-4: 206, 4 bytes\n")
+    );
     Ok(())
 }
 

@@ -16,7 +16,7 @@ const ANSWER: &str =
     Content-Range: bytes 0-3/378\r\nContent-Length: 4\r\n\r\nII*\0";
 
 /// A server of this file with so many places, where a connection without progress keeps its place for a second.
-fn serving<R: AllocGlobal + Net<Listener = TcpListener, Stream = TcpStream>>(
+pub fn serving<R: AllocGlobal + Net<Listener = TcpListener, Stream = TcpStream>>(
     rt: &R,
     places: usize,
 ) -> Result<(Serving, Server, SocketAddr), Fail> {
@@ -35,7 +35,7 @@ fn serving<R: AllocGlobal + Net<Listener = TcpListener, Stream = TcpStream>>(
 }
 
 /// A connection on which this is sent.
-fn connect<R: Net<Stream = TcpStream>>(
+pub fn connect<R: Net<Stream = TcpStream>>(
     rt: &R,
     address: SocketAddr,
     text: &str,
