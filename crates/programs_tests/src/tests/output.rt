@@ -2,6 +2,8 @@
 use super::{FaultRow, expect_faults};
 use disk_files::replace_file;
 use std::fs;
+use std::os::unix::fs::symlink;
+use std::rt::Files;
 use std::test::Fail;
 
 const PATH: &str = "programs_tests_output";
@@ -15,6 +17,63 @@ fn replaces_the_file(rt: HostRuntime) -> Result<(), Fail> {
     assert_eq!(rt; fs::read(&rt, PATH)?.as_slice(), b"after".as_slice());
     assert!(rt; fs::metadata(&rt, BESIDE).is_err());
     fs::remove_file(&rt, PATH)?;
+    Ok(())
+}
+
+/// Whether a file has just these bytes.
+fn has<R: Files + AllocGlobal>(rt: &R, path: &str, bytes: &[u8]) -> bool {
+    match fs::read(rt, path) {
+        Ok(read) => read.as_slice() == bytes,
+        Err(_) => false,
+    }
+}
+
+/// Another name of the file still has what was there.
+#[test]
+fn puts_another_file_in_its_place(rt: HostRuntime) -> Result<(), Fail> {
+    let (path, name) = ("programs_tests_place", "programs_tests_name");
+    fs::write(&rt, path, "before")?;
+    fs::hard_link(&rt, path, name)?;
+    replace_file(&rt, path, b"af", b"ter")?;
+    assert!(rt; has(&rt, path, b"after"));
+    assert!(rt; has(&rt, name, b"before"));
+    fs::remove_file(&rt, path)?;
+    fs::remove_file(&rt, name)?;
+    Ok(())
+}
+
+/// A link stands in the place where the file is written first: what it leads to stays as it is, there or not.
+#[test]
+fn follows_no_link_beside_the_file(rt: HostRuntime) -> Result<(), Fail> {
+    let (path, beside) = ("programs_tests_linked", "programs_tests_linked.part");
+    let (other, none) = ("programs_tests_other", "programs_tests_missing");
+    fs::write(&rt, path, "before")?;
+    fs::write(&rt, other, "other")?;
+    symlink(&rt, other, beside)?;
+    replace_file(&rt, path, b"af", b"ter")?;
+    assert!(rt; has(&rt, path, b"after"));
+    assert!(rt; has(&rt, other, b"other"));
+    assert!(rt; fs::symlink_metadata(&rt, path)?.is_file());
+    symlink(&rt, none, beside)?;
+    replace_file(&rt, path, b"", b"last")?;
+    assert!(rt; has(&rt, path, b"last"));
+    assert!(rt; fs::symlink_metadata(&rt, none).is_err());
+    assert!(rt; fs::symlink_metadata(&rt, beside).is_err());
+    fs::remove_file(&rt, path)?;
+    fs::remove_file(&rt, other)?;
+    Ok(())
+}
+
+/// A folder stands in that place.
+#[test]
+fn leaves_the_file_where_nothing_can_be_written(rt: HostRuntime) -> Result<(), Fail> {
+    let (path, beside) = ("programs_tests_kept", "programs_tests_kept.part");
+    fs::write(&rt, path, "before")?;
+    fs::create_dir(&rt, beside)?;
+    assert!(rt; replace_file(&rt, path, b"after", b"").is_err());
+    assert!(rt; has(&rt, path, b"before"));
+    fs::remove_dir(&rt, beside)?;
+    fs::remove_file(&rt, path)?;
     Ok(())
 }
 
