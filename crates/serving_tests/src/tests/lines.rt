@@ -180,7 +180,7 @@ fn counts_each_connection(rt: HostRuntime) -> Result<(), Fail> {
 
 const LAST: &str = "GET /a HTTP/1.1\r\nHost: h\r\nRange: bytes=1-4\r\nConnection: close\r\n\r\n";
 
-/// A client that stays behind its last answer, and does nothing, holds the server for two seconds, and not for three.
+/// A client that stays behind its last answer, and does nothing, holds the server for two seconds, and not for ten.
 #[test]
 fn ends_where_a_client_stays(rt: HostRuntime) -> Result<(), Fail> {
     let mut server = server_of_f1(rt.alloc())?;
@@ -189,7 +189,7 @@ fn ends_where_a_client_stays(rt: HostRuntime) -> Result<(), Fail> {
     client.write_all(LAST.as_bytes())?;
     let capture = Capture::new(&rt);
     let mut log = unlogged(&capture);
-    let limit = rt.monotonic()?.saturating_add(Duration::from_secs(3));
+    let limit = rt.monotonic()?.saturating_add(Duration::from_secs(10));
     assert!(rt; serve_connections(&mut log, &mut server, &mut [], listener, limits(1)).is_ok());
     assert!(rt; rt.monotonic()? < limit);
     let answer = io::read_to_string(rt.alloc(), client)?;
