@@ -18,10 +18,10 @@ A fault of the file is told as `fault N`, or as `fault N TAG` where it is about 
    7  Missing      A level lacks this field
    8  FieldType    This field has another type or count
    9  Unsupported  A value of this field isn't read
-  10  LevelShape   A side is 0, or a level isn't smaller than the one before
+  10  LevelShape   A side is 0, the first image is a reduced one, or a level isn't smaller than the one before
   11  TileArray    The array of tiles has not as many values as there are tiles, or more than 65536
   12  TileSize     A tile's side, plain size or byte count is wrong
-  13  Packet       The packed bytes of a tile don't fill it
+  13  Packet       The packed bytes of a tile are no packets that fill it exactly, row by row
   14  Outside      The window is empty or passes its level, there is no such level, or 0 columns are asked for
   15  TooLarge     More than 4194304 samples, or a geo field of more than 65536 bytes
   16  KeyHead      The geo keys' version, revision or length is wrong
