@@ -162,7 +162,7 @@ fn add_telling<'a>(alloc: Global, command: Command<'a>) -> Result<Command<'a>, A
     let help =
         "Writes to this file, which is replaced once all is there (default: standard output)";
     let command = add_option(alloc, command, "output", "FILE", help)?;
-    let help = "Tells each exchange, and why there is none, on standard error";
+    let help = "Tells each exchange, and why there is no report, on standard error";
     let command = add_flag(alloc, command, "verbose", help)?;
     let help = "Draws on standard error, as one line over itself, how many ranges and bytes came";
     add_flag_without(alloc, command, "progress", "verbose", help)

@@ -1,5 +1,4 @@
 //! Tests of a client and a server over sockets of one process.
-mod closed;
 mod early;
 mod kept;
 mod loopback;

@@ -21,7 +21,7 @@ fn server_of(alloc: Global, file: Vec<u8>) -> Result<Server, Fail> {
 #[derive(Drop)]
 pub struct Peer {
     pub server: Server,
-    pub listener: TcpListener,
+    listener: TcpListener,
     pub address: String,
 }
 
