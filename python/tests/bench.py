@@ -105,15 +105,17 @@ def planned(url, path, windows):
 
 
 def least(server, name, path, windows):
-    """Tells how long the same requests and the copies of the windows take a program in C that does nothing else."""
+    """Tells how long the same requests and the copies of the windows take programs in C and in Python that do nothing else."""
     plan, program = os.path.join(FOLDER, 'plan'), os.path.join(FOLDER, 'floor')
     with open(plan, 'wb') as file:
         file.write(planned(server.url(name), path, windows))
-    source = os.path.join(os.path.dirname(os.path.abspath(__file__)), 'floor.c')
-    subprocess.run([os.environ.get('CC', 'cc'), '-O2', '-o', program, source], check=True)
-    took = min(float(subprocess.run([program, str(server.port), plan], check=True, capture_output=True).stdout) for _ in range(ROUNDS))
-    print(f'a program in C that only exchanges and copies: {len(windows)} windows: {took:.3f} s, {len(windows) / took:.0f} in a second',
-          flush=True)
+    here = os.path.dirname(os.path.abspath(__file__))
+    subprocess.run([os.environ.get('CC', 'cc'), '-O2', '-o', program, os.path.join(here, 'floor.c')], check=True)
+    for language, line in ('C', [program]), ('Python', [sys.executable, os.path.join(here, 'floor.py')]):
+        line += [str(server.port), plan]
+        took = min(float(subprocess.run(line, check=True, capture_output=True).stdout) for _ in range(ROUNDS))
+        print(f'a program in {language} that only exchanges and copies: {len(windows)} windows: {took:.3f} s, '
+              f'{len(windows) / took:.0f} in a second', flush=True)
 
 
 def main(near=1000, far=200):
