@@ -193,7 +193,11 @@ fn ends_where_a_client_stays(rt: HostRuntime) -> Result<(), Fail> {
     assert!(rt; serve_connections(&mut log, &mut server, &mut [], listener, limits(1)).is_ok());
     assert!(rt; rt.monotonic()? < limit);
     let answer = io::read_to_string(rt.alloc(), client)?;
-    assert!(rt; answer.as_str().starts_with("HTTP/1.1 206 Partial Content\r\n"));
+    assert!(rt;
+        answer
+            .as_str()
+            .starts_with("HTTP/1.1 206 Partial Content\r\n")
+    );
     assert!(rt; answer.as_str().ends_with("\r\n\r\nI*\0\x08"));
     Ok(())
 }
