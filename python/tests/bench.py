@@ -11,6 +11,7 @@ import delgunsai
 import numpy
 from delgunsai import _sources
 from files import PLAIN, TRANSLATE
+from floor import Floor
 from servers import Cogserve
 from support import EXAMPLE, FOLDER, RASTERIO, free_port
 
@@ -35,36 +36,47 @@ def seconds(do, *words, **more):
     return time.perf_counter() - start, result
 
 
-def both(url, windows, passes):
-    """How long both take to open a file of which nothing is kept and to read these windows, in turn, each first in every other one; and
-    how long for the same windows again, so many passes in all."""
+def timed(readers, windows, row):
+    """Reads the windows by all of these in turn, each first in its turn, adds to the row how long each took, and compares what they give."""
+    for number, window in enumerate(windows):
+        arrays = [None] * len(readers)
+        for turn in range(len(readers)):
+            one = (number + turn) % len(readers)
+            more, arrays[one] = seconds(readers[one], number, window)
+            row[one] += more
+        if not all(numpy.array_equal(arrays[0], array) for array in arrays[1:]):
+            sys.exit(f'python: the window {window} differs')
+
+
+def both(url, windows, passes, floor=None):
+    """How long both, and a floor if there is one, take to open a file of which nothing is kept and to read these windows; and how long for
+    the same windows again, so many passes in all."""
     import rasterio
     from rasterio.windows import Window
     opened = [seconds(delgunsai.open, url, blocks=4096), seconds(rasterio.open, '/vsicurl/' + url)]
-    took = [[0.0, 0.0] for _ in range(passes)]
-    took[0] = [second for second, _ in opened]
     with opened[0][1] as file, opened[1][1] as other:
-        reads = [lambda x, y, w, h: file.read(x=x, y=y, width=w, height=h), lambda *window: other.read(1, window=Window(*window))]
+        readers = [lambda _, window: file.read(x=window[0], y=window[1], width=window[2], height=window[3]),
+                   lambda _, window: other.read(1, window=Window(*window))]
+        readers += [lambda number, _: floor.read(number)] if floor else []
+        took = [[0.0] * len(readers) for _ in range(passes)]
+        took[0][:2] = [second for second, _ in opened]
         for row in took:
-            for number, window in enumerate(windows):
-                arrays = [None, None]
-                for one in (0, 1) if number % 2 == 0 else (1, 0):
-                    more, arrays[one] = seconds(reads[one], *window)
-                    row[one] += more
-                if not numpy.array_equal(*arrays):
-                    sys.exit(f'python: the window {window} differs')
+            timed(readers, windows, row)
     return took
 
 
-def tell(row, count, mine, other):
-    """Prints how long so many windows took both."""
+def tell(row, count, mine, other, floor=None):
+    """Prints how long so many windows took both, and the floor."""
     print(f'{row}: {count} windows of {SIDE} by {SIDE}: {mine:.3f} s, {count / mine:.0f} in a second; rasterio {other:.3f} s, '
           f'{count / other:.0f} in a second; {other / mine:.2f} times its rate', flush=True)
+    if floor:
+        print(f'  in turn with them a program in Python that only exchanges and copies: {floor:.3f} s, {count / floor:.0f} in a second; '
+              f"{other / floor:.2f} times rasterio's rate", flush=True)
 
 
-def compare(rows, urls, windows):
-    """Reads the windows of each file by both, once for each row, and tells how long the best of each took."""
-    took = [both(url, windows, len(rows)) for url in urls]
+def compare(rows, urls, windows, floors=None):
+    """Reads the windows of each file by both, and its floor, once for each row, and tells how long the best of each took."""
+    took = [both(url, windows, len(rows), floor) for url, floor in zip(urls, floors or [None] * len(urls))]
     for row, times in zip(rows, zip(*took)):
         tell(row, len(windows), *(min(seconds) for seconds in zip(*times)))
 
@@ -89,7 +101,7 @@ def offsets_of(path):
 
 
 def planned(url, path, windows):
-    """The plan of these windows for floor.c: the requests that the package makes for them, of a file of which nothing is kept."""
+    """The plan of these windows for a floor: the requests that the package makes for them, of a file of which nothing is kept."""
     offsets = offsets_of(path)
     plan = [struct.pack(f'<5I{len(offsets)}I', os.path.getsize(path), WIDTH // SIDE, SIDE, SIDE, len(offsets), *offsets)]
     exchange = _sources.Host.exchange
@@ -104,18 +116,17 @@ def planned(url, path, windows):
     return b''.join(plan)
 
 
-def least(server, name, path, windows):
-    """Tells how long the same requests and the copies of the windows take programs in C and in Python that do nothing else."""
-    plan, program = os.path.join(FOLDER, 'plan'), os.path.join(FOLDER, 'floor')
-    with open(plan, 'wb') as file:
-        file.write(planned(server.url(name), path, windows))
+def least(server, plan, windows):
+    """Tells how long the same requests and the copies of the windows take a program in C that does nothing else, alone."""
+    place, program = os.path.join(FOLDER, 'plan'), os.path.join(FOLDER, 'floor')
+    with open(place, 'wb') as file:
+        file.write(plan)
     here = os.path.dirname(os.path.abspath(__file__))
     subprocess.run([os.environ.get('CC', 'cc'), '-O2', '-o', program, os.path.join(here, 'floor.c')], check=True)
-    for language, line in ('C', [program]), ('Python', [sys.executable, os.path.join(here, 'floor.py')]):
-        line += [str(server.port), plan]
-        took = min(float(subprocess.run(line, check=True, capture_output=True).stdout) for _ in range(ROUNDS))
-        print(f'a program in {language} that only exchanges and copies: {len(windows)} windows: {took:.3f} s, '
-              f'{len(windows) / took:.0f} in a second', flush=True)
+    line = [program, str(server.port), place]
+    took = min(float(subprocess.run(line, check=True, capture_output=True).stdout) for _ in range(ROUNDS))
+    print(f'a program in C that only exchanges and copies, alone: {len(windows)} windows: {took:.3f} s, {len(windows) / took:.0f} in a '
+          'second', flush=True)
 
 
 def main(near=1000, far=200):
@@ -125,11 +136,13 @@ def main(near=1000, far=200):
     source = random.Random(1)
     windows = [(source.randint(0, WIDTH - SIDE), source.randint(0, HEIGHT - SIDE), SIDE, SIDE) for _ in range(max(near, far))]
     path = written()
-    names = [f'{k}.tif' for k in range(ROUNDS + SHARES + 2)]      # one for each round, since GDAL keeps what it read of a URL
+    names = [f'{k}.tif' for k in range(ROUNDS + SHARES + 1)]      # one for each round, since GDAL keeps what it read of a URL
     with Cogserve({name: path for name in names}) as server:
-        compare(['loopback', 'the same again'], [server.url(name) for name in names[:ROUNDS]], windows[:near])
-        least(server, names[-2], path, windows[:near])
-        spread(f'loopback, {SHARES} files', [server.url(name) for name in names[ROUNDS:-2]], windows[:near])
+        urls = [server.url(name) for name in names[:ROUNDS]]
+        plans = [planned(url, path, windows[:near]) for url in urls]
+        compare(['loopback', 'the same again'], urls, windows[:near], [Floor(server.port, plan) for plan in plans])
+        least(server, plans[0], windows[:near])
+        spread(f'loopback, {SHARES} files', [server.url(name) for name in names[ROUNDS:-1]], windows[:near])
         port = free_port()
         relay = subprocess.Popen([sys.executable, os.path.join(os.path.dirname(os.path.abspath(__file__)), 'relay.py'), str(port),
                                   f'127.0.0.1:{server.port}', str(ROUND_TRIP)], stdout=subprocess.PIPE)

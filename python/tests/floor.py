@@ -1,11 +1,7 @@
-"""floor.py PORT PLAN: what the windows of a plan take in Python without anything but the network and the copy of their samples.
-
-It does what floor.c does, over the socket of a connection of http.client, and cuts the windows out by numpy. It prints how many seconds
-that took."""
+"""The windows of a plan, in Python, without anything but the network and the copy of their samples: what floor.c does, over the socket of a
+connection of http.client, and by numpy."""
 import http.client
 import struct
-import sys
-import time
 
 import numpy
 
@@ -74,35 +70,35 @@ def steps_of(plan, at):
     return steps
 
 
-def cut(tiles, across, side, window, column, row):
-    """The window, out of the four tiles that it touches at most; its sides are those of a tile."""
-    out = numpy.empty((window, window), numpy.uint8)
-    first, x, y = row // side * across + column // side, column % side, row % side
-    out[:side - y, :side - x] = tiles[first][y:, x:]
-    if x > 0:
-        out[:side - y, side - x:] = tiles[first + 1][y:, :x]
-    if y > 0:
-        out[side - y:, :side - x] = tiles[first + across][:y, x:]
-    if x > 0 and y > 0:
-        out[side - y:, side - x:] = tiles[first + across + 1][:y, :x]
-    return out
+class Floor:
+    """A file that is read by a plan, window by window, in its order."""
 
+    def __init__(self, port, plan):
+        length, self.across, self.side, self.window, count = struct.unpack_from('<5I', plan)
+        image = numpy.empty(length, numpy.uint8)
+        self.tiles = [image[offset:offset + self.side ** 2].reshape(self.side, self.side)
+                      for offset in struct.unpack_from(f'<{count}I', plan, 20)]
+        self.steps = steps_of(plan, 20 + 4 * count)
+        self.stream = Stream(port, memoryview(image))
 
-def main(port, path):
-    with open(path, 'rb') as file:
-        plan = file.read()
-    length, across, side, window, count = struct.unpack_from('<5I', plan)
-    image = numpy.empty(length, numpy.uint8)
-    tiles = [image[offset:offset + side * side].reshape(side, side) for offset in struct.unpack_from(f'<{count}I', plan, 20)]
-    steps = steps_of(plan, 20 + 4 * count)
-    stream = Stream(int(port), memoryview(image))
-    start = time.perf_counter()
-    for requests, column, row in steps:
+    def read(self, number):
+        """The window of this number. What it needs is asked for once."""
+        requests, column, row = self.steps[number]
         if requests:
-            stream.exchange(requests)
-        cut(tiles, across, side, window, column, row)
-    print(time.perf_counter() - start)
+            self.stream.exchange(requests)
+            self.steps[number] = [], column, row
+        return self.cut(column, row)
 
-
-if __name__ == '__main__':
-    main(*sys.argv[1:])
+    def cut(self, column, row):
+        """A window, out of the four tiles that it touches at most; its sides are those of a tile."""
+        tiles, side, across, window = self.tiles, self.side, self.across, self.window
+        out = numpy.empty((window, window), numpy.uint8)
+        first, x, y = row // side * across + column // side, column % side, row % side
+        out[:side - y, :side - x] = tiles[first][y:, x:]
+        if x > 0:
+            out[:side - y, side - x:] = tiles[first + 1][y:, :x]
+        if y > 0:
+            out[side - y:, :side - x] = tiles[first + across][:y, x:]
+        if x > 0 and y > 0:
+            out[side - y:, side - x:] = tiles[first + across + 1][:y, :x]
+        return out

@@ -23,6 +23,8 @@ pub(crate) struct ExchangeLine<'c, 'n> {
     /// The tag that the client read before the exchange, and the one that it reads after it.
     pub before: Option<Tag>,
     pub after: Option<Tag>,
+    /// The length of the file that the client reads after it.
+    pub complete: Option<u64>,
 }
 
 /// A tag's text.
@@ -49,6 +51,13 @@ impl ExchangeLine<'_, '_> {
         let tag = tag_text(&head.tag);
         if !reads(&self.after, &head.tag) {
             return write!(f, "of another content, tag {tag}: not taken");
+        }
+        if self.complete != Some(head.complete) {
+            let complete = head.complete;
+            return write!(
+                f,
+                "of a file of {complete} bytes, another length under tag {tag}: not taken"
+            );
         }
         if self.before.is_some() && !reads(&self.before, &head.tag) {
             write!(f, "the file was replaced: ")?;

@@ -50,6 +50,7 @@ fn exchange_told<R: Eprint + Clock, P: Pieces>(
         refusal: net.refusal(),
         before,
         after: tag_of(client),
+        complete: client.complete(),
     };
     let _ = rt.eprintln(line);
     Ok(true)

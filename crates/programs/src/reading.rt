@@ -174,7 +174,7 @@ impl<R: Eprint + Clock + AllocGlobal> Exchanges<'_, '_, R> {
         if self.telling == Telling::Each {
             let requests = self.requests;
             let _ = eprintln!(self.rt;
-                "cogread: no report by {requests} requests, the most that --requests allows"
+                "cogread: no report, and --requests allows no more than {requests}"
             );
         }
     }

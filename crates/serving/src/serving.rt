@@ -336,6 +336,8 @@ impl Serving {
         ensures ready { self.now.ready.items ≢ [] → IsSomeAnd result (λ wait. as_nanos wait ≡ 0) }
         ensures drain { IfSome (slice_get self.now.drains.items 0) (λ drain.
             IsSomeAnd result (λ wait. as_nanos wait ≤ (drain.0 - now) * 1000000)) }
+        ensures starved { self.now.is_starved ≡ true → self.now.knocks ≡ true → accepted_of self.now < (limits_of self.now).connections
+            → IsSomeAnd result (λ wait. as_nanos wait ≤ RETRY * 1000000) }
     {
         if !self.ready.is_empty() {
             return Some(Duration::ZERO);

@@ -86,7 +86,7 @@ const TOLD: [(&[Fate], u32, &str); 4] = [
         "cogread: GET /a bytes=0-65535: 0 bytes, T ms: no connection: the server isn't HOST:PORT, or it broke\n\
         cogread: GET /a bytes=0-65535: 3 bytes, T ms: the answer ends inside its head\n\
         cogread: GET /a bytes=0-65535: 0 bytes, T ms: no answer came\n\
-        cogread: no report by 3 requests, the most that --requests allows\n\
+        cogread: no report, and --requests allows no more than 3\n\
         cogread: no report\n",
     ),
     (
@@ -149,7 +149,7 @@ const NOWHERE: [(&[&str], &str, u8); 3] = [
     (
         &["cogread", "info", "127.0.0.1:1", "a", "--verbose", "--requests", "1"],
         "cogread: GET /a bytes=0-65535: 0 bytes, T ms: no connection: connection refused\n\
-        cogread: no report by 1 requests, the most that --requests allows\n\
+        cogread: no report, and --requests allows no more than 1\n\
         cogread: no report\n",
         4,
     ),
