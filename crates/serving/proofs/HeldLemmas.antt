@@ -1,5 +1,5 @@
 -- What nobody's coming is.
-use Rattle.std.proofs.Common.{◌∙◌}
+use Rattle.std.proofs.Common.{◌∙◌, le_trans}
 use Rattle.serving.specs.declared.serving.Serving.{Serving}
 use Rattle.serving.specs.Held.{NobodyComes}
 
@@ -9,4 +9,5 @@ nobody_yet a b c first then = record {
   places = λ k none. then.places k (first.places k none);
   accepted = then.accepted ∙ first.accepted;
   limits = then.limits ∙ first.limits;
+  ended = le_trans first.ended then.ended;
 }

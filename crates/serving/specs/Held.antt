@@ -1,5 +1,5 @@
 -- What others know of a server's sockets.
-use Rattle.std.specs.Prelude.{◌≡◌, ℕ, None}
+use Rattle.std.specs.Prelude.{◌≡◌, ◌≤◌, ℕ, None}
 use Rattle.cog_connections.specs.Table.{Table, timed_at}
 use Rattle.serving.specs.declared.serving.Limits.{Limits}
 use Rattle.serving.specs.declared.serving.Serving.{Serving}
@@ -7,6 +7,10 @@ use Rattle.serving.specs.declared.serving.Serving.{Serving}
 -- how many connections were accepted
 abbrev pub accepted_of : Serving → ℕ
 accepted_of s = s.accepted
+
+-- how many have ended
+abbrev pub ended_of : Serving → ℕ
+ended_of s = s.held.ended
 
 -- how many there may be, and how long one keeps its place
 abbrev pub limits_of : Serving → Limits
@@ -16,8 +20,9 @@ limits_of s = s.limits
 abbrev pub places_of : Serving → Table
 places_of s = s.held.connections.table.entries
 
--- nobody is accepted, and nobody gets a place
+-- nobody is accepted, nobody gets a place, and none that ended is forgotten
 pub record NobodyComes (old new : Serving) : Type 0 where
   pub places : (k : ℕ) → timed_at k (places_of old) ≡ None → timed_at k (places_of new) ≡ None
   pub accepted : accepted_of new ≡ accepted_of old
   pub limits : limits_of new ≡ limits_of old
+  pub ended : ended_of old ≤ ended_of new

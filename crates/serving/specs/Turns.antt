@@ -28,6 +28,7 @@ abbrev pub GivesPlace : ℕ → ℕ → Table → Table → Type 0
 GivesPlace now patience old new =
     (k : ℕ) × Yields now patience old (Some k) × (new ≡ remove_entry (nat_eq k) old)
 
--- a connection has a socket exactly as long as it has a place
-abbrev pub HaveSockets : {Socket S : Type 0} → HashMap ℕ Socket S → Table → Type 0
-HaveSockets sockets table = (k : ℕ) → is_some (get nat_eq sockets k) ≡ is_some (timed_at k table)
+-- a connection has a socket exactly as long as it has a place, and it is the one of its number
+pub record HaveSockets {Socket S : Type 0} (number_of : Socket → ℕ) (sockets : HashMap ℕ Socket S) (table : Table) : Type 0 where
+  pub placed : (k : ℕ) → is_some (get nat_eq sockets k) ≡ is_some (timed_at k table)
+  pub own : (k : ℕ) (socket : Socket) → get nat_eq sockets k ≡ Some socket → number_of socket ≡ k

@@ -1,5 +1,5 @@
 //! The connections that have a place, with their sockets.
-ghost use Rattle.std.specs.Prelude.{◌≡◌, ◌≢◌, ◌⊎◌, ◌↔◌, ◌<◌, ℕ, [], IfOk, IsTrue, None, OnErr, length, nat_eq};
+ghost use Rattle.std.specs.Prelude.{◌≡◌, ◌≢◌, ◌⊎◌, ◌↔◌, ◌<◌, ◌≤◌, ℕ, [], IfOk, IsSome, IsTrue, None, OnErr, length, nat_eq, true};
 ghost use Rattle.std.specs.Map.{remove_entry};
 ghost use Rattle.std.specs.NonZero.{non_zero_usize_get};
 ghost use Rattle.cog_connections.specs.Table.{OthersStay, timed_at};
@@ -20,9 +20,10 @@ use std::io;
 use std::net::Shutdown;
 use std::num::NonZeroUsize;
 
-/// The socket of a connection.
+/// The socket of a connection, with its number.
 #[derive(Drop)]
 struct Socket {
+    number: u64,
     stream: TcpStream,
     /// Whether all its answers are written.
     is_draining: bool,
@@ -43,7 +44,7 @@ pub struct Open {
     pub connections: Connections,
     sockets: HashMap<u64, Socket>,
     ended: u32,
-    ghost placed: { HaveSockets sockets connections.table.entries },
+    ghost placed: { HaveSockets (λ s. s.number) sockets connections.table.entries },
 }
 
 impl Open {
@@ -61,7 +62,9 @@ impl Open {
     }
 
     /// How many have ended.
-    pub fn ended(&self) -> u32 {
+    pub fn ended(&self) -> u32
+        ensures { result ≡ self.now.ended }
+    {
         self.ended
     }
 
@@ -102,6 +105,7 @@ impl Open {
     /// Adds a connection. One for which the system or memory has no room has ended at once.
     pub fn add(&mut self, poll: &Poll, stream: TcpStream, now: u64)
         ensures others { OthersStay self.old.connections.next self.old.connections.table.entries self.new.connections.table.entries }
+        ensures ended { self.old.ended ≤ self.new.ended }
         ensures cap { self.new.connections.table.cap ≡ self.old.connections.table.cap }
     {
         if self.try_add(poll, stream, now).is_err() {
@@ -111,6 +115,7 @@ impl Open {
 
     /// Adds a connection, or none: one without a socket has no place.
     fn try_add(&mut self, poll: &Poll, mut stream: TcpStream, now: u64) -> io::Result<()>
+        ensures ended { self.old.ended ≤ self.new.ended }
         ensures err { OnErr result ((k : ℕ) → timed_at k self.new.connections.table.entries ≡ timed_at k self.old.connections.table.entries) }
         ensures others { OthersStay self.old.connections.next self.old.connections.table.entries self.new.connections.table.entries }
         ensures cap { self.new.connections.table.cap ≡ self.old.connections.table.cap }
@@ -128,6 +133,7 @@ impl Open {
             Interest::READABLE | Interest::WRITABLE,
         );
         let socket = Socket {
+            number,
             stream,
             is_draining: false,
             asked: Asked::new(self.alloc),
@@ -141,6 +147,7 @@ impl Open {
 
     /// Takes a connection's place and its socket away.
     pub fn close(&mut self, number: u64)
+        ensures ended { self.old.ended ≤ self.new.ended }
         ensures others { OthersStay number self.old.connections.table.entries self.new.connections.table.entries }
         ensures gone { timed_at number self.new.connections.table.entries ≡ None }
         ensures cap { self.new.connections.table.cap ≡ self.old.connections.table.cap }
@@ -157,6 +164,8 @@ impl Open {
     /// A connection whose last answer is written has ended, and its peer is told so. No, where it had before.
     pub fn drain(&mut self, number: u64) -> bool
         ensures kept { self.new.connections ≡ self.old.connections }
+        ensures there { result ≡ true → IsSome (timed_at number self.old.connections.table.entries) }
+        ensures ended { self.old.ended ≤ self.new.ended }
     {
         let Some(socket) = self.sockets.get_mut(&number) else {
             return false;
@@ -181,18 +190,19 @@ impl Open {
         ensures kept { KeepsPlaces number self.old.connections self.new.connections }
         ensures ended { result ≡ Ended → HasEndedAt number self.new.connections.table.entries
             ⊎ IsDrainedAt number self.new.connections.table.entries }
+        ensures counted { self.new.ended ≡ self.old.ended }
     {
         let Some(socket) = self.sockets.get_mut(&number) else {
             return Turn::Waits;
         };
         if socket.is_draining {
-            drain_turn(&mut self.connections, number, &socket.stream, buffer)
+            drain_turn(&mut self.connections, socket.number, &socket.stream, buffer)
         } else {
             let asked = &mut socket.asked;
             let mut teller = Teller { asked, audience };
             serve_turn(
                 &mut self.connections,
-                number,
+                socket.number,
                 &socket.stream,
                 server,
                 buffer,

@@ -1,8 +1,8 @@
 //! The sockets of a server: who gets a place, whose turn it is, and how long to wait.
-ghost use Rattle.std.specs.Prelude.{◌≡◌, ◌≢◌, ◌+◌, ◌-◌, ◌*◌, ◌<◌, ◌≤◌, ◌^◌, ◌⊎◌, ◌↔◌, [], IfOk, IfSome, IsSomeAnd, IsTrue, OnErr, OnOk, Some, false, slice_get, true};
+ghost use Rattle.std.specs.Prelude.{◌≡◌, ◌≢◌, ◌+◌, ◌-◌, ◌*◌, ◌<◌, ◌≤◌, ◌^◌, ◌⊎◌, ◌↔◌, ℕ, [], IfOk, IfSome, IsSomeAnd, IsTrue, None, OnErr, OnOk, Some, false, slice_get, true};
 ghost use Rattle.std.specs.Duration.{as_nanos};
-ghost use Rattle.cog_connections.specs.Table.{OthersStay};
-ghost use Rattle.serving.specs.Held.{NobodyComes, accepted_of, limits_of, places_of};
+ghost use Rattle.cog_connections.specs.Table.{OthersStay, timed_at};
+ghost use Rattle.serving.specs.Held.{NobodyComes, accepted_of, ended_of, limits_of, places_of};
 ghost use Rattle.serving.specs.Refusals.{HasNoRoom, IsPassing};
 ghost use Rattle.serving.specs.Turns.{GivesPlace};
 ghost use Rattle.serving.specs.declared.serving.TheConstants.{RETRY};
@@ -44,6 +44,24 @@ fn earlier(one: Option<u64>, other: Option<u64>) -> Option<u64>
         (Some(one), Some(other)) => Some(one.min(other)),
         (one, other) => one.or(other),
     }
+}
+
+/// Notes the connections that may go on, and says whether a newcomer may wait. One that memory has no room for is closed.
+fn note(events: &Events, held: &mut Open, ready: &mut VecDeque<u64>) -> bool
+    ensures places { (k : ℕ) → timed_at k held.old.connections.table.entries ≡ None
+        → timed_at k held.new.connections.table.entries ≡ None }
+    ensures ended { held.old.ended ≤ held.new.ended }
+{
+    let mut knocks = false;
+    for event in events {
+        let token = event.token();
+        if token == LISTENER {
+            knocks = true;
+        } else if ready.push_back(token.0 as u64).is_err() {
+            held.close(token.0 as u64);
+        }
+    }
+    knocks
 }
 
 /// How many connections there may be, and how long one keeps its place.
@@ -116,7 +134,9 @@ impl Serving {
     }
 
     /// How many connections have ended: all their answers are written, or they failed, or lost their place.
-    pub fn ended(&self) -> u32 {
+    pub fn ended(&self) -> u32
+        ensures { result ≡ ended_of self.now }
+    {
         self.held.ended()
     }
 
@@ -133,6 +153,7 @@ impl Serving {
         ensures few { accepted_of self.old ≤ (limits_of self.old).connections
             → accepted_of self.new ≤ (limits_of self.old).connections }
         ensures limits { limits_of self.new ≡ limits_of self.old }
+        ensures ended { ended_of self.old ≤ ended_of self.new }
     {
         let before = self.accepted;
         for _ in 0..u32::MAX {
@@ -171,13 +192,8 @@ impl Serving {
     {
         let timeout = self.timeout(now);
         self.poll.poll(&mut self.events, timeout)?;
-        for event in &self.events {
-            let token = event.token();
-            if token == LISTENER {
-                self.knocks = true;
-            } else if self.ready.push_back(token.0 as u64).is_err() {
-                self.held.close(token.0 as u64);
-            }
+        if note(&self.events, &mut self.held, &mut self.ready) {
+            self.knocks = true;
         }
         Ok(())
     }
@@ -225,6 +241,7 @@ impl Serving {
             self.new.held.connections.table.entries }
         ensures accepted { accepted_of self.old + 1 < 2 ^ 32 → accepted_of self.new ≡ accepted_of self.old + 1 }
         ensures limits { limits_of self.new ≡ limits_of self.old }
+        ensures ended { ended_of self.old ≤ ended_of self.new }
     {
         self.accepted = self.accepted.saturating_add(1);
         self.held.add(&self.poll, stream, now);

@@ -1,5 +1,5 @@
 use Rattle.std.specs.Prelude.{◌≡◌, ◌≤◌}
-use Rattle.serving.specs.Held.{accepted_of, limits_of}
+use Rattle.serving.specs.Held.{accepted_of, ended_of, limits_of}
 use Rattle.serving.proofs.serving.Serving.accept.Given as goal
 
 abbrev pub invariant-loop : goal.invariant-loop
@@ -7,5 +7,6 @@ invariant-loop l = record {
   limits : limits_of l.self ≡ limits_of l.fn.self;
   before : l.before ≡ accepted_of l.fn.self;
   more : accepted_of l.fn.self ≤ accepted_of l.self;
+  ended : ended_of l.fn.self ≤ ended_of l.self;
   few : accepted_of l.fn.self ≤ (limits_of l.fn.self).connections → accepted_of l.self ≤ (limits_of l.fn.self).connections;
 }

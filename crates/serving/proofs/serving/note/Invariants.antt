@@ -1,0 +1,9 @@
+use Rattle.std.specs.Prelude.{◌≡◌, ◌≤◌, ℕ, None}
+use Rattle.cog_connections.specs.Table.{timed_at}
+use Rattle.serving.proofs.serving.note.Given as goal
+
+abbrev pub invariant-loop-event : goal.invariant-loop-event
+invariant-loop-event l = record {
+  places : (k : ℕ) → timed_at k l.fn.held.connections.table.entries ≡ None → timed_at k l.held.connections.table.entries ≡ None;
+  ended : l.fn.held.ended ≤ l.held.ended;
+}
