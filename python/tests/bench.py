@@ -12,8 +12,8 @@ import numpy
 from delgunsai import _sources
 from files import PLAIN, TRANSLATE
 from floor import Floor
-from servers import Cogserve
-from support import EXAMPLE, FOLDER, RASTERIO, free_port
+from servers import Cogserve, Nginx
+from support import EXAMPLE, FOLDER, RASTERIO, TLS, free_port
 
 WIDTH, HEIGHT, SIDE = 7168, 6144, 256
 ROUND_TRIP = 40
@@ -129,6 +129,15 @@ def least(server, plan, windows):
           'second', flush=True)
 
 
+def beside_nginx(path, windows):
+    """Reads the windows of a file by both from nginx."""
+    names = [f'nginx-{k}.tif' for k in range(2)]
+    for name in names:
+        os.link(path, os.path.join(FOLDER, name))
+    with Nginx(FOLDER, secure=False) as server:
+        compare(['loopback, from nginx as Debian sets it up'], [server.url(name) for name in names], windows)
+
+
 def main(near=1000, far=200):
     if not RASTERIO:
         sys.exit('python: bench needs rasterio with GDAL')
@@ -142,6 +151,8 @@ def main(near=1000, far=200):
         plans = [planned(url, path, windows[:near]) for url in urls]
         compare(['loopback', 'the same again'], urls, windows[:near], [Floor(server.port, plan) for plan in plans])
         least(server, plans[0], windows[:near])
+        if TLS:
+            beside_nginx(path, windows[:near])
         spread(f'loopback, {SHARES} files', [server.url(name) for name in names[ROUNDS:-1]], windows[:near])
         port = free_port()
         relay = subprocess.Popen([sys.executable, os.path.join(os.path.dirname(os.path.abspath(__file__)), 'relay.py'), str(port),

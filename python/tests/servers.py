@@ -37,21 +37,25 @@ class Cogserve:
         self.process.wait()
 
 class Nginx:
-    """nginx with TLS, of a folder."""
+    """nginx, of a folder: with TLS, or without as Debian sets it up."""
 
-    def __init__(self, root):
+    def __init__(self, root, secure=True):
         self.folder = tempfile.mkdtemp(dir=FOLDER)
         self.port = free_port()
+        self.front = f'https://localhost:{self.port}/' if secure else f'http://127.0.0.1:{self.port}/'
         self.certificate = os.path.join(self.folder, 'certificate')
         key = os.path.join(self.folder, 'key')
-        subprocess.run(['openssl', 'req', '-x509', '-newkey', 'ec', '-pkeyopt', 'ec_paramgen_curve:prime256v1', '-nodes', '-days', '2', '-subj',
-                        '/CN=localhost', '-addext', 'subjectAltName=DNS:localhost', '-keyout', key, '-out', self.certificate], check=True,
-                       capture_output=True)
+        if secure:
+            subprocess.run(['openssl', 'req', '-x509', '-newkey', 'ec', '-pkeyopt', 'ec_paramgen_curve:prime256v1', '-nodes', '-days', '2',
+                            '-subj', '/CN=localhost', '-addext', 'subjectAltName=DNS:localhost', '-keyout', key, '-out', self.certificate],
+                           check=True, capture_output=True)
+        ways = f'keepalive_requests 100000; ssl_certificate {self.certificate}; ssl_certificate_key {key};' if secure else (
+            'sendfile on; tcp_nopush on;')
         places = ' '.join(f'{kind}_temp_path {self.folder}/{kind};' for kind in ('client_body', 'proxy', 'fastcgi', 'uwsgi', 'scgi'))
         lines = f'''daemon off; master_process off; pid {self.folder}/pid; error_log {self.folder}/errors;
 events {{ }}
-http {{ access_log {self.folder}/access; {places} keepalive_requests 100000;
-  server {{ listen 127.0.0.1:{self.port} ssl; server_name localhost; ssl_certificate {self.certificate}; ssl_certificate_key {key};
+http {{ access_log {self.folder}/access; {places} {ways}
+  server {{ listen 127.0.0.1:{self.port}{' ssl' if secure else ''}; server_name localhost;
     root {root}; location /moved {{ return 301 /grey.tif; }} }} }}'''
         config = os.path.join(self.folder, 'conf')
         with open(config, 'w') as file:
@@ -66,7 +70,7 @@ http {{ access_log {self.folder}/access; {places} keepalive_requests 100000;
                 time.sleep(0.01)
 
     def url(self, name):
-        return f'https://localhost:{self.port}/{name}'
+        return self.front + name
 
     def context(self):
         return ssl.create_default_context(cafile=self.certificate)

@@ -110,32 +110,24 @@ fn expect_second<R: Abort + AllocGlobal>(
     Ok(())
 }
 
-// Entries of a directory behind a level, and its fault: each file has a later fault of the order of the checks too.
-const SECOND: [(&[Entry], FileFault); 6] = [
-    (&[(254, 4, 1, 4), (254, 4, 1, 4)], FileFault::TagOrder),
-    (&[(256, 7, 9, 9), (254, 3, 1, 4)], FileFault::TagOrder),
-    (&[(254, 3, 1, 4), (256, 7, 9, 9)], FileFault::FieldType(254)),
-    (&[(254, 4, 2, 4), (256, 7, 9, 9)], FileFault::FieldType(254)),
-    (&[], FileFault::DirCount),
-    (&[(254, 4, 1, 4); 257], FileFault::DirCount),
-];
-
+// Each file has a later fault of the order of the checks too.
 #[test]
 fn checks_order_and_subfile_alone_of_other_directories(rt: HostRuntime) -> Result<(), Fail> {
-    for (entries, want) in SECOND {
-        expect_second(&rt, entries, 9, want)?;
-    }
-    Ok(())
-}
-
-#[test]
-fn tells_the_end_of_a_file_inside_a_second_directory(rt: HostRuntime) -> Result<(), Fail> {
     let double = [(254, 4, 1, 4), (254, 4, 1, 4)];
-    let file = followed_by(&rt, &double, 1, 0)?;
-    for len in [file.len() - 1, 123] {
-        let front = file.get(..len).ok_or("a short file")?;
-        assert_eq!(rt; fault_of(&rt, front)?, Some(FileFault::PastEnd));
-    }
+    expect_second(&rt, &double, 9, FileFault::TagOrder)?;
+    let falling = [(256, 7, 9, 9), (254, 3, 1, 4)];
+    expect_second(&rt, &falling, 9, FileFault::TagOrder)?;
+    let short = [(254, 3, 1, 4), (256, 7, 9, 9)];
+    expect_second(&rt, &short, 9, FileFault::FieldType(254))?;
+    let pair = [(254, 4, 2, 4), (256, 7, 9, 9)];
+    expect_second(&rt, &pair, 9, FileFault::FieldType(254))?;
+    expect_second(&rt, &[], 9, FileFault::DirCount)?;
+    expect_second(&rt, &[(254, 4, 1, 4); 257], 9, FileFault::DirCount)?;
+    let mut file = followed_by(&rt, &double, 1, 0)?;
+    file.pop();
+    assert_eq!(rt; fault_of(&rt, &file)?, Some(FileFault::PastEnd));
+    file.truncate(123);
+    assert_eq!(rt; fault_of(&rt, &file)?, Some(FileFault::PastEnd));
     Ok(())
 }
 
