@@ -1,5 +1,6 @@
 -- The server of a URL, and why a URL is no place of a file (`http://HOST[:PORT]/NAME`).
-use Rattle.std.specs.Prelude.{◌≡◌, ◌≢◌, ◌⊎◌, ◌==◌, ◌||◌, Bool, false, if◌then◌else◌, nat_lt, List, [], ◌++◌, drop, length, ℕ, IsTrue, Option, Some, None, Ok, Err, codes, decimal, eqb, option_and_then, option_map, unwrap_or, ⊤}
+use Rattle.std.specs.Prelude.{◌≡◌, ◌≢◌, ◌⊎◌, ◌==◌, false, if◌then◌else◌, nat_lt, List, [], ◌++◌, drop, length, map, take, ℕ, IsTrue, Option, Some, None, Ok, Err, codes, decimal, eqb, option_and_then, option_map, unwrap_or, ⊤}
+use Rattle.std.specs.Char.{to_ascii_lowercase}
 use Rattle.std.specs.List.{after_first, position_or_len, starts_with}
 use Rattle.url.specs.declared.error.ParseError.TheVariants.{Overflow}
 use Rattle.url.specs.Host.{host_text}
@@ -12,9 +13,13 @@ use Rattle.command_lines.specs.declared.place.PlaceError.TheVariants.{NotAUrl, T
 abbrev pub server_text : Parts → List ℕ
 server_text url = unwrap_or (option_map host_text (nonempty_host url)) [] ++ codes ":" ++ decimal (unwrap_or url.port 80)
 
--- the word is a URL of the web, and no server's `HOST:PORT`
-abbrev pub is_url : List ℕ → Bool
-is_url word = starts_with eqb word (codes "http://") || starts_with eqb word (codes "https://")
+-- the word begins so, in letters of either case
+abbrev pub BeginsWith : (front word : List ℕ) → Type 0
+BeginsWith front word = map to_ascii_lowercase (take (length front) word) ≡ map to_ascii_lowercase front
+
+-- the word is a URL of the web, whose scheme may have capitals (RFC 3986, section 3.1), and no server's `HOST:PORT`
+abbrev pub IsUrl : List ℕ → Type 0
+IsUrl word = BeginsWith (codes "http://") word ⊎ BeginsWith (codes "https://") word
 
 -- what follows the first byte c of a text that has one
 abbrev pub behind_first : (c : ℕ) → List ℕ → Option (List ℕ)

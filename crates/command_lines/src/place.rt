@@ -1,9 +1,9 @@
 //! A server and a name as one word: `http://HOST[:PORT]/NAME`.
-ghost use Rattle.std.specs.Prelude.{◌≡◌, ◌≢◌, ◌++◌, false, IfErr, IfOk, IfSome, List, MatchOption, None, Ok, OnOk, Some, codes, string_bytes, ℕ};
+ghost use Rattle.std.specs.Prelude.{◌≡◌, ◌≢◌, ◌++◌, ◌↔◌, false, IfErr, IfOk, IfSome, IsTrue, List, MatchOption, None, Ok, OnOk, Some, codes, string_bytes, ℕ};
 ghost use Rattle.std.specs.Option.{option_copied};
 ghost use Rattle.url.specs.Parser.{parse_url};
 ghost use Rattle.url.specs.Parts.{Parts, has_credentials};
-ghost use Rattle.command_lines.specs.Place.{IsFrontError, IsPlaceError, behind_first, behind_slashes, is_url, name_typed, path_typed, server_text};
+ghost use Rattle.command_lines.specs.Place.{BeginsWith, IsFrontError, IsPlaceError, IsUrl, behind_first, behind_slashes, name_typed, path_typed, server_text};
 
 use itoa::Buffer;
 use std::alloc::{AllocError, Global};
@@ -48,11 +48,19 @@ impl From<AllocError> for PlaceError {
     }
 }
 
+/// Whether a word begins so, in letters of either case.
+fn begins_with(word: &str, front: &str) -> bool
+    ensures { IsTrue result ↔ BeginsWith front.now word.now }
+{
+    let start = &word.as_bytes()[..front.len().min(word.len())];
+    start.eq_ignore_ascii_case(front.as_bytes())
+}
+
 /// Whether a word is a URL of the web, and no server's `HOST:PORT`.
 pub fn is_url(word: &str) -> bool
-    ensures { result ≡ is_url word.now }
+    ensures { IsTrue result ↔ IsUrl word.now }
 {
-    word.starts_with("http://") || word.starts_with("https://")
+    begins_with(word, "http://") || begins_with(word, "https://")
 }
 
 /// The URL that a word is.

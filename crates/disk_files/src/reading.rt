@@ -1,5 +1,9 @@
 //! The bytes of a file of the disk.
+ghost use Rattle.std.specs.Prelude.{◌≡◌, ◌<◌, ◌↔◌, ℕ, List, IfOk, IsTrue, Some, length, take};
+ghost use Rattle.disk_files.specs.declared.reading.TheConstants.{ENOUGH};
+
 use http_range::FILE_LIMIT;
+use std::alloc::Global;
 use std::fs::File;
 use std::io;
 use std::io::Read;
@@ -11,20 +15,28 @@ const ENOUGH: u64 = FILE_LIMIT as u64 + 1;
 /// How many bytes are compared at once.
 const PIECE: usize = 65_536;
 
-/// The bytes of the file at a path, as far as they are enough to tell that it is too large to be published.
-pub fn read_file<R: Files + AllocGlobal>(rt: &R, path: &str) -> io::Result<Vec<u8>> {
-    let mut bytes = Vec::new(rt.alloc());
-    File::open(rt, path)?.take(ENOUGH).read_to_end(&mut bytes)?;
+/// What a reader gives, as far as it is enough to tell that it is too long to be published.
+fn enough_of<R: Read + Drop>(alloc: Global, reader: R) -> io::Result<Vec<u8>>
+    ensures { IfOk result (λ bytes. (given : List ℕ) → R.remaining reader ≡ Some given → bytes.items ≡ take ENOUGH given) }
+{
+    let mut bytes = Vec::new(alloc);
+    reader.take(ENOUGH).read_to_end(&mut bytes)?;
     Ok(bytes)
 }
 
-/// Whether the file at a path has just these bytes. No more of it is held than a piece.
-pub fn has_bytes<R: Files + AllocGlobal>(rt: &R, path: &str, bytes: &[u8]) -> io::Result<bool> {
-    let mut file = File::open(rt, path)?;
-    let mut piece = vec![in rt.alloc(); 0u8; PIECE]?;
+/// The bytes of the file at a path, as far as they are enough to tell that it is too large to be published.
+pub fn read_file<R: Files + AllocGlobal>(rt: &R, path: &str) -> io::Result<Vec<u8>> {
+    enough_of(rt.alloc(), File::open(rt, path)?)
+}
+
+/// Whether a reader gives just these bytes, and then ends. `piece` is room for what is compared at once.
+fn gives_just<R: Read>(reader: &mut R, piece: &mut [u8], bytes: &[u8]) -> io::Result<bool>
+    requires { 0 < length piece.old }
+    ensures { IfOk result (λ just. (given : List ℕ) → R.remaining reader.old ≡ Some given → IsTrue just ↔ (given ≡ bytes.now)) }
+{
     let mut rest = bytes;
     for _ in 0..=bytes.len() {
-        let count = file.read(&mut piece)?;
+        let count = reader.read(piece)?;
         if count == 0 {
             return Ok(rest.is_empty());
         }
@@ -34,4 +46,11 @@ pub fn has_bytes<R: Files + AllocGlobal>(rt: &R, path: &str, bytes: &[u8]) -> io
         }
     }
     Ok(false)
+}
+
+/// Whether the file at a path has just these bytes. No more of it is held than a piece.
+pub fn has_bytes<R: Files + AllocGlobal>(rt: &R, path: &str, bytes: &[u8]) -> io::Result<bool> {
+    let mut file = File::open(rt, path)?;
+    let mut piece = vec![in rt.alloc(); 0u8; PIECE]?;
+    gives_just(&mut file, &mut piece, bytes)
 }

@@ -33,6 +33,12 @@ const FAULTS: [FaultRow<'static>; 28] = [
     ("cogread info http://h/a#b", "cogread: not a place: http://h/a#b: the path isn't /NAME as it is asked for, byte for byte\n", 2),
     ("cogread info http://h/a/../b", "cogread: not a place: http://h/a/../b: the path isn't /NAME as it is asked for, byte for byte\n", 2),
     ("cogread info http://h", "cogread: not a place: http://h: the path isn't /NAME as it is asked for, byte for byte\n", 2),
+    ("cogread info HTTP://127.0.0.1:1/A.tif", "cogread: no report\n", 4),
+    (
+        "cogread info HttpS://h/a",
+        "cogread: not a place: HttpS://h/a: no TLS is spoken: ask a server in front by http, which asks this one (as nginx with proxy_pass https://..)\n",
+        2,
+    ),
     ("cogread info http://me@h/a", "cogread: not a place: http://me@h/a: a user's name or a password\n", 2),
     // As it was before there were URLs: a server and a name.
     ("cogread info http://h/a b", "cogread: refused 1\n", 2),
