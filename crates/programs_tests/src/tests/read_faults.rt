@@ -3,7 +3,7 @@ use super::{FaultRow, expect_faults};
 use std::test::Fail;
 
 #[rattlefmt::skip]
-const FAULTS: [FaultRow<'static>; 28] = [
+const FAULTS: [FaultRow<'static>; 30] = [
     // Nobody listens there.
     ("cogread info 127.0.0.1:1 a", "cogread: no report\n", 4),
     ("cogread window 127.0.0.1:1 a 4294967295 0 1 1 --requests 2", "cogread: no report\n", 4),
