@@ -8,6 +8,7 @@ mod going;
 mod held;
 mod laws;
 
+pub use ahead::MAX_BLOCKS;
 pub use early::early_spans;
 pub use going::fill;
 pub use laws::{looks_at_one_range, most_blocks_are};

@@ -1,40 +1,45 @@
 -- What a client asks for early.
-use Rattle.std.proofs.Common.{◌≡◌, ℕ, ◌+◌, ◌<◌, List, [], ◌∷◌, ◌++◌, false, Option, Some, Vec, Global, get_or, length, take, map, arith, inl, inr, sym, ap, ◌∙◌, subst}
+use Rattle.std.proofs.Common.{◌≡◌, ℕ, ◌+◌, ◌-◌, ◌*◌, ◌<◌, List, [], ◌∷◌, ◌++◌, false, Option, Some, Vec, Global, get_or, length, take, map, arith, inl, inr, sym, ap, ◌∙◌, subst}
 use Rattle.std.specs.List.{All, AllZip}
 use Rattle.std.proofs.lemmas.Bool.{false≢true}
 use Rattle.std.proofs.lemmas.List.{map-append, take_more}
 use Rattle.std.proofs.lemmas.Slice.Zip.{all_zipped_more}
 use Rattle.tiff_dir.specs.declared.query.Query.{Query}
 use Rattle.tiff_dir.specs.declared.span.Span.{Span}
+use Rattle.tiff_dir.specs.declared.limits.TheConstants.{BLOCK_SIZE}
+use Rattle.tiff_dir.specs.Block.{end_of}
 use Rattle.range_cache.specs.Cache.{Blocks}
+use Rattle.cog_reader.specs.Reader.{complete_of}
 use Rattle.cached_reader.specs.Going.{work}
 use Rattle.cached_reader.specs.Early as reading
 use Rattle.cog_client.specs.declared.asking.Asking.{Asking}
 use Rattle.cog_client.specs.declared.report.Report.{Report}
 use Rattle.cog_client.specs.declared.source.Source.{Source}
 use Rattle.cog_client.specs.Feeding.{Feed}
-use Rattle.cog_client.specs.Client.{ClientState, Knows, asked_of, blocks_of, how_of, to_come}
+use Rattle.cog_client.specs.Client.{ClientState, Knows, asked_of, blocks_of, how_of, revision_of, to_come}
 use Rattle.cog_client.specs.Early.{AsksNothingEarly, IsEarly, IsNeededEarly, IsRequestFor}
 use Rattle.cog_client.proofs.ClientLemmas.{known}
 
-module _ (e : Feed) (how : Asking) (h n : List ℕ) (q : Option Query) (asked : Span) (s : Source) (b : Blocks) (r : Option Report) where
-  early_span : (span : Span) → reading.IsEarly (work s.reader b) asked span → IsNeededEarly (known e how h n q (Some asked) (Some s) b r) asked span
+module _ (e : Feed) (how : Asking) (h n : List ℕ) (q : Option Query) (asked : Span) (s : Source) (b : Blocks) (r : Option Report) (long : complete_of s.reader ≡ s.complete) where
+  early_span : (span : Span) → reading.IsEarly (work s.reader b) asked span → IsNeededEarly (known e how h n q (Some asked) (Some s) b r) s.complete asked span
   unfolding blocks_of to_come Knows
   early_span span i =
       let l = i.blocks in
-      let some = l.some in
-      let few = l.few in
-      let first = i.first in
-      let last = i.last in
       record {
+        from = i.from;
+        to = i.to;
+        some = l.some;
+        few = l.few;
+        inside = subst (λ (n : ℕ). i.to * BLOCK_SIZE < n + BLOCK_SIZE) long l.inside;
+        first = i.first;
+        last = i.last ∙ ap (λ (n : ℕ). end_of n (i.to - 1)) long;
         behind = i.behind;
-        few = omega (arith, some, few, first, last);
-        gone = λ k low high. l.gone k (omega (arith, first, low)) (omega (arith, last, high, some));
-        needed = λ f knows k low high. l.needed f knows.reader k (omega (arith, first, low)) (omega (arith, last, high, some));
+        gone = l.gone;
+        needed = λ f knows. l.needed f knows.reader;
       }
 
   pub early_spans : (spans : List Span) → All (reading.IsEarly (work s.reader b) asked) spans → All (IsEarly (known e how h n q (Some asked) (Some s) b r)) spans
-  unfolding asked_of
+  unfolding asked_of revision_of
   early_spans spans all k d lt = early_span _ (all k d lt)
 
 -- It keeps its connections, and looks ahead.

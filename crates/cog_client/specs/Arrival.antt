@@ -2,6 +2,7 @@
 use Rattle.std.specs.Prelude.{◌≡◌, ◌⊎◌, ℕ, ◌-◌, ◌<◌, List, [], ◌++◌, length, take, Option, Some, None, Err, ⊤}
 use Rattle.tiff_dir.specs.declared.limits.TheConstants.{BLOCK_SIZE}
 use Rattle.tiff_dir.specs.declared.span.Span.{Span}
+use Rattle.http_parts.specs.declared.limits.TheConstants.{HEAD_LIMIT}
 use Rattle.http_range.specs.declared.reading.Why.{Why}
 use Rattle.http_range.specs.Announced.{Announced, announced}
 use Rattle.http_range.specs.Reading.{ReadsHead}
@@ -17,7 +18,7 @@ use Rattle.cog_client.specs.declared.feeding.Feeding.TheVariants as kept
 use Rattle.cog_client.specs.Body.{Extends, IsBody, IsSoundBody, Stops}
 use Rattle.cog_client.specs.Fed.{IsSettled, told_at_end}
 use Rattle.cog_client.specs.Feeding.{Feed, nothing_fed, waits, unused, passed, follows}
-use Rattle.cog_client.specs.Head.{HasNoHead, IsFound, head_limit}
+use Rattle.cog_client.specs.Head.{HasNoHead, IsFound}
 
 -- what is kept, seen with the rooms for a head and for a block
 abbrev pub feed_in : Feeding → List ℕ → List ℕ → Feed
@@ -28,20 +29,20 @@ feed_in (kept.Follows found case body) head part = follows (announced found) cas
 
 -- the front of the room for a head has none, and a body lies in its file
 abbrev pub IsSoundFeeding : Feeding → List ℕ → Type 0
-IsSoundFeeding (kept.Waits len) head = (len < head_limit) × HasNoHead (take len head)
+IsSoundFeeding (kept.Waits len) head = (len < HEAD_LIMIT) × HasNoHead (take len head)
 IsSoundFeeding (kept.Unused why) head = ⊤
 IsSoundFeeding (kept.Passed why) head = ⊤
 IsSoundFeeding (kept.Follows found case body) head = IsSoundBody body
 
 -- The rooms hold a head and a block.
 pub record IsArrival (feeding : Feeding) (head part : List ℕ) : Type 0 where
-  pub head_room : length head ≡ head_limit
+  pub head_room : length head ≡ HEAD_LIMIT
   pub part_room : length part ≡ BLOCK_SIZE
   pub sound : IsSoundFeeding feeding head
 
 -- No more is kept of an answer than fewer bytes than a head may have, or the room of a block.
 abbrev pub IsBounded : Feed → Type 0
-IsBounded (waits bytes) = length bytes < head_limit
+IsBounded (waits bytes) = length bytes < HEAD_LIMIT
 IsBounded (unused why) = ⊤
 IsBounded (passed why) = ⊤
 IsBounded (follows head case body part) = length part ≡ BLOCK_SIZE
@@ -51,7 +52,7 @@ IsBounded (follows head case body part) = length part ≡ BLOCK_SIZE
 -- The bytes have no head yet, and are kept.
 pub record IsOpen (bytes : List ℕ) (now : Feed) : Type 0 where
   pub keeps : now ≡ waits bytes
-  pub short : length bytes < head_limit
+  pub short : length bytes < HEAD_LIMIT
   pub none : HasNoHead bytes
 
 -- The head says that the answer is not used.

@@ -1,26 +1,35 @@
 -- The requests that a client makes early: before the answer came to what it asks for now.
-use Rattle.std.specs.Prelude.{◌≡◌, ℕ, ◌<◌, ◌⊎◌, true, List, [], Some, IsSomeAnd}
+use Rattle.std.specs.Prelude.{◌≡◌, ℕ, ◌+◌, ◌-◌, ◌*◌, ◌<◌, ◌≤◌, ◌⊎◌, false, true, List, [], Some, IsSomeAnd}
 use Rattle.std.specs.List.{All, AllZip}
 use Rattle.tiff_dir.specs.declared.span.Span.{Span}
+use Rattle.tiff_dir.specs.declared.limits.TheConstants.{BLOCK_SIZE}
+use Rattle.tiff_dir.specs.Block.{end_of}
 use Rattle.http_range.specs.Ask.{CanAsk}
 use Rattle.range_cache.specs.Cache.{numbers}
-use Rattle.cached_reader.specs.Going.{AreTouched}
+use Rattle.range_cache.specs.Numbers.{has}
+use Rattle.cached_reader.specs.declared.ahead.TheConstants.{MAX_BLOCKS}
+use Rattle.cached_reader.specs.Going.{OneTouches}
 use Rattle.cached_reader.specs.Early.{AreApart}
-use Rattle.cog_client.specs.Client.{ClientState, IsFew, Knows, ahead_of, asked_of, blocks_of, closes, host_of, name_of, tag_of, to_come}
+use Rattle.cog_client.specs.Client.{ClientState, Knows, ahead_of, asked_of, blocks_of, closes, host_of, name_of, revision_of, tag_of, to_come}
 use Rattle.cog_client.specs.Calls.{request_for}
-use Rattle.cog_client.specs.Progress.{IsGone}
 
--- The span lies behind what is asked for now. None of its blocks is there, and each touches a range that the client needs of whatever
--- file it knows.
-pub record IsNeededEarly (c : ClientState) (asked span : Span) : Type 0 where
+-- In a file of this length the span is of the blocks from one number up to another, which begin in it, and are 65 at most. It lies behind
+-- what is asked for now. None of its blocks is there, and each touches a range that the client needs of whatever file it knows.
+pub record IsNeededEarly (c : ClientState) (complete : ℕ) (asked span : Span) : Type 0 where
+  pub from : ℕ
+  pub to : ℕ
+  pub some : from < to
+  pub few : to ≤ from + MAX_BLOCKS
+  pub inside : to * BLOCK_SIZE < complete + BLOCK_SIZE
+  pub first : span.first ≡ from * BLOCK_SIZE
+  pub last : span.last + 1 ≡ end_of complete (to - 1)
   pub behind : asked.last < span.first
-  pub few : IsFew span
-  pub gone : IsGone (numbers (blocks_of c).entries) span
-  pub needed : (f : List ℕ) → Knows f c → AreTouched (to_come c f) span
+  pub gone : (k : ℕ) → from ≤ k → k < to → has k (numbers (blocks_of c).entries) ≡ false
+  pub needed : (f : List ℕ) → Knows f c → (k : ℕ) → from ≤ k → k < to → OneTouches (to_come c f) k
 
--- such a span, where the client asks for something now
+-- such a span of the revision that is read, where the client asks for something now
 abbrev pub IsEarly : ClientState → Span → Type 0
-IsEarly c span = IsSomeAnd (asked_of c) (λ asked. IsNeededEarly c asked span)
+IsEarly c span = IsSomeAnd (asked_of c) (λ asked. IsSomeAnd (revision_of c) (λ v. IsNeededEarly c v.complete asked span))
 
 -- Nothing is asked early: requests close their connections, or look no block ahead.
 abbrev pub AsksNothingEarly : ClientState → Type 0

@@ -4,6 +4,7 @@ use Rattle.std.specs.Str.{bytes_eq}
 use Rattle.tiff_dir.specs.declared.span.Span.{Span}
 use Rattle.tiff_dir.specs.declared.limits.TheConstants.{BLOCK_SIZE}
 use Rattle.tiff_dir.specs.Block.{end_of}
+use Rattle.http_parts.specs.declared.limits.TheConstants.{HEAD_LIMIT}
 use Rattle.http_range.specs.declared.reading.Why.{Why}
 use Rattle.http_range.specs.declared.reading.Why.TheVariants.{Cut, Head}
 use Rattle.http_range.specs.Piece.{SeenPiece}
@@ -116,7 +117,7 @@ UsesBody Accepted = ⊤
 
 -- the reason is told by a head that is whole, or too long
 abbrev pub IsSettled : List ℕ → Why → Type 0
-IsSettled bytes w = (w ≢ Cut) × ((w ≡ Head) → 4096 ≤ length bytes)
+IsSettled bytes w = (w ≢ Cut) × ((w ≡ Head) → HEAD_LIMIT ≤ length bytes)
 
 -- ---- at the end
 

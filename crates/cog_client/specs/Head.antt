@@ -1,5 +1,6 @@
 -- The head of an answer that comes in pieces, between two of them.
 use Rattle.std.specs.Prelude.{◌≡◌, ℕ, ◌<◌, ◌≤◌, List, ◌++◌, length, take, drop, Result, Ok, Err}
+use Rattle.http_parts.specs.declared.limits.TheConstants.{HEAD_LIMIT}
 use Rattle.http_range.specs.declared.reading.Why.{Why}
 use Rattle.http_range.specs.Announced.{Announced, announced, body_behind, FitsFile}
 use Rattle.http_range.specs.Laws.{HasNone}
@@ -8,17 +9,13 @@ use Rattle.cog_client.specs.declared.head.Look.{Look}
 use Rattle.cog_client.specs.declared.head.Look.TheVariants.{Waits, Unused, Found}
 use Rattle.cog_client.specs.Fed.{IsSettled}
 
--- the most bytes of a head
-abbrev pub head_limit : ℕ
-head_limit = 4096
-
 -- no head is read of these bytes
 abbrev pub HasNoHead : List ℕ → Type 0
 HasNoHead bytes = (r : Result Announced Why) → ReadsHead bytes r → HasNone r
 
 -- The bytes have no head yet, and the front of the room is they.
 pub record IsWaiting (bytes room : List ℕ) (len : ℕ) : Type 0 where
-  pub short : len < head_limit
+  pub short : len < HEAD_LIMIT
   pub kept : take len room ≡ bytes
   pub none : HasNoHead bytes
 

@@ -13,7 +13,7 @@ use tiff_dir::Memory;
 use tiff_dir::limits::BLOCK_SIZE;
 
 /// The bytes of a room for a block that is cut.
-pub const PART_ROOM: usize = 16384;
+pub const PART_ROOM: usize = BLOCK_SIZE as usize;
 
 /// A body, as far as it has come.
 #[derive(Clone, Copy)]

@@ -1,14 +1,16 @@
 //! The head of an answer that comes in pieces: its bytes are kept until it is whole.
 ghost use Rattle.std.specs.Prelude.{◌<◌, ◌≡◌, ◌≢◌, Err, false, length, take, true};
+ghost use Rattle.http_parts.specs.declared.limits.TheConstants.{HEAD_LIMIT};
 ghost use Rattle.http_range.specs.declared.reading.Why.TheVariants.{Cut, Head as AHead};
 ghost use Rattle.http_range.specs.Laws.{HasNone};
-ghost use Rattle.cog_client.specs.Head.{head_limit, HasNoHead, Looks};
+ghost use Rattle.cog_client.specs.Head.{HasNoHead, Looks};
 
 use crate::body::copy;
+use http_parts::limits::HEAD_LIMIT;
 use http_range::{Head, HeadReading, Why, heads_grow, read_head};
 
 /// The most bytes of a head.
-pub const HEAD_ROOM: usize = 4096;
+pub const HEAD_ROOM: usize = HEAD_LIMIT;
 
 /// What is known of an answer's head when more bytes of the answer came.
 #[derive(Drop)]
@@ -35,10 +37,10 @@ fn may_change(why: Why) -> bool
 /// Keeps the next bytes of an answer that has no head yet behind the bytes before them, and reads the head. `room`, of 4,096 bytes,
 /// has the bytes before them, `len` of them.
 pub fn read_on(room: &mut [u8], len: usize, bytes: &[u8]) -> Look
-    requires short { len < head_limit }
-    requires room { length room.old ≡ head_limit }
+    requires short { len < HEAD_LIMIT }
+    requires room { length room.old ≡ HEAD_LIMIT }
     requires none { HasNoHead (take len room.old) }
-    ensures room { length room.new ≡ head_limit }
+    ensures room { length room.new ≡ HEAD_LIMIT }
     ensures looks { Looks (take len room.old) bytes.now room.new result }
 {
     heads_grow();

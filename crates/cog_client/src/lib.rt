@@ -17,6 +17,7 @@ mod report;
 mod source;
 mod transport;
 
+pub use cached_reader::MAX_BLOCKS;
 pub use client::Client;
 pub use cog_reader::{Info, Outcome, Window};
 pub use delivered::{Current, Delivered, Ignored, Unknown};

@@ -1,11 +1,12 @@
 -- The table of connections.
 use Rattle.std.proofs.Common.{◌≡◌, ◌≢◌, ℕ, ◌+◌, ◌-◌, ◌<◌, ◌≤◌, Bool, true, false, cond, nat_eq, [], ◌∷◌, length, take, Option, Some, None, Result, Ok, Err, refl, sym, ap, ◌∙◌, subst, arith, inl, inr}
-use Rattle.std.specs.Prelude.{if◌then◌else◌, OnErr, option_map, is_some, is_none}
+use Rattle.std.specs.Prelude.{Contains, if◌then◌else◌, OnErr, option_map, is_some, is_none}
 use Rattle.std.specs.Map.{lookup_entry, remove_entry, set_value}
 use Rattle.std.proofs.lemmas.Bool.{cases_Bool}
 use Rattle.std.proofs.lemmas.Bool.Decides.{nat_tests}
 use Rattle.std.proofs.lemmas.Option.{none-some}
 use Rattle.std.proofs.lemmas.List.{take_all}
+use Rattle.lru.proofs.Splits.{Contains-cons, Contains-nil}
 use Rattle.lru.specs.LruCache.{LruCache, put_entries}
 use Rattle.http_range.specs.Book.{Catalogue}
 use Rattle.cog_server.specs.Status.{GoesOn}
@@ -122,6 +123,24 @@ removed k n (x ∷ table) h =
 
 pub gone : (k n : ℕ) (table new : Table) → new ≡ remove_entry (nat_eq k) table → AreFalling n table → timed_at k new ≡ None
 gone k n table new is h = ap (timed_at k) is ∙ removed k n table h
+
+-- what is there has a lower number
+below : (k n : ℕ) (p : Timed) (table : Table) → AreFalling n table → Contains table (k, p) → k < n
+below k n p [] h there = absurd (Contains-nil (k, p) there)
+below k n p (x ∷ table) h there = elim (Contains-cons x table (k, p) there) [
+  | inl same ↦ (let is : x.0 ≡ k = ap (λ (e : ℕ × Timed). e.0) same in let less = h.0 in omega (arith, is, less))
+  | inr later ↦ (let less = h.0 in let lower = below k x.0 p table h.1 later in omega (arith, less, lower))
+]
+
+-- what is there is found by its number
+pub found_there : (k n : ℕ) (p : Timed) (table : Table) → AreFalling n table → Contains table (k, p) → timed_at k table ≡ Some p
+found_there k n p [] h there = absurd (Contains-nil (k, p) there)
+found_there k n p (x ∷ table) h there = elim (Contains-cons x table (k, p) there) [
+  | inl same ↦ subst (λ (e : ℕ × Timed). timed_at k (e ∷ table) ≡ Some p) (sym same) (rw (same_number k) refl)
+  | inr later ↦
+      (let lower = below k x.0 p table h.1 later in
+      let no : nat_eq k x.0 ≡ false = other_number k x.0 (λ e. omega (arith, e, lower)) in rw no (found_there k x.0 p table h.1 later))
+]
 
 pub accepted : (c : LruCache ℕ Timed) (n : ℕ) (p : Timed) → AreFalling n c.entries → length c.entries < c.cap
     → put_entries nat_eq c n p ≡ (n, p) ∷ c.entries

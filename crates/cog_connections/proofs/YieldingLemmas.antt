@@ -1,13 +1,14 @@
 -- Looking for the connection that has waited longest.
-use Rattle.std.proofs.Common.{◌≡◌, ℕ, ◌≤◌, ◌<◌, Bool, true, false, [], ◌∷◌, ◌++◌, Option, Some, None, refl, sym, ap, ◌∙◌, arith, append_assoc, slice_index_or}
-use Rattle.std.specs.Prelude.{All, nat_lt}
+use Rattle.std.proofs.Common.{◌≡◌, ℕ, ◌≤◌, ◌<◌, Bool, true, false, [], ◌∷◌, ◌++◌, Option, Some, None, refl, sym, ap, ◌∙◌, subst, arith, append_assoc, slice_index_or}
+use Rattle.std.specs.Prelude.{All, IsSomeAnd, nat_lt}
 use Rattle.std.proofs.lemmas.Bool.Decides.{nat_tests}
 use Rattle.std.proofs.lemmas.List.Elements.{All-nil, All-cons, All-append, Contains-append_left, Contains-append_right}
 use Rattle.lru.proofs.Splits.{Contains-head}
 use Rattle.cog_connections.specs.declared.timed.Timed.{Timed}
 use Rattle.cog_connections.specs.declared.sought.Sought.{Sought}
-use Rattle.cog_connections.specs.Table.{Table}
-use Rattle.cog_connections.specs.Yielding.{Finds, is_longer, passes}
+use Rattle.cog_connections.specs.Table.{AreFalling, Table, timed_at}
+use Rattle.cog_connections.specs.Yielding.{Finds, IsLongest, is_longer, passes}
+use Rattle.cog_connections.proofs.TableLemmas.{found_there}
 
 apart : {A : Type 0} (b : Bool) → b ≡ true → b ≡ false → A
 apart b is isnt = let clash : true ≡ false = sym is ∙ isnt in cc
@@ -67,3 +68,9 @@ kept sought seen k p (Some f) is h = later sought seen k p f (let no_less : nat_
 -- one more is seen, and so many are left
 pub goes_behind : (seen left rest all : Table) (e : ℕ × Timed) → seen ++ left ≡ all → left ≡ e ∷ rest → (seen ++ e ∷ []) ++ rest ≡ all
 goes_behind seen left rest all e is next = append_assoc seen (e ∷ []) rest ∙ ap (λ (t : Table). seen ++ t) (sym next) ∙ is
+
+-- the one that was found is there by its number
+pub longest_there : (P : Timed → Type 0) (sought : Sought) (table : Table) (k moment n : ℕ) → ((p : Timed) → passes sought p ≡ true → P p)
+    → AreFalling n table → IsLongest sought table k moment → IsSomeAnd (timed_at k table) P
+longest_there P sought table k moment n passing falling is =
+    subst (λ (o : Option Timed). IsSomeAnd o P) (sym (found_there k n is.timed table falling is.there)) (passing is.timed is.passing)

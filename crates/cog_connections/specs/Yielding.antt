@@ -38,6 +38,11 @@ Finds sought table (Some found) = IsLongest sought table found.0 found.1
 abbrev pub WaitsLongest : Sought → Table → ℕ → Type 0
 WaitsLongest sought table k = (moment : ℕ) × IsLongest sought table k moment
 
+-- a newcomer may take its place at this moment
+abbrev pub MayYield : ℕ → ℕ → Timed → Type 0
+MayYield now patience p =
+    (passes Draining p ≡ true) ⊎ ((passes Idle p ≡ true) ⊎ (passes (Stuck now patience) p ≡ true))
+
 -- Whose place a newcomer takes: of one that drains; or else of an idle one; or else of one that has made no progress within the
 -- patience; among these always of the one that waits longest. None is that there is no such one, and the newcomer waits.
 abbrev pub Yields : ℕ → ℕ → Table → Option ℕ → Type 0

@@ -1,10 +1,10 @@
 //! Many connections, by their numbers.
-ghost use Rattle.std.specs.Prelude.{◌≡◌, ◌≢◌, ◌+◌, ◌<◌, ◌≤◌, [], true, false, Some, None, IfOk, IfSome, OnOk, OnErr, is_some, length, nat_eq, option_copied};
+ghost use Rattle.std.specs.Prelude.{◌≡◌, ◌≢◌, ◌+◌, ◌<◌, ◌≤◌, [], true, false, Some, None, IfOk, IfSome, IsSomeAnd, OnOk, OnErr, is_some, length, nat_eq, option_copied};
 ghost use Rattle.std.specs.Map.{remove_entry};
 ghost use Rattle.std.specs.NonZero.{non_zero_usize_get};
 ghost use Rattle.cog_server.specs.Status.{start, room_of, after_bytes, after_end};
 ghost use Rattle.cog_connections.specs.Table.{AreFalling, Becomes, Changes, GoesOnAt, OthersStay, falling_once, timed_after_write, timed_at};
-ghost use Rattle.cog_connections.specs.Yielding.{WakesAt, Yields};
+ghost use Rattle.cog_connections.specs.Yielding.{MayYield, WakesAt, Yields};
 
 use crate::sought::Sought;
 use crate::timed::Timed;
@@ -165,6 +165,7 @@ impl Connections {
     pub fn yields(&self, now: u64, patience: u64) -> Option<u64>
         ensures one { self.now.table.cap ≡ 1 → result ≡ None }
         ensures many { self.now.table.cap ≢ 1 → Yields now patience self.now.table.entries result }
+        ensures found { IfSome result (λ k. IsSomeAnd (timed_at k self.now.table.entries) (MayYield now patience)) }
     {
         if self.table.cap().get() == 1 {
             return None;

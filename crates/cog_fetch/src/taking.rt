@@ -3,13 +3,15 @@ ghost use Rattle.std.specs.Prelude.{◌≡◌, ◌<◌, ◌≤◌, ℕ, IfOk, Li
 ghost use Rattle.cog_client.specs.declared.delivered.Delivered.{Delivered};
 ghost use Rattle.cog_client.specs.Keeps.{DeliversKeeping, StopsDelivery};
 ghost use Rattle.cog_client.specs.Transport.{SpeaksOn};
-ghost use Rattle.cog_fetch.specs.Takes.{Stops, Takes, TakesAnswer, TakesPiece};
+ghost use Rattle.cog_fetch.specs.Takes.{IsNextOf, Stops, Takes, TakesAnswer, TakesPiece};
 
-use cog_client::{Client, Lost, Pieces};
+use cog_client::{Client, Lost, MAX_BLOCKS, Pieces};
+use http_parts::limits::HEAD_LIMIT;
 use tiff_dir::Memory;
+use tiff_dir::limits::BLOCK_SIZE;
 
-/// The most bytes of an answer that are taken: a head of 4,096, and 65 blocks of 16,384.
-pub const ANSWER_LIMIT: usize = 1_069_056;
+/// The most bytes of an answer that are taken, 1,069,056: those of a head and of the blocks of one request.
+pub const ANSWER_LIMIT: usize = HEAD_LIMIT + MAX_BLOCKS as usize * BLOCK_SIZE as usize;
 
 /// The most bytes of a piece.
 pub const PIECE_ROOM: usize = 16_384;
@@ -59,8 +61,10 @@ fn take_pieces<P: Pieces>(client: &mut Client, pieces: &mut P) -> Result<(), Mem
 /// Takes what comes of the answer to the last request, and goes on with the client.
 pub fn take_answer<P: Pieces>(client: &mut Client, pieces: &mut P) -> Result<(), Memory>
     ensures takes { TakesAnswer (P.speaks_for pieces.old) (P.rest pieces.old) client.old client.new }
-    ensures ok { OnOk result ((text : List ℕ) × (what : Delivered) × DeliversKeeping client.old text what client.new) }
-    ensures err { OnErr result ((text : List ℕ) × StopsDelivery client.old text client.new) }
+    ensures ok { OnOk result ((bytes : List ℕ) × IsNextOf (P.speaks_for pieces.old) (P.rest pieces.old) bytes
+        × (what : Delivered) × DeliversKeeping client.old bytes what client.new) }
+    ensures err { OnErr result ((bytes : List ℕ) × IsNextOf (P.speaks_for pieces.old) (P.rest pieces.old) bytes
+        × StopsDelivery client.old bytes client.new) }
     ensures speaks { SpeaksOn (P.speaks_for pieces.old) (P.speaks_for pieces.new) }
     ensures counted { P.count pieces.new ≡ P.count pieces.old }
 {

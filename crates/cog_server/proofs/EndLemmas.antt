@@ -1,9 +1,9 @@
 -- Serving a stream: how it ends, and what is told of that.
-use Rattle.std.proofs.Common.{◌≡◌, ◌==◌, ℕ, ◌<◌, Bool, true, false, List, [], ◌∷◌, ◌++◌, length, Option, Some, Result, Ok, Err, refl, sym, ap, ◌∙◌, subst, arith, append_assoc, append-nil, length-append, inl, inr}
+use Rattle.std.proofs.Common.{◌≡◌, ◌==◌, ℕ, ◌<◌, Bool, true, false, List, [], ◌∷◌, ◌++◌, length, Option, Some, Result, Ok, Err, refl, sym, ap, ◌∙◌, subst, arith, append-nil, length-append, inl, inr}
 use Rattle.std.specs.Prelude.{IsErrAnd, ◌⊎◌}
 use Rattle.std.specs.List.{list_any}
 use Rattle.std.specs.Io.KnownBytes.{append_known}
-use Rattle.std.proofs.lemmas.List.{length-map}
+use Rattle.std.proofs.lemmas.List.{length-map, map-append}
 use Rattle.std.proofs.lemmas.Bool.{cases_Bool}
 use Rattle.http_range.specs.Book.{Catalogue}
 use Rattle.http_range.specs.Laws.{MessagesStay}
@@ -19,7 +19,7 @@ use Rattle.cog_server.specs.declared.served.ServeError.TheVariants.{Read, Write,
 use Rattle.cog_server.specs.Received.{Gives, Receives}
 use Rattle.cog_server.specs.Run.{AreExchanges, Exchange, IsAnsweredAlone, Past, messages_of, responses_of}
 use Rattle.cog_server.specs.Sent.{IsBroken, Writes}
-use Rattle.cog_server.specs.Serve.{IsBehind, IsLittleAhead, Serves, ending_told, read_failed, write_failed}
+use Rattle.cog_server.specs.Serve.{AreFirstAnswers, IsBehind, IsLittleAhead, Serves, ending_told, read_failed, write_failed}
 use Rattle.cog_server.specs.Status.{EndsBy, Status, after_bytes, is_closing}
 use Rattle.cog_server.proofs.RunLemmas.{all_from_one, apart, behind, bytes_came, first_of, neither}
 use Rattle.cog_server.proofs.ServeLemmas.{known_none, known_more, past, ahead, Going, none_lost, Answering, IsOpen}
@@ -192,19 +192,23 @@ ends_write : {catalogue : Catalogue} {given given' taken taken' taken'' : Option
     → Outcome catalogue given given' taken taken'' is_over (Err Write)
 ends_write {catalogue} {taken = taken} {taken' = taken'} {taken'' = taken''} {s = s} law answering broken =
     let h = answering.going in
-    let p = past h.stream h.text h.exchanges s in (
+    let p = past h.stream h.text h.exchanges s in
+    let whole = responses_of answering.before in
+    let last = answering.last.response in
+    let all : responses_of h.exchanges ≡ whole ++ last ∷ [] =
+        ap responses_of answering.next ∙ map-append (λ (e : Exchange). e.response) answering.before (answering.last ∷ []) in (
       h.stream,
       h.text ++ broken.written,
       h.gave,
       known_more taken taken' taken'' h.text broken.written h.took broken.took,
       record {
-        rs = responses_of h.exchanges;
-        answers = (all_from_one law catalogue p h.alone h.from).first;
-        written = (
-          broken.front.0,
-          append_assoc h.text broken.written broken.front.0 ∙ ap (λ (xs : List ℕ). h.text ++ xs) broken.front.1 ∙ h.alone.went,
-        );
-        ahead = little_ahead law p h.alone answering.little;
+        whole = whole;
+        last = last;
+        part = broken.written;
+        answers = subst (λ (rs : List Response). AreFirstAnswers catalogue h.stream rs) all (all_from_one law catalogue p h.alone h.from).first;
+        front = (broken.front.0, broken.front.1 ∙ answering.waits);
+        written = ap (λ (xs : List ℕ). xs ++ broken.written) answering.whole;
+        ahead = subst (λ (n : ℕ). IsLittleAhead n h.stream) (ap length all ∙ length-append whole (last ∷ [])) (little_ahead law p h.alone answering.little);
       },
     )
 

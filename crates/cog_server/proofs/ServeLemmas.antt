@@ -5,11 +5,11 @@ use Rattle.std.proofs.lemmas.List.{drop_all, take_all}
 use Rattle.std.proofs.lemmas.Bool.{cases_Bool}
 use Rattle.http_range.specs.Book.{Catalogue}
 use Rattle.http_range.specs.Laws.{MessagesStay}
-use Rattle.http_range.specs.Response.{Response}
-use Rattle.http_range.specs.Stream.{IsUnfinished}
+use Rattle.http_range.specs.Response.{Response, text_of}
+use Rattle.http_range.specs.Stream.{IsUnfinished, answers_text}
 use Rattle.http_parts.specs.declared.limits.TheConstants.{MESSAGE_LIMIT}
 use Rattle.cog_server.specs.Received.{IsReceived, after_read}
-use Rattle.cog_server.specs.Run.{AreFrom, Exchange, IsAnsweredAlone, Past}
+use Rattle.cog_server.specs.Run.{AreFrom, Exchange, IsAnsweredAlone, Past, responses_of}
 use Rattle.cog_server.specs.Sent.{IsWritten}
 use Rattle.cog_server.specs.Status.{EndsBy, GoesOn, IsNext, Rests, Status, after_answer, after_bytes, after_message, after_write, is_closing, room_of, start}
 use Rattle.cog_server.proofs.RunLemmas.{answer_given, apart, bytes_came, bytes_written, end_came, neither, none_answered, one_fewer}
@@ -141,10 +141,22 @@ ahead_after message r s none =
       | inr stays ↦ rw stays (omega (arith, none))
     ]
 
--- an answer is given, which waits to be written
+waits_whole : (message : List ℕ) (r : Response) (s : Status) → (after_answer message r s).waiting ≡ text_of r
+waits_whole message r s =
+    elim (cases_Bool (is_closing (after_message message r s))) [
+      | inl shut ↦ rw shut refl
+      | inr stays ↦ rw stays refl
+    ]
+
+-- an answer is given, which waits to be written; all before it are
 pub record Answering (catalogue : Catalogue) (given given' taken taken' : Option (List ℕ)) (is_over : Type 0) (s : Status) : Type 0 where
   pub going : Going catalogue given given' taken taken' is_over s
   pub little : ahead s < MESSAGE_LIMIT
+  pub before : List Exchange
+  pub last : Exchange
+  pub next : going.exchanges ≡ before ++ last ∷ []
+  pub whole : going.text ≡ answers_text (responses_of before)
+  pub waits : s.waiting ≡ text_of last.response
 
 pub answers : {catalogue : Catalogue} {given given' taken taken' : Option (List ℕ)} {is_over : Type 0} {s : Status} → MessagesStay
     → (message : List ℕ) (r : Response) → Going catalogue given given' taken taken' is_over s → IsNext catalogue s message r
@@ -173,6 +185,11 @@ answers {catalogue} {s = s} law message r h is =
         little = λ closed. less;
       };
       little = less;
+      before = h.exchanges;
+      last = e;
+      next = refl;
+      whole = sym (append-nil h.text) ∙ ap (λ (xs : List ℕ). h.text ++ xs) (sym is.written) ∙ h.alone.went;
+      waits = waits_whole message r s;
     }
 
 pub went : {catalogue : Catalogue} {given given' taken taken' : Option (List ℕ)} {is_over : Type 0} {s : Status} → MessagesStay

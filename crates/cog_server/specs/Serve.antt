@@ -1,9 +1,9 @@
 -- What a server answers on a stream (RFC 9112, sections 9.3 and 9.6).
-use Rattle.std.specs.Prelude.{◌≡◌, ◌<◌, ◌≤◌, ℕ, zero, suc, Bool, true, false, List, ◌++◌, drop, length, Result, Ok, Err}
+use Rattle.std.specs.Prelude.{◌≡◌, ◌+◌, ◌<◌, ◌≤◌, ℕ, zero, suc, Bool, true, false, List, [], ◌∷◌, ◌++◌, drop, length, Result, Ok, Err}
 use Rattle.http_parts.specs.declared.limits.TheConstants.{ANSWERS_LIMIT, MESSAGE_LIMIT}
 use Rattle.http_range.specs.Book.{Catalogue}
 use Rattle.http_range.specs.Honest.{IsFront}
-use Rattle.http_range.specs.Response.{Response}
+use Rattle.http_range.specs.Response.{Response, text_of}
 use Rattle.http_range.specs.Stream.{AreAnswers, IsAnswered, IsFirstMessage, answers_text, Ending, ending_of}
 use Rattle.http_range.specs.Stream.Ending.{Closed, Limit, EndOfInput}
 use Rattle.cog_server.specs.declared.served.Ended.{Ended}
@@ -60,12 +60,15 @@ pub record IsReadSoFar (catalogue : Catalogue) (stream text : List ℕ) : Type 0
   pub ending : ending_of rs ≡ EndOfInput
   pub ahead : IsLittleAhead (length rs) stream
 
--- a beginning of the first answers is written, each of which was begun, and little was read behind their messages
+-- the first answers are written whole, and of the next one a front, and little was read behind their messages
 pub record IsWrittenSoFar (catalogue : Catalogue) (stream text : List ℕ) : Type 0 where
-  pub rs : List Response
-  pub answers : AreFirstAnswers catalogue stream rs
-  pub written : IsFront text (answers_text rs)
-  pub ahead : IsLittleAhead (length rs) stream
+  pub whole : List Response
+  pub last : Response
+  pub part : List ℕ
+  pub answers : AreFirstAnswers catalogue stream (whole ++ last ∷ [])
+  pub front : IsFront part (text_of last)
+  pub written : text ≡ answers_text whole ++ part
+  pub ahead : IsLittleAhead (length whole + 1) stream
 
 -- the first answers are written whole
 pub record AreWritten (catalogue : Catalogue) (stream text : List ℕ) : Type 0 where

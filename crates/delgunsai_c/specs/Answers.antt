@@ -15,10 +15,11 @@ use Rattle.delgunsai_c.specs.Said.{said_of_current, said_of_delivered}
 
 -- ---- end
 
--- It is the end of whatever answer this is. Of one whose rest is dropped it tells that it is cut.
+-- It is the end of whatever answer this is. Of one whose rest is dropped it tells that it is cut, and nothing else changes.
 pub record Ends (what : Delivered) (old new : ClientState) : Type 0 where
   pub delivers : (s : ClientState) (p : List ℕ) → Fed s p old → DeliversKeeping s p what new
   pub dropped : feed_of old ≡ rest_dropped → what ≡ Ignored cut_off
+  pub kept : feed_of old ≡ rest_dropped → new ≡ record old { feed = nothing_fed }
   pub ended : feed_of new ≡ nothing_fed
 
 -- Memory was wanting behind it.

@@ -1,5 +1,5 @@
 -- What others know of a source whose exchanges are noted.
-use Rattle.std.specs.Prelude.{◌≡◌, ◌-◌, ◌<◌, ℕ, Bool, true, false, List, Ok, Err, min}
+use Rattle.std.specs.Prelude.{◌≡◌, ◌⊎◌, ◌-◌, ◌<◌, ◌++◌, ℕ, Bool, true, false, List, Ok, Err, length, min, take}
 use Rattle.http_range.specs.Announced.{announced}
 use Rattle.http_range.specs.Reading.{ReadsHead}
 use Rattle.exchange_notes.specs.declared.noted.Came.{Came}
@@ -20,6 +20,11 @@ module _ {P : Type 0} where
 
   abbrev pub front_of : Noted P → List ℕ
   front_of s = s.front.items
+
+  -- the bytes are noted behind the front, as far as there is room, or without memory none of them
+  abbrev pub NotesOf : List ℕ → Noted P → Noted P → Type 0
+  NotesOf bytes old new =
+      (front_of new ≡ front_of old ++ take (4096 - length (front_of old)) bytes) ⊎ (front_of new ≡ front_of old)
 
   -- bytes came, of which this is read
   abbrev pub Has : Noted P → Type 0

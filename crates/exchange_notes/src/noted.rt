@@ -1,6 +1,6 @@
 //! A source of answers in pieces that is another one, and notes what came of the last exchange.
 ghost use Rattle.std.specs.Prelude.{◌≡◌, ◌+◌, [], false, length, min};
-ghost use Rattle.exchange_notes.specs.Noted.{HasCome, bytes_of, front_of, sent_of, source_of};
+ghost use Rattle.exchange_notes.specs.Noted.{HasCome, NotesOf, bytes_of, front_of, sent_of, source_of};
 
 use cog_client::{Lost, Pieces, Why};
 use http_range::{Head, HeadReading, read_head, read_request};
@@ -136,16 +136,20 @@ impl<P> Noted<P> {
         ensures source { source_of self.new ≡ source_of self.old }
         ensures sent { sent_of self.new ≡ sent_of self.old }
         ensures bytes { bytes_of self.new ≡ min (bytes_of self.old + length piece.now) 18446744073709551615 }
+        ensures front { NotesOf piece.now self.old self.new }
     {
         let room = FRONT_ROOM.saturating_sub(self.front.len());
-        let count = piece.len().min(room);
-        let _ = self.front.extend_from_slice(&piece[..count]);
+        let front = &piece[..piece.len().min(room)];
+        let _ = self.front.extend_from_slice(front);
         self.bytes = self.bytes.saturating_add(piece.len() as u64);
     }
 }
 
 impl<P: Pieces> Pieces for Noted<P> {
-    ghost use Rattle.exchange_notes.specs.Noted.{source_of};
+    ghost use Rattle.std.specs.Prelude.{◌≡◌, ◌+◌, ◌<◌, ◌≤◌, ◌^◌, IfOk, OnErr, OnOk, is_ok, length, min, take};
+    ghost use Rattle.cog_client.specs.Pieces.{BringsOf};
+    ghost use Rattle.cog_client.specs.Transport.{IsTrueToAll, SpeaksOn};
+    ghost use Rattle.exchange_notes.specs.Noted.{NotesOf, bytes_of, front_of, sent_of, source_of};
 
     ghost speaks_for = { λ s. P.speaks_for (source_of s) };
 
@@ -153,14 +157,41 @@ impl<P: Pieces> Pieces for Noted<P> {
 
     ghost rest = { λ s. P.rest (source_of s) };
 
-    fn start(&mut self, request: &[u8]) -> Result<(), Lost> {
+    fn start(&mut self, request: &[u8]) -> Result<(), Lost>
+        requires { P.count (source_of self.old) + 1 < 2 ^ 64 }
+
+        // What came before isn't noted any more.
+        ensures sent { sent_of self.new ≡ is_ok result }
+        ensures bytes { bytes_of self.new ≡ 0 }
+        ensures front { front_of self.new ≡ [] }
+
+        // So it keeps the trait's law.
+        ensures shows { OnOk result (IsTrueToAll (P.speaks_for (source_of self.old)) (P.rest (source_of self.new))) }
+        ensures speaks { SpeaksOn (P.speaks_for (source_of self.old)) (P.speaks_for (source_of self.new)) }
+        ensures counted { P.count (source_of self.new) ≡ P.count (source_of self.old) + 1 }
+    {
         self.note_request(request);
         let sent = self.source.start(request);
         self.is_sent = sent.is_ok();
         sent
     }
 
-    fn next(&mut self, out: &mut [u8]) -> Result<usize, Lost> {
+    fn next(&mut self, out: &mut [u8]) -> Result<usize, Lost>
+        requires { 0 < length out.old }
+
+        // The bytes that come are noted.
+        ensures sent { sent_of self.new ≡ sent_of self.old }
+        ensures bytes { IfOk result (λ n. bytes_of self.new ≡ min (bytes_of self.old + n) 18446744073709551615) }
+        ensures front { IfOk result (λ n. NotesOf (take n out.new) self.old self.new) }
+        ensures lost { OnErr result ((bytes_of self.new ≡ bytes_of self.old) × (front_of self.new ≡ front_of self.old)) }
+
+        // So it keeps the trait's law.
+        ensures fits { IfOk result (λ n. n ≤ length out.new) }
+        ensures brings { IfOk result (λ n. BringsOf (P.speaks_for (source_of self.old)) (P.rest (source_of self.old)) out.new n
+            (P.rest (source_of self.new))) }
+        ensures speaks { SpeaksOn (P.speaks_for (source_of self.old)) (P.speaks_for (source_of self.new)) }
+        ensures counted { P.count (source_of self.new) ≡ P.count (source_of self.old) }
+    {
         let count = self.source.next(out)?;
         self.note_piece(&out[..count]);
         Ok(count)

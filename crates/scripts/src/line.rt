@@ -40,6 +40,11 @@ impl LineError {
 }
 
 impl From<LoadError> for LineError {
+    ghost use Rattle.std.specs.Prelude.{◌≡◌};
+    ghost use Rattle.scripts.specs.Line.{told_of};
+
+    ghost from_gives = { λ error told. told ≡ told_of error };
+
     fn from(error: LoadError) -> LineError {
         match error {
             LoadError::CantRead => LineError::CantRead,
@@ -49,12 +54,22 @@ impl From<LoadError> for LineError {
 }
 
 impl From<AllocError> for LineError {
+    ghost use Rattle.std.specs.Prelude.{◌≡◌};
+    ghost use Rattle.scripts.specs.declared.line.LineError.TheVariants.{Memory};
+
+    ghost from_gives = { λ _ told. told ≡ Memory };
+
     fn from(_refused: AllocError) -> LineError {
         LineError::Memory
     }
 }
 
 impl<T: Drop> From<AllocFailed<T>> for ScriptError {
+    ghost use Rattle.std.specs.Prelude.{◌≡◌};
+    ghost use Rattle.scripts.specs.declared.line.ScriptError.TheVariants.{Memory};
+
+    ghost from_gives = { λ _ told. told ≡ Memory };
+
     fn from(_refused: AllocFailed<T>) -> ScriptError {
         ScriptError::Memory
     }

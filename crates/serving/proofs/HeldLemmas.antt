@@ -1,7 +1,9 @@
--- What nobody's coming is.
-use Rattle.std.proofs.Common.{◌∙◌, le_trans}
+-- What nobody's coming is, and who keeps a place.
+use Rattle.std.proofs.Common.{◌≡◌, ◌∙◌, ℕ, le_trans, subst, inl, inr}
 use Rattle.serving.specs.declared.serving.Serving.{Serving}
-use Rattle.serving.specs.Held.{NobodyComes}
+use Rattle.cog_connections.specs.Yielding.{MayYield}
+use Rattle.serving.specs.declared.serving.Limits.{Limits}
+use Rattle.serving.specs.Held.{KeepsBusy, NobodyComes, limits_of}
 
 -- where nobody comes at first, nor then, nobody does
 pub nobody_yet : (a b c : Serving) → NobodyComes a b → NobodyComes b c → NobodyComes a c
@@ -11,3 +13,14 @@ nobody_yet a b c first then = record {
   limits = then.limits ∙ first.limits;
   ended = le_trans first.ended then.ended;
 }
+
+-- who keeps a place at first, and then, does
+pub busy_on : (now : ℕ) (a b c : Serving) → limits_of b ≡ limits_of a → KeepsBusy now a b → KeepsBusy now b c → KeepsBusy now a c
+busy_on now a b c limits first then k p there =
+    elim (first k p there) [
+      | inl may ↦ inl may
+      | inr stays ↦ elim (then k p stays) [
+        | inl may ↦ inl (subst (λ (l : Limits). MayYield now l.patience p) limits may)
+        | inr still ↦ inr still
+      ]
+    ]

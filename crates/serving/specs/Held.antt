@@ -1,6 +1,8 @@
 -- What others know of a server's sockets.
-use Rattle.std.specs.Prelude.{◌≡◌, ◌≤◌, ℕ, None}
+use Rattle.std.specs.Prelude.{◌≡◌, ◌⊎◌, ◌≤◌, ℕ, None, Some}
+use Rattle.cog_connections.specs.declared.timed.Timed.{Timed}
 use Rattle.cog_connections.specs.Table.{Table, timed_at}
+use Rattle.cog_connections.specs.Yielding.{MayYield}
 use Rattle.serving.specs.declared.serving.Limits.{Limits}
 use Rattle.serving.specs.declared.serving.Serving.{Serving}
 
@@ -19,6 +21,15 @@ limits_of s = s.limits
 -- the connections that have a place
 abbrev pub places_of : Serving → Table
 places_of s = s.held.connections.table.entries
+
+-- the number of the next one that gets a place
+abbrev pub next_of : Serving → ℕ
+next_of s = s.held.connections.next
+
+-- a connection that had a place has it as it was, unless a newcomer may take it at this moment
+abbrev pub KeepsBusy : ℕ → Serving → Serving → Type 0
+KeepsBusy now old new = (k : ℕ) (p : Timed) → timed_at k (places_of old) ≡ Some p →
+    MayYield now (limits_of old).patience p ⊎ (timed_at k (places_of new) ≡ Some p)
 
 -- nobody is accepted, nobody gets a place, and none that ended is forgotten
 pub record NobodyComes (old new : Serving) : Type 0 where

@@ -1,13 +1,15 @@
 //! The connections that have a place, with their sockets.
-ghost use Rattle.std.specs.Prelude.{◌≡◌, ◌≢◌, ◌⊎◌, ◌↔◌, ◌<◌, ◌≤◌, ℕ, [], IfOk, IsSome, IsTrue, None, OnErr, length, nat_eq, true};
+ghost use Rattle.std.specs.Prelude.{◌≡◌, ◌≢◌, ◌⊎◌, ◌↔◌, ◌+◌, ◌<◌, ◌≤◌, ℕ, [], IfOk, IfSome, IsSome, IsSomeAnd, IsTrue, None, OnErr, Some, length, nat_eq, true};
 ghost use Rattle.std.specs.Map.{remove_entry};
 ghost use Rattle.std.specs.NonZero.{non_zero_usize_get};
 ghost use Rattle.cog_connections.specs.Table.{OthersStay, timed_at};
-ghost use Rattle.cog_connections.specs.Yielding.{WakesAt, Yields};
+ghost use Rattle.cog_connections.specs.declared.timed.Timed.{Timed};
+ghost use Rattle.cog_connections.specs.Yielding.{MayYield, WakesAt, Yields};
 ghost use Rattle.serving.specs.Turns.{HasEndedAt, HaveSockets, IsDrainedAt, KeepsPlaces};
 ghost use Rattle.serving.specs.declared.turn.Turn.TheVariants.{Ended};
 
 use crate::answered::{Asked, Audience, Teller};
+use crate::socket::Socket;
 use crate::turn::{Turn, drain_turn, serve_turn};
 use cog_connections::Connections;
 use cog_server::Server;
@@ -20,11 +22,10 @@ use std::io;
 use std::net::Shutdown;
 use std::num::NonZeroUsize;
 
-/// The socket of a connection, with its number.
+/// Who is at the other end of a connection.
 #[derive(Drop)]
-struct Socket {
-    number: u64,
-    stream: TcpStream,
+struct Peer {
+    socket: Socket,
     /// Whether all its answers are written.
     is_draining: bool,
     asked: Asked,
@@ -42,9 +43,9 @@ fn has_place(connections: &Connections) -> bool
 pub struct Open {
     alloc: Global,
     pub connections: Connections,
-    sockets: HashMap<u64, Socket>,
+    peers: HashMap<u64, Peer>,
     ended: u32,
-    ghost placed: { HaveSockets (λ s. s.number) sockets connections.table.entries },
+    ghost placed: { HaveSockets (λ p. p.socket.number) peers connections.table.entries },
 }
 
 impl Open {
@@ -56,7 +57,7 @@ impl Open {
         Ok(Open {
             alloc,
             connections: Connections::new(alloc, places)?,
-            sockets: HashMap::new(alloc),
+            peers: HashMap::new(alloc),
             ended: 0,
         })
     }
@@ -86,6 +87,7 @@ impl Open {
     pub fn yields(&self, now: u64, patience: u64) -> Option<u64>
         ensures one { self.now.connections.table.cap ≡ 1 → result ≡ None }
         ensures many { self.now.connections.table.cap ≢ 1 → Yields now patience self.now.connections.table.entries result }
+        ensures found { IfSome result (λ k. IsSomeAnd (timed_at k self.now.connections.table.entries) (MayYield now patience)) }
     {
         self.connections.yields(now, patience)
     }
@@ -105,6 +107,9 @@ impl Open {
     /// Adds a connection. One for which the system or memory has no room has ended at once.
     pub fn add(&mut self, poll: &Poll, stream: TcpStream, now: u64)
         ensures others { OthersStay self.old.connections.next self.old.connections.table.entries self.new.connections.table.entries }
+        ensures kept { (k : ℕ) (p : Timed) → timed_at k self.old.connections.table.entries ≡ Some p
+            → timed_at k self.new.connections.table.entries ≡ Some p }
+        ensures next { self.new.connections.next ≤ self.old.connections.next + 1 }
         ensures ended { self.old.ended ≤ self.new.ended }
         ensures cap { self.new.connections.table.cap ≡ self.old.connections.table.cap }
     {
@@ -118,6 +123,9 @@ impl Open {
         ensures ended { self.old.ended ≤ self.new.ended }
         ensures err { OnErr result ((k : ℕ) → timed_at k self.new.connections.table.entries ≡ timed_at k self.old.connections.table.entries) }
         ensures others { OthersStay self.old.connections.next self.old.connections.table.entries self.new.connections.table.entries }
+        ensures kept { (k : ℕ) (p : Timed) → timed_at k self.old.connections.table.entries ≡ Some p
+            → timed_at k self.new.connections.table.entries ≡ Some p }
+        ensures next { self.new.connections.next ≤ self.old.connections.next + 1 }
         ensures cap { self.new.connections.table.cap ≡ self.old.connections.table.cap }
     {
         if !has_place(&self.connections) {
@@ -132,13 +140,12 @@ impl Open {
             Token(number as usize),
             Interest::READABLE | Interest::WRITABLE,
         );
-        let socket = Socket {
-            number,
-            stream,
+        let peer = Peer {
+            socket: Socket { number, stream },
             is_draining: false,
             asked: Asked::new(self.alloc),
         };
-        if added.is_err() || self.sockets.insert(number, socket).is_err() {
+        if added.is_err() || self.peers.insert(number, peer).is_err() {
             self.connections.close(number);
             return Err(io::Error::from(io::ErrorKind::OutOfMemory));
         }
@@ -152,9 +159,10 @@ impl Open {
         ensures gone { timed_at number self.new.connections.table.entries ≡ None }
         ensures cap { self.new.connections.table.cap ≡ self.old.connections.table.cap }
         ensures entries { self.new.connections.table.entries ≡ remove_entry (nat_eq number) self.old.connections.table.entries }
+        ensures next { self.new.connections.next ≡ self.old.connections.next }
     {
-        if let Some(socket) = self.sockets.remove(&number)
-            && !socket.is_draining
+        if let Some(peer) = self.peers.remove(&number)
+            && !peer.is_draining
         {
             self.ended = self.ended.saturating_add(1);
         }
@@ -167,15 +175,14 @@ impl Open {
         ensures there { result ≡ true → IsSome (timed_at number self.old.connections.table.entries) }
         ensures ended { self.old.ended ≤ self.new.ended }
     {
-        let Some(socket) = self.sockets.get_mut(&number) else {
-            return false;
-        };
-        if socket.is_draining {
-            return false;
+        match self.peers.get_mut(&number) {
+            Some(peer) if !peer.is_draining => {
+                peer.is_draining = true;
+                self.ended = self.ended.saturating_add(1);
+                peer.socket.stream.shutdown(Shutdown::Write).is_ok()
+            }
+            _ => false,
         }
-        socket.is_draining = true;
-        self.ended = self.ended.saturating_add(1);
-        socket.stream.shutdown(Shutdown::Write).is_ok()
     }
 
     /// A connection's turn, of whose answers the audience is told.
@@ -192,23 +199,22 @@ impl Open {
             ⊎ IsDrainedAt number self.new.connections.table.entries }
         ensures counted { self.new.ended ≡ self.old.ended }
     {
-        let Some(socket) = self.sockets.get_mut(&number) else {
+        let Some(peer) = self.peers.get_mut(&number) else {
             return Turn::Waits;
         };
-        if socket.is_draining {
-            drain_turn(&mut self.connections, socket.number, &socket.stream, buffer)
-        } else {
-            let asked = &mut socket.asked;
-            let mut teller = Teller { asked, audience };
-            serve_turn(
-                &mut self.connections,
-                socket.number,
-                &socket.stream,
-                server,
-                buffer,
-                now,
-                &mut teller,
-            )
+        let socket = &peer.socket;
+        if peer.is_draining {
+            return drain_turn(&mut self.connections, socket, buffer);
         }
+        let asked = &mut peer.asked;
+        let mut teller = Teller { asked, audience };
+        serve_turn(
+            &mut self.connections,
+            socket,
+            server,
+            buffer,
+            now,
+            &mut teller,
+        )
     }
 }

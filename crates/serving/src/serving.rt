@@ -2,7 +2,7 @@
 ghost use Rattle.std.specs.Prelude.{◌≡◌, ◌≢◌, ◌+◌, ◌-◌, ◌*◌, ◌<◌, ◌≤◌, ◌^◌, ◌⊎◌, ◌↔◌, ℕ, [], IfOk, IfSome, IsSomeAnd, IsTrue, None, OnErr, OnOk, Some, false, slice_get, true};
 ghost use Rattle.std.specs.Duration.{as_nanos};
 ghost use Rattle.cog_connections.specs.Table.{OthersStay, timed_at};
-ghost use Rattle.serving.specs.Held.{NobodyComes, accepted_of, ended_of, limits_of, places_of};
+ghost use Rattle.serving.specs.Held.{KeepsBusy, NobodyComes, accepted_of, ended_of, limits_of, next_of, places_of};
 ghost use Rattle.serving.specs.Refusals.{HasNoRoom, IsPassing};
 ghost use Rattle.serving.specs.Turns.{GivesPlace};
 ghost use Rattle.serving.specs.declared.serving.TheConstants.{RETRY};
@@ -148,12 +148,17 @@ impl Serving {
     }
 
     /// Accepts the newcomers that get a place, and tells how many: in all no more than there may be.
+    #[tactic(auto, using(crate::proofs::HeldLemmas::busy_on))]
     pub fn accept(&mut self, now: u64) -> Result<u32, AcceptError>
         ensures counted { IfOk result (λ count. accepted_of self.new ≡ accepted_of self.old + count) }
         ensures few { accepted_of self.old ≤ (limits_of self.old).connections
             → accepted_of self.new ≤ (limits_of self.old).connections }
         ensures limits { limits_of self.new ≡ limits_of self.old }
         ensures ended { ended_of self.old ≤ ended_of self.new }
+
+        // Nobody loses a place but those that may, and each newcomer that gets one counts.
+        ensures busy { KeepsBusy now self.old self.new }
+        ensures numbers { next_of self.new ≤ next_of self.old + (accepted_of self.new - accepted_of self.old) }
     {
         let before = self.accepted;
         for _ in 0..u32::MAX {
@@ -213,6 +218,8 @@ impl Serving {
         ensures yes { result ≡ true → GivesPlace now self.old.limits.patience self.old.held.connections.table.entries
             self.new.held.connections.table.entries }
         ensures nobody { NobodyComes self.old self.new }
+        ensures busy { KeepsBusy now self.old self.new }
+        ensures next { next_of self.new ≡ next_of self.old }
     {
         match self.held.yields(now, self.limits.patience) {
             Some(number) => {
@@ -242,6 +249,8 @@ impl Serving {
         ensures accepted { accepted_of self.old + 1 < 2 ^ 32 → accepted_of self.new ≡ accepted_of self.old + 1 }
         ensures limits { limits_of self.new ≡ limits_of self.old }
         ensures ended { ended_of self.old ≤ ended_of self.new }
+        ensures busy { KeepsBusy now self.old self.new }
+        ensures next { next_of self.new ≤ next_of self.old + 1 }
     {
         self.accepted = self.accepted.saturating_add(1);
         self.held.add(&self.poll, stream, now);
@@ -261,6 +270,8 @@ impl Serving {
         ensures passing { OnOk result (IsPassing error) }
         ensures err { OnErr result (self.new.held.connections ≡ self.old.held.connections) }
         ensures nobody { NobodyComes self.old self.new }
+        ensures busy { KeepsBusy now self.old self.new }
+        ensures next { next_of self.new ≡ next_of self.old }
     {
         if error.kind() == ErrorKind::WouldBlock {
             self.knocks = false;

@@ -11,6 +11,13 @@ use mio::net::TcpStream;
 use std::io;
 use std::io::{ErrorKind, IoSlice, Read, Write};
 
+/// The socket of a connection, with its number: what goes through the one is the other's.
+#[derive(Drop)]
+pub struct Socket {
+    pub number: u64,
+    pub stream: TcpStream,
+}
+
 /// Want of memory, as an error of the socket.
 fn memory(_error: Memory) -> io::Error {
     io::Error::from(ErrorKind::OutOfMemory)
@@ -20,17 +27,18 @@ fn memory(_error: Memory) -> io::Error {
 /// copied.
 pub fn write_some(
     connections: &mut Connections,
-    number: u64,
-    mut stream: &TcpStream,
+    socket: &Socket,
     most: usize,
     now: u64,
 ) -> io::Result<usize>
     ensures few { IfOk result (λ n. n ≤ most) }
-    ensures wrote { IfOk result (λ n. Changes number (timed_after_write n now)
+    ensures wrote { IfOk result (λ n. Changes socket.now.number (timed_after_write n now)
         connections.old.table.entries connections.new.table.entries) }
-    ensures err { OnErr result (Changes number (λ p. p) connections.old.table.entries connections.new.table.entries) }
-    ensures kept { KeepsPlaces number connections.old connections.new }
+    ensures err { OnErr result (Changes socket.now.number (λ p. p) connections.old.table.entries connections.new.table.entries) }
+    ensures kept { KeepsPlaces socket.now.number connections.old connections.new }
 {
+    let number = socket.number;
+    let mut stream = &socket.stream;
     let Some(timed) = connections.get(number) else {
         return Ok(0);
     };
@@ -53,16 +61,18 @@ pub fn write_some(
 /// buffer's front.
 pub fn read_some(
     connections: &mut Connections,
-    number: u64,
-    mut stream: &TcpStream,
+    socket: &Socket,
     buffer: &mut [u8],
 ) -> io::Result<usize>
     ensures within { IfOk result (λ n. n ≤ length buffer.new) }
-    ensures came { IfOk result (λ n. Changes number (λ p. record p { connection = after_read (take n buffer.new) p.connection })
+    ensures came { IfOk result (λ n. Changes socket.now.number
+        (λ p. record p { connection = after_read (take n buffer.new) p.connection })
         connections.old.table.entries connections.new.table.entries) }
-    ensures err { OnErr result (Changes number (λ p. p) connections.old.table.entries connections.new.table.entries) }
-    ensures kept { KeepsPlaces number connections.old connections.new }
+    ensures err { OnErr result (Changes socket.now.number (λ p. p) connections.old.table.entries connections.new.table.entries) }
+    ensures kept { KeepsPlaces socket.now.number connections.old connections.new }
 {
+    let number = socket.number;
+    let mut stream = &socket.stream;
     let Some(timed) = connections.get(number) else {
         return Ok(0);
     };

@@ -7,10 +7,9 @@ ghost use Rattle.serving.specs.Turns.{HasEndedAt, IsDrainedAt, KeepsPlaces};
 ghost use Rattle.serving.specs.declared.turn.Turn.TheVariants.{Ended, GoesOn, Waits};
 
 use crate::answered::{Audience, Teller};
-use crate::socket::{answer, read_some, write_some};
+use crate::socket::{Socket, answer, read_some, write_some};
 use cog_connections::Connections;
 use cog_server::Server;
-use mio::net::TcpStream;
 use std::io;
 use std::io::ErrorKind;
 
@@ -88,20 +87,20 @@ struct Bounds {
 /// Writes what waits, or answers the next message, or reads: how many bytes were written, none where all answers are.
 fn step<A: Audience>(
     connections: &mut Connections,
-    number: u64,
-    stream: &TcpStream,
+    socket: &Socket,
     server: &Server,
     buffer: &mut [u8],
     bounds: Bounds,
     teller: &mut Teller<'_, A>,
 ) -> io::Result<Option<usize>>
-    ensures kept { KeepsPlaces number connections.old connections.new }
-    ensures ended { IfOk result (λ count. count ≡ None → HasEndedAt number connections.new.table.entries) }
+    ensures kept { KeepsPlaces socket.now.number connections.old connections.new }
+    ensures ended { IfOk result (λ count. count ≡ None → HasEndedAt socket.now.number connections.new.table.entries) }
     ensures asked { teller.new.asked.ghost_name ≡ teller.old.asked.ghost_name }
 {
     let Bounds { most, now } = bounds;
+    let number = socket.number;
     if is_waiting(connections, number) {
-        return Ok(Some(write_some(connections, number, stream, most, now)?));
+        return Ok(Some(write_some(connections, socket, most, now)?));
     }
     if answer(connections, number, server, now)? {
         teller.answered(connections, number);
@@ -110,7 +109,7 @@ fn step<A: Audience>(
     if has_ended(connections, number) {
         return Ok(None);
     }
-    let count = read_some(connections, number, stream, buffer)?;
+    let count = read_some(connections, socket, buffer)?;
     teller.came(&buffer[..count]);
     Ok(Some(0))
 }
@@ -119,21 +118,20 @@ fn step<A: Audience>(
 #[tactic(auto, using(crate::proofs::TurnLemmas::keeps_on))]
 pub fn serve_turn<A: Audience>(
     connections: &mut Connections,
-    number: u64,
-    stream: &TcpStream,
+    socket: &Socket,
     server: &Server,
     buffer: &mut [u8],
     now: u64,
     teller: &mut Teller<'_, A>,
 ) -> Turn
-    ensures kept { KeepsPlaces number connections.old connections.new }
-    ensures ended { result ≡ Ended → HasEndedAt number connections.new.table.entries }
+    ensures kept { KeepsPlaces socket.now.number connections.old connections.new }
+    ensures ended { result ≡ Ended → HasEndedAt socket.now.number connections.new.table.entries }
     ensures asked { teller.new.asked.ghost_name ≡ teller.old.asked.ghost_name }
 {
     let mut most = WRITE_LIMIT;
     for _ in 0..STEP_LIMIT {
         let bounds = Bounds { most, now };
-        match step(connections, number, stream, server, buffer, bounds, teller) {
+        match step(connections, socket, server, buffer, bounds, teller) {
             Ok(Some(n)) => most = most.saturating_sub(n),
             Ok(None) => return Turn::Ended,
             Err(error) => {
@@ -151,20 +149,15 @@ pub fn serve_turn<A: Audience>(
 
 /// Drops what still comes behind the last message. It has ended where nothing more may come.
 #[tactic(auto, using(crate::proofs::TurnLemmas::keeps_on))]
-pub fn drain_turn(
-    connections: &mut Connections,
-    number: u64,
-    stream: &TcpStream,
-    buffer: &mut [u8],
-) -> Turn
-    ensures kept { KeepsPlaces number connections.old connections.new }
-    ensures ended { result ≡ Ended → IsDrainedAt number connections.new.table.entries }
+pub fn drain_turn(connections: &mut Connections, socket: &Socket, buffer: &mut [u8]) -> Turn
+    ensures kept { KeepsPlaces socket.now.number connections.old connections.new }
+    ensures ended { result ≡ Ended → IsDrainedAt socket.now.number connections.new.table.entries }
 {
     for _ in 0..STEP_LIMIT {
-        if is_drained(connections, number) {
+        if is_drained(connections, socket.number) {
             return Turn::Ended;
         }
-        if let Err(error) = read_some(connections, number, stream, buffer)
+        if let Err(error) = read_some(connections, socket, buffer)
             && let Some(turn) = turn_of(&error)
         {
             return turn;

@@ -48,6 +48,7 @@ impl Client {
         ensures ok { IfOk result (λ what. (s : ClientState) (p : List ℕ) → Fed s p self.old → DeliversKeeping s p what self.new) }
         ensures err { OnErr result ((s : ClientState) (p : List ℕ) → Fed s p self.old → StopsDelivery s p self.new) }
         ensures dropped { feed_of self.old ≡ rest_dropped → result ≡ Ok (AnIgnored cut_off) }
+        ensures kept { feed_of self.old ≡ rest_dropped → self.new ≡ record self.old { feed = nothing_fed } }
         ensures ended { feed_of self.new ≡ nothing_fed }
     {
         fronts_are_read();

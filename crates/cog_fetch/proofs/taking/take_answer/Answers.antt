@@ -1,5 +1,6 @@
 use Rattle.std.proofs.Common.{ℕ, List, []}
 use Rattle.cog_client.specs.Keeps.{StopsDelivery}
+use Rattle.cog_fetch.specs.Takes.{IsNextOf}
 use Rattle.cog_fetch.proofs.TakeLemmas.{refused}
 use Rattle.cog_fetch.proofs.taking.take_answer.Goals as goal
 
@@ -12,14 +13,16 @@ returns-in_err-take_pieces-clause-takes g c =
 pub returns-in_err-take_pieces-clause-err : goal.returns-in_err-take_pieces-clause-err
 returns-in_err-take_pieces-clause-err g c =
     let s = c.in_err-take_pieces.ensures.err in
-    refused c.from_residual.result ((text : List ℕ) × StopsDelivery c.args.client.now text c.take_pieces.new.client)
-    (s.bytes, s.stops c.args.client.now [] c.begin.ensures)
+    refused c.from_residual.result ((bytes : List ℕ) × IsNextOf (g.P.Pieces.speaks_for c.args.pieces.now) (g.P.Pieces.rest c.args.pieces.now) bytes
+    × StopsDelivery c.args.client.now bytes c.take_pieces.new.client)
+    (s.bytes, s.next, s.stops c.args.client.now [] c.begin.ensures)
 
 pub returns-in_err-end-clause-err : goal.returns-in_err-end-clause-err
 returns-in_err-end-clause-err g c =
     let t = c.in_ok-take_pieces.ensures.ok in
-    refused c.from_residual-in_err-end.result ((text : List ℕ) × StopsDelivery c.args.client.now text c.end.new.self)
-    (t.bytes, c.in_err-end.ensures.err c.args.client.now t.bytes (t.fed c.args.client.now [] c.begin.ensures))
+    refused c.from_residual-in_err-end.result ((bytes : List ℕ) × IsNextOf (g.P.Pieces.speaks_for c.args.pieces.now) (g.P.Pieces.rest c.args.pieces.now) bytes
+    × StopsDelivery c.args.client.now bytes c.end.new.self)
+    (t.bytes, t.next, c.in_err-end.ensures.err c.args.client.now t.bytes (t.fed c.args.client.now [] c.begin.ensures))
 
 pub returns-in_err-end-clause-takes : goal.returns-in_err-end-clause-takes
 returns-in_err-end-clause-takes g c =
@@ -36,4 +39,4 @@ returns-clause-takes g c =
 pub returns-clause-ok : goal.returns-clause-ok
 returns-clause-ok g c =
     let t = c.in_ok-take_pieces.ensures.ok in
-    (t.bytes, c.in_ok-end.field-0, c.in_ok-end.ensures.ok c.args.client.now t.bytes (t.fed c.args.client.now [] c.begin.ensures))
+    (t.bytes, t.next, c.in_ok-end.field-0, c.in_ok-end.ensures.ok c.args.client.now t.bytes (t.fed c.args.client.now [] c.begin.ensures))

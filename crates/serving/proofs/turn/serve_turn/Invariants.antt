@@ -4,6 +4,6 @@ use Rattle.serving.proofs.turn.serve_turn.Given as goal
 
 abbrev pub invariant-loop : goal.invariant-loop
 invariant-loop g l = record {
-  kept : KeepsPlaces l.number l.fn.connections l.connections;
+  kept : KeepsPlaces l.socket.number l.fn.connections l.connections;
   asked : l.teller.asked.ghost_name ≡ l.fn.teller.asked.ghost_name;
 }

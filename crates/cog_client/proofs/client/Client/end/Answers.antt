@@ -45,6 +45,11 @@ returns-in-Ignored-clause-ok c s p fed =
     subst (λ (d : Delivered). DeliversKeeping s p d mid) (sym c.in-Ignored.is)
     (ended_ignored c.fronts_are_read.ensures.answers c.lengths_are_known.ensures c.stored_are_held.ensures.front c.parts_bring_blocks.ensures.beside s p c.args.self.now mid gone.dropped gone.sound w (subst (IsTold (feed_of c.args.self.now)) c.in-Ignored.is gone.told) fed)
 
+pub returns-in-Ignored-clause-kept : goal.returns-in-Ignored-clause-kept
+returns-in-Ignored-clause-kept c = λ _.
+    let i = c.self.inside in
+    (let_go i.arrival c.clear.new.self i.how i.host.items i.name.items i.query i.asked i.source i.cache i.report c.args.self.now c.told-told.result c.self.view_is c.clear.ensures c.self.invariant c.told-told.ensures).dropped
+
 pub returns-in_err-missing : goal.returns-in_err-missing
 unfolding feed_of asked_of
 returns-in_err-missing c =
@@ -58,6 +63,7 @@ returns-in_err-missing c =
       err = refused c.from_residual.result ((s : ClientState) → (p : List ℕ) → Fed s p c.args.self.now → StopsDelivery s p c.missing.new.self) (λ (s : ClientState) (p : List ℕ) (fed : Fed s p c.args.self.now).
           stops c.fronts_are_read.ensures.answers c.lengths_are_known.ensures c.stored_are_held.ensures.front c.parts_bring_blocks.ensures.beside s p c.args.self.now mid gone.dropped gone.sound c.told-told.result gone.told used fed c.missing.new.self e.goes e.asked e.err (e.feed ∙ c.clear.ensures));
       dropped = λ is. absurd (used (subst IsIgnored (sym (subst (λ (e : Feed). IsTold e c.told-told.result) is gone.told)) tt));
+      kept = λ is. absurd (used (subst IsIgnored (sym (subst (λ (e : Feed). IsTold e c.told-told.result) is gone.told)) tt));
       ended = e.feed ∙ c.clear.ensures;
     }
 
@@ -74,6 +80,7 @@ returns-in_ok-missing c =
           ends c.fronts_are_read.ensures.answers c.lengths_are_known.ensures c.stored_are_held.ensures.front c.parts_bring_blocks.ensures.beside s p c.args.self.now mid gone.dropped gone.sound c.told-told.result gone.told used fed c.missing.new.self c.in_ok-missing.field-0 e.goes e.asked e.ok (e.feed ∙ c.clear.ensures);
       err = tt;
       dropped = λ is. absurd (used (subst IsIgnored (sym (subst (λ (e : Feed). IsTold e c.told-told.result) is gone.told)) tt));
+      kept = λ is. absurd (used (subst IsIgnored (sym (subst (λ (e : Feed). IsTold e c.told-told.result) is gone.told)) tt));
       ended = e.feed ∙ c.clear.ensures;
     }
 
@@ -90,5 +97,6 @@ returns-else-is_none c =
           absurd (false≢true (sym (ap is_some (silent c.fronts_are_read.ensures.answers c.lengths_are_known.ensures c.stored_are_held.ensures.front c.parts_bring_blocks.ensures.beside s p c.args.self.now mid gone.dropped gone.sound c.told-told.result gone.told used fed)) ∙ stands));
       err = tt;
       dropped = λ is. absurd (used (subst IsIgnored (sym (subst (λ (e : Feed). IsTold e c.told-told.result) is gone.told)) tt));
+      kept = λ is. absurd (used (subst IsIgnored (sym (subst (λ (e : Feed). IsTold e c.told-told.result) is gone.told)) tt));
       ended = c.clear.ensures;
     }

@@ -1,9 +1,10 @@
 use Rattle.std.proofs.Common.{◌≡◌, Some, arith, sym, ap, subst, ◌∙◌}
-use Rattle.std.specs.Prelude.{IfOk}
+use Rattle.std.specs.Prelude.{IfOk, IfSome}
 use Rattle.std.specs.List.{All}
 use Rattle.std.proofs.lemmas.Result.{IfOk-weaker}
 use Rattle.cached_reader.specs.Going.{work}
 use Rattle.cached_reader.specs.Early as reading
+use Rattle.cog_client.specs.Client.{IsReadingOf}
 use Rattle.cog_client.specs.Early.{AsksNothingEarly, IsEarly}
 use Rattle.cog_client.proofs.ClientLemmas.{known}
 use Rattle.cog_client.proofs.EarlyLemmas.{asks_early, early_spans}
@@ -15,12 +16,13 @@ returns-clause-early c =
     let asked = c.in-Some-Some.asked in
     let s = c.in-Some-Some.source in
     let made = known i.arrival i.how i.host.items i.name.items i.query (Some asked) (Some s) i.cache i.report in
+    let reads : IsReadingOf i.query i.report s = subst (λ o. IfSome o (IsReadingOf i.query i.report)) c.in-Some-Some.is-1 c.self.invariant.reading in
     let is : made ≡ c.args.self.now =
     sym (ap (λ o. known i.arrival i.how i.host.items i.name.items i.query o i.source i.cache i.report) c.in-Some-Some.is-0
     ∙ ap (λ o. known i.arrival i.how i.host.items i.name.items i.query (Some asked) o i.cache i.report) c.in-Some-Some.is-1) ∙ c.self.view_is in
     subst (λ k. IfOk c.early_spans.result (λ spans. All (IsEarly k) spans.items)) is
     (IfOk-weaker c.early_spans.result (λ spans. All (reading.IsEarly (work s.reader i.cache) asked) spans.items) (λ spans. All (IsEarly made) spans.items)
-    (λ spans all. early_spans i.arrival i.how i.host.items i.name.items i.query asked s i.cache i.report spans.items all) c.early_spans.ensures.early)
+    (λ spans all. early_spans i.arrival i.how i.host.items i.name.items i.query asked s i.cache i.report (sym reads.0) spans.items all) c.early_spans.ensures.early)
 
 pub returns-clause-none : goal.returns-clause-none
 returns-clause-none c = λ nothing.

@@ -1,5 +1,5 @@
-use Rattle.std.specs.Prelude.{◌≡◌, ◌≤◌}
-use Rattle.serving.specs.Held.{accepted_of, ended_of, limits_of}
+use Rattle.std.specs.Prelude.{◌≡◌, ◌+◌, ◌-◌, ◌≤◌}
+use Rattle.serving.specs.Held.{KeepsBusy, accepted_of, ended_of, limits_of, next_of}
 use Rattle.serving.proofs.serving.Serving.accept.Given as goal
 
 abbrev pub invariant-loop : goal.invariant-loop
@@ -8,5 +8,7 @@ invariant-loop l = record {
   before : l.before ≡ accepted_of l.fn.self;
   more : accepted_of l.fn.self ≤ accepted_of l.self;
   ended : ended_of l.fn.self ≤ ended_of l.self;
+  busy : KeepsBusy l.now l.fn.self l.self;
+  numbers : next_of l.self ≤ next_of l.fn.self + (accepted_of l.self - accepted_of l.fn.self);
   few : accepted_of l.fn.self ≤ (limits_of l.fn.self).connections → accepted_of l.self ≤ (limits_of l.fn.self).connections;
 }
