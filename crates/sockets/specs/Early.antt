@@ -1,13 +1,20 @@
 -- Requests that are sent early, one behind another on a connection that is kept (RFC 9112, section 9.3.2): a server answers them in their
 -- order.
-use Rattle.std.specs.Prelude.{◌≡◌, ℕ, List, [], ◌∷◌, map, ⊤}
+use Rattle.std.specs.Prelude.{◌≡◌, ◌<◌, ◌≤◌, ℕ, List, [], ◌∷◌, IfSome, map, ⊤}
+use Rattle.cog_fetch.specs.AnswerEnd.{lacks_of}
+use Rattle.cog_fetch.specs.declared.answer_end.Lacks.TheVariants.{Body}
 use Rattle.sockets.specs.declared.kept.Kept.{Kept}
+use Rattle.sockets.specs.declared.socket.Socket.{Socket}
 use Rattle.sockets.specs.declared.kept.Turn.{Turn}
 use Rattle.sockets.specs.declared.kept.Turn.TheVariants.{Anew, Sends, Sent}
 
 -- the texts of those that were sent and whose turn hasn't come, the next one first
 abbrev pub early_of : Kept → List (List ℕ)
 early_of k = map (λ t. t.items) k.early.items
+
+-- Where requests were sent early and so many bytes of the body before their answers are lacking, no more than these are read at once.
+abbrev pub IsOwnPiece : {R : Type 0} → Socket R → ℕ → Type 0
+IsOwnPiece s n = IfSome s.kept (λ k. (left : ℕ) → ¬ (early_of k ≡ []) → lacks_of k.end ≡ Body left → 0 < left → n ≤ left)
 
 -- How a request comes behind an answer, where these were sent early before and are left after: it is the next of them, whose answer comes
 -- next; or it is to be sent, and none was. Else the connection is made anew.

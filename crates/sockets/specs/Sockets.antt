@@ -1,6 +1,6 @@
 -- What others know of a source over sockets.
-use Rattle.std.specs.Prelude.{ℕ, nat_eq, Bool, true, false, List, IfSome, IsSome}
-use Rattle.cog_fetch.specs.AnswerEnd.{Came}
+use Rattle.std.specs.Prelude.{◌≡◌, ℕ, nat_eq, Bool, true, false, List, IfSome, IsSome}
+use Rattle.cog_fetch.specs.AnswerEnd.{Came, lacks_of}
 use Rattle.cog_fetch.specs.declared.answer_end.Lacks.{Lacks}
 use Rattle.cog_fetch.specs.declared.answer_end.Lacks.TheVariants.{Body, End, Head}
 use Rattle.sockets.specs.declared.socket.Socket.{Socket}
@@ -20,6 +20,10 @@ IsConnected s = IsSome s.stream
 -- the connection is kept, and these bytes of the answer on it came
 abbrev pub HasCome : {R : Type 0} → Socket R → List ℕ → Type 0
 HasCome s bytes = IfSome s.kept (λ k. Came k.end bytes)
+
+-- of the answer on the connection nothing is known any more: nothing may follow it
+abbrev pub IsUntold : {R : Type 0} → Socket R → Type 0
+IsUntold s = IfSome s.kept (λ k. lacks_of k.end ≡ End)
 
 -- nothing more of an answer is waited for: it is whole, or has no length that can be trusted
 abbrev pub is_over : Lacks → Bool

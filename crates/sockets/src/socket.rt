@@ -1,7 +1,8 @@
 //! Connections to a server that is named by its address: one for each request, or one that is kept from answer to answer.
-ghost use Rattle.std.specs.Prelude.{◌≡◌, ◌≤◌, ℕ, List, IfOk, IsErr, IsSome, OnOk, length, true};
+ghost use Rattle.std.specs.Prelude.{◌≡◌, ◌≤◌, ◌⊎◌, ◌++◌, ℕ, List, IfOk, IsErr, IsSome, OnOk, length, take, true};
 ghost use Rattle.cog_fetch.specs.AnswerEnd.{IsWholeAnswer};
-ghost use Rattle.sockets.specs.Sockets.{exchanges_of, server_of, HasCome, IsConnected};
+ghost use Rattle.sockets.specs.Early.{IsOwnPiece};
+ghost use Rattle.sockets.specs.Sockets.{exchanges_of, server_of, HasCome, IsConnected, IsUntold};
 
 use crate::kept::{Kept, Turn};
 use cog_client::{Lost, Pieces};
@@ -54,6 +55,7 @@ impl<'r, R> Socket<'r, R> {
         ensures server { server_of self.new ≡ server_of self.old }
         ensures exchanges { exchanges_of self.new ≡ exchanges_of self.old }
         ensures unsent { ¬ IsConnected self.old → IsErr result }
+        ensures kept { self.new.kept ≡ self.old.kept }
     {
         let Some(stream) = &mut self.stream else {
             return Err(Lost);
@@ -67,7 +69,8 @@ impl<'r, R> Socket<'r, R> {
 
     /// How many bytes of those that there is room for are read at once.
     fn piece(&self, room: usize) -> usize
-        ensures { result ≤ room }
+        ensures few { result ≤ room }
+        ensures own { IsOwnPiece self.now result }
     {
         match &self.kept {
             Some(kept) => kept.piece(room),
@@ -75,22 +78,35 @@ impl<'r, R> Socket<'r, R> {
         }
     }
 
-    /// Reads the next bytes of the answer on a connection that is kept, and notes how far it has come. The connection ends where they
-    /// aren't an answer's.
+    /// Notes how far the answer on a connection that is kept has come with these bytes. The connection ends where they aren't an
+    /// answer's.
+    fn note(&mut self, bytes: &[u8])
+        ensures server { server_of self.new ≡ server_of self.old }
+        ensures exchanges { exchanges_of self.new ≡ exchanges_of self.old }
+        ensures noted { (front : List ℕ) → HasCome self.old front → HasCome self.new (front ++ bytes.now) ⊎ IsUntold self.new }
+    {
+        let Some(kept) = &mut self.kept else {
+            return;
+        };
+        if kept.is_astray(bytes) {
+            self.stream = None;
+        }
+        kept.came(bytes);
+    }
+
+    /// Reads the next bytes of the answer, on a connection that is kept no more than its own, and notes them.
     fn receive_noting(&mut self, out: &mut [u8]) -> Result<usize, Lost>
         ensures few { IfOk result (λ n. n ≤ length out.new) }
         ensures server { server_of self.new ≡ server_of self.old }
         ensures exchanges { exchanges_of self.new ≡ exchanges_of self.old }
+        ensures own { IfOk result (IsOwnPiece self.old) }
+        ensures noted { IfOk result (λ n. (front : List ℕ) → HasCome self.old front
+            → HasCome self.new (front ++ take n out.new) ⊎ IsUntold self.new) }
     {
         let most = self.piece(out.len());
-        let read = self.receive(&mut out[..most]);
-        if let (Some(kept), Ok(count @ 1..)) = (&mut self.kept, read) {
-            if kept.is_astray(&out[..count]) {
-                self.stream = None;
-            }
-            kept.came(&out[..count]);
-        }
-        read
+        let count = self.receive(&mut out[..most])?;
+        self.note(&out[..count]);
+        Ok(count)
     }
 
     /// Whether nothing is waited for any more of the answer on a connection that is kept.
