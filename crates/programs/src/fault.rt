@@ -47,7 +47,7 @@ pub enum Fault {
 }
 
 impl Fault {
-    ghost use Rattle.programs.specs.Status.{EndsWith, HasStatus};
+    ghost use Rattle.programs.specs.Status.{EndsBy, EndsWith, HasStatus};
 
     /// The exit status: 0 for help and the version, 1 for files, sockets, publications and memory, 2 for the command line and scripts, 3 for a fault of the file
     /// that is read, and 4 where there is no report.
@@ -82,13 +82,23 @@ impl Fault {
     pub fn tell<R: Print + Eprint>(&self, rt: &R, program: &str) -> u8
         ensures { EndsWith self.now result }
     {
-        match self.print(rt, program) {
-            Err(error) if self.status() == 0 => {
-                let unwritten = Fault::from(error);
-                let _ = unwritten.print(rt, program);
-                unwritten.status()
-            }
-            _ => self.status(),
+        let printed = self.print(rt, program);
+        let status = self.status_by(printed.is_ok());
+        if let Err(error) = printed
+            && self.status() == 0
+        {
+            let _ = Fault::from(error).print(rt, program);
+        }
+        status
+    }
+
+    /// The exit status where its line, or the help that was asked for, is printed, or isn't: 1 without that help.
+    fn status_by(&self, is_printed: bool) -> u8
+        ensures { EndsBy is_printed self.now result }
+    {
+        match self.status() {
+            0 if !is_printed => 1,
+            status => status,
         }
     }
 
