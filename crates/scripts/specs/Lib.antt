@@ -1,1 +1,4 @@
+pub mod Files
 pub mod Line
+pub mod Script
+pub mod Verb

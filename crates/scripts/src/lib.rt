@@ -8,6 +8,7 @@ mod log;
 mod number;
 mod source;
 mod text;
+mod verb;
 
 pub use line::{ScriptError, script};
 pub use log::log_text;

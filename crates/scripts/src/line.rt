@@ -1,6 +1,14 @@
 //! The lines of a script.
+ghost use Rattle.std.specs.Prelude.{◌≡◌, ◌==◌, [], ◌∷◌, IfErr, IfOk, codes};
+ghost use Rattle.std.specs.List.{slice_split};
+ghost use Rattle.hex.specs.Hex.{decode_of};
+ghost use Rattle.scripts.specs.Line.{IsOnlyNumber, IsScriptFault, IsWindow, Reads, ReadsLine, ReadsWords, texts};
+ghost use Rattle.scripts.specs.Script.{AreEvents, FindsTheSame, IsEvent, IsPick, IsQuery, NoFile, are_filled, cut, is_read, lines, number};
+ghost use Rattle.scripts.specs.Verb.{word_of};
+
 use crate::number::number;
 use crate::source::{LoadError, Source};
+use crate::verb::{Verb, verb_of};
 use hex::FromHexError;
 use std::alloc::{AllocError, AllocFailed, Global};
 use tiff_dir::{Pick, Query};
@@ -64,6 +72,17 @@ impl From<AllocError> for LineError {
     }
 }
 
+impl From<AllocError> for ScriptError {
+    ghost use Rattle.std.specs.Prelude.{◌≡◌};
+    ghost use Rattle.scripts.specs.declared.line.ScriptError.TheVariants.{Memory};
+
+    ghost from_gives = { λ _ told. told ≡ Memory };
+
+    fn from(_refused: AllocError) -> ScriptError {
+        ScriptError::Memory
+    }
+}
+
 impl<T: Drop> From<AllocFailed<T>> for ScriptError {
     ghost use Rattle.std.specs.Prelude.{◌≡◌};
     ghost use Rattle.scripts.specs.declared.line.ScriptError.TheVariants.{Memory};
@@ -76,24 +95,64 @@ impl<T: Drop> From<AllocFailed<T>> for ScriptError {
 }
 
 /// A number that has to be one.
-fn wanted(word: &[u8]) -> Result<u32, LineError> {
+fn wanted(word: &[u8]) -> Result<u32, LineError>
+    ensures { Reads (λ n. number word.now ≡ Some n) result }
+{
     number(word).ok_or(LineError::NotAnEvent)
 }
 
-fn publication<S: Source>(
-    alloc: Global,
-    name: &[u8],
-    path: &[u8],
-    source: &mut S,
-) -> Result<Event, LineError> {
+/// The number that a line has alone behind its first word.
+fn only_number(rest: &[&[u8]]) -> Result<u32, LineError>
+    ensures { Reads (IsOnlyNumber (texts rest.now)) result }
+{
+    match rest {
+        [word] => wanted(word),
+        _ => Err(LineError::NotAnEvent),
+    }
+}
+
+/// What `publish` has behind it: a name, and the path of a file.
+fn publication<S: Source>(alloc: Global, rest: &[&[u8]], source: &mut S) -> Result<Event, LineError>
+    ensures event { ReadsWords (S.finds source.old) (codes "publish" ∷ texts rest.now) result }
+    ensures kept { FindsTheSame (S.finds source.old) (S.finds source.new) }
+{
+    let [name, path] = rest else {
+        return Err(LineError::NotAnEvent);
+    };
     Ok(Event::Publish {
         name: Vec::from_slice(alloc, name)?,
         file: source.load(path)?,
     })
 }
 
-/// The window of a line: its columns, rows and sides, of the level that is picked.
-fn window(pick: Pick, sides: &[&[u8]; 4]) -> Result<Query, LineError> {
+/// What `client` has behind it: a name, and how many blocks its cache has.
+fn new_client(alloc: Global, rest: &[&[u8]]) -> Result<Event, LineError>
+    ensures { Reads (IsEvent NoFile (codes "client" ∷ texts rest.now)) result }
+{
+    let [name, blocks] = rest else {
+        return Err(LineError::NotAnEvent);
+    };
+    Ok(Event::NewClient {
+        name: Vec::from_slice(alloc, name)?,
+        blocks: wanted(blocks)?,
+    })
+}
+
+/// The level that `level N` or `columns C` picks.
+fn pick_of(kind: &[u8], word: &[u8]) -> Result<Pick, LineError>
+    ensures { Reads (IsPick kind.now word.now) result }
+{
+    match kind {
+        b"level" => Ok(Pick::Level(wanted(word)?)),
+        b"columns" => Ok(Pick::Columns(wanted(word)?)),
+        _ => Err(LineError::NotAnEvent),
+    }
+}
+
+/// A window by its sides, of the level that is picked.
+fn window(pick: Pick, sides: &[&[u8]; 4]) -> Result<Query, LineError>
+    ensures { Reads (IsWindow pick (texts sides.now)) result }
+{
     let [x, y, w, h] = sides;
     Ok(Query::Window {
         pick,
@@ -104,8 +163,34 @@ fn window(pick: Pick, sides: &[&[u8]; 4]) -> Result<Query, LineError> {
     })
 }
 
+/// A query: a window of the level that is picked, or `info`.
+fn query_of(words: &[&[u8]]) -> Result<Query, LineError>
+    ensures { Reads (IsQuery (texts words.now)) result }
+{
+    match words {
+        [b"info"] => Ok(Query::Info),
+        [kind, word, x, y, w, h] => window(pick_of(kind, word)?, &[*x, *y, *w, *h]),
+        _ => Err(LineError::NotAnEvent),
+    }
+}
+
+/// What `open` has behind it: a client and its query.
+fn opening(rest: &[&[u8]]) -> Result<Event, LineError>
+    ensures { Reads (IsEvent NoFile (codes "open" ∷ texts rest.now)) result }
+{
+    let [client, query @ ..] = rest else {
+        return Err(LineError::NotAnEvent);
+    };
+    Ok(Event::Open {
+        client: wanted(client)?,
+        query: query_of(query)?,
+    })
+}
+
 /// The bytes of hexadecimal digits, two each, in either case.
-fn bytes_of(alloc: Global, digits: &[u8]) -> Result<Vec<u8>, LineError> {
+fn bytes_of(alloc: Global, digits: &[u8]) -> Result<Vec<u8>, LineError>
+    ensures { Reads (λ bytes. decode_of digits.now ≡ Ok bytes.items) result }
+{
     match hex::decode(alloc, digits) {
         Ok(bytes) => Ok(bytes),
         Err(FromHexError::OutOfMemory) => Err(LineError::Memory),
@@ -113,56 +198,105 @@ fn bytes_of(alloc: Global, digits: &[u8]) -> Result<Vec<u8>, LineError> {
     }
 }
 
+/// What `ask` has behind it: a message in hexadecimal digits.
+fn message(alloc: Global, rest: &[&[u8]]) -> Result<Event, LineError>
+    ensures { Reads (IsEvent NoFile (codes "ask" ∷ texts rest.now)) result }
+{
+    let [digits] = rest else {
+        return Err(LineError::NotAnEvent);
+    };
+    Ok(Event::Ask(bytes_of(alloc, digits)?))
+}
+
 /// How many bytes of an answer are delivered: `-` stands for all.
-fn cut_of(word: &[u8]) -> Result<Option<u32>, LineError> {
+fn cut_of(word: &[u8]) -> Result<Option<u32>, LineError>
+    ensures { Reads (λ n. cut word.now ≡ Some n) result }
+{
     match word {
         b"-" => Ok(None),
         _ => Ok(Some(wanted(word)?)),
     }
 }
 
-/// The event of a line of these words.
-fn event_of<S: Source>(alloc: Global, words: &[&[u8]], source: &mut S) -> Result<Event, LineError> {
-    match words {
-        [b"publish", name, path] => publication(alloc, name, path, source),
-        [b"epoch", epoch] => Ok(Event::Epoch(wanted(epoch)?)),
-        [b"client", name, blocks] => Ok(Event::NewClient {
-            name: Vec::from_slice(alloc, name)?,
-            blocks: wanted(blocks)?,
-        }),
-        [b"open", client, b"level", level, x, y, w, h] => Ok(Event::Open {
-            client: wanted(client)?,
-            query: window(Pick::Level(wanted(level)?), &[*x, *y, *w, *h])?,
-        }),
-        [b"open", client, b"columns", columns, x, y, w, h] => Ok(Event::Open {
-            client: wanted(client)?,
-            query: window(Pick::Columns(wanted(columns)?), &[*x, *y, *w, *h])?,
-        }),
-        [b"open", client, b"info"] => Ok(Event::Open {
-            client: wanted(client)?,
-            query: Query::Info,
-        }),
-        [b"forget", client] => Ok(Event::Forget(wanted(client)?)),
-        [b"ask", digits] => Ok(Event::Ask(bytes_of(alloc, digits)?)),
-        [b"askfrom", client] => Ok(Event::AskFrom(wanted(client)?)),
-        [b"deliver", client, answer, cut] => Ok(Event::Deliver {
-            client: wanted(client)?,
-            answer: wanted(answer)?,
-            cut: cut_of(cut)?,
-        }),
-        [b"exchange", client] => Ok(Event::Exchange(wanted(client)?)),
-        [b"check", client] => Ok(Event::Check(wanted(client)?)),
-        _ => Err(LineError::NotAnEvent),
+/// What `deliver` has behind it: a client, an answer, and how much of it comes.
+fn delivery(rest: &[&[u8]]) -> Result<Event, LineError>
+    ensures { Reads (IsEvent NoFile (codes "deliver" ∷ texts rest.now)) result }
+{
+    let [client, answer, cut] = rest else {
+        return Err(LineError::NotAnEvent);
+    };
+    Ok(Event::Deliver {
+        client: wanted(client)?,
+        answer: wanted(answer)?,
+        cut: cut_of(cut)?,
+    })
+}
+
+/// The event of a line that names no file, by its first word.
+fn event_without_file(alloc: Global, verb: Verb, rest: &[&[u8]]) -> Result<Event, LineError>
+    ensures { Reads (IsEvent NoFile (word_of verb ∷ texts rest.now)) result }
+{
+    match verb {
+        Verb::Epoch => Ok(Event::Epoch(only_number(rest)?)),
+        Verb::Client => new_client(alloc, rest),
+        Verb::Open => opening(rest),
+        Verb::Forget => Ok(Event::Forget(only_number(rest)?)),
+        Verb::Ask => message(alloc, rest),
+        Verb::AskFrom => Ok(Event::AskFrom(only_number(rest)?)),
+        Verb::Deliver => delivery(rest),
+        Verb::Exchange => Ok(Event::Exchange(only_number(rest)?)),
+        Verb::Check => Ok(Event::Check(only_number(rest)?)),
     }
 }
 
+/// The event of a line of these words.
+fn event_of<S: Source>(alloc: Global, words: &[&[u8]], source: &mut S) -> Result<Event, LineError>
+    ensures event { ReadsWords (S.finds source.old) (texts words.now) result }
+    ensures kept { FindsTheSame (S.finds source.old) (S.finds source.new) }
+{
+    let [first, rest @ ..] = words else {
+        return Err(LineError::NotAnEvent);
+    };
+    if *first == b"publish".as_slice() {
+        return publication(alloc, rest, source);
+    }
+    match verb_of(first) {
+        Some(verb) => event_without_file(alloc, verb, rest),
+        None => Err(LineError::NotAnEvent),
+    }
+}
+
+/// The parts of a text that this byte ends.
+fn parts_of(alloc: Global, text: &[u8], end: u8) -> Result<Vec<&[u8]>, AllocError>
+    ensures { IfOk result (λ parts. texts parts.items ≡ slice_split (λ b. b == end) text.now) }
+{
+    text.split(|b| *b == end).collect(alloc)
+}
+
+/// Whether no word is empty.
+fn are_filled(words: &[&[u8]]) -> bool
+    ensures { result ≡ are_filled (texts words.now) }
+{
+    words.iter().all(|word| !word.is_empty())
+}
+
 /// The event of a line that isn't passed over.
-fn read_line<S: Source>(alloc: Global, line: &[u8], source: &mut S) -> Result<Event, LineError> {
-    let words: Vec<&[u8]> = line.split(|b| *b == b' ').collect(alloc)?;
-    if line.ends_with(b"\r") || words.iter().any(|word| word.is_empty()) {
+fn read_line<S: Source>(alloc: Global, line: &[u8], source: &mut S) -> Result<Event, LineError>
+    ensures event { ReadsLine (S.finds source.old) line.now result }
+    ensures kept { FindsTheSame (S.finds source.old) (S.finds source.new) }
+{
+    let words = parts_of(alloc, line, b' ')?;
+    if line.ends_with(b"\r") || !are_filled(&words) {
         return Err(LineError::NotAnEvent);
     }
     event_of(alloc, &words, source)
+}
+
+/// Whether a line isn't passed over: it isn't empty, and doesn't begin with `#`.
+fn is_read(line: &[u8]) -> bool
+    ensures { result ≡ is_read line.now }
+{
+    !line.is_empty() && !line.starts_with(b"#")
 }
 
 /// The events of a script, whose files come from `source`. Of the lines that aren't read the first is told: NotAnEvent where it
@@ -178,10 +312,15 @@ pub fn script<S: Source>(
     alloc: Global,
     text: &[u8],
     source: &mut S,
-) -> Result<Vec<Event>, ScriptError> {
+) -> Result<Vec<Event>, ScriptError>
+    ensures ok { IfOk result (λ events. AreEvents (S.finds source.old) (lines text.now) events.items) }
+    ensures err { IfErr result (IsScriptFault (S.finds source.old) text.now) }
+    ensures kept { FindsTheSame (S.finds source.old) (S.finds source.new) }
+{
+    let lines = parts_of(alloc, text, b'\n')?;
     let mut events = Vec::new(alloc);
-    for (before, line) in text.split(|b| *b == b'\n').enumerate() {
-        if line.is_empty() || line.starts_with(b"#") {
+    for (before, line) in lines.iter().enumerate() {
+        if !is_read(line) {
             continue;
         }
         match read_line(alloc, line, source) {

@@ -1,7 +1,11 @@
 //! Numbers of scripts.
+ghost use Rattle.std.specs.Prelude.{◌≡◌};
+ghost use Rattle.scripts.specs.Script.{number};
 
 /// A number in decimal digits, as many as there are, up to 4,294,967,295.
-pub fn number(word: &[u8]) -> Option<u32> {
+pub fn number(word: &[u8]) -> Option<u32>
+    ensures { result ≡ number word.now }
+{
     if !word.iter().all(u8::is_ascii_digit) {
         return None;
     }

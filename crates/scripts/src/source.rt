@@ -1,6 +1,6 @@
 //! Where the files of a script come from.
 use http_range::Memory;
-use std::alloc::Global;
+use std::alloc::{AllocError, Global};
 
 /// Why a file isn't loaded.
 #[derive(Clone, Copy, Debug, PartialEq, Eq)]
@@ -9,10 +9,30 @@ pub enum LoadError {
     Memory,
 }
 
+impl From<AllocError> for LoadError {
+    ghost use Rattle.std.specs.Prelude.{◌≡◌};
+    ghost use Rattle.scripts.specs.declared.source.LoadError.TheVariants.{Memory};
+
+    ghost from_gives = { λ _ told. told ≡ Memory };
+
+    fn from(_refused: AllocError) -> LoadError {
+        LoadError::Memory
+    }
+}
+
 /// What loads the files that a script names.
 pub trait Source {
+    ghost use Rattle.std.specs.Prelude.{◌≡◌, ℕ, List, Option, ⊤, IfOk};
+    ghost use Rattle.scripts.specs.Script.{FindsTheSame};
+
+    /// What it may answer at a path: the bytes of a file, or `None` where it can't be read.
+    ghost finds: { Self → List ℕ → Option (List ℕ) → Type 0 } = { λ _ _ _. ⊤ };
+
     /// The bytes of the file at a path.
-    fn load(&mut self, path: &[u8]) -> Result<Vec<u8>, LoadError>;
+    fn load(&mut self, path: &[u8]) -> Result<Vec<u8>, LoadError>
+        ensures ok { IfOk result (λ bytes. finds self.old path.now (Some bytes.items)) }
+        ensures cant_read { result ≡ Err LoadError.CantRead → finds self.old path.now None }
+        ensures kept { FindsTheSame (finds self.old) (finds self.new) };
 }
 
 /// A file in memory.
@@ -45,11 +65,14 @@ impl Loaded {
 }
 
 impl Source for Loaded {
+    ghost use Rattle.std.specs.Prelude.{◌≡◌};
+    ghost use Rattle.scripts.specs.Files.{file_at};
+
+    ghost finds = { λ loaded path file. file ≡ file_at loaded.files.items path };
+
     fn load(&mut self, path: &[u8]) -> Result<Vec<u8>, LoadError> {
         match self.files.iter().find(|file| file.path.as_slice() == path) {
-            Some(file) => {
-                Vec::from_slice(self.alloc, &file.bytes).map_err(|_| LoadError::Memory)
-            }
+            Some(file) => Ok(Vec::from_slice(self.alloc, &file.bytes)?),
             None => Err(LoadError::CantRead),
         }
     }

@@ -1,0 +1,4 @@
+mod EventLemmas
+mod FileLemmas
+mod LineLemmas
+mod NumberLemmas
