@@ -1,6 +1,7 @@
 pub mod Exchanges
 pub mod Files
 pub mod Number
+pub mod Printed
 pub mod Status
 pub mod Text
 pub mod Words

@@ -1,12 +1,15 @@
 //! `cogworld [--pieces N] SCRIPT`: runs a script and prints its log.
-ghost use Rattle.std.specs.Prelude.{[], OnErr, OnOk};
+ghost use Rattle.std.specs.Prelude.{[], ℕ, List, OnErr, OnOk};
+ghost use Rattle.std.specs.Io.KnownBytes.{Appends};
 ghost use Rattle.world.specs.Run.{IsBeginning, Runs};
 ghost use Rattle.world.specs.World.{AtEach, IsTrueEntry, start};
+ghost use Rattle.programs.specs.Printed.{IsPrinted};
 
 use crate::disk::Disk;
 use crate::fault::Fault;
 use crate::number::number;
 use crate::stored;
+use cog_fetch::ANSWER_LIMIT;
 use command_lines::world_line;
 use http_range::Memory;
 use scripts::{Loaded, Source, log_text, script};
@@ -17,7 +20,7 @@ use std::{fs, io};
 use world::{Event, Log, run, run_cut};
 
 /// The most bytes of a piece: as many as the longest answer that a client takes has.
-const MOST_BYTES: u32 = 1_069_056;
+const MOST_BYTES: u32 = ANSWER_LIMIT as u32;
 
 /// The log of the events, and whether memory was wanting, which ends it. Answers are handed over whole, or in pieces of so many bytes.
 fn log_of(alloc: Global, events: &[Event], piece: Option<u32>) -> (Log, Result<(), Memory>)
@@ -34,18 +37,32 @@ fn log_of(alloc: Global, events: &[Event], piece: Option<u32>) -> (Log, Result<(
     (log, ran)
 }
 
-/// Runs a script and prints its log; want of memory ends it after the log up to there.
+/// Runs a script and writes its log; want of memory ends it after the log up to there.
+fn write_log<S: Source, W: Write>(
+    alloc: Global,
+    text: &[u8],
+    source: &mut S,
+    piece: Option<u32>,
+    out: &mut W,
+) -> Result<(), Fault>
+    ensures { OnOk result ((printed : List ℕ) × IsPrinted (S.finds source.old) text.now printed
+        × Appends (W.contents out.old) (W.contents out.new) printed) }
+{
+    let events = script(alloc, text, source)?;
+    let (log, ran) = log_of(alloc, &events, piece);
+    let text = log_text(alloc, &log)?;
+    out.write_all(&text)?;
+    Ok(ran?)
+}
+
+/// Runs a script and prints its log.
 fn run_script<R: Print + AllocGlobal, S: Source>(
     rt: &R,
     text: &[u8],
     source: &mut S,
     piece: Option<u32>,
 ) -> Result<(), Fault> {
-    let events = script(rt.alloc(), text, source)?;
-    let (log, ran) = log_of(rt.alloc(), &events, piece);
-    let text = log_text(rt.alloc(), &log)?;
-    io::writer(rt).write_all(&text)?;
-    Ok(ran?)
+    write_log(rt.alloc(), text, source, piece, &mut io::writer(rt))
 }
 
 /// Runs the stored script.
