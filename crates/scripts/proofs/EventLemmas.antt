@@ -13,8 +13,8 @@ use Rattle.scripts.specs.declared.line.LineError.{LineError}
 use Rattle.scripts.specs.declared.line.LineError.TheVariants as fault
 use Rattle.scripts.specs.declared.verb.Verb.{Verb}
 use Rattle.scripts.specs.declared.verb.Verb.TheVariants as verbs
-use Rattle.scripts.specs.Line.{IsOnlyNumber, IsWindow, Reads, ReadsWords, texts}
-use Rattle.scripts.specs.Script.{Anything, AreNumbers, Finds, IsEvent, IsPick, IsQuery, NoFile}
+use Rattle.scripts.specs.Line.{IsOnlyNumber, IsWindow, NoFile, Reads, ReadsWords, texts}
+use Rattle.scripts.specs.Script.{Anything, AreNumbers, Finds, IsEvent, IsPick, IsQuery}
 use Rattle.scripts.specs.Verb.{word_of}
 
 -- the first of some words, and the others as the code takes them

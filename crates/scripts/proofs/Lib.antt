@@ -2,3 +2,4 @@ mod EventLemmas
 mod FileLemmas
 mod LineLemmas
 mod NumberLemmas
+mod Worked

@@ -1,9 +1,14 @@
 -- Files in memory.
-use Rattle.std.specs.Prelude.{ℕ, List, Option, find}
-use Rattle.std.specs.Option.{option_map}
+use Rattle.std.specs.Prelude.{◌≡◌, ℕ, if◌then◌else◌, List, Option, Some, None, find}
+use Rattle.std.specs.Option.{option_map, option_or}
 use Rattle.std.specs.Str.{bytes_eq}
-use Rattle.scripts.specs.declared.source.LoadedFile.{LoadedFile}
+use Rattle.scripts.specs.declared.source.Loaded.{Loaded}
 
--- what lies at a path: of several files of one path the first
-abbrev pub file_at : List LoadedFile → List ℕ → Option (List ℕ)
-file_at files path = option_map (λ file. file.bytes.items) (find (λ file. bytes_eq file.path.items path) files)
+-- what is loaded from a path: of several files of one path the first
+abbrev pub file_at : Loaded → List ℕ → Option (List ℕ)
+file_at loaded path = option_map (λ file. file.bytes.items) (find (λ file. bytes_eq file.path.items path) loaded.files.items)
+
+-- what was loaded from a path still is, and else a new file from its own
+abbrev pub IsAdded : Loaded → Loaded → List ℕ → List ℕ → Type 0
+IsAdded old new path bytes =
+    (at : List ℕ) → file_at new at ≡ option_or (file_at old at) (if bytes_eq path at then Some bytes else None)

@@ -13,6 +13,10 @@ use Rattle.tiff_dir.specs.declared.query.Query.{Query}
 use Rattle.tiff_dir.specs.declared.query.Query.TheVariants.{Window, Info}
 use Rattle.world.specs.declared.event.Event.{Event}
 
+-- a source without any answer
+abbrev pub NoFile : Finds
+NoFile _ _ = ⊥
+
 -- the words that are lent
 abbrev pub texts : List (Bor (List ℕ)) → List (List ℕ)
 texts words = map (λ word. word.now) words

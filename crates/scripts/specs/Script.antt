@@ -1,4 +1,5 @@
--- Scripts, as docs/SCRIPTS.md has them: numbers, the words of a line and their event, and the lines of a text.
+-- Scripts, as docs/SCRIPTS.md has them: numbers, the words of a line and their event, and the lines of a text. Names in capitals
+-- are the words of its table.
 use Rattle.std.specs.Prelude.{◌≡◌, ℕ, ◌+◌, ◌↔◌, ◌&&◌, ⊤, Bool, true, not, if◌then◌else◌, ◌==◌, nat_eq, nat_lt, nat_le, List, [], ◌∷◌, ◌++◌, codes, length, filter, Option, Some, None, Ok}
 use Rattle.std.specs.List.{AllZip, list_all, slice_split, starts_with, ends_with}
 use Rattle.std.specs.Option.{option_map}
@@ -48,24 +49,25 @@ IsQuery words Info = words ≡ codes "info" ∷ []
 
 -- The words of a line are those of this event: the rows of the table. `finds` says what lies at a path.
 abbrev pub IsEvent : Finds → List (List ℕ) → Event → Type 0
-IsEvent finds words (Publish name file) = (PATH : List ℕ) × (words ≡ codes "publish" ∷ name.items ∷ PATH ∷ []) × finds PATH (Some file.items)
+IsEvent finds words (Publish name file) =
+    (PATH : List ℕ) × (words ≡ codes "publish" ∷ name.items ∷ PATH ∷ []) × finds PATH (Some file.items)
 IsEvent finds words (Epoch n) = (N : List ℕ) × (words ≡ codes "epoch" ∷ N ∷ []) × (number N ≡ Some n)
-IsEvent finds words (NewClient name blocks) = (BLOCKS : List ℕ) × (words ≡ codes "client" ∷ name.items ∷ BLOCKS ∷ []) × (number BLOCKS ≡ Some blocks)
-IsEvent finds words (Open i query) = (I : List ℕ) × (QUERY : List (List ℕ)) × (words ≡ codes "open" ∷ I ∷ QUERY) × (number I ≡ Some i) × IsQuery QUERY query
+IsEvent finds words (NewClient name blocks) =
+    (BLOCKS : List ℕ) × (words ≡ codes "client" ∷ name.items ∷ BLOCKS ∷ []) × (number BLOCKS ≡ Some blocks)
+IsEvent finds words (Open i query) =
+    (I : List ℕ) × (QUERY : List (List ℕ)) × (words ≡ codes "open" ∷ I ∷ QUERY) × (number I ≡ Some i) × IsQuery QUERY query
 IsEvent finds words (Forget i) = (I : List ℕ) × (words ≡ codes "forget" ∷ I ∷ []) × (number I ≡ Some i)
 IsEvent finds words (Ask message) = (HEX : List ℕ) × (words ≡ codes "ask" ∷ HEX ∷ []) × (decode_of HEX ≡ Ok message.items)
 IsEvent finds words (AskFrom i) = (I : List ℕ) × (words ≡ codes "askfrom" ∷ I ∷ []) × (number I ≡ Some i)
-IsEvent finds words (Deliver i a c) = (I A CUT : List ℕ) × (words ≡ codes "deliver" ∷ I ∷ A ∷ CUT ∷ []) × (number I ≡ Some i) × (number A ≡ Some a) × (cut CUT ≡ Some c)
+IsEvent finds words (Deliver i a c) =
+    (I A CUT : List ℕ) × (words ≡ codes "deliver" ∷ I ∷ A ∷ CUT ∷ []) × (number I ≡ Some i) × (number A ≡ Some a)
+    × (cut CUT ≡ Some c)
 IsEvent finds words (Exchange i) = (I : List ℕ) × (words ≡ codes "exchange" ∷ I ∷ []) × (number I ≡ Some i)
 IsEvent finds words (Check i) = (I : List ℕ) × (words ≡ codes "check" ∷ I ∷ []) × (number I ≡ Some i)
 
--- a source that finds any file at any path, or refuses each
+-- a source that may find any file at a path, or none
 abbrev pub Anything : Finds
 Anything _ _ = ⊤
-
--- a source without any answer
-abbrev pub NoFile : Finds
-NoFile _ _ = ⊥
 
 -- a source finds what it found before
 abbrev pub FindsTheSame : Finds → Finds → Type 0
@@ -113,7 +115,7 @@ is_read line = not (length line == 0) && not (starts_with nat_eq line (codes "#"
 abbrev pub AreEvents : Finds → List (List ℕ) → List Event → Type 0
 AreEvents finds lines events = AllZip (IsEventOf finds) (filter is_read lines) events
 
--- Line `number` of a text, counted from 1, is the first that isn't read as an event, for this reason.
+-- line `number` of a text, counted from 1, is refused for this reason, and those before it are read
 pub record IsFirstRefused (finds : Finds) (text : List ℕ) (number : ℕ) (IsRefused : List ℕ → Type 0) : Type 0 where
   pub before : List (List ℕ)
   pub line : List ℕ

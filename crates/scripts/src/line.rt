@@ -2,8 +2,8 @@
 ghost use Rattle.std.specs.Prelude.{◌≡◌, ◌==◌, [], ◌∷◌, IfErr, IfOk, codes};
 ghost use Rattle.std.specs.List.{slice_split};
 ghost use Rattle.hex.specs.Hex.{decode_of};
-ghost use Rattle.scripts.specs.Line.{IsOnlyNumber, IsScriptFault, IsWindow, Reads, ReadsLine, ReadsWords, texts};
-ghost use Rattle.scripts.specs.Script.{AreEvents, FindsTheSame, IsEvent, IsPick, IsQuery, NoFile, are_filled, cut, is_read, lines, number};
+ghost use Rattle.scripts.specs.Line.{IsOnlyNumber, IsScriptFault, IsWindow, NoFile, Reads, ReadsLine, ReadsWords, texts};
+ghost use Rattle.scripts.specs.Script.{AreEvents, FindsTheSame, IsEvent, IsPick, IsQuery, are_filled, cut, is_read, lines, number};
 ghost use Rattle.scripts.specs.Verb.{word_of};
 
 use crate::number::number;

@@ -25,7 +25,7 @@ pub trait Source {
     ghost use Rattle.std.specs.Prelude.{◌≡◌, ℕ, List, Option, ⊤, IfOk};
     ghost use Rattle.scripts.specs.Script.{FindsTheSame};
 
-    /// What it may answer at a path: the bytes of a file, or `None` where it can't be read.
+    /// What it may answer at a path: the bytes of a file, or `None` where it can't be read. Where an `impl` doesn't say, any answer.
     ghost finds: { Self → List ℕ → Option (List ℕ) → Type 0 } = { λ _ _ _. ⊤ };
 
     /// The bytes of the file at a path.
@@ -50,7 +50,12 @@ pub struct Loaded {
 }
 
 impl Loaded {
-    pub fn new(alloc: Global) -> Loaded {
+    ghost use Rattle.std.specs.Prelude.{◌≡◌, ℕ, List, OnOk};
+    ghost use Rattle.scripts.specs.Files.{IsAdded, file_at};
+
+    pub fn new(alloc: Global) -> Loaded
+        ensures { (path : List ℕ) → file_at result path ≡ None }
+    {
         Loaded {
             alloc,
             files: Vec::new(alloc),
@@ -58,7 +63,9 @@ impl Loaded {
     }
 
     /// Adds a file. Of several files of one path the first is loaded.
-    pub fn add(&mut self, path: &[u8], bytes: Vec<u8>) -> Result<(), Memory> {
+    pub fn add(&mut self, path: &[u8], bytes: Vec<u8>) -> Result<(), Memory>
+        ensures { OnOk result (IsAdded self.old self.new path.now bytes.items) }
+    {
         let path = Vec::from_slice(self.alloc, path)?;
         Ok(self.files.push(LoadedFile { path, bytes })?)
     }
@@ -68,7 +75,7 @@ impl Source for Loaded {
     ghost use Rattle.std.specs.Prelude.{◌≡◌};
     ghost use Rattle.scripts.specs.Files.{file_at};
 
-    ghost finds = { λ loaded path file. file ≡ file_at loaded.files.items path };
+    ghost finds = { λ loaded path file. file ≡ file_at loaded path };
 
     fn load(&mut self, path: &[u8]) -> Result<Vec<u8>, LoadError> {
         match self.files.iter().find(|file| file.path.as_slice() == path) {
