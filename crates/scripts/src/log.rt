@@ -1,16 +1,23 @@
 //! The text of a log.
+ghost use Rattle.std.specs.Prelude.{◌≡◌, ◌++◌, [], ◌∷◌, IfOk, OnOk, codes, decimal};
+ghost use Rattle.std.specs.List.{flat_map};
+ghost use Rattle.scripts.specs.LogSteps.{further};
+ghost use Rattle.scripts.specs.LogText.{asked_words, client_of, current_words, delivered_words, effect_words, entry_lines, line, number_if, outcome_words, report_words, spaced, span_word, status_of, tag_word, text_of_log};
+
 use crate::text::Text;
-use http_range::{Memory, Span, Why};
+use http_range::{Memory, Span, Tag, Why};
 use itoa::{Buffer, Integer};
 use std::alloc::{AllocError, Global};
 use tiff_dir::FileFault;
 use world::{
     Answer, AnsweredCheck, AnsweredRequest, Current, Delivered, Effect, Entry, Ignored, Info, Log,
-    Outcome, Report, Unknown, Window,
+    Outcome, Report, Window,
 };
 
 /// The text of a log: a line for each entry, and one more for its report (`docs/SCRIPTS.md`).
-pub fn log_text(alloc: Global, log: &Log) -> Result<Vec<u8>, Memory> {
+pub fn log_text(alloc: Global, log: &Log) -> Result<Vec<u8>, Memory>
+    ensures { IfOk result (λ text. text.items ≡ text_of_log log.now.entries.items) }
+{
     let mut text = Text::new(alloc);
     for entry in &log.entries {
         push_entry(&mut text, entry)?;
@@ -18,7 +25,9 @@ pub fn log_text(alloc: Global, log: &Log) -> Result<Vec<u8>, Memory> {
     Ok(text.into_bytes())
 }
 
-fn push_entry(text: &mut Text, entry: &Entry) -> Result<(), AllocError> {
+fn push_entry(text: &mut Text, entry: &Entry) -> Result<(), AllocError>
+    ensures { OnOk result (text.new.bytes.items ≡ text.old.bytes.items ++ flat_map line (entry_lines entry.now)) }
+{
     push_effect(text, &entry.effect)?;
     text.end_line()?;
     match (&entry.report, client_of(&entry.effect)) {
@@ -28,7 +37,9 @@ fn push_entry(text: &mut Text, entry: &Entry) -> Result<(), AllocError> {
 }
 
 /// The client that the event was about.
-fn client_of(effect: &Effect) -> Option<u32> {
+fn client_of(effect: &Effect) -> Option<u32>
+    ensures { result ≡ client_of effect.now }
+{
     match effect {
         Effect::Opened(client) | Effect::Forgot(client) | Effect::Nothing(client) => Some(*client),
         Effect::Delivered { client, .. } => Some(*client),
@@ -37,110 +48,181 @@ fn client_of(effect: &Effect) -> Option<u32> {
     }
 }
 
-fn push_effect(text: &mut Text, effect: &Effect) -> Result<(), AllocError> {
+fn push_effect(text: &mut Text, effect: &Effect) -> Result<(), AllocError>
+    ensures { OnOk result (text.new.bytes.items ≡ text.old.bytes.items ++ spaced (effect_words effect.now)) }
+{
     match effect {
-        Effect::Skipped => text.word(b"skipped"),
+        Effect::Skipped => text.push(b"skipped"),
         Effect::Published(tag) => {
-            text.word(b"published")?;
+            text.push(b"published")?;
             text.word(tag.as_bytes())
         }
-        Effect::Refused(refusal) => push_counted(text, b"refused", refusal.number()),
-        Effect::Epoch(epoch) => push_counted(text, b"epoch", *epoch),
-        Effect::Made(client) => push_counted(text, b"client", *client),
-        Effect::Opened(client) => push_counted(text, b"opened", *client),
-        Effect::Forgot(client) => push_counted(text, b"forgot", *client),
-        Effect::Nothing(client) => {
-            push_counted(text, b"asked", *client)?;
-            text.word(b"nothing")
+        Effect::Refused(refusal) => begin_counted(text, b"refused", refusal.number()),
+        Effect::Epoch(epoch) => begin_counted(text, b"epoch", *epoch),
+        Effect::Made(client) => begin_counted(text, b"client", *client),
+        Effect::Opened(client) => begin_counted(text, b"opened", *client),
+        Effect::Forgot(client) => begin_counted(text, b"forgot", *client),
+        Effect::Nothing(client) => push_nothing(text, b"asked", *client),
+        Effect::Answered { number, answer } => {
+            text.push(b"answer")?;
+            push_answer(text, *number, answer)
         }
-        Effect::Answered { number, answer } => push_answer(text, *number, answer),
         Effect::Asked(asked) => push_asked(text, asked),
         Effect::Delivered { client, delivered } => {
-            push_counted(text, b"delivered", *client)?;
+            begin_counted(text, b"delivered", *client)?;
             push_delivered(text, *delivered)
         }
         Effect::Exchanged { asked, delivered } => {
             push_asked(text, asked)?;
             push_delivered(text, *delivered)
         }
-        Effect::Unchecked(client) => {
-            push_counted(text, b"checked", *client)?;
-            text.word(b"nothing")
-        }
+        Effect::Unchecked(client) => push_nothing(text, b"checked", *client),
         Effect::Checked(check) => push_checked(text, check),
     }
 }
 
-/// A word and its number.
-fn push_counted<I: Integer>(text: &mut Text, word: &[u8], number: I) -> Result<(), AllocError> {
+/// The first word of a line, and its number.
+fn begin_counted<I: Integer>(text: &mut Text, word: &[u8], number: I) -> Result<(), AllocError>
+    ensures { OnOk result (text.new.bytes.items ≡ text.old.bytes.items ++ spaced (word.now ∷ I.text number ∷ [])) }
+{
+    text.push(word)?;
+    text.number(number)
+}
+
+/// A further word, and its number.
+fn push_counted<I: Integer>(text: &mut Text, word: &[u8], number: I) -> Result<(), AllocError>
+    ensures { OnOk result (text.new.bytes.items ≡ text.old.bytes.items ++ further (word.now ∷ I.text number ∷ [])) }
+{
     text.word(word)?;
     text.number(number)
 }
 
+/// The line of a client that has nothing to send.
+fn push_nothing(text: &mut Text, word: &[u8], client: u32) -> Result<(), AllocError>
+    ensures { OnOk result (text.new.bytes.items ≡ text.old.bytes.items ++ spaced (word.now ∷ decimal client ∷ codes "nothing" ∷ [])) }
+{
+    begin_counted(text, word, client)?;
+    text.word(b"nothing")
+}
+
+/// A number, where it is there.
+fn push_number_if(text: &mut Text, number: Option<u16>) -> Result<(), AllocError>
+    ensures { OnOk result (text.new.bytes.items ≡ text.old.bytes.items ++ further (number_if number)) }
+{
+    match number {
+        Some(number) => text.number(number),
+        None => Ok(()),
+    }
+}
+
 /// An answer's number, its status and how many bytes of body it has.
-fn push_answer(text: &mut Text, number: usize, answer: &Answer) -> Result<(), AllocError> {
-    push_counted(text, b"answer", number)?;
+fn push_answer(text: &mut Text, number: usize, answer: &Answer) -> Result<(), AllocError>
+    ensures { OnOk result (text.new.bytes.items
+        ≡ text.old.bytes.items ++ further (decimal number ∷ decimal answer.now.status ∷ decimal answer.now.body ∷ [])) }
+{
+    text.number(number)?;
     text.number(answer.status)?;
     text.number(answer.body)
 }
 
 /// The span that a client asked for, the tag of its condition, and the answer.
-fn push_asked(text: &mut Text, asked: &AnsweredRequest) -> Result<(), AllocError> {
-    push_counted(text, b"asked", asked.client)?;
+fn push_asked(text: &mut Text, asked: &AnsweredRequest) -> Result<(), AllocError>
+    ensures { OnOk result (text.new.bytes.items ≡ text.old.bytes.items ++ spaced (asked_words asked.now)) }
+{
+    begin_counted(text, b"asked", asked.client)?;
     push_span(text, asked.span)?;
-    match &asked.tag {
-        Some(tag) => text.word(tag.as_bytes())?,
-        None => text.word(b"-")?,
-    }
+    push_tag(text, &asked.tag)?;
+    text.word(b"answer")?;
     push_answer(text, asked.number, &asked.answer)
 }
 
+/// The first and the last position, with `-` between them.
+fn push_span(text: &mut Text, span: Span) -> Result<(), AllocError>
+    ensures { OnOk result (text.new.bytes.items ≡ text.old.bytes.items ++ further (span_word span ∷ [])) }
+{
+    text.number(span.first)?;
+    text.push(b"-")?;
+    text.push(Buffer::new().format(span.last).as_bytes())
+}
+
+/// The tag, or `-` without one.
+fn push_tag(text: &mut Text, tag: &Option<Tag>) -> Result<(), AllocError>
+    ensures { OnOk result (text.new.bytes.items ≡ text.old.bytes.items ++ further (tag_word tag.now ∷ [])) }
+{
+    match tag {
+        Some(tag) => text.word(tag.as_bytes()),
+        None => text.word(b"-"),
+    }
+}
+
 /// The tag that a client checked, the answer, and what it says.
-fn push_checked(text: &mut Text, check: &AnsweredCheck) -> Result<(), AllocError> {
-    push_counted(text, b"checked", check.client)?;
+fn push_checked(text: &mut Text, check: &AnsweredCheck) -> Result<(), AllocError>
+    ensures { OnOk result (text.new.bytes.items ≡ text.old.bytes.items ++ spaced (effect_words (Effect.Checked check.now))) }
+{
+    begin_counted(text, b"checked", check.client)?;
     text.word(check.tag.as_bytes())?;
+    text.word(b"answer")?;
     push_answer(text, check.number, &check.answer)?;
-    match check.current {
+    push_current(text, check.current)
+}
+
+fn push_current(text: &mut Text, current: Current) -> Result<(), AllocError>
+    ensures { OnOk result (text.new.bytes.items ≡ text.old.bytes.items ++ further (current_words current)) }
+{
+    match current {
         Current::Same => text.word(b"same"),
         Current::Other => text.word(b"other"),
         Current::Unknown(unknown) => push_counted(text, b"unknown", unknown.number()),
     }
 }
 
-/// The first and the last position, with `-` between them.
-fn push_span(text: &mut Text, span: Span) -> Result<(), AllocError> {
-    text.number(span.first)?;
-    text.push(b"-")?;
-    text.push(Buffer::new().format(span.last).as_bytes())
-}
-
-fn push_delivered(text: &mut Text, delivered: Delivered) -> Result<(), AllocError> {
+fn push_delivered(text: &mut Text, delivered: Delivered) -> Result<(), AllocError>
+    ensures { OnOk result (text.new.bytes.items ≡ text.old.bytes.items ++ further (delivered_words delivered)) }
+{
     match delivered {
         Delivered::Took(blocks) => push_counted(text, b"took", blocks),
         Delivered::Restarted => text.word(b"restarted"),
         Delivered::Ignored(ignored) => {
             push_counted(text, b"ignored", ignored.number())?;
-            match ignored {
-                Ignored::NotUsed(Why::Status(status)) => text.number(status),
-                _ => Ok(()),
-            }
+            push_number_if(text, status_of(ignored))
         }
     }
 }
 
-fn push_report(text: &mut Text, client: u32, report: &Report) -> Result<(), AllocError> {
-    push_counted(text, b"report", client)?;
-    text.word(report.tag.as_bytes())?;
-    match &report.outcome {
-        Outcome::Window(window) => push_window(text, window)?,
-        Outcome::Info(info) => push_info(text, info)?,
-        Outcome::Fault(fault) => push_fault(text, *fault)?,
+/// The status for which an answer is ignored.
+fn status_of(ignored: Ignored) -> Option<u16>
+    ensures { result ≡ status_of ignored }
+{
+    match ignored {
+        Ignored::NotUsed(Why::Status(status)) => Some(status),
+        _ => None,
     }
+}
+
+/// The line of a report.
+fn push_report(text: &mut Text, client: u32, report: &Report) -> Result<(), AllocError>
+    ensures { OnOk result (text.new.bytes.items ≡ text.old.bytes.items ++ line (report_words client report.now)) }
+{
+    begin_counted(text, b"report", client)?;
+    text.word(report.tag.as_bytes())?;
+    push_outcome(text, &report.outcome)?;
     text.end_line()
 }
 
+fn push_outcome(text: &mut Text, outcome: &Outcome) -> Result<(), AllocError>
+    ensures { OnOk result (text.new.bytes.items ≡ text.old.bytes.items ++ further (outcome_words outcome.now)) }
+{
+    match outcome {
+        Outcome::Window(window) => push_window(text, window),
+        Outcome::Info(info) => push_info(text, info),
+        Outcome::Fault(fault) => push_fault(text, *fault),
+    }
+}
+
 /// A window's sides, the samples of a pixel, and the bytes of its samples.
-fn push_window(text: &mut Text, window: &Window) -> Result<(), AllocError> {
+fn push_window(text: &mut Text, window: &Window) -> Result<(), AllocError>
+    ensures { OnOk result (text.new.bytes.items ≡ text.old.bytes.items ++ further (outcome_words (Outcome.Window window.now))) }
+{
     push_counted(text, b"window", window.w)?;
     text.number(window.h)?;
     text.number(window.samples)?;
@@ -148,16 +230,17 @@ fn push_window(text: &mut Text, window: &Window) -> Result<(), AllocError> {
 }
 
 /// How many levels and keys there are.
-fn push_info(text: &mut Text, info: &Info) -> Result<(), AllocError> {
+fn push_info(text: &mut Text, info: &Info) -> Result<(), AllocError>
+    ensures { OnOk result (text.new.bytes.items ≡ text.old.bytes.items ++ further (outcome_words (Outcome.Info info.now))) }
+{
     push_counted(text, b"info", info.sides.len())?;
     text.number(info.geo.keys.len())
 }
 
 /// A fault's number, and the field that it is about.
-fn push_fault(text: &mut Text, fault: FileFault) -> Result<(), AllocError> {
+fn push_fault(text: &mut Text, fault: FileFault) -> Result<(), AllocError>
+    ensures { OnOk result (text.new.bytes.items ≡ text.old.bytes.items ++ further (outcome_words (Outcome.Fault fault))) }
+{
     push_counted(text, b"fault", fault.number())?;
-    match fault.tag() {
-        Some(tag) => text.number(tag),
-        None => Ok(()),
-    }
+    push_number_if(text, fault.tag())
 }

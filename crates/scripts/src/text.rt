@@ -1,5 +1,6 @@
 //! Lines of words.
-ghost use Rattle.std.specs.Prelude.{◌≡◌, ◌++◌, [], ◌∷◌, OnOk};
+ghost use Rattle.std.specs.Prelude.{◌≡◌, ◌++◌, [], ◌∷◌, OnOk, codes};
+ghost use Rattle.hex.specs.Hex.{encode_lower};
 
 use itoa::{Buffer, Integer};
 use std::alloc::{AllocError, Global};
@@ -34,21 +35,25 @@ impl Text {
         self.bytes.extend_from_slice(bytes)
     }
 
-    /// A further word.
-    pub fn word(&mut self, word: &[u8]) -> Result<(), AllocError> {
-        if !self.bytes.is_empty() && !self.bytes.ends_with(b"\n") {
-            self.bytes.push(b' ')?;
-        }
+    /// A further word of the line.
+    pub fn word(&mut self, word: &[u8]) -> Result<(), AllocError>
+        ensures { OnOk result (self.new.bytes.items ≡ self.old.bytes.items ++ codes " " ++ word.now) }
+    {
+        self.bytes.push(b' ')?;
         self.push(word)
     }
 
     /// A number as a further word.
-    pub fn number<I: Integer>(&mut self, number: I) -> Result<(), AllocError> {
+    pub fn number<I: Integer>(&mut self, number: I) -> Result<(), AllocError>
+        ensures { OnOk result (self.new.bytes.items ≡ self.old.bytes.items ++ codes " " ++ I.text number) }
+    {
         self.word(Buffer::new().format(number).as_bytes())
     }
 
     /// Bytes as a further word of lower case hexadecimal digits.
-    pub fn hexadecimal(&mut self, bytes: &[u8]) -> Result<(), AllocError> {
+    pub fn hexadecimal(&mut self, bytes: &[u8]) -> Result<(), AllocError>
+        ensures { OnOk result (self.new.bytes.items ≡ self.old.bytes.items ++ codes " " ++ encode_lower bytes.now) }
+    {
         let digits = hex::encode(self.alloc, bytes)?;
         self.word(digits.as_bytes())
     }
