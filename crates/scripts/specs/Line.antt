@@ -21,7 +21,7 @@ NoFile _ _ = ⊥
 abbrev pub texts : List (Bor (List ℕ)) → List (List ℕ)
 texts words = map (λ word. word.now) words
 
--- A part of a line is read as what it is, and is no event only where it is nothing. Want of memory says nothing.
+-- a part of a line is read as what it is, and is no event only where it is nothing; want of memory says nothing
 abbrev pub Reads : {T : Type 0} → (T → Type 0) → Result T LineError → Type 0
 Reads IsRead (Ok value) = IsRead value
 Reads {T} IsRead (Err fault.NotAnEvent) = (value : T) → ¬ (IsRead value)
@@ -37,11 +37,12 @@ abbrev pub IsWindow : Pick → List (List ℕ) → Query → Type 0
 IsWindow pick sides (Window x y w h chosen) = AreNumbers sides (x ∷ y ∷ w ∷ h ∷ []) × (chosen ≡ pick)
 IsWindow pick sides Info = ⊥
 
--- So too the words of a line, where a file may be missing.
+-- so too the words of a line, where a file may be missing
 abbrev pub ReadsWords : Finds → List (List ℕ) → Result Event LineError → Type 0
 ReadsWords finds words (Ok event) = IsEvent finds words event
 ReadsWords finds words (Err fault.NotAnEvent) = (event : Event) → ¬ (IsEvent Anything words event)
-ReadsWords finds words (Err fault.CantRead) = (NAME PATH : List ℕ) × (words ≡ codes "publish" ∷ NAME ∷ PATH ∷ []) × finds PATH None
+ReadsWords finds words (Err fault.CantRead) =
+    (NAME PATH : List ℕ) × (words ≡ codes "publish" ∷ NAME ∷ PATH ∷ []) × finds PATH None
 ReadsWords finds words (Err fault.Memory) = ⊤
 
 -- a line, too

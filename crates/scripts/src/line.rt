@@ -266,7 +266,7 @@ fn event_of<S: Source>(alloc: Global, words: &[&[u8]], source: &mut S) -> Result
     }
 }
 
-/// The parts of a text that this byte ends.
+/// The parts of a text, which is cut at each byte `end`.
 fn parts_of(alloc: Global, text: &[u8], end: u8) -> Result<Vec<&[u8]>, AllocError>
     ensures { IfOk result (λ parts. texts parts.items ≡ slice_split (λ b. b == end) text.now) }
 {

@@ -2,7 +2,7 @@
 ghost use Rattle.std.specs.Prelude.{◌≡◌, ◌++◌, [], ◌∷◌, IfOk, OnOk, codes, decimal};
 ghost use Rattle.std.specs.List.{flat_map};
 ghost use Rattle.scripts.specs.LogSteps.{further};
-ghost use Rattle.scripts.specs.LogText.{asked_words, client_of, current_words, delivered_words, effect_words, entry_lines, line, number_if, outcome_words, report_words, spaced, span_word, status_of, tag_word, text_of_log};
+ghost use Rattle.scripts.specs.LogText.{answer_words, asked_words, client_of, current_words, delivered_words, effect_words, entry_lines, line, number_if, outcome_words, report_words, spaced, span_word, status_of, tag_word, text_of_log};
 
 use crate::text::Text;
 use http_range::{Memory, Span, Tag, Why};
@@ -65,7 +65,7 @@ fn push_effect(text: &mut Text, effect: &Effect) -> Result<(), AllocError>
         Effect::Nothing(client) => push_nothing(text, b"asked", *client),
         Effect::Answered { number, answer } => {
             text.push(b"answer")?;
-            push_answer(text, *number, answer)
+            push_numbers(text, *number, answer)
         }
         Effect::Asked(asked) => push_asked(text, asked),
         Effect::Delivered { client, delivered } => {
@@ -116,13 +116,21 @@ fn push_number_if(text: &mut Text, number: Option<u16>) -> Result<(), AllocError
 }
 
 /// An answer's number, its status and how many bytes of body it has.
-fn push_answer(text: &mut Text, number: usize, answer: &Answer) -> Result<(), AllocError>
+fn push_numbers(text: &mut Text, number: usize, answer: &Answer) -> Result<(), AllocError>
     ensures { OnOk result (text.new.bytes.items
         ≡ text.old.bytes.items ++ further (decimal number ∷ decimal answer.now.status ∷ decimal answer.now.body ∷ [])) }
 {
     text.number(number)?;
     text.number(answer.status)?;
     text.number(answer.body)
+}
+
+/// An answer as further words.
+fn push_answer(text: &mut Text, number: usize, answer: &Answer) -> Result<(), AllocError>
+    ensures { OnOk result (text.new.bytes.items ≡ text.old.bytes.items ++ further (answer_words number answer.now)) }
+{
+    text.word(b"answer")?;
+    push_numbers(text, number, answer)
 }
 
 /// The span that a client asked for, the tag of its condition, and the answer.
@@ -132,7 +140,6 @@ fn push_asked(text: &mut Text, asked: &AnsweredRequest) -> Result<(), AllocError
     begin_counted(text, b"asked", asked.client)?;
     push_span(text, asked.span)?;
     push_tag(text, &asked.tag)?;
-    text.word(b"answer")?;
     push_answer(text, asked.number, &asked.answer)
 }
 
@@ -161,7 +168,6 @@ fn push_checked(text: &mut Text, check: &AnsweredCheck) -> Result<(), AllocError
 {
     begin_counted(text, b"checked", check.client)?;
     text.word(check.tag.as_bytes())?;
-    text.word(b"answer")?;
     push_answer(text, check.number, &check.answer)?;
     push_current(text, check.current)
 }
