@@ -196,7 +196,7 @@ ends_write {catalogue} {taken = taken} {taken' = taken'} {taken'' = taken''} {s 
     let whole = responses_of answering.before in
     let last = answering.last.response in
     let all : responses_of h.exchanges ≡ whole ++ last ∷ [] =
-        ap responses_of answering.next ∙ map-append (λ (e : Exchange). e.response) answering.before (answering.last ∷ []) in (
+    ap responses_of answering.next ∙ map-append (λ (e : Exchange). e.response) answering.before (answering.last ∷ []) in (
       h.stream,
       h.text ++ broken.written,
       h.gave,

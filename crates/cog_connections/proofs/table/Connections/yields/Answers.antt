@@ -18,4 +18,3 @@ pub returns-in-Some-longest-2-clause-found : goal.returns-in-Some-longest-2-clau
 returns-in-Some-longest-2-clause-found c =
     let own = c.args.self.now in
     longest_there (MayYield c.args.now c.args.patience) (Stuck c.args.now c.args.patience) own.table.entries c.in-Some-longest-2.number c.in-Some-longest-2._moment own.next (λ p is. inr (inr is)) own.fresh c.in-Some-longest-2.ensures
-
