@@ -1,5 +1,5 @@
 //! The lines of a script.
-ghost use Rattle.std.specs.Prelude.{◌≡◌, ◌==◌, [], ◌∷◌, IfErr, IfOk, codes};
+ghost use Rattle.std.specs.Prelude.{◌≡◌, ◌==◌, ◌∷◌, IfErr, IfOk, codes};
 ghost use Rattle.std.specs.List.{slice_split};
 ghost use Rattle.hex.specs.Hex.{decode_of};
 ghost use Rattle.scripts.specs.Line.{IsOnlyNumber, IsScriptFault, IsWindow, NoFile, Reads, ReadsLine, ReadsWords, texts};
