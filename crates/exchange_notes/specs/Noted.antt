@@ -21,10 +21,11 @@ module _ {P : Type 0} where
   abbrev pub front_of : Noted P → List ℕ
   front_of s = s.front.items
 
-  -- the bytes are noted behind the front, as far as there is room, or without memory none of them
+  -- Where the front is all that came, the bytes are noted behind it, as far as a head may go, or without memory none of them. Else it stays.
   abbrev pub NotesOf : List ℕ → Noted P → Noted P → Type 0
   NotesOf bytes old new =
-      (front_of new ≡ front_of old ++ take (4096 - length (front_of old)) bytes) ⊎ (front_of new ≡ front_of old)
+      ((bytes_of old ≡ length (front_of old)) × (front_of new ≡ front_of old ++ take (4096 - length (front_of old)) bytes))
+      ⊎ (front_of new ≡ front_of old)
 
   -- bytes came, of which this is read
   abbrev pub Has : Noted P → Type 0

@@ -131,16 +131,18 @@ impl<P> Noted<P> {
         }
     }
 
-    /// Notes the next bytes of the answer.
+    /// Notes the next bytes of the answer: behind the front, unless bytes of that are missing.
     fn note_piece(&mut self, piece: &[u8])
         ensures source { source_of self.new ≡ source_of self.old }
         ensures sent { sent_of self.new ≡ sent_of self.old }
         ensures bytes { bytes_of self.new ≡ min (bytes_of self.old + length piece.now) 18446744073709551615 }
         ensures front { NotesOf piece.now self.old self.new }
     {
-        let room = FRONT_ROOM.saturating_sub(self.front.len());
-        let front = &piece[..piece.len().min(room)];
-        let _ = self.front.extend_from_slice(front);
+        if self.bytes == self.front.len() as u64 {
+            let room = FRONT_ROOM.saturating_sub(self.front.len());
+            let front = &piece[..piece.len().min(room)];
+            let _ = self.front.extend_from_slice(front);
+        }
         self.bytes = self.bytes.saturating_add(piece.len() as u64);
     }
 }

@@ -37,11 +37,11 @@ HasStatus CantWrite n = n ≡ 1
 HasStatus (CantWriteFile path) n = n ≡ 1
 HasStatus Memory n = n ≡ 1
 
--- what a program ends with that has told the fault: its status, or 1 where help that was asked for isn't printed
+-- what a program ends with that has told the fault: its status, or 1 for help that was asked for
 abbrev pub EndsWith : Fault → ℕ → Type 0
 EndsWith fault n = HasStatus fault n ⊎ (HasStatus fault 0 × (n ≡ 1))
 
--- so it is by whether its line, or that help, is printed
+-- which of these it is, by whether its line, or that help, is printed
 abbrev pub EndsBy : Bool → Fault → ℕ → Type 0
 EndsBy true fault n = HasStatus fault n
 EndsBy false fault n = (HasStatus fault n × (n ≢ 0)) ⊎ (HasStatus fault 0 × (n ≡ 1))

@@ -1,5 +1,5 @@
 //! `cogworld [--pieces N] SCRIPT`: runs a script and prints its log.
-ghost use Rattle.std.specs.Prelude.{[], ℕ, List, OnErr, OnOk};
+ghost use Rattle.std.specs.Prelude.{[], ℕ, List, IfOk, OnErr, OnOk};
 ghost use Rattle.std.specs.Io.KnownBytes.{Appends};
 ghost use Rattle.world.specs.Run.{IsBeginning, Runs};
 ghost use Rattle.world.specs.World.{AtEach, IsTrueEntry, start};
@@ -37,32 +37,32 @@ fn log_of(alloc: Global, events: &[Event], piece: Option<u32>) -> (Log, Result<(
     (log, ran)
 }
 
-/// Runs a script and writes its log; want of memory ends it after the log up to there.
+/// Runs a script and writes its log, and says whether memory was wanting for the run, which ends the log.
 fn write_log<S: Source, W: Write>(
     alloc: Global,
     text: &[u8],
     source: &mut S,
     piece: Option<u32>,
     out: &mut W,
-) -> Result<(), Fault>
-    ensures { OnOk result ((printed : List ℕ) × IsPrinted (S.finds source.old) text.now printed
+) -> Result<Result<(), Memory>, Fault>
+    ensures { IfOk result (λ ran. (printed : List ℕ) × IsPrinted (S.finds source.old) text.now ran printed
         × Appends (W.contents out.old) (W.contents out.new) printed) }
 {
     let events = script(alloc, text, source)?;
     let (log, ran) = log_of(alloc, &events, piece);
     let text = log_text(alloc, &log)?;
     out.write_all(&text)?;
-    Ok(ran?)
+    Ok(ran)
 }
 
-/// Runs a script and prints its log.
+/// Runs a script and prints its log; want of memory ends it after the log up to there.
 fn run_script<R: Print + AllocGlobal, S: Source>(
     rt: &R,
     text: &[u8],
     source: &mut S,
     piece: Option<u32>,
 ) -> Result<(), Fault> {
-    write_log(rt.alloc(), text, source, piece, &mut io::writer(rt))
+    Ok(write_log(rt.alloc(), text, source, piece, &mut io::writer(rt))??)
 }
 
 /// Runs the stored script.

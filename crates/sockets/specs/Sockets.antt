@@ -1,5 +1,5 @@
 -- What others know of a source over sockets.
-use Rattle.std.specs.Prelude.{◌≡◌, ℕ, nat_eq, Bool, true, false, List, IfSome, IsSome}
+use Rattle.std.specs.Prelude.{◌≡◌, ℕ, nat_eq, Bool, true, false, List, IfSome, IsSome, IsSomeAnd}
 use Rattle.cog_fetch.specs.AnswerEnd.{Came, lacks_of}
 use Rattle.cog_fetch.specs.declared.answer_end.Lacks.{Lacks}
 use Rattle.cog_fetch.specs.declared.answer_end.Lacks.TheVariants.{Body, End, Head}
@@ -30,6 +30,10 @@ abbrev pub is_over : Lacks → Bool
 is_over Head = false
 is_over (Body left) = nat_eq left 0
 is_over End = true
+
+-- so it is of the answer on the connection that is kept
+abbrev pub IsOver : {R : Type 0} → Socket R → Type 0
+IsOver s = IsSomeAnd s.kept (λ k. is_over (lacks_of k.end) ≡ true)
 
 -- it speaks for no file
 abbrev pub Nothing : Type 0

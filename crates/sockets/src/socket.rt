@@ -1,8 +1,8 @@
 //! Connections to a server that is named by its address: one for each request, or one that is kept from answer to answer.
-ghost use Rattle.std.specs.Prelude.{◌≡◌, ◌≤◌, ◌⊎◌, ◌++◌, ℕ, List, IfOk, IsErr, IsSome, OnOk, length, take, true};
+ghost use Rattle.std.specs.Prelude.{◌≡◌, ◌≤◌, ◌⊎◌, ◌++◌, ℕ, List, ◌↔◌, IfOk, IsErr, IsSome, IsTrue, OnOk, length, take, true};
 ghost use Rattle.cog_fetch.specs.AnswerEnd.{IsWholeAnswer};
 ghost use Rattle.sockets.specs.Early.{IsOwnPiece};
-ghost use Rattle.sockets.specs.Sockets.{exchanges_of, server_of, HasCome, IsConnected, IsUntold};
+ghost use Rattle.sockets.specs.Sockets.{exchanges_of, server_of, HasCome, IsConnected, IsOver, IsUntold};
 
 use crate::kept::{Kept, Turn};
 use cog_client::{Lost, Pieces};
@@ -110,7 +110,9 @@ impl<'r, R> Socket<'r, R> {
     }
 
     /// Whether nothing is waited for any more of the answer on a connection that is kept.
-    fn is_over(&self) -> bool {
+    fn is_over(&self) -> bool
+        ensures { IsTrue result ↔ IsOver self.now }
+    {
         match &self.kept {
             Some(kept) => kept.is_over(),
             None => false,
@@ -230,8 +232,10 @@ impl<'r, R: Net<Stream = TcpStream> + AllocGlobal> Socket<'r, R> {
 }
 
 impl<R: Net<Stream = TcpStream> + AllocGlobal> Pieces for Socket<'_, R> {
-    ghost use Rattle.std.specs.Prelude.{[]};
-    ghost use Rattle.sockets.specs.Sockets.{exchanges_of, Nothing};
+    ghost use Rattle.std.specs.Prelude.{◌≡◌, ◌<◌, ◌≤◌, [], IfOk, Ok, length};
+    ghost use Rattle.cog_client.specs.Pieces.{BringsOf};
+    ghost use Rattle.cog_client.specs.Transport.{SpeaksOn};
+    ghost use Rattle.sockets.specs.Sockets.{exchanges_of, IsOver, Nothing};
 
     ghost speaks_for = { λ _ _. Nothing };
 
@@ -244,7 +248,18 @@ impl<R: Net<Stream = TcpStream> + AllocGlobal> Pieces for Socket<'_, R> {
         self.send(request)
     }
 
-    fn next(&mut self, out: &mut [u8]) -> Result<usize, Lost> {
+    fn next(&mut self, out: &mut [u8]) -> Result<usize, Lost>
+        requires { 0 < length out.old }
+
+        // Behind an answer that is whole, or isn't waited for, nothing is told.
+        ensures over { IsOver self.old → result ≡ Ok 0 }
+
+        // So it keeps the trait's law, as a source that speaks for no file.
+        ensures fits { IfOk result (λ n. n ≤ length out.new) }
+        ensures brings { IfOk result (λ n. BringsOf (λ _. Nothing) [] out.new n []) }
+        ensures speaks { SpeaksOn (λ _. Nothing) (λ _. Nothing) }
+        ensures counted { exchanges_of self.new ≡ exchanges_of self.old }
+    {
         if self.is_over() {
             return Ok(0);
         }
