@@ -1,6 +1,6 @@
 //! Answers to requests for ranges of f1, which is published as `a` in epoch 1.
 use super::streams::expect_served;
-use cog_server::{Ended, Served, Server};
+use cog_server::{Answer, Ended, Served, Server};
 use fixtures_support::f1;
 use std::alloc::Global;
 use std::process::Abort;
@@ -21,8 +21,16 @@ pub struct Want {
 /// A server that has f1.
 pub fn server_of_f1(alloc: Global) -> Result<Server, Fail> {
     let mut server = Server::new(alloc, 1);
-    server.publish(b"a", f1(alloc)?).map_err(|_| "refused")?;
+    publish(&mut server, b"a", f1(alloc)?)?;
     Ok(server)
+}
+
+/// Publishes a file that isn't refused.
+pub fn publish(server: &mut Server, name: &[u8], file: Vec<u8>) -> Result<(), Fail> {
+    match server.publish(name, file) {
+        Ok(_) => Ok(()),
+        Err(_) => Err("refused")?,
+    }
 }
 
 /// A message, and its answer.
@@ -51,26 +59,50 @@ pub fn expect_called(
     server: &Server,
     (message, want): Row<'_>,
 ) -> Result<(), Fail> {
-    let file = f1(rt.alloc())?;
     let answer = server.answer(message.as_bytes())?;
+    let file = f1(rt.alloc())?;
     let body = file.get(want.from..want.to).ok_or("no such part")?;
-    assert!(rt; answer.text.starts_with(want.head), "to {message:?}");
+    expect_text(rt, &answer, (message, &want), body);
+    expect_values(rt, &answer, (message, &want), body.len() as u64);
+    Ok(())
+}
+
+/// Expects the head and this body in the text of an answer.
+fn expect_text(
+    rt: &(impl Abort + AllocGlobal),
+    answer: &Answer,
+    (message, want): (&str, &Want),
+    body: &[u8],
+) {
+    let is_begun = answer.text.starts_with(want.head);
+    let rest = answer.text.get(want.head.len()..);
+    assert_eq!(rt; (is_begun, rest), (true, Some(body)), "to {message:?}");
+}
+
+/// Expects all of an answer but its text, with so many bytes of body.
+fn expect_values(
+    rt: &(impl Abort + AllocGlobal),
+    answer: &Answer,
+    (message, want): (&str, &Want),
+    body: u64,
+) {
+    let named = if want.named { NAME_OF_F1 } else { None };
     assert_eq!(rt;
-        answer.text.get(want.head.len()..),
-        Some(body),
+        (answer.status, answer.close, answer.body, name_of(answer)),
+        (want.status, want.close, body, named),
         "to {message:?}"
     );
-    assert_eq!(rt; answer.body, body.len() as u64, "to {message:?}");
-    assert_eq!(rt; answer.status, want.status, "to {message:?}");
-    assert_eq!(rt; answer.close, want.close, "to {message:?}");
+}
+
+/// The name under which a server has f1.
+const NAME_OF_F1: Option<&[u8]> = Some(b"a");
+
+/// The name of the file whose tag an answer carries.
+fn name_of(answer: &Answer) -> Option<&[u8]> {
     match &answer.name {
-        Some(name) => {
-            assert!(rt; want.named, "to {message:?}");
-            assert_eq!(rt; name.as_slice(), b"a".as_slice(), "to {message:?}");
-        }
-        None => assert!(rt; !want.named, "to {message:?}"),
+        Some(name) => Some(name.as_slice()),
+        None => None,
     }
-    Ok(())
 }
 
 /// The bytes of an answer.
@@ -212,19 +244,21 @@ fn answers_the_range_only_if_the_tag_is_the_same(rt: HostRuntime) -> Result<(), 
 fn answers_anew_only_where_the_name_is_published_again(rt: HostRuntime) -> Result<(), Fail> {
     let alloc = rt.alloc();
     let mut server = server_of_f1(alloc)?;
-    server
-        .publish(b"b", Vec::from_slice(alloc, b"b")?)
-        .map_err(|_| "refused")?;
+    publish(&mut server, b"b", Vec::from_slice(alloc, b"b")?)?;
     expect_get(&rt, &server, ("Range: bytes=377-\r\n", LAST))?;
-    server.publish(b"a", f1(alloc)?).map_err(|_| "refused")?;
+    publish(&mut server, b"a", f1(alloc)?)?;
+    expect_the_third_whole(&rt, &server)
+}
+
+/// Expects that a range of the first publication is answered by the whole file of the third.
+fn expect_the_third_whole(rt: &(impl Abort + AllocGlobal), server: &Server) -> Result<(), Fail> {
     let answer = server.answer(
         b"GET /a HTTP/1.1\r\nHost: h\r\nRange: bytes=0-0\r\nIf-Range: \"1-1\"\r\n\r\n",
     )?;
-    assert_eq!(rt; answer.status, 200);
-    assert!(rt;
-        answer
-            .text
-            .starts_with(b"HTTP/1.1 200 OK\r\nETag: \"1-3\"\r\n")
+    let front = b"HTTP/1.1 200 OK\r\nETag: \"1-3\"\r\n";
+    assert_eq!(rt;
+        (answer.status, answer.text.starts_with(front)),
+        (200, true)
     );
     Ok(())
 }

@@ -1,5 +1,5 @@
 //! Readers and writers that fail: what was written by then, and which failure is told.
-use super::answers::{FIRST, server_of_f1, text_of};
+use super::answers::{FIRST, publish, server_of_f1, text_of};
 use super::streams::{ASKS_FIRST, two_messages};
 use cog_server::{
     AfterBytes, AfterPieces, Ended, Inlet, Outlet, ScriptedInlet, ScriptedOutlet, ServeError,
@@ -23,6 +23,9 @@ fn numbers_the_failures_of_a_stream(rt: HostRuntime) {
 /// What serving a stream tells, and the reader and the writer after it.
 type Run = (Result<Served, ServeError>, ScriptedInlet, ScriptedOutlet);
 
+/// What serving a stream tells, and whether the reader and the writer have failed.
+type Told = (Result<Served, ServeError>, bool, bool);
+
 /// Serves a stream, with this behind its bytes, to a writer that takes such pieces and what comes after them.
 fn serve(
     server: &Server,
@@ -45,13 +48,26 @@ fn expect_read_failure(
     text: &[u8],
 ) -> Result<(), Fail> {
     let all = (Vec::new(rt.alloc()), AfterPieces::All);
-    let length = stream.len();
-    let (result, inlet, outlet) = serve(server, rt.alloc(), (stream, AfterBytes::Failure), all)?;
-    assert_eq!(rt; result, Err(ServeError::Read), "behind {length} bytes");
-    assert_eq!(rt; outlet.taken(), text, "behind {length} bytes");
-    assert!(rt; inlet.failed(), "behind {length} bytes");
-    assert!(rt; !outlet.failed(), "behind {length} bytes");
+    let run = serve(server, rt.alloc(), (stream, AfterBytes::Failure), all)?;
+    let told = (Err(ServeError::Read), true, false);
+    expect_run(rt, &run, (told, text), (AfterPieces::All, stream.len()));
     Ok(())
+}
+
+/// Expects what serving told, whether the reader and the writer have failed, and the text that was written; where the
+/// writer takes this after the pieces, at this count.
+fn expect_run(
+    rt: &(impl Abort + AllocGlobal),
+    (served, inlet, outlet): &Run,
+    (told, text): (Told, &[u8]),
+    (after, count): (AfterPieces, usize),
+) {
+    assert_eq!(rt; outlet.taken(), text, "{after:?} after {count}");
+    assert_eq!(rt;
+        (*served, inlet.failed(), outlet.failed()),
+        told,
+        "{after:?} after {count}"
+    );
 }
 
 #[test]
@@ -62,10 +78,20 @@ fn answers_the_whole_messages_before_a_failed_read(rt: HostRuntime) -> Result<()
     expect_read_failure(&rt, &server, ASKS_FIRST, &first)?;
     let (stream, text) = two_messages(rt.alloc())?;
     expect_read_failure(&rt, &server, &stream, &text)?;
+    expect_read_failures(&rt, &server, &stream, &first)
+}
+
+/// The same behind each front of two messages: the first answer is written once its message is whole.
+fn expect_read_failures(
+    rt: &(impl Abort + AllocGlobal),
+    server: &Server,
+    stream: &[u8],
+    first: &[u8],
+) -> Result<(), Fail> {
     for end in 0..stream.len() {
         let front = stream.get(..end).ok_or("no such front")?;
-        let text: &[u8] = if end < ASKS_FIRST.len() { b"" } else { &first };
-        expect_read_failure(&rt, &server, front, text)?;
+        let text: &[u8] = if end < ASKS_FIRST.len() { b"" } else { first };
+        expect_read_failure(rt, server, front, text)?;
     }
     Ok(())
 }
@@ -80,15 +106,10 @@ fn expect_write_failure(
     after: AfterPieces,
 ) -> Result<(), Fail> {
     let pieces = (vec![in rt.alloc(); 1usize; count]?, after);
-    let (result, inlet, outlet) = serve(server, rt.alloc(), (stream, AfterBytes::End), pieces)?;
-    assert_eq!(rt;
-        Some(outlet.taken()),
-        text.get(..count),
-        "{after:?} after {count}"
-    );
-    assert_eq!(rt; result, Err(ServeError::Write), "{after:?} after {count}");
-    assert!(rt; outlet.failed(), "{after:?} after {count}");
-    assert!(rt; !inlet.failed(), "{after:?} after {count}");
+    let run = serve(server, rt.alloc(), (stream, AfterBytes::End), pieces)?;
+    let told = (Err(ServeError::Write), false, true);
+    let front = text.get(..count).ok_or("no such front")?;
+    expect_run(rt, &run, (told, front), (after, count));
     Ok(())
 }
 
@@ -126,11 +147,10 @@ fn expect_pieces(
     text: &[u8],
 ) -> Result<(), Fail> {
     let pieces = (pieces, AfterPieces::Failure);
-    let (result, inlet, outlet) = serve(server, rt.alloc(), (stream, AfterBytes::End), pieces)?;
+    let run = serve(server, rt.alloc(), (stream, AfterBytes::End), pieces)?;
     let ended = Ended::EndOfInput;
-    assert_eq!(rt; result, Ok(Served { answers: 1, ended }));
-    assert_eq!(rt; outlet.taken(), text);
-    assert!(rt; !inlet.failed());
+    let told = (Ok(Served { answers: 1, ended }), false, false);
+    expect_run(rt, &run, (told, text), (AfterPieces::Failure, text.len()));
     Ok(())
 }
 
@@ -140,15 +160,31 @@ fn writes_a_short_answer_at_once_and_a_long_body_in_two(rt: HostRuntime) -> Resu
     let alloc = rt.alloc();
     let mut server = server_of_f1(alloc)?;
     let first = text_of(alloc, &FIRST)?;
-    let ones = vec![in alloc; 1usize; 143]?;
-    expect_pieces(&rt, &server, ASKS_FIRST, ones, &first)?;
-    let one = vec![in alloc; usize::MAX]?;
-    expect_pieces(&rt, &server, ASKS_FIRST, one, &first)?;
-    let file = vec![in alloc; 7u8; 65536]?;
-    server.publish(b"b", file).map_err(|_| "refused")?;
+    expect_pieces_of_the_first(&rt, &server, &first)?;
+    publish(&mut server, b"b", vec![in alloc; 7u8; 65536]?)?;
+    expect_two_pieces_of_the_long(&rt, &server)
+}
+
+/// Expects this text of a short answer, where the writer takes one byte at a time, and where it takes all at once.
+fn expect_pieces_of_the_first(
+    rt: &(impl Abort + AllocGlobal),
+    server: &Server,
+    text: &[u8],
+) -> Result<(), Fail> {
+    let ones = vec![in rt.alloc(); 1usize; 143]?;
+    expect_pieces(rt, server, ASKS_FIRST, ones, text)?;
+    let one = vec![in rt.alloc(); usize::MAX]?;
+    expect_pieces(rt, server, ASKS_FIRST, one, text)
+}
+
+/// Expects the answer with the long body, where the writer takes two pieces.
+fn expect_two_pieces_of_the_long(
+    rt: &(impl Abort + AllocGlobal),
+    server: &Server,
+) -> Result<(), Fail> {
     let message = b"GET /b HTTP/1.1\r\nHost: h\r\n\r\n";
-    let mut text = Vec::from_slice(alloc, LONG_HEAD)?;
+    let mut text = Vec::from_slice(rt.alloc(), LONG_HEAD)?;
     text.resize(LONG_HEAD.len() + 65536, 7)?;
-    let two = vec![in alloc; 16384usize, usize::MAX]?;
-    expect_pieces(&rt, &server, message, two, &text)
+    let two = vec![in rt.alloc(); 16384usize, usize::MAX]?;
+    expect_pieces(rt, server, message, two, &text)
 }

@@ -1,6 +1,6 @@
 //! Where memory is refused, that is what is told; nothing has changed, and the same call succeeds later. Each test passes with
 //! ample memory, and wherever one allocation is refused.
-use cog_server::{Inlet, Outlet, ServeError, Server, Stream};
+use cog_server::{Inlet, Outlet, PublishError, ServeError, Served, Server, Stream};
 use http_range::{Memory, publication_tag};
 use std::alloc::Global;
 use std::process::Abort;
@@ -24,12 +24,23 @@ fn file_again(alloc: Global) -> Result<Vec<u8>, Fail> {
 fn publish(rt: &(impl Abort + AllocGlobal), server: &mut Server) -> Result<(), Fail> {
     let file = file_again(rt.alloc())?;
     if let Err(refusal) = server.publish(b"a", file) {
-        assert_eq!(rt; refusal.number(), 6);
         assert!(rt; server.file(b"a").is_none());
-        let file = file_again(rt.alloc())?;
-        let tag = server.publish(b"a", file).map_err(|_| "refused twice")?;
-        assert!(rt; tag == publication_tag(1, 1));
+        publish_after(rt, server, refusal, (b"a", 1))?;
     }
+    Ok(())
+}
+
+/// Publishes the file after a refusal for want of memory, as the publication of this number.
+fn publish_after(
+    rt: &(impl Abort + AllocGlobal),
+    server: &mut Server,
+    refusal: PublishError,
+    (name, number): (&[u8], u32),
+) -> Result<(), Fail> {
+    assert_eq!(rt; refusal.number(), 6);
+    let file = file_again(rt.alloc())?;
+    let tag = server.publish(name, file).map_err(|_| "refused twice")?;
+    assert!(rt; tag == publication_tag(1, number));
     Ok(())
 }
 
@@ -49,8 +60,7 @@ fn answers_again_after_refused_memory(rt: HostRuntime) -> Result<(), Fail> {
         Ok(answer) => answer,
         Err(Memory) => server.answer(REQUEST)?,
     };
-    assert_eq!(rt; answer.text.as_slice(), TEXT);
-    assert_eq!(rt; answer.body, 2);
+    assert_eq!(rt; (answer.text.as_slice(), answer.body), (TEXT, 2));
     Ok(())
 }
 
@@ -67,45 +77,72 @@ fn answers_of_two(server: &Server) -> Result<(Vec<u8>, Vec<u8>), Memory> {
 fn answers_as_before_a_publication_that_is_refused(rt: HostRuntime) -> Result<(), Fail> {
     let mut server = Server::new(rt.alloc(), 1);
     publish(&rt, &mut server)?;
-    for (name, number) in [(b"a", 2), (b"b", 3)] {
-        let (a, b) = answers_of_two(&server)?;
-        let file = file_again(rt.alloc())?;
-        if let Err(refusal) = server.publish(name, file) {
-            assert_eq!(rt; refusal.number(), 6);
-            let (still_a, still_b) = answers_of_two(&server)?;
-            assert_eq!(rt; still_a.as_slice(), a.as_slice());
-            assert_eq!(rt; still_b.as_slice(), b.as_slice());
-            let file = file_again(rt.alloc())?;
-            let tag = server.publish(name, file).map_err(|_| "refused twice")?;
-            assert!(rt; tag == publication_tag(1, number));
-        }
+    expect_same_answers(&rt, &mut server, (b"a", 2))?;
+    expect_same_answers(&rt, &mut server, (b"b", 3))
+}
+
+/// Expects the same answers after a publication under this name that is refused, and publishes it again, as the one of this number.
+fn expect_same_answers(
+    rt: &(impl Abort + AllocGlobal),
+    server: &mut Server,
+    (name, number): (&[u8], u32),
+) -> Result<(), Fail> {
+    let (a, b) = answers_of_two(server)?;
+    let file = file_again(rt.alloc())?;
+    if let Err(refusal) = server.publish(name, file) {
+        expect_answers_of_two(rt, server, (&a, &b))?;
+        publish_after(rt, server, refusal, (name, number))?;
     }
+    Ok(())
+}
+
+/// Expects these answers to requests for two names.
+fn expect_answers_of_two(
+    rt: &(impl Abort + AllocGlobal),
+    server: &Server,
+    want: (&[u8], &[u8]),
+) -> Result<(), Fail> {
+    let (a, b) = answers_of_two(server)?;
+    assert_eq!(rt; (a.as_slice(), b.as_slice()), want);
     Ok(())
 }
 
 /// Serves one request, a second time where memory was refused: by then nothing is written.
 #[test]
 fn serves_again_after_refused_memory(rt: HostRuntime) -> Result<(), Fail> {
-    let alloc = rt.alloc();
-    let mut server = Server::new(alloc, 1);
+    let mut server = Server::new(rt.alloc(), 1);
     publish(&rt, &mut server)?;
     let mut room = [0u8; 512];
-    let mut inlet = Stream::new(REQUEST);
-    let mut outlet = Stream::new(room.as_mut_slice());
-    let served = match server.serve(&mut inlet, &mut outlet) {
-        Ok(served) => served,
-        Err(failure) => {
-            assert_eq!(rt; failure, ServeError::Memory);
-            assert!(rt; !inlet.failed());
-            assert!(rt; !outlet.failed());
-            let mut outlet = Stream::new(room.as_mut_slice());
-            server.serve(&mut Stream::new(REQUEST), &mut outlet)?
-        }
-    };
-    assert_eq!(rt; served.answers, 1);
-    assert!(rt; room.starts_with(TEXT));
-    assert_eq!(rt; room.get(TEXT.len()).copied(), Some(0));
+    let served = serve_again(&rt, &server, room.as_mut_slice())?;
+    assert_eq!(rt;
+        (
+            served.answers,
+            room.starts_with(TEXT),
+            room.get(TEXT.len()).copied()
+        ),
+        (1, true, Some(0))
+    );
     Ok(())
+}
+
+/// Serves one request into a room, again where memory was refused: then neither end has failed.
+fn serve_again(
+    rt: &(impl Abort + AllocGlobal),
+    server: &Server,
+    room: &mut [u8],
+) -> Result<Served, Fail> {
+    let mut inlet = Stream::new(REQUEST);
+    let mut outlet = Stream::new(&mut *room);
+    let result = server.serve(&mut inlet, &mut outlet);
+    let failed = (inlet.failed(), outlet.failed());
+    match result {
+        Ok(served) => Ok(served),
+        Err(failure) => {
+            assert_eq!(rt; (failure, failed), (ServeError::Memory, (false, false)));
+            let mut outlet = Stream::new(room);
+            Ok(server.serve(&mut Stream::new(REQUEST), &mut outlet)?)
+        }
+    }
 }
 
 /// The request, twice.
@@ -118,12 +155,8 @@ fn serves_whole_answers_alone_before_refused_memory(rt: HostRuntime) -> Result<(
     let mut server = Server::new(rt.alloc(), 1);
     publish(&rt, &mut server)?;
     let mut room = [0u8; 512];
-    let mut inlet = Stream::new(TWICE);
-    let mut outlet = Stream::new(room.as_mut_slice());
-    let served = server.serve(&mut inlet, &mut outlet);
-    assert!(rt; !inlet.failed());
-    assert!(rt; !outlet.failed());
-    let answers = match served {
+    let result = serve_twice(&rt, &server, room.as_mut_slice());
+    let answers = match result {
         Ok(served) => {
             assert_eq!(rt; served.answers, 2);
             2
@@ -133,11 +166,29 @@ fn serves_whole_answers_alone_before_refused_memory(rt: HostRuntime) -> Result<(
             usize::from(room.starts_with(b"HTTP"))
         }
     };
-    let mut written = room.as_slice();
+    expect_written(&rt, &room, answers);
+    Ok(())
+}
+
+/// Serves the request twice into a room: neither end fails.
+fn serve_twice(
+    rt: &(impl Abort + AllocGlobal),
+    server: &Server,
+    room: &mut [u8],
+) -> Result<Served, ServeError> {
+    let mut inlet = Stream::new(TWICE);
+    let mut outlet = Stream::new(room);
+    let result = server.serve(&mut inlet, &mut outlet);
+    assert_eq!(rt; (inlet.failed(), outlet.failed()), (false, false));
+    result
+}
+
+/// Expects so many answers in a room, and nothing behind them.
+fn expect_written(rt: &(impl Abort + AllocGlobal), room: &[u8], answers: usize) {
+    let mut written = room;
     for _ in 0..answers {
         assert!(rt; written.starts_with(TEXT));
         written = written.get(TEXT.len()..).unwrap_or(&[]);
     }
     assert!(rt; written.iter().all(|byte| *byte == 0));
-    Ok(())
 }

@@ -9,12 +9,22 @@ use std::test::Fail;
 /// The most bytes of a file.
 const LARGEST: usize = 67108864;
 
-/// The number under which a publication is refused, if it is.
-fn refusal(server: &mut Server, name: &[u8], file: Vec<u8>) -> Option<u8> {
-    match server.publish(name, file) {
+/// A name, how many bytes 0 are its file, and the number under which their publication is refused.
+type Refused<'a> = (&'a [u8], usize, u8);
+
+/// Expects that a publication is refused.
+fn expect_refused(
+    rt: &(impl Abort + AllocGlobal),
+    server: &mut Server,
+    (name, count, want): Refused<'_>,
+) -> Result<(), Fail> {
+    let file = zeros(rt.alloc(), count)?;
+    let number = match server.publish(name, file) {
         Ok(_) => None,
         Err(refusal) => Some(refusal.number()),
-    }
+    };
+    assert_eq!(rt; number, Some(want), "{count} bytes of {name:?}");
+    Ok(())
 }
 
 /// Expects that a publication gets the tag of epoch 1 and this number.
@@ -28,6 +38,29 @@ fn expect_published(
     let tag = server.publish(name, file).map_err(|_| "refused")?;
     assert!(rt; tag == publication_tag(1, number));
     Ok(())
+}
+
+/// The same of so many bytes 0.
+fn expect_zeros_published(
+    rt: &(impl Abort + AllocGlobal),
+    server: &mut Server,
+    (name, count, number): (&[u8], usize, u32),
+) -> Result<(), Fail> {
+    let file = zeros(rt.alloc(), count)?;
+    expect_published(rt, server, name, file, number)
+}
+
+/// Expects the length of the file of a name, or no file.
+fn expect_length(
+    rt: &(impl Abort + AllocGlobal),
+    server: &Server,
+    (name, want): (&[u8], Option<usize>),
+) {
+    let length = match server.file(name) {
+        Some(file) => Some(file.len()),
+        None => None,
+    };
+    assert_eq!(rt; length, want, "{name:?}");
 }
 
 /// So many bytes 0.
@@ -52,62 +85,63 @@ fn numbers_the_refusals_of_a_publication(rt: HostRuntime) {
     }
 }
 
+/// Publications by a server without files that are refused.
+const REFUSED: [Refused<'static>; 4] = [
+    (b"~", 0, 1),
+    (b"", 1, 1),
+    (b"a", 0, 2),
+    (b"a", LARGEST + 1, 3),
+];
+
 #[test]
 fn refuses_names_before_files_and_changes_nothing(rt: HostRuntime) -> Result<(), Fail> {
-    let alloc = rt.alloc();
-    let mut server = Server::new(alloc, 1);
-    assert_eq!(rt; refusal(&mut server, b"~", Vec::new(alloc)), Some(1));
-    assert_eq!(rt; refusal(&mut server, b"", zeros(alloc, 1)?), Some(1));
-    assert_eq!(rt; refusal(&mut server, b"a", Vec::new(alloc)), Some(2));
-    assert_eq!(rt;
-        refusal(&mut server, b"a", zeros(alloc, LARGEST + 1)?),
-        Some(3)
-    );
-    assert!(rt; server.file(b"a").is_none());
-    expect_published(&rt, &mut server, b"a", zeros(alloc, 1)?, 1)?;
-    Ok(())
+    let mut server = Server::new(rt.alloc(), 1);
+    for row in REFUSED {
+        expect_refused(&rt, &mut server, row)?;
+    }
+    expect_length(&rt, &server, (b"a", None));
+    expect_zeros_published(&rt, &mut server, (b"a", 1, 1))
 }
 
 #[test]
 fn publishes_a_file_of_67108864_bytes(rt: HostRuntime) -> Result<(), Fail> {
-    let alloc = rt.alloc();
-    let mut server = Server::new(alloc, 1);
-    expect_published(&rt, &mut server, b"a", zeros(alloc, LARGEST)?, 1)?;
-    assert_eq!(rt; server.file(b"a").map(|file| file.len()), Some(LARGEST));
+    let mut server = Server::new(rt.alloc(), 1);
+    expect_zeros_published(&rt, &mut server, (b"a", LARGEST, 1))?;
+    expect_length(&rt, &server, (b"a", Some(LARGEST)));
     Ok(())
 }
 
 #[test]
 fn refuses_the_65th_name(rt: HostRuntime) -> Result<(), Fail> {
-    let alloc = rt.alloc();
-    let mut server = Server::new(alloc, 1);
+    let mut server = Server::new(rt.alloc(), 1);
     for i in 0..64u8 {
         let name = [b'a', b'0' + i / 10, b'0' + i % 10];
-        expect_published(&rt, &mut server, &name, zeros(alloc, 1)?, i as u32 + 1)?;
+        expect_zeros_published(&rt, &mut server, (&name, 1, i as u32 + 1))?;
     }
-    assert_eq!(rt; refusal(&mut server, b"b", zeros(alloc, 1)?), Some(4));
-    assert_eq!(rt; refusal(&mut server, b"b", Vec::new(alloc)), Some(2));
-    expect_published(&rt, &mut server, b"a63", zeros(alloc, 2)?, 65)?;
-    assert_eq!(rt; server.file(b"a63").map(|file| file.len()), Some(2));
-    assert_eq!(rt; server.file(b"a62").map(|file| file.len()), Some(1));
-    assert!(rt; server.file(b"b").is_none());
+    expect_refused(&rt, &mut server, (b"b", 1, 4))?;
+    expect_refused(&rt, &mut server, (b"b", 0, 2))?;
+    expect_zeros_published(&rt, &mut server, (b"a63", 2, 65))?;
+    expect_length(&rt, &server, (b"a63", Some(2)));
+    expect_length(&rt, &server, (b"a62", Some(1)));
+    expect_length(&rt, &server, (b"b", None));
     Ok(())
 }
 
 #[test]
 fn gives_the_last_file_of_each_name(rt: HostRuntime) -> Result<(), Fail> {
-    let alloc = rt.alloc();
-    let mut server = Server::new(alloc, 1);
-    assert_eq!(rt; server.epoch(), 1);
-    assert!(rt; server.file(b"a").is_none());
-    expect_published(&rt, &mut server, b"a", f1(alloc)?, 1)?;
-    expect_published(&rt, &mut server, b"b", zeros(alloc, 3)?, 2)?;
-    let file = f1(alloc)?;
-    assert_eq!(rt; server.file(b"a"), Some(file.as_slice()));
-    assert_eq!(rt; server.file(b"b"), Some(b"\0\0\0".as_slice()));
-    assert!(rt; server.file(b"A").is_none());
-    expect_published(&rt, &mut server, b"a", zeros(alloc, 2)?, 3)?;
-    assert_eq!(rt; server.file(b"a"), Some(b"\0\0".as_slice()));
-    assert_eq!(rt; server.file(b"b"), Some(b"\0\0\0".as_slice()));
+    let mut server = Server::new(rt.alloc(), 1);
+    assert_eq!(rt; (server.epoch(), server.file(b"a")), (1, None));
+    expect_published(&rt, &mut server, b"a", f1(rt.alloc())?, 1)?;
+    expect_zeros_published(&rt, &mut server, (b"b", 3, 2))?;
+    let file = f1(rt.alloc())?;
+    expect_files(&rt, &server, &file, b"\0\0\0");
+    expect_length(&rt, &server, (b"A", None));
+    expect_zeros_published(&rt, &mut server, (b"a", 2, 3))?;
+    expect_files(&rt, &server, b"\0\0", b"\0\0\0");
     Ok(())
+}
+
+/// Expects these files of two names.
+fn expect_files(rt: &(impl Abort + AllocGlobal), server: &Server, a: &[u8], b: &[u8]) {
+    assert_eq!(rt; (server.file(b"a"), server.file(b"b")), (Some(a), Some(b)));
 }

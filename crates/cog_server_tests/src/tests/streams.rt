@@ -35,8 +35,11 @@ pub fn expect_served(
     let mut outlet = ScriptedOutlet::new(alloc, Vec::new(alloc), AfterPieces::All);
     let served = server.serve(&mut inlet, &mut outlet)?;
     let name = (stream.len(), cuts.first());
-    assert_eq!(rt; outlet.taken(), text, "bytes and first piece {name:?}");
-    assert_eq!(rt; served, want, "bytes and first piece {name:?}");
+    assert_eq!(rt;
+        (outlet.taken(), served),
+        (text, want),
+        "bytes and first piece {name:?}"
+    );
     Ok(())
 }
 
@@ -82,12 +85,10 @@ fn answers_only_the_messages_that_came_whole(rt: HostRuntime) -> Result<(), Fail
     let first = text_of(rt.alloc(), &FIRST)?;
     for end in 0..stream.len() {
         let front = stream.get(..end).ok_or("no such front")?;
-        if end < ASKS_FIRST.len() {
-            expect_served(&rt, &server, front, &[], b"", served(0, Ended::EndOfInput))?;
-        } else {
-            let one = served(1, Ended::EndOfInput);
-            expect_served(&rt, &server, front, &[], &first, one)?;
-        }
+        let is_whole = end >= ASKS_FIRST.len();
+        let text: &[u8] = if is_whole { &first } else { b"" };
+        let want = served(usize::from(is_whole), Ended::EndOfInput);
+        expect_served(&rt, &server, front, &[], text, want)?;
     }
     Ok(())
 }
@@ -97,47 +98,80 @@ fn refuses_8192_bytes_without_an_end(rt: HostRuntime) -> Result<(), Fail> {
     let server = server_of_f1(rt.alloc())?;
     let full = vec![in rt.alloc(); b'A'; 8192]?;
     let ones = vec![in rt.alloc(); 1usize; 8192]?;
-    let closed = served(1, Ended::Closed);
-    expect_served(&rt, &server, &full, &[], BAD.head, closed)?;
-    expect_served(&rt, &server, &full, &ones, BAD.head, closed)?;
+    expect_refused_when_full(&rt, &server, &full, &[])?;
+    expect_refused_when_full(&rt, &server, &full, &ones)
+}
+
+/// Expects that a stream without an end is refused, and that one without its first byte has no answer.
+fn expect_refused_when_full(
+    rt: &(impl Abort + AllocGlobal),
+    server: &Server,
+    full: &[u8],
+    cuts: &[usize],
+) -> Result<(), Fail> {
+    expect_served(rt, server, full, cuts, BAD.head, served(1, Ended::Closed))?;
     let part = full.get(1..).ok_or("no such part")?;
-    let none = served(0, Ended::EndOfInput);
-    expect_served(&rt, &server, part, &[], b"", none)?;
-    expect_served(&rt, &server, part, &ones, b"", none)
+    expect_served(rt, server, part, cuts, b"", served(0, Ended::EndOfInput))
 }
 
 /// A hundred messages are answered, and no more; the hundredth may close.
 #[test]
 fn ends_after_a_hundred_answers(rt: HostRuntime) -> Result<(), Fail> {
-    let alloc = rt.alloc();
-    let server = server_of_f1(alloc)?;
-    let first = text_of(alloc, &FIRST)?;
-    let stream = repeated(alloc, ASKS_FIRST, 101)?;
-    let text = repeated(alloc, &first, 100)?;
+    let server = server_of_f1(rt.alloc())?;
+    let first = text_of(rt.alloc(), &FIRST)?;
+    let closing = text_of(rt.alloc(), &CLOSING)?;
+    expect_limit(&rt, &server, &first)?;
+    expect_closed_by_the_hundredth(&rt, &server, &first, &closing)
+}
+
+/// Expects a hundred times the first answer to a hundred and one messages.
+fn expect_limit(
+    rt: &(impl Abort + AllocGlobal),
+    server: &Server,
+    first: &[u8],
+) -> Result<(), Fail> {
+    let stream = repeated(rt.alloc(), ASKS_FIRST, 101)?;
+    let text = repeated(rt.alloc(), first, 100)?;
     let limit = served(100, Ended::Limit);
-    expect_served(&rt, &server, &stream, &[], &text, limit)?;
+    expect_served(rt, server, &stream, &[], &text, limit)
+}
+
+/// Expects the closing answer to the hundredth message, and none to the next.
+fn expect_closed_by_the_hundredth(
+    rt: &(impl Abort + AllocGlobal),
+    server: &Server,
+    first: &[u8],
+    closing: &[u8],
+) -> Result<(), Fail> {
+    let stream = closing_stream(rt.alloc())?;
+    let mut text = repeated(rt.alloc(), first, 99)?;
+    text.extend_from_slice(closing)?;
+    let closed = served(100, Ended::Closed);
+    expect_served(rt, server, &stream, &[], &text, closed)
+}
+
+/// A hundred and one requests, the hundredth of which closes.
+fn closing_stream(alloc: Global) -> Result<Vec<u8>, Fail> {
     let mut stream = repeated(alloc, ASKS_FIRST, 99)?;
     stream.extend_from_slice(
         b"GET /a HTTP/1.1\r\nHost: h\r\nRange: bytes=0-0\r\nConnection: close\r\n\r\n",
     )?;
     stream.extend_from_slice(ASKS_FIRST)?;
-    let mut text = repeated(alloc, &first, 99)?;
-    text.extend_from_slice(&text_of(alloc, &CLOSING)?)?;
-    let closed = served(100, Ended::Closed);
-    expect_served(&rt, &server, &stream, &[], &text, closed)
+    Ok(stream)
 }
 
 /// Readers and writers of the standard library: the same text.
 #[test]
 fn serves_readers_and_writers_of_the_standard_library(rt: HostRuntime) -> Result<(), Fail> {
-    let alloc = rt.alloc();
-    let server = server_of_f1(alloc)?;
-    let (stream, text) = two_messages(alloc)?;
-    let mut written = Vec::new(alloc);
+    let server = server_of_f1(rt.alloc())?;
+    let (stream, text) = two_messages(rt.alloc())?;
+    let mut written = Vec::new(rt.alloc());
     let mut inlet = Stream::new(stream.as_slice());
     let mut outlet = Stream::new(&mut written);
     let result = server.serve(&mut inlet, &mut outlet)?;
-    assert_eq!(rt; result, served(2, Ended::EndOfInput));
-    assert_eq!(rt; written.as_slice(), text.as_slice());
+    assert_eq!(rt;
+        (result, written.as_slice()),
+        (served(2, Ended::EndOfInput), text.as_slice())
+    );
     Ok(())
 }
