@@ -1,7 +1,7 @@
 //! Where memory is refused, that is what is told: this connection and the other are as they were, and the same call succeeds later.
 use super::driving::{ASKS_A, ASKS_B, give_at, take_at};
 use cog_connections::Connections;
-use cog_server::Server;
+use cog_server::{PublishError, Server};
 use http_range::Memory;
 use std::alloc::Global;
 use std::num::NonZeroUsize;
@@ -99,13 +99,20 @@ fn publish(
     byte: u8,
     count: usize,
 ) -> Result<(), Fail> {
-    let file = file_of(rt.alloc(), byte, count)?;
-    if let Err(refusal) = server.publish(name, file) {
+    if let Some(refusal) = refusal_of(server, name, file_of(rt.alloc(), byte, count)?) {
         assert_eq!(rt; refusal.number(), 6);
-        let file = file_of(rt.alloc(), byte, count)?;
-        server.publish(name, file).map_err(|_| "refused twice")?;
+        let again = refusal_of(server, name, file_of(rt.alloc(), byte, count)?);
+        assert!(rt; again.is_none());
     }
     Ok(())
+}
+
+/// Why a publication is refused.
+fn refusal_of(server: &mut Server, name: &[u8], file: Vec<u8>) -> Option<PublishError> {
+    match server.publish(name, file) {
+        Ok(_) => None,
+        Err(refusal) => Some(refusal),
+    }
 }
 
 /// The text of the answer to a message, made a second time where memory was refused.
@@ -128,23 +135,37 @@ fn taken(alloc: Global, connections: &mut Connections, number: u64) -> Result<Ve
 
 #[test]
 fn goes_on_after_refused_memory(rt: HostRuntime) -> Result<(), Fail> {
-    let alloc = rt.alloc();
-    let mut server = Server::new(alloc, 1);
+    let mut server = Server::new(rt.alloc(), 1);
     publish(&rt, &mut server, b"a", b'A', 5)?;
     publish(&rt, &mut server, b"b", b'B', 7)?;
-    let mut connections = table_of_two(alloc)?;
-    for number in 0..2 {
-        assert_eq!(rt; accept(&rt, &mut connections)?, number);
-    }
+    let mut connections = table_of_two(rt.alloc())?;
+    accept_both(&rt, &mut connections)?;
     for (number, message) in [(0, ASKS_A), (1, ASKS_B), (0, ASKS_B)] {
-        assert_eq!(rt;
-            give(&rt, &mut connections, number, message)?,
-            message.len()
-        );
-        assert!(rt; go_on(&rt, &mut connections, number, &server)?);
-        let text = taken(alloc, &mut connections, number)?;
-        let want = answer_to(&server, message)?;
-        assert_eq!(rt; text.as_slice(), want.as_slice());
+        expect_answered(&rt, &mut connections, &server, (number, message))?;
     }
+    Ok(())
+}
+
+/// Accepts the two connections, numbered from 0.
+fn accept_both(rt: &impl Abort, connections: &mut Connections) -> Result<(), Fail> {
+    for number in 0..2 {
+        assert_eq!(rt; accept(rt, connections)?, number);
+    }
+    Ok(())
+}
+
+/// Expects that a message on a connection is taken whole and answered.
+fn expect_answered(
+    rt: &(impl Abort + AllocGlobal),
+    connections: &mut Connections,
+    server: &Server,
+    (number, message): (u64, &[u8]),
+) -> Result<(), Fail> {
+    let count = give(rt, connections, number, message)?;
+    let went = go_on(rt, connections, number, server)?;
+    assert_eq!(rt; (count, went), (message.len(), true));
+    let text = taken(rt.alloc(), connections, number)?;
+    let want = answer_to(server, message)?;
+    assert_eq!(rt; text.as_slice(), want.as_slice());
     Ok(())
 }

@@ -4,6 +4,7 @@ use cog_connections::Connections;
 use cog_server::{AfterBytes, AfterPieces, ScriptedInlet, ScriptedOutlet, Server};
 use std::alloc::Global;
 use std::num::NonZeroUsize;
+use std::process::Abort;
 use std::test::Fail;
 
 /// What is done to a connection, one after another: bytes come, a message is answered, some of the answer is taken.
@@ -22,15 +23,19 @@ fn alone(alloc: Global, server: &Server, [first, second]: [&[u8]; 2]) -> Result<
     Ok(Vec::from_slice(alloc, outlet.taken())?)
 }
 
-/// Does the next step of a connection.
+/// Does this step of a connection.
 fn step(
     connections: &mut Connections,
     server: &Server,
-    number: u64,
-    [first, second]: [&[u8]; 2],
-    at: u32,
+    (number, at): (u64, u32),
     text: &mut Vec<u8>,
 ) -> Result<(), Fail> {
+    let [of_the_first, of_the_second] = STREAMS;
+    let [first, second] = if number == 0 {
+        of_the_first
+    } else {
+        of_the_second
+    };
     match at {
         0 => {
             give_at(connections, number, first)?;
@@ -49,28 +54,26 @@ fn step(
     Ok(())
 }
 
-/// Does all steps of both, where the bits of the order say whose is next.
-fn run(alloc: Global, server: &Server, order: u32) -> Result<[Vec<u8>; 2], Fail> {
+/// A table with two connections.
+fn table_of_two(alloc: Global) -> Result<Connections, Fail> {
     let mut connections = Connections::new(alloc, NonZeroUsize::new(2).ok_or("none")?)?;
     for _ in 0..2 {
         if !connections.is_full() {
             connections.accept(0)?;
         }
     }
+    Ok(connections)
+}
+
+/// Does all steps of both, where the bits of the order say whose is next.
+fn run(alloc: Global, server: &Server, order: u32) -> Result<[Vec<u8>; 2], Fail> {
+    let mut connections = table_of_two(alloc)?;
     let mut texts = [Vec::new(alloc), Vec::new(alloc)];
     let mut done = [0u32; 2];
     for turn in 0..2 * STEPS {
         let which = if order >> turn & 1 == 0 { 0usize } else { 1 };
-        let [first, second] = STREAMS;
-        let pieces = if which == 0 { first } else { second };
-        step(
-            &mut connections,
-            server,
-            which as u64,
-            pieces,
-            done[which],
-            &mut texts[which],
-        )?;
+        let at = (which as u64, done[which]);
+        step(&mut connections, server, at, &mut texts[which])?;
         done[which] = done[which].saturating_add(1);
     }
     Ok(texts)
@@ -78,22 +81,33 @@ fn run(alloc: Global, server: &Server, order: u32) -> Result<[Vec<u8>; 2], Fail>
 
 #[test]
 fn answers_each_as_if_it_were_alone(rt: HostRuntime) -> Result<(), Fail> {
-    let alloc = rt.alloc();
-    let server = server_of_two(alloc)?;
+    let server = server_of_two(rt.alloc())?;
     let [first, second] = STREAMS;
-    let wants = [
-        alone(alloc, &server, first)?,
-        alone(alloc, &server, second)?,
-    ];
+    let first = alone(rt.alloc(), &server, first)?;
+    let second = alone(rt.alloc(), &server, second)?;
     let mut orders = 0u32;
     for order in 0..1u32 << (2 * STEPS) {
         if order.count_ones() == STEPS {
-            let texts = run(alloc, &server, order)?;
-            assert_eq!(rt; texts[0].as_slice(), wants[0].as_slice(), "order {order}");
-            assert_eq!(rt; texts[1].as_slice(), wants[1].as_slice(), "order {order}");
+            expect_order(&rt, &server, order, (&first, &second))?;
             orders = orders.saturating_add(1);
         }
     }
     assert_eq!(rt; orders, 924);
+    Ok(())
+}
+
+/// Expects these texts of the two in an order.
+fn expect_order(
+    rt: &(impl Abort + AllocGlobal),
+    server: &Server,
+    order: u32,
+    wants: (&[u8], &[u8]),
+) -> Result<(), Fail> {
+    let [first, second] = run(rt.alloc(), server, order)?;
+    assert_eq!(rt;
+        (first.as_slice(), second.as_slice()),
+        wants,
+        "order {order}"
+    );
     Ok(())
 }

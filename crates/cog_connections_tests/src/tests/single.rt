@@ -2,6 +2,7 @@
 use super::driving::{ASKS_A, ASKS_B, CLOSES, give, publish, server_of_two, take};
 use cog_server::{Connection, Ended, Server};
 use std::alloc::Global;
+use std::process::Abort;
 use std::test::Fail;
 
 /// The answers to some messages, each by the server as it stands.
@@ -18,23 +19,42 @@ fn answers(alloc: Global, server: &Server, messages: &[&[u8]]) -> Result<Vec<u8>
 fn answers_single_bytes_by_writes_of_one(rt: HostRuntime) -> Result<(), Fail> {
     let alloc = rt.alloc();
     let server = server_of_two(alloc)?;
-    let want = answers(alloc, &server, &[ASKS_A, ASKS_B, CLOSES])?;
-    let mut stream = Vec::from_slice(alloc, ASKS_A)?;
-    stream.extend_from_slice(ASKS_B)?;
-    stream.extend_from_slice(CLOSES)?;
+    let messages = [ASKS_A, ASKS_B, CLOSES];
+    let want = answers(alloc, &server, &messages)?;
     let mut connection = Connection::new(alloc);
     let mut text = Vec::new(alloc);
-    for byte in stream.as_slice() {
-        assert_eq!(rt; give(&mut connection, &[*byte])?, 1);
-        assert!(rt; connection.ended().is_none());
-        connection.go_on(&server)?;
-        for _ in 0..200 {
-            take(&mut connection, 1, &mut text)?;
-        }
+    for message in messages {
+        expect_single_bytes(&rt, &mut connection, &server, message, &mut text)?;
     }
-    assert_eq!(rt; text.as_slice(), want.as_slice());
-    assert_eq!(rt; connection.ended(), Some(Ended::Closed));
-    assert_eq!(rt; connection.answers(), 3);
+    assert_eq!(rt;
+        (text.as_slice(), connection.ended(), connection.answers()),
+        (want.as_slice(), Some(Ended::Closed), 3)
+    );
+    Ok(())
+}
+
+/// Hands in the bytes of a message one by one, and takes what waits behind each.
+fn expect_single_bytes(
+    rt: &(impl Abort + AllocGlobal),
+    connection: &mut Connection,
+    server: &Server,
+    message: &[u8],
+    text: &mut Vec<u8>,
+) -> Result<(), Fail> {
+    for byte in message {
+        let count = give(connection, &[*byte])?;
+        assert_eq!(rt; (count, connection.ended()), (1, None));
+        connection.go_on(server)?;
+        take_single_bytes(connection, text)?;
+    }
+    Ok(())
+}
+
+/// Takes 200 times one byte of what waits.
+fn take_single_bytes(connection: &mut Connection, text: &mut Vec<u8>) -> Result<(), Fail> {
+    for _ in 0..200 {
+        take(connection, 1, text)?;
+    }
     Ok(())
 }
 
@@ -46,17 +66,40 @@ fn ends_with_the_hundredth_answer(rt: HostRuntime) -> Result<(), Fail> {
     let want = answers(alloc, &server, &[ASKS_A])?;
     let mut connection = Connection::new(alloc);
     for _ in 0..100 {
-        give(&mut connection, ASKS_A)?;
-        give(&mut connection, ASKS_A)?;
-        assert!(rt; connection.go_on(&server)?);
-        assert!(rt; !connection.go_on(&server)?);
-        let mut text = Vec::new(alloc);
-        take(&mut connection, usize::MAX, &mut text)?;
-        assert_eq!(rt; text.as_slice(), want.as_slice());
+        expect_first_of_two(&rt, &mut connection, &server, &want)?;
     }
-    assert!(rt; !connection.go_on(&server)?);
-    assert_eq!(rt; connection.ended(), Some(Ended::Limit));
-    assert_eq!(rt; connection.answers(), 100);
+    let went = connection.go_on(&server)?;
+    assert_eq!(rt;
+        (went, connection.ended(), connection.answers()),
+        (false, Some(Ended::Limit), 100)
+    );
+    Ok(())
+}
+
+/// Hands in two messages, and expects the answer to the first alone.
+fn expect_first_of_two(
+    rt: &(impl Abort + AllocGlobal),
+    connection: &mut Connection,
+    server: &Server,
+    want: &[u8],
+) -> Result<(), Fail> {
+    give_two_and_answer(rt, connection, server)?;
+    assert!(rt; !connection.go_on(server)?);
+    let mut text = Vec::new(rt.alloc());
+    take(connection, usize::MAX, &mut text)?;
+    assert_eq!(rt; text.as_slice(), want);
+    Ok(())
+}
+
+/// Hands in two messages, and expects an answer.
+fn give_two_and_answer(
+    rt: &(impl Abort + AllocGlobal),
+    connection: &mut Connection,
+    server: &Server,
+) -> Result<(), Fail> {
+    give(connection, ASKS_A)?;
+    give(connection, ASKS_A)?;
+    assert!(rt; connection.go_on(server)?);
     Ok(())
 }
 
@@ -68,18 +111,27 @@ fn sends_a_replaced_file_as_it_was(rt: HostRuntime) -> Result<(), Fail> {
     publish(alloc, &mut server, b"a", 1, 40000)?;
     let mut want = answers(alloc, &server, &[ASKS_A])?;
     let mut connection = Connection::new(alloc);
-    give(&mut connection, ASKS_A)?;
-    give(&mut connection, ASKS_A)?;
-    assert!(rt; connection.go_on(&server)?);
     let mut text = Vec::new(alloc);
+    give_two_and_answer(&rt, &mut connection, &server)?;
     assert_eq!(rt; take(&mut connection, 300, &mut text)?, 300);
     publish(alloc, &mut server, b"a", 2, 30)?;
-    assert!(rt; !connection.go_on(&server)?);
-    take(&mut connection, usize::MAX, &mut text)?;
-    assert!(rt; connection.go_on(&server)?);
-    take(&mut connection, usize::MAX, &mut text)?;
+    expect_second_behind_the_first(&rt, &mut connection, &server, &mut text)?;
     want.extend_from_slice(&answers(alloc, &server, &[ASKS_A])?)?;
     assert_eq!(rt; text.as_slice(), want.as_slice());
+    Ok(())
+}
+
+/// Expects that the second message is answered once the first answer is taken, and takes both.
+fn expect_second_behind_the_first(
+    rt: &(impl Abort + AllocGlobal),
+    connection: &mut Connection,
+    server: &Server,
+    text: &mut Vec<u8>,
+) -> Result<(), Fail> {
+    assert!(rt; !connection.go_on(server)?);
+    take(connection, usize::MAX, text)?;
+    assert!(rt; connection.go_on(server)?);
+    take(connection, usize::MAX, text)?;
     Ok(())
 }
 
@@ -90,19 +142,38 @@ fn drops_what_comes_behind_the_last_message(rt: HostRuntime) -> Result<(), Fail>
     let server = server_of_two(alloc)?;
     let zeros = vec![in alloc; 0u8; 8192]?;
     let mut connection = Connection::new(alloc);
-    give(&mut connection, CLOSES)?;
-    assert!(rt; connection.go_on(&server)?);
-    assert!(rt; !connection.is_draining());
-    take(&mut connection, usize::MAX, &mut Vec::new(alloc))?;
-    assert!(rt; connection.is_draining());
+    expect_draining(&rt, &mut connection, &server)?;
     for _ in 0..7 {
-        assert_eq!(rt; give(&mut connection, &zeros)?, 8192);
+        expect_dropped(&rt, &mut connection, (&zeros, 8192, false))?;
     }
-    assert_eq!(rt; give(&mut connection, &zeros[..8191])?, 8191);
-    assert!(rt; !connection.is_drained());
-    assert_eq!(rt; give(&mut connection, &zeros)?, 1);
-    assert!(rt; connection.is_drained());
-    assert_eq!(rt; connection.room(), 0);
-    assert!(rt; !connection.go_on(&server)?);
+    expect_dropped(&rt, &mut connection, (&zeros[..8191], 8191, false))?;
+    expect_dropped(&rt, &mut connection, (&zeros, 1, true))?;
+    let went = connection.go_on(&server)?;
+    assert_eq!(rt; (connection.room(), went), (0, false));
+    Ok(())
+}
+
+/// Expects that a connection drains once its last answer is taken.
+fn expect_draining(
+    rt: &(impl Abort + AllocGlobal),
+    connection: &mut Connection,
+    server: &Server,
+) -> Result<(), Fail> {
+    give(connection, CLOSES)?;
+    let went = connection.go_on(server)?;
+    assert_eq!(rt; (went, connection.is_draining()), (true, false));
+    take(connection, usize::MAX, &mut Vec::new(rt.alloc()))?;
+    assert!(rt; connection.is_draining());
+    Ok(())
+}
+
+/// Expects that so many of the bytes are dropped, and whether no more may come then.
+fn expect_dropped(
+    rt: &(impl Abort + AllocGlobal),
+    connection: &mut Connection,
+    (bytes, count, is_drained): (&[u8], usize, bool),
+) -> Result<(), Fail> {
+    let dropped = give(connection, bytes)?;
+    assert_eq!(rt; (dropped, connection.is_drained()), (count, is_drained));
     Ok(())
 }
