@@ -6,7 +6,8 @@ use fixtures_support::f5;
 use sockets::Socket;
 use std::alloc::Global;
 use std::io::Read;
-use std::net::{Net, TcpListener, TcpStream};
+use std::net::{Net, TcpStream};
+use std::process::Abort;
 use std::test::Fail;
 
 /// The last bytes that are asked for, one request behind another.
@@ -21,16 +22,14 @@ fn requests(alloc: Global) -> Result<[Vec<u8>; 3], Fail> {
     ])
 }
 
-/// One exchange on a new connection, whose server's end is given.
+/// One exchange on a new connection that is kept, whose server's end is given.
 fn open<R>(alloc: Global, peer: &Peer, socket: &mut Socket<'_, R>) -> Result<TcpStream, Fail>
 where
-    R: Net<Listener = TcpListener, Stream = TcpStream> + AllocGlobal,
+    R: Net<Stream = TcpStream> + AllocGlobal,
 {
     socket.keep_open();
     send(alloc, socket, 999)?;
-    let mut stream = peer.accept()?;
-    peer.exchange(alloc, &mut stream, socket, &mut [0; 1000])?;
-    Ok(stream)
+    peer.exchange_anew(alloc, socket, &mut [0; 1000])
 }
 
 /// These requests come on a connection, one behind another.
@@ -61,7 +60,7 @@ fn answer_each(
 /// The requests behind the first one are started one after the other, and their answers are taken in pieces of 100 bytes and of any size.
 fn take_rest<R>(alloc: Global, socket: &mut Socket<'_, R>, texts: &[Vec<u8>; 3]) -> Result<(), Fail>
 where
-    R: Net<Listener = TcpListener, Stream = TcpStream> + AllocGlobal,
+    R: Net<Stream = TcpStream> + AllocGlobal,
 {
     expect(alloc, socket, &mut [0; 16384], &texts[0])?;
     send(alloc, socket, LAST[1])?;
@@ -70,26 +69,86 @@ where
     expect(alloc, socket, &mut [0; 16384], &texts[2])
 }
 
+/// The first request is sent, and those behind it early, in two times. They come, and are answered. The texts of the answers.
+fn send_all<R>(
+    alloc: Global,
+    peer: &Peer,
+    stream: &mut TcpStream,
+    socket: &mut Socket<'_, R>,
+    requests: &[Vec<u8>; 3],
+) -> Result<[Vec<u8>; 3], Fail>
+where
+    R: Net<Stream = TcpStream> + AllocGlobal,
+{
+    let all = &requests[..];
+    send(alloc, socket, LAST[0])?;
+    socket.foresee(&all[1..2]);
+    socket.foresee(&all[1..]);
+    come(alloc, stream, all)?;
+    answer_each(peer, stream, requests)
+}
+
+/// All requests are sent, two of them early, and then started: behind them no byte comes before the first one's next.
+fn start_each<R>(
+    alloc: Global,
+    peer: &Peer,
+    stream: &mut TcpStream,
+    socket: &mut Socket<'_, R>,
+    requests: &[Vec<u8>; 3],
+) -> Result<(), Fail>
+where
+    R: Net<Stream = TcpStream> + AllocGlobal,
+{
+    let texts = send_all(alloc, peer, stream, socket, requests)?;
+    take_rest(alloc, socket, &texts)?;
+    send(alloc, socket, LAST[0])?;
+    come(alloc, stream, &requests[..1])
+}
+
 /// Two requests are sent early, and then started: no byte more is sent, and their answers are read in pieces of any size.
 #[test]
 fn starts_what_was_sent_early_without_sending_it(rt: HostRuntime) -> Result<(), Fail> {
     let alloc = rt.alloc();
     let peer = Peer::new(&rt, f5(alloc)?)?;
     let requests = requests(alloc)?;
-    let all = &requests[..];
     let mut socket = Socket::new(&rt, peer.address.as_str());
     let mut stream = open(alloc, &peer, &mut socket)?;
-    send(alloc, &mut socket, LAST[0])?;
-    socket.foresee(&all[1..2]);
+    start_each(alloc, &peer, &mut stream, &mut socket, &requests)
+}
+
+/// The first request is sent, and those behind it early. All are answered. The texts of the answers.
+fn answer_all<R>(
+    alloc: Global,
+    peer: &Peer,
+    stream: &mut TcpStream,
+    socket: &mut Socket<'_, R>,
+    requests: &[Vec<u8>; 3],
+) -> Result<[Vec<u8>; 3], Fail>
+where
+    R: Net<Stream = TcpStream> + AllocGlobal,
+{
+    let all = &requests[..];
+    send(alloc, socket, LAST[0])?;
     socket.foresee(&all[1..]);
-    come(alloc, &mut stream, all)?;
-    take_rest(
-        alloc,
-        &mut socket,
-        &answer_each(&peer, &mut stream, &requests)?,
-    )?;
-    send(alloc, &mut socket, LAST[0])?;
-    come(alloc, &mut stream, &all[..1])
+    answer_each(peer, stream, requests)
+}
+
+/// The first answer is taken, and the last request started: it comes on a new connection, and its answer is taken.
+fn start_last<R>(
+    rt: &(impl Abort + AllocGlobal),
+    peer: &Peer,
+    socket: &mut Socket<'_, R>,
+    texts: &[Vec<u8>; 3],
+) -> Result<(), Fail>
+where
+    R: Net<Stream = TcpStream> + AllocGlobal,
+{
+    let alloc = rt.alloc();
+    expect(alloc, socket, &mut [0; 16384], &texts[0])?;
+    send(alloc, socket, LAST[2])?;
+    let mut stream = peer.accept()?;
+    assert_eq!(rt; peer.answer(&mut stream)?, texts[2]);
+    expect(alloc, socket, &mut [0; 16384], &texts[2])
 }
 
 /// Another request follows than the one that was sent early: the connection is made anew, and the answer is the other one's.
@@ -98,17 +157,45 @@ fn never_takes_the_answer_to_another_request(rt: HostRuntime) -> Result<(), Fail
     let alloc = rt.alloc();
     let peer = Peer::new(&rt, f5(alloc)?)?;
     let requests = requests(alloc)?;
-    let all = &requests[..];
     let mut socket = Socket::new(&rt, peer.address.as_str());
     let mut stream = open(alloc, &peer, &mut socket)?;
-    send(alloc, &mut socket, LAST[0])?;
-    socket.foresee(&all[1..]);
-    let texts = answer_each(&peer, &mut stream, &requests)?;
-    expect(alloc, &mut socket, &mut [0; 16384], &texts[0])?;
-    send(alloc, &mut socket, LAST[2])?;
-    let mut stream = peer.accept()?;
-    assert_eq!(rt; peer.answer(&mut stream)?, texts[2]);
-    expect(alloc, &mut socket, &mut [0; 16384], &texts[2])
+    let texts = answer_all(alloc, &peer, &mut stream, &mut socket, &requests)?;
+    start_last(&rt, &peer, &mut socket, &texts)
+}
+
+/// A request that ends the connection is sent, and others behind it early. Its answer says so.
+fn close<R>(
+    alloc: Global,
+    peer: &Peer,
+    stream: &mut TcpStream,
+    socket: &mut Socket<'_, R>,
+    behind: &[Vec<u8>],
+) -> Result<(), Fail>
+where
+    R: Net<Stream = TcpStream> + AllocGlobal,
+{
+    let closing = request(alloc, LAST[0], true)?;
+    send_text(socket, &closing)?;
+    socket.foresee(behind);
+    let closed = peer.answer_to(stream, &closing)?;
+    expect(alloc, socket, &mut [0; 16384], &closed)
+}
+
+/// A request that was sent early on a connection that ends is sent again, and exchanged on a new one.
+fn close_and_send_again<R>(
+    alloc: Global,
+    peer: &Peer,
+    stream: &mut TcpStream,
+    socket: &mut Socket<'_, R>,
+    behind: &[Vec<u8>],
+) -> Result<(), Fail>
+where
+    R: Net<Stream = TcpStream> + AllocGlobal,
+{
+    close(alloc, peer, stream, socket, behind)?;
+    send(alloc, socket, LAST[1])?;
+    peer.exchange_anew(alloc, socket, &mut [0; 16384])?;
+    Ok(())
 }
 
 /// The answer says that the connection ends: what was sent early on it is sent again on a new one.
@@ -117,17 +204,42 @@ fn sends_again_what_was_sent_early_where_the_connection_ends(rt: HostRuntime) ->
     let alloc = rt.alloc();
     let peer = Peer::new(&rt, f5(alloc)?)?;
     let requests = requests(alloc)?;
-    let all = &requests[..];
     let mut socket = Socket::new(&rt, peer.address.as_str());
     let mut stream = open(alloc, &peer, &mut socket)?;
-    let closing = request(alloc, LAST[0], true)?;
-    send_text(&mut socket, &closing)?;
-    socket.foresee(&all[1..]);
-    let closed = peer.answer_to(&mut stream, &closing)?;
-    expect(alloc, &mut socket, &mut [0; 16384], &closed)?;
-    send(alloc, &mut socket, LAST[1])?;
-    let mut stream = peer.accept()?;
-    peer.exchange(alloc, &mut stream, &mut socket, &mut [0; 16384])
+    let all = &requests[..];
+    close_and_send_again(alloc, &peer, &mut stream, &mut socket, &all[1..])
+}
+
+/// A request is sent first of all, and others behind it are told. It is exchanged on the connection that is given.
+fn open_telling<R>(
+    alloc: Global,
+    peer: &Peer,
+    socket: &mut Socket<'_, R>,
+    behind: &[Vec<u8>],
+) -> Result<TcpStream, Fail>
+where
+    R: Net<Stream = TcpStream> + AllocGlobal,
+{
+    socket.keep_open();
+    send(alloc, socket, LAST[0])?;
+    socket.foresee(behind);
+    peer.exchange_anew(alloc, socket, &mut [0; 16384])
+}
+
+/// Requests are told before the first answer: no byte of them comes before the last one is sent.
+fn tell_first<R>(
+    alloc: Global,
+    peer: &Peer,
+    socket: &mut Socket<'_, R>,
+    requests: &[Vec<u8>; 3],
+) -> Result<(), Fail>
+where
+    R: Net<Stream = TcpStream> + AllocGlobal,
+{
+    let all = &requests[..];
+    let mut stream = open_telling(alloc, peer, socket, &all[1..])?;
+    send(alloc, socket, LAST[2])?;
+    come(alloc, &mut stream, &all[2..])
 }
 
 /// Nothing is sent early on a connection that hasn't gone on behind an answer.
@@ -136,13 +248,6 @@ fn sends_nothing_early_on_a_new_connection(rt: HostRuntime) -> Result<(), Fail> 
     let alloc = rt.alloc();
     let peer = Peer::new(&rt, f5(alloc)?)?;
     let requests = requests(alloc)?;
-    let all = &requests[..];
     let mut socket = Socket::new(&rt, peer.address.as_str());
-    socket.keep_open();
-    send(alloc, &mut socket, LAST[0])?;
-    socket.foresee(&all[1..]);
-    let mut stream = peer.accept()?;
-    peer.exchange(alloc, &mut stream, &mut socket, &mut [0; 16384])?;
-    send(alloc, &mut socket, LAST[2])?;
-    come(alloc, &mut stream, &all[2..])
+    tell_first(alloc, &peer, &mut socket, &requests)
 }

@@ -1,10 +1,41 @@
 //! A connection that is kept from one request to the next, and the answers after which it isn't.
+ghost use Rattle.std.specs.Prelude.{◌<◌, length};
+
 use super::peer::{Peer, request, send, send_text};
 use cog_client::Pieces;
 use fixtures_support::f1;
 use sockets::Socket;
+use std::alloc::Global;
 use std::io::Write;
+use std::net::{Net, TcpStream};
+use std::process::Abort;
 use std::test::Fail;
+
+/// A request is sent, whose answer is taken on a new connection, which is given.
+fn begin<R>(alloc: Global, peer: &Peer, socket: &mut Socket<'_, R>) -> Result<TcpStream, Fail>
+where
+    R: Net<Stream = TcpStream> + AllocGlobal,
+{
+    send(alloc, socket, 9)?;
+    peer.exchange_anew(alloc, socket, &mut [0; 1000])
+}
+
+/// A request is sent, up to a last byte, whose answer is taken on this connection, in pieces for which there is this room.
+fn go_on<R>(
+    alloc: Global,
+    peer: &Peer,
+    stream: &mut TcpStream,
+    socket: &mut Socket<'_, R>,
+    last: u64,
+    room: &mut [u8],
+) -> Result<(), Fail>
+where
+    R: Net<Stream = TcpStream> + AllocGlobal,
+    requires { 0 < length room.old }
+{
+    send(alloc, socket, last)?;
+    peer.exchange(alloc, stream, socket, room)
+}
 
 /// Three answers, taken in pieces of at most 1,000 bytes, of one, and of 170, behind each of which a request is sent.
 #[test]
@@ -13,13 +44,22 @@ fn sends_requests_one_behind_another(rt: HostRuntime) -> Result<(), Fail> {
     let peer = Peer::new(&rt, f1(alloc)?)?;
     let mut socket = Socket::new(&rt, peer.address.as_str());
     socket.keep_open();
-    send(alloc, &mut socket, 9)?;
-    let mut stream = peer.accept()?;
-    peer.exchange(alloc, &mut stream, &mut socket, &mut [0; 1000])?;
-    send(alloc, &mut socket, 19)?;
-    peer.exchange(alloc, &mut stream, &mut socket, &mut [0; 1])?;
-    send(alloc, &mut socket, 29)?;
-    peer.exchange(alloc, &mut stream, &mut socket, &mut [0; 170])
+    let mut stream = begin(alloc, &peer, &mut socket)?;
+    go_on(alloc, &peer, &mut stream, &mut socket, 19, &mut [0; 1])?;
+    go_on(alloc, &peer, &mut stream, &mut socket, 29, &mut [0; 170])
+}
+
+/// A request that ends the connection is sent, whose answer says so. The connection.
+fn begin_closing<R>(
+    alloc: Global,
+    peer: &Peer,
+    socket: &mut Socket<'_, R>,
+) -> Result<TcpStream, Fail>
+where
+    R: Net<Stream = TcpStream> + AllocGlobal,
+{
+    send_text(socket, &request(alloc, 9, true)?)?;
+    peer.exchange_anew(alloc, socket, &mut [0; 1000])
 }
 
 /// An answer that says that the connection ends.
@@ -29,12 +69,42 @@ fn connects_anew_behind_an_answer_that_closes(rt: HostRuntime) -> Result<(), Fai
     let peer = Peer::new(&rt, f1(alloc)?)?;
     let mut socket = Socket::new(&rt, peer.address.as_str());
     socket.keep_open();
-    send_text(&mut socket, &request(alloc, 9, true)?)?;
+    let _closing = begin_closing(alloc, &peer, &mut socket)?;
+    begin(alloc, &peer, &mut socket)?;
+    Ok(())
+}
+
+/// An answer of which the first bytes are read. The connection.
+fn begin_in_part<R>(
+    rt: &(impl Abort + AllocGlobal),
+    peer: &Peer,
+    socket: &mut Socket<'_, R>,
+) -> Result<TcpStream, Fail>
+where
+    R: Net<Stream = TcpStream> + AllocGlobal,
+{
+    send(rt.alloc(), socket, 9)?;
     let mut stream = peer.accept()?;
-    peer.exchange(alloc, &mut stream, &mut socket, &mut [0; 1000])?;
-    send(alloc, &mut socket, 9)?;
+    peer.answer(&mut stream)?;
+    assert_eq!(rt; socket.next(&mut [0; 20]), Ok(20));
+    Ok(stream)
+}
+
+/// An answer without a length, whose end isn't waited for. The connection.
+fn begin_without_length<R>(
+    rt: &(impl Abort + AllocGlobal),
+    peer: &Peer,
+    socket: &mut Socket<'_, R>,
+) -> Result<TcpStream, Fail>
+where
+    R: Net<Stream = TcpStream> + AllocGlobal,
+{
+    send(rt.alloc(), socket, 9)?;
     let mut stream = peer.accept()?;
-    peer.exchange(alloc, &mut stream, &mut socket, &mut [0; 1000])
+    stream.write_all(b"HTTP/1.1 200 OK\r\nETag: \"1-1\"\r\n\r\n")?;
+    let read = (socket.next(&mut [0; 1000]), socket.next(&mut [0; 1000]));
+    assert_eq!(rt; read, (Ok(32), Ok(0)));
+    Ok(stream)
 }
 
 /// An answer that isn't read to its end, and one without a length, whose end isn't waited for.
@@ -44,16 +114,8 @@ fn connects_anew_behind_an_answer_without_an_end(rt: HostRuntime) -> Result<(), 
     let peer = Peer::new(&rt, f1(alloc)?)?;
     let mut socket = Socket::new(&rt, peer.address.as_str());
     socket.keep_open();
-    send(alloc, &mut socket, 9)?;
-    let mut stream = peer.accept()?;
-    peer.answer(&mut stream)?;
-    assert_eq!(rt; socket.next(&mut [0; 20]), Ok(20));
-    send(alloc, &mut socket, 9)?;
-    let mut stream = peer.accept()?;
-    stream.write_all(b"HTTP/1.1 200 OK\r\nETag: \"1-1\"\r\n\r\n")?;
-    assert_eq!(rt; socket.next(&mut [0; 1000]), Ok(32));
-    assert_eq!(rt; socket.next(&mut [0; 1000]), Ok(0));
-    send(alloc, &mut socket, 9)?;
-    let mut stream = peer.accept()?;
-    peer.exchange(alloc, &mut stream, &mut socket, &mut [0; 1000])
+    let _in_part = begin_in_part(&rt, &peer, &mut socket)?;
+    let _without_length = begin_without_length(&rt, &peer, &mut socket)?;
+    begin(alloc, &peer, &mut socket)?;
+    Ok(())
 }

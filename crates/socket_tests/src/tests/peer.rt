@@ -74,6 +74,20 @@ impl Peer {
         let text = self.answer(stream)?;
         expect(alloc, socket, room, &text)
     }
+
+    /// Answers what came on a new connection, which is given. The same comes over the socket, in pieces for which there is this room.
+    pub fn exchange_anew<P: Pieces>(
+        &self,
+        alloc: Global,
+        socket: &mut P,
+        room: &mut [u8],
+    ) -> Result<TcpStream, Fail>
+        requires { 0 < length room.old }
+    {
+        let mut stream = self.accept()?;
+        self.exchange(alloc, &mut stream, socket, room)?;
+        Ok(stream)
+    }
 }
 
 /// The request for the first bytes of the file `a`, up to a last one, which ends the connection or doesn't.
