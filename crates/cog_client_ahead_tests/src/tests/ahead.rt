@@ -2,9 +2,10 @@
 //! and by no byte more.
 use cog_client::{Client, Query};
 use cog_client_support::{AHEAD, NotDone, OLD, Publication, client_of_a, cog};
-use cog_reader_support::{Plain, WINDOWS, is_wanted, of_level, window};
+use cog_reader_support::{Fixture, Plain, WINDOWS, Want, is_wanted, of_level, window};
 use fixtures_support::f5;
 use std::alloc::Global;
+use std::process::Abort;
 use std::test::Fail;
 use tiff_dir::Span;
 
@@ -24,6 +25,21 @@ fn bytes_in(span: Span, file: &[u8]) -> u64 {
     end.saturating_sub(span.first)
 }
 
+/// Makes a request, if there is one, and answers it. The bytes of the answer's body.
+fn exchange(
+    alloc: Global,
+    client: &mut Client,
+    published: Publication<'_>,
+) -> Result<Option<u64>, NotDone> {
+    if client.request()?.is_none() {
+        return Ok(None);
+    }
+    let span = client.asked().ok_or(NotDone::NoSuchPart)?;
+    let answer = published.asked(alloc, span)?;
+    client.deliver(&answer)?;
+    Ok(Some(bytes_in(span, published.file)))
+}
+
 /// Reads a window by whole answers, and says how. None where no report comes by the hundredth.
 fn read(
     alloc: Global,
@@ -34,13 +50,10 @@ fn read(
     client.open(query);
     let mut bytes = 0u64;
     for requests in 0..100u32 {
-        if client.request()?.is_none() {
-            return Ok(Some(Traffic { requests, bytes }));
+        match exchange(alloc, client, published)? {
+            None => return Ok(Some(Traffic { requests, bytes })),
+            Some(count) => bytes = bytes.saturating_add(count),
         }
-        let span = client.asked().ok_or(NotDone::NoSuchPart)?;
-        bytes = bytes.saturating_add(bytes_in(span, published.file));
-        let answer = published.asked(alloc, span)?;
-        client.deliver(&answer)?;
     }
     Ok(None)
 }
@@ -52,17 +65,27 @@ fn looking(alloc: Global, blocks: u32, ahead: u32) -> Result<Client, NotDone> {
     Ok(client)
 }
 
+/// Whether a window of a fixture is read right by such a client.
+fn is_read(
+    alloc: Global,
+    fixture: Fixture,
+    (query, want): (Query, Want<'_>),
+    (blocks, ahead): (u32, u32),
+) -> Result<bool, NotDone> {
+    let file = fixture.file(alloc)?;
+    let mut client = looking(alloc, blocks, ahead)?;
+    let published = Publication {
+        tag: OLD,
+        file: &file,
+    };
+    read(alloc, &mut client, published, query)?;
+    Ok(is_wanted(client.report().map(|report| &report.outcome), want))
+}
+
 /// The number of the first window of the tables that isn't read right by such a client.
 fn wrong_row(alloc: Global, blocks: u32, ahead: u32) -> Result<Option<usize>, NotDone> {
     for (row, (fixture, numbers, want)) in WINDOWS.iter().enumerate() {
-        let file = fixture.file(alloc)?;
-        let published = Publication {
-            tag: OLD,
-            file: &file,
-        };
-        let mut client = looking(alloc, blocks, ahead)?;
-        read(alloc, &mut client, published, window(*numbers))?;
-        if !is_wanted(client.report().map(|report| &report.outcome), *want) {
+        if !is_read(alloc, *fixture, (window(*numbers), *want), (blocks, ahead))? {
             return Ok(Some(row));
         }
     }
@@ -90,6 +113,21 @@ fn query_at((x, y, w, h): Place) -> Query {
 /// Windows of f5: the whole image, and parts of some tiles.
 const LARGE: [Place; 3] = [(0, 0, 1280, 1024), (200, 100, 600, 700), (1023, 767, 2, 2)];
 
+/// Whether a window is read right by a client.
+fn is_read_by(
+    alloc: Global,
+    client: &mut Client,
+    plain: &Plain,
+    place: Place,
+) -> Result<bool, NotDone> {
+    let (query, file) = (query_at(place), &plain.file);
+    read(alloc, client, Publication { tag: OLD, file }, query)?;
+    match client.report() {
+        None => Ok(false),
+        Some(report) => Ok(plain.is_answer(alloc, query, &report.outcome)?),
+    }
+}
+
 /// The first window of these that isn't read right by such a client.
 fn wrong_window(
     alloc: Global,
@@ -97,32 +135,34 @@ fn wrong_window(
     places: &[Place],
     (blocks, ahead): (u32, u32),
 ) -> Result<Option<Place>, NotDone> {
-    let file = &plain.file;
     let mut client = looking(alloc, blocks, ahead)?;
     for place in places {
-        let query = query_at(*place);
-        read(alloc, &mut client, Publication { tag: OLD, file }, query)?;
-        let is_right = match client.report() {
-            None => false,
-            Some(report) => plain.is_answer(alloc, query, &report.outcome)?,
-        };
-        if !is_right {
+        if !is_read_by(alloc, &mut client, plain, *place)? {
             return Ok(Some(*place));
         }
     }
     Ok(None)
 }
 
-#[test]
-fn reads_large_windows_however_far_it_looks(rt: HostRuntime) -> Result<(), Fail> {
-    let plain = Plain::new(rt.alloc(), f5(rt.alloc())?)?;
+/// Expects that these windows are read right, however many blocks a client has, and however far it looks.
+fn expect_right(
+    rt: &(impl Abort + AllocGlobal),
+    plain: &Plain,
+    places: &[Place],
+) -> Result<(), Fail> {
     for blocks in CAPACITIES {
         for ahead in AHEAD {
-            let wrong = wrong_window(rt.alloc(), &plain, &LARGE, (blocks, ahead))?;
+            let wrong = wrong_window(rt.alloc(), plain, places, (blocks, ahead))?;
             assert_eq!(rt; wrong, None, "{blocks} {ahead}");
         }
     }
     Ok(())
+}
+
+#[test]
+fn reads_large_windows_however_far_it_looks(rt: HostRuntime) -> Result<(), Fail> {
+    let plain = Plain::new(rt.alloc(), f5(rt.alloc())?)?;
+    expect_right(&rt, &plain, &LARGE)
 }
 
 /// Windows of an image of 8 by 8 tiles. Without looking ahead there is a request for each of the tiles, and one for the first
@@ -135,24 +175,31 @@ const ROWS: [(Place, u32, u32); 4] = [
 ];
 
 /// How a new client reads a window.
-fn measured(
-    alloc: Global,
-    file: &[u8],
-    query: Query,
-    ahead: u32,
-) -> Result<Option<Traffic>, NotDone> {
+fn measured(alloc: Global, file: &[u8], query: Query, ahead: u32) -> Result<Traffic, Fail> {
     let mut client = looking(alloc, 66, ahead)?;
-    read(alloc, &mut client, Publication { tag: OLD, file }, query)
+    let traffic = read(alloc, &mut client, Publication { tag: OLD, file }, query)?;
+    Ok(traffic.ok_or("no report")?)
+}
+
+/// Expects so many requests for a window without looking ahead and with it, and the same bytes.
+fn expect_requests(
+    rt: &(impl Abort + AllocGlobal),
+    file: &[u8],
+    place: Place,
+    wanted: (u32, u32),
+) -> Result<(), Fail> {
+    let first = measured(rt.alloc(), file, query_at(place), 0)?;
+    let then = measured(rt.alloc(), file, query_at(place), 64)?;
+    let requests = (first.requests, then.requests);
+    assert_eq!(rt; (requests, first.bytes), (wanted, then.bytes), "{place:?}");
+    Ok(())
 }
 
 #[test]
 fn asks_a_row_of_tiles_at_once(rt: HostRuntime) -> Result<(), Fail> {
     let file = cog(rt.alloc(), 8, false)?;
     for (place, near, far) in ROWS {
-        let first = measured(rt.alloc(), &file, query_at(place), 0)?.ok_or("no report")?;
-        let then = measured(rt.alloc(), &file, query_at(place), 64)?.ok_or("no report")?;
-        assert_eq!(rt; (first.requests, then.requests), (near, far), "{place:?}");
-        assert_eq!(rt; first.bytes, then.bytes, "{place:?}");
+        expect_requests(&rt, &file, place, (near, far))?;
     }
     Ok(())
 }
@@ -163,11 +210,5 @@ const APART: [Place; 3] = [(0, 0, 768, 768), (255, 255, 258, 258), (0, 766, 768,
 #[test]
 fn reads_tiles_that_stand_apart_however_far_it_looks(rt: HostRuntime) -> Result<(), Fail> {
     let plain = Plain::new(rt.alloc(), cog(rt.alloc(), 3, false)?)?;
-    for blocks in CAPACITIES {
-        for ahead in AHEAD {
-            let wrong = wrong_window(rt.alloc(), &plain, &APART, (blocks, ahead))?;
-            assert_eq!(rt; wrong, None, "{blocks} {ahead}");
-        }
-    }
-    Ok(())
+    expect_right(&rt, &plain, &APART)
 }

@@ -1,7 +1,7 @@
 //! The requests that a client tells early are those that it makes then, where answers come whole.
 use cog_client::{Client, Query};
 use cog_client_support::{AHEAD, NotDone, OLD, Publication, client_of_a, cog};
-use cog_reader_support::{WINDOWS, of_level, window};
+use cog_reader_support::{Fixture, WINDOWS, of_level, window};
 use std::alloc::Global;
 use std::test::Fail;
 
@@ -11,6 +11,62 @@ const MOST: u32 = 8;
 /// The requests that were told and not made yet, the next one first.
 fn told(early: &[Vec<u8>], at: usize) -> &[Vec<u8>] {
     early.get(at..).unwrap_or(&[])
+}
+
+/// How a client's request goes.
+#[derive(Clone, Copy)]
+enum Made {
+    /// There is none.
+    Nothing,
+    /// It is the one that was told, and the others are told as before.
+    Told,
+    /// None was told.
+    First,
+    /// Another one was told, or what was told is told otherwise an answer later.
+    Otherwise,
+}
+
+/// What becomes of a request.
+fn becomes(early: &[Vec<u8>], request: &Vec<u8>) -> Made {
+    match early.first() {
+        None => Made::First,
+        Some(first) if *first == *request => Made::Told,
+        Some(_) => Made::Otherwise,
+    }
+}
+
+/// Whether what is told now begins with what was told and not made yet. It takes its place.
+fn tells_on(client: &mut Client, early: &mut Vec<Vec<u8>>) -> Result<bool, NotDone> {
+    let then = client.early_requests(MOST)?;
+    let is_same = then.starts_with(told(early, 1));
+    *early = then;
+    Ok(is_same)
+}
+
+/// Answers what the client asks.
+fn answer(alloc: Global, client: &mut Client, published: Publication<'_>) -> Result<(), NotDone> {
+    let span = client.asked().ok_or(NotDone::NoSuchPart)?;
+    let answer = published.asked(alloc, span)?;
+    client.deliver(&answer)?;
+    Ok(())
+}
+
+/// Makes a request, if there is one, and answers it.
+fn exchange(
+    alloc: Global,
+    client: &mut Client,
+    published: Publication<'_>,
+    early: &mut Vec<Vec<u8>>,
+) -> Result<Made, NotDone> {
+    let Some(request) = client.request()? else {
+        return Ok(Made::Nothing);
+    };
+    let made = becomes(early, &request);
+    if !tells_on(client, early)? {
+        return Ok(Made::Otherwise);
+    }
+    answer(alloc, client, published)?;
+    Ok(made)
 }
 
 /// Reads a window by whole answers. How many of its requests were told before the answer to the one before came; none where another one
@@ -25,23 +81,12 @@ fn told_of(
     let mut early: Vec<Vec<u8>> = Vec::new(alloc);
     let mut count = 0u32;
     for _ in 0..100u32 {
-        let Some(request) = client.request()? else {
-            return Ok(Some(count));
-        };
-        if let Some(first) = early.first() {
-            if *first != request {
-                return Ok(None);
-            }
-            count = count.saturating_add(1);
+        match exchange(alloc, client, published, &mut early)? {
+            Made::Nothing => return Ok(Some(count)),
+            Made::Told => count = count.saturating_add(1),
+            Made::First => {}
+            Made::Otherwise => return Ok(None),
         }
-        let then = client.early_requests(MOST)?;
-        if !then.starts_with(told(&early, 1)) {
-            return Ok(None);
-        }
-        early = then;
-        let span = client.asked().ok_or(NotDone::NoSuchPart)?;
-        let answer = published.asked(alloc, span)?;
-        client.deliver(&answer)?;
     }
     Ok(None)
 }
@@ -62,32 +107,47 @@ const ROWS: [((u32, u32, u32, u32), u32); 4] = [
     ((300, 300, 1024, 1024), 4),
 ];
 
+/// How many requests of a window are told to a client that keeps its connection.
+fn told_to_new(
+    alloc: Global,
+    file: &[u8],
+    (x, y, w, h): (u32, u32, u32, u32),
+) -> Result<Option<u32>, NotDone> {
+    let mut client = keeping(alloc, 256, 64)?;
+    let published = Publication { tag: OLD, file };
+    told_of(alloc, &mut client, published, of_level(x, y, w, h, 0))
+}
+
 #[test]
 fn tells_each_row_of_tiles_but_the_first(rt: HostRuntime) -> Result<(), Fail> {
-    let alloc = rt.alloc();
-    let file = cog(alloc, 8, false)?;
+    let file = cog(rt.alloc(), 8, false)?;
+    for (place, wanted) in ROWS {
+        let count = told_to_new(rt.alloc(), &file, place)?;
+        assert_eq!(rt; count, Some(wanted), "{place:?}");
+    }
+    Ok(())
+}
+
+/// Whether requests of a window of a fixture are told rightly to such a client.
+fn is_told(
+    alloc: Global,
+    fixture: Fixture,
+    query: Query,
+    (blocks, ahead): (u32, u32),
+) -> Result<bool, NotDone> {
+    let file = fixture.file(alloc)?;
+    let mut client = keeping(alloc, blocks, ahead)?;
     let published = Publication {
         tag: OLD,
         file: &file,
     };
-    for ((x, y, w, h), wanted) in ROWS {
-        let mut client = keeping(alloc, 256, 64)?;
-        let count = told_of(alloc, &mut client, published, of_level(x, y, w, h, 0))?;
-        assert_eq!(rt; count, Some(wanted), "{x} {y} {w} {h}");
-    }
-    Ok(())
+    Ok(told_of(alloc, &mut client, published, query)?.is_some())
 }
 
 /// The number of the first window of the tables of which a request is told wrongly to such a client.
 fn wrong_row(alloc: Global, blocks: u32, ahead: u32) -> Result<Option<usize>, NotDone> {
     for (row, (fixture, numbers, _)) in WINDOWS.iter().enumerate() {
-        let file = fixture.file(alloc)?;
-        let published = Publication {
-            tag: OLD,
-            file: &file,
-        };
-        let mut client = keeping(alloc, blocks, ahead)?;
-        if told_of(alloc, &mut client, published, window(*numbers))?.is_none() {
+        if !is_told(alloc, *fixture, window(*numbers), (blocks, ahead))? {
             return Ok(Some(row));
         }
     }
@@ -105,17 +165,17 @@ fn tells_nothing_else_of_the_windows_of_the_tables(rt: HostRuntime) -> Result<()
     Ok(())
 }
 
-#[test]
-fn tells_nothing_where_connections_are_closed(rt: HostRuntime) -> Result<(), Fail> {
-    let alloc = rt.alloc();
-    let file = cog(alloc, 8, false)?;
-    let published = Publication {
-        tag: OLD,
-        file: &file,
-    };
+/// How many requests of a window are told to a client that doesn't keep its connection.
+fn told_to_closing(alloc: Global, file: &[u8]) -> Result<Option<u32>, NotDone> {
     let mut client = client_of_a(alloc, 256)?;
     client.look_ahead(64);
     let query = of_level(300, 300, 1024, 1024, 0);
-    assert_eq!(rt; told_of(alloc, &mut client, published, query)?, Some(0));
+    told_of(alloc, &mut client, Publication { tag: OLD, file }, query)
+}
+
+#[test]
+fn tells_nothing_where_connections_are_closed(rt: HostRuntime) -> Result<(), Fail> {
+    let file = cog(rt.alloc(), 8, false)?;
+    assert_eq!(rt; told_to_closing(rt.alloc(), &file)?, Some(0));
     Ok(())
 }
