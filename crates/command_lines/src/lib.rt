@@ -1,6 +1,7 @@
 //! The command lines of `cogserve`, `cogread` and `cogworld`: their words, the numbers that words write, and what help tells.
 #![tactic(auto)]
 
+mod arguments;
 mod help;
 mod numbers;
 mod place;

@@ -1,6 +1,7 @@
 //! The command line of `cogread`.
+use crate::arguments::{choice, flag};
 use crate::help::{READ_NOTES, VERSION};
-use clap::{Arg, ArgAction, ArgMatches, Command, Error};
+use clap::{Arg, ArgMatches, Command, Error};
 use std::alloc::{AllocError, Global};
 use std::convert::AsStr;
 
@@ -74,98 +75,60 @@ fn word<'a>(alloc: Global, name: &'a str, help: &'a str) -> Arg<'a> {
     Arg::new(alloc, name).help(help).required(true)
 }
 
-/// Adds a word that has to stand where the whole of a level isn't asked for.
-fn add_side<'a>(
-    alloc: Global,
-    command: Command<'a>,
-    name: &'a str,
-    help: &'a str,
-) -> Result<Command<'a>, AllocError> {
+/// A word that has to stand where the whole of a level isn't asked for.
+fn side<'a>(alloc: Global, name: &'a str, help: &'a str) -> Result<Arg<'a>, AllocError> {
     let side = Arg::new(alloc, name).help(help);
-    command.arg(
-        side.required_unless_present("whole")?
-            .conflicts_with("whole")?,
-    )
+    side.required_unless_present("whole")?
+        .conflicts_with("whole")
 }
 
-/// An option with one value.
-fn option<'a>(alloc: Global, name: &'a str, value: &'a str, help: &'a str) -> Arg<'a> {
-    Arg::new(alloc, name)
-        .long(name)
-        .value_name(value)
-        .help(help)
-        .action(ArgAction::Set)
-}
-
-/// Adds an option with one value.
-fn add_option<'a>(
+/// An option without a value, which doesn't stand beside another option.
+fn flag_without<'a>(
     alloc: Global,
-    command: Command<'a>,
-    name: &'a str,
-    value: &'a str,
-    help: &'a str,
-) -> Result<Command<'a>, AllocError> {
-    command.arg(option(alloc, name, value, help))
-}
-
-/// An option without a value.
-fn flag<'a>(alloc: Global, name: &'a str, help: &'a str) -> Arg<'a> {
-    Arg::new(alloc, name)
-        .long(name)
-        .help(help)
-        .action(ArgAction::SetTrue)
-}
-
-/// Adds an option without a value.
-fn add_flag<'a>(
-    alloc: Global,
-    command: Command<'a>,
-    name: &'a str,
-    help: &'a str,
-) -> Result<Command<'a>, AllocError> {
-    command.arg(flag(alloc, name, help))
-}
-
-/// Adds an option without a value, which doesn't stand beside another option.
-fn add_flag_without<'a>(
-    alloc: Global,
-    command: Command<'a>,
     name: &'a str,
     other: &'a str,
     help: &'a str,
+) -> Result<Arg<'a>, AllocError> {
+    flag(alloc, name, help).conflicts_with(other)
+}
+
+/// Adds an argument, if there is one.
+fn add<'a>(
+    command: Command<'a>,
+    argument: Result<Arg<'a>, AllocError>,
 ) -> Result<Command<'a>, AllocError> {
-    command.arg(flag(alloc, name, help).conflicts_with(other)?)
+    command.arg(argument?)
 }
 
 /// Adds the options of how much is asked for.
 fn add_amounts<'a>(alloc: Global, command: Command<'a>) -> Result<Command<'a>, AllocError> {
     let help = "At most so many requests, 1 to 65536 (default 64)";
-    let command = add_option(alloc, command, "requests", "N", help)?;
+    let command = command.arg(choice(alloc, "requests", "N", help))?;
     let help = "Blocks of 16384 bytes that are kept, 66 to 4096 (default 256)";
-    let command = add_option(alloc, command, "blocks", "N", help)?;
+    let command = command.arg(choice(alloc, "blocks", "N", help))?;
     let help =
         "Blocks that a request may ask for early, behind those that are needed next, 0 to 64 (default 0; with a URL 64)";
-    add_option(alloc, command, "ahead", "N", help)
+    command.arg(choice(alloc, "ahead", "N", help))
 }
 
 /// Adds the options of whether a connection is kept.
 fn add_connections<'a>(alloc: Global, command: Command<'a>) -> Result<Command<'a>, AllocError> {
     let help = "Keeps one connection for all requests, as long as the server does";
-    let command = add_flag_without(alloc, command, "keep", "close", help)?;
+    let command = add(command, flag_without(alloc, "keep", "close", help))?;
     let help =
         "Connects anew for each request (the default for SERVER NAME; a URL's connection is kept)";
-    add_flag(alloc, command, "close", help)
+    command.arg(flag(alloc, "close", help))
 }
 
 /// Adds the options of what is written.
 fn add_telling<'a>(alloc: Global, command: Command<'a>) -> Result<Command<'a>, AllocError> {
     let help =
         "Writes to this file, which is replaced once all is there (default: standard output)";
-    let command = add_option(alloc, command, "output", "FILE", help)?;
+    let command = command.arg(choice(alloc, "output", "FILE", help))?;
     let help = "Tells each exchange, and why there is no report, on standard error";
-    let command = add_flag(alloc, command, "verbose", help)?;
+    let command = command.arg(flag(alloc, "verbose", help))?;
     let help = "Draws on standard error, as one line over itself, how many ranges and bytes came";
-    add_flag_without(alloc, command, "progress", "verbose", help)
+    add(command, flag_without(alloc, "progress", "verbose", help))
 }
 
 /// Adds the options that each command has.
@@ -190,22 +153,25 @@ fn command<'a>(
 
 /// Adds the sides of a window.
 fn add_sides<'a>(alloc: Global, command: Command<'a>) -> Result<Command<'a>, AllocError> {
-    let command = add_side(alloc, command, "X", "The left column, in pixels from 0")?;
-    let command = add_side(alloc, command, "Y", "The top row, in pixels from 0")?;
-    let command = add_side(alloc, command, "W", "The width, in pixels")?;
-    add_side(alloc, command, "H", "The height, in pixels")
+    let command = add(
+        command,
+        side(alloc, "X", "The left column, in pixels from 0"),
+    )?;
+    let command = add(command, side(alloc, "Y", "The top row, in pixels from 0"))?;
+    let command = add(command, side(alloc, "W", "The width, in pixels"))?;
+    add(command, side(alloc, "H", "The height, in pixels"))
 }
 
 /// Adds the options of which level is read, and how much of it.
 fn add_levels<'a>(alloc: Global, command: Command<'a>) -> Result<Command<'a>, AllocError> {
     let help = "The level, 0 for the largest (default 0)";
-    let level = option(alloc, "level", "N", help);
-    let command = command.arg(level.conflicts_with("columns")?)?;
+    let level = choice(alloc, "level", "N", help).conflicts_with("columns");
+    let command = add(command, level)?;
     let help =
         "The smallest level in which the window is at least C columns wide; X Y W H are then of level 0 (no default)";
-    let command = add_option(alloc, command, "columns", "C", help)?;
+    let command = command.arg(choice(alloc, "columns", "C", help))?;
     let help = "The whole of the level, in the place of X Y W H";
-    add_flag_without(alloc, command, "whole", "columns", help)
+    add(command, flag_without(alloc, "whole", "columns", help))
 }
 
 fn info_command<'a>(alloc: Global) -> Result<Command<'a>, AllocError> {
@@ -225,7 +191,7 @@ fn describe_command<'a>(alloc: Global) -> Result<Command<'a>, AllocError> {
         "Tells what a file is: its levels, coordinate system, origin, size of a pixel and corners";
     let command = command(alloc, "describe", about, DESCRIBE_EXAMPLE)?;
     let help = "Tells it in JSON, with gdalinfo's keys where they mean the same";
-    add_flag(alloc, command, "json", help)
+    command.arg(flag(alloc, "json", help))
 }
 
 /// Adds a command, if there is one.
@@ -236,16 +202,20 @@ fn add_command<'a>(
     command.subcommand(added?)
 }
 
-fn read_command<'a>(alloc: Global) -> Result<Command<'a>, AllocError> {
-    let command = Command::new(alloc, "cogread")
+/// The command without its subcommands.
+fn bare_command<'a>(alloc: Global) -> Command<'a> {
+    Command::new(alloc, "cogread")
         .about(
             "Reads a window, the info or a description of a file over HTTP, by single byte ranges",
         )
         .version(VERSION)
         .propagate_version(true)
         .after_help(READ_NOTES)
-        .subcommand_required(true);
-    let command = add_command(command, window_command(alloc))?;
+        .subcommand_required(true)
+}
+
+fn read_command<'a>(alloc: Global) -> Result<Command<'a>, AllocError> {
+    let command = add_command(bare_command(alloc), window_command(alloc))?;
     let command = add_command(command, info_command(alloc))?;
     add_command(command, describe_command(alloc))
 }
@@ -293,14 +263,19 @@ fn line_of<'a>(matches: &ArgMatches<'a>, asked: AskedWords<'a>) -> ReadLine<'a> 
     }
 }
 
+/// The line of the subcommand that was found.
+fn found_line<'a>(matches: &ArgMatches<'a>) -> ReadLine<'a> {
+    match matches.subcommand() {
+        Some(("window", window)) => line_of(window, window_words(window)),
+        Some(("describe", file)) => line_of(file, description_words(file)),
+        Some((_, info)) => line_of(info, AskedWords::Info),
+        None => line_of(matches, AskedWords::Info),
+    }
+}
+
 /// Reads `cogread`'s words, of which the first is its own name.
 pub fn read_line<'a, S: AsStr>(alloc: Global, words: &'a [S]) -> Result<ReadLine<'a>, Error> {
     let command = read_command(alloc)?;
     let matches = command.try_get_matches_from(words)?;
-    match matches.subcommand() {
-        Some(("window", window)) => Ok(line_of(window, window_words(window))),
-        Some(("describe", file)) => Ok(line_of(file, description_words(file))),
-        Some((_, info)) => Ok(line_of(info, AskedWords::Info)),
-        None => Ok(line_of(&matches, AskedWords::Info)),
-    }
+    Ok(found_line(&matches))
 }

@@ -1,8 +1,9 @@
 //! The command line of `cogserve`.
 ghost use Rattle.std.specs.Prelude.{◌≡◌, true, false, IfOk, IfErr, codes, map};
 ghost use Rattle.clap.specs.Words.{FailsBy, app_of, fault_of, kind_of, matches_of, rule_of, takes};
-ghost use Rattle.command_lines.specs.ServeLine.{HasValues, choice, flag, option, serve_app, words as some_words};
+ghost use Rattle.command_lines.specs.ServeLine.{HasValues, option, serve_app, words as some_words};
 
+use crate::arguments::{choice, flag};
 use crate::help::{SERVE_NOTES, VERSION};
 use clap::error::ErrorKind;
 use clap::{Arg, ArgAction, Command, Error};
@@ -28,35 +29,7 @@ fn option<'a>(alloc: Global, name: &'a str, value: &'a str, help: &'a str) -> Ar
     ensures rule { rule_of result ≡ option name.entry.now }
     ensures local { result.global ≡ false }
 {
-    Arg::new(alloc, name)
-        .long(name)
-        .value_name(value)
-        .help(help)
-        .required(true)
-        .action(ArgAction::Set)
-}
-
-/// An option that may be left out.
-pub(crate) fn choice<'a>(alloc: Global, name: &'a str, value: &'a str, help: &'a str) -> Arg<'a>
-    ensures rule { rule_of result ≡ choice name.entry.now }
-    ensures local { result.global ≡ false }
-{
-    Arg::new(alloc, name)
-        .long(name)
-        .value_name(value)
-        .help(help)
-        .action(ArgAction::Set)
-}
-
-/// An option without a value.
-fn flag<'a>(alloc: Global, name: &'a str, help: &'a str) -> Arg<'a>
-    ensures rule { rule_of result ≡ flag name.entry.now }
-    ensures local { result.global ≡ false }
-{
-    Arg::new(alloc, name)
-        .long(name)
-        .help(help)
-        .action(ArgAction::SetTrue)
+    choice(alloc, name, value, help).required(true)
 }
 
 fn files<'a>(alloc: Global) -> Arg<'a>

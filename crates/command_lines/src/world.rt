@@ -3,8 +3,8 @@ ghost use Rattle.std.specs.Prelude.{◌≡◌, false, true, IfErr, IfOk, codes, 
 ghost use Rattle.clap.specs.Words.{FailsBy, app_of, fault_of, kind_of, matches_of, rule_of, takes};
 ghost use Rattle.command_lines.specs.WorldLine.{HasValues, word as some_word, world_app};
 
+use crate::arguments::choice;
 use crate::help::{VERSION, WORLD_NOTES};
-use crate::serve::choice;
 use clap::error::ErrorKind;
 use clap::{Arg, ArgAction, Command, Error};
 use std::alloc::{AllocError, Global};
