@@ -1,6 +1,7 @@
 //! Fixtures in which a few bytes are changed.
 use super::image::{Answer, Image};
 use cog_reader_support::{Fixture, Want, change, is_wanted, of_level};
+use std::alloc::{AllocError, Global};
 use std::process::Abort;
 use std::test::Fail;
 use tiff_dir::{FileFault, Query};
@@ -26,19 +27,21 @@ const ONE_TILE: [(usize, &[u8], FileFault, usize); 16] = [
     (118, &[8, 0, 0, 0], FileFault::TooManyDirs, 33),
 ];
 
-/// Expects the outcome of a query of the file, and how many ranges were wanted.
+/// Expects the outcome of a query of the file, and how many ranges were wanted. A failure tells the row's name.
 fn expect(
     rt: &(impl Abort + AllocGlobal),
+    name: &str,
     file: Vec<u8>,
     query: Query,
-    want: Want<'_>,
-    ranges: usize,
+    (want, ranges): (Want<'_>, usize),
 ) -> Result<(), Fail> {
     let mut image = Image::new(rt.alloc(), file);
     let answer = image.answer(rt.alloc(), query);
     let Answer { wanted, outcome } = answer.ok().ok_or("no memory")?;
-    assert!(rt; is_wanted(outcome, want), "{query:?}: {outcome:?}");
-    assert_eq!(rt; wanted.len(), ranges, "{query:?}: {wanted:?}");
+    assert!(rt;
+        is_wanted(outcome, want) && wanted.len() == ranges,
+        "{name}: {query:?}: {outcome:?}: {wanted:?}"
+    );
     Ok(())
 }
 
@@ -48,7 +51,7 @@ fn tells_the_fault_of_a_changed_file(rt: HostRuntime) -> Result<(), Fail> {
         let mut file = Fixture::F1.file(rt.alloc())?;
         change(&mut file, place, bytes);
         let query = of_level(0, 0, 1, 1, 0);
-        expect(&rt, file, query, Want::Fault(fault), ranges)?;
+        expect(&rt, "f1", file, query, (Want::Fault(fault), ranges))?;
     }
     Ok(())
 }
@@ -61,7 +64,7 @@ fn reads_one_segment_four_times(rt: HostRuntime) -> Result<(), Fail> {
         change(&mut file, place, &[0x90, 0x01, 0x00, 0x00]);
     }
     let want = Want::Window(2, 2, 1, 8, &[0x10, 0x10, 0x10, 0x10]);
-    expect(&rt, file, of_level(15, 15, 2, 2, 0), want, 11)
+    expect(&rt, "f3", file, of_level(15, 15, 2, 2, 0), (want, 11))
 }
 
 /// Bytes that are put at a place of f3, the fault of Info, and how many ranges were wanted before it.
@@ -83,9 +86,9 @@ fn tells_faults_of_geo_fields_for_info_alone(rt: HostRuntime) -> Result<(), Fail
         let mut file = Fixture::F3.file(rt.alloc())?;
         change(&mut file, place, bytes);
         let same = Vec::from_slice(rt.alloc(), &file)?;
-        expect(&rt, file, Query::Info, Want::Fault(fault), ranges)?;
+        expect(&rt, "f3", file, Query::Info, (Want::Fault(fault), ranges))?;
         let first = Want::Window(1, 1, 1, 8, &[0x10]);
-        expect(&rt, same, of_level(0, 0, 1, 1, 0), first, 8)?;
+        expect(&rt, "f3", same, of_level(0, 0, 1, 1, 0), (first, 8))?;
     }
     Ok(())
 }
@@ -116,25 +119,25 @@ const ORDERS: [Ordered; 11] = [
     ("a depth of 12 before tiles of no side", Fixture::F6, &[(42, &[12]), (78, &[0])], Some((1, 1)), FileFault::Unsupported(258), 3),
 ];
 
+/// A fixture with other bytes at some places.
+fn changed(
+    alloc: Global,
+    fixture: Fixture,
+    changes: &[(usize, &[u8])],
+) -> Result<Vec<u8>, AllocError> {
+    let mut file = fixture.file(alloc)?;
+    for (place, bytes) in changes {
+        change(&mut file, *place, bytes);
+    }
+    Ok(file)
+}
+
 #[test]
 fn tells_the_first_fault_of_the_order_of_the_checks(rt: HostRuntime) -> Result<(), Fail> {
     for (name, fixture, changes, window, fault, ranges) in ORDERS {
-        let mut file = fixture.file(rt.alloc())?;
-        for (place, bytes) in changes {
-            change(&mut file, *place, bytes);
-        }
-        let query = match window {
-            Some((w, h)) => of_level(0, 0, w, h, 0),
-            None => Query::Info,
-        };
-        let mut image = Image::new(rt.alloc(), file);
-        let answer = image.answer(rt.alloc(), query);
-        let Answer { wanted, outcome } = answer.ok().ok_or("no memory")?;
-        assert!(rt;
-            is_wanted(outcome, Want::Fault(fault)),
-            "{name}: {outcome:?}"
-        );
-        assert_eq!(rt; wanted.len(), ranges, "{name}: {wanted:?}");
+        let file = changed(rt.alloc(), fixture, changes)?;
+        let query = window.map_or(Query::Info, |(w, h)| of_level(0, 0, w, h, 0));
+        expect(&rt, name, file, query, (Want::Fault(fault), ranges))?;
     }
     Ok(())
 }

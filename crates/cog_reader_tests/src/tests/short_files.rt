@@ -1,6 +1,7 @@
 //! Files that end early.
 use cog_reader::{Outcome, read_file};
 use cog_reader_support::{Fixture, Want, is_wanted, of_level};
+use std::process::Abort;
 use std::test::Fail;
 use tiff_dir::{FileFault, Query};
 
@@ -19,6 +20,19 @@ fn tells_past_end_of_every_front(rt: HostRuntime) -> Result<(), Fail> {
     Ok(())
 }
 
+/// Expects what a file answers to Info: a fault up to where its tiles begin, and the same as the whole one from there on.
+fn expect_info(rt: &(impl Abort + AllocGlobal), front: &[u8], whole: &Outcome) -> Result<(), Fail> {
+    let outcome = read_file(rt.alloc(), front, Query::Info);
+    let outcome = outcome.ok().ok_or("no memory")?;
+    let is_expected = if front.len() < 400 {
+        outcome == Outcome::Fault(FileFault::PastEnd)
+    } else {
+        outcome == *whole
+    };
+    assert!(rt; is_expected, "at {}: {outcome:?}", front.len());
+    Ok(())
+}
+
 /// The tiles aren't needed for Info.
 #[test]
 fn tells_info_without_the_tiles(rt: HostRuntime) -> Result<(), Fail> {
@@ -28,14 +42,7 @@ fn tells_info_without_the_tiles(rt: HostRuntime) -> Result<(), Fail> {
     let whole = whole.ok().ok_or("no memory")?;
     assert!(rt; matches!(&whole, Outcome::Info(_)), "{whole:?}");
     for len in 0..file.len() {
-        let outcome = read_file(rt.alloc(), &file[..len], Query::Info);
-        let outcome = outcome.ok().ok_or("no memory")?;
-        if len < 400 {
-            let want = Outcome::Fault(FileFault::PastEnd);
-            assert_eq!(rt; outcome, want, "at {len}");
-        } else {
-            assert_eq!(rt; &outcome, &whole, "at {len}");
-        }
+        expect_info(&rt, &file[..len], &whole)?;
     }
     Ok(())
 }

@@ -1,22 +1,26 @@
 //! A walk over a file, beside the plain program's answers.
 use faults_support::faults_of_directories;
-use reference_support::{Extent, level_of, needs_of_directories};
+use reference_support::{Extent, Grid, Level as PlainLevel, level_of, needs_of_directories};
 use std::process::Abort;
 use std::test::Fail;
 use tiff_dir::{Level, Span};
 use tiff_dir_support::{Course, walk_over};
 
-/// Whether the plain program describes the level in the same way.
-fn is_same(level: &Level, plain: &reference_support::Level) -> bool {
-    level.width == plain.grid.width
-        && level.length == plain.grid.length
-        && level.tile_width == plain.grid.tile_width
-        && level.tile_length == plain.grid.tile_length
-        && level.samples == plain.samples
-        && level.bits == plain.bits
-        && level.compression == plain.compression
-        && level.offsets == plain.offsets
-        && level.counts == plain.counts
+/// The level as the plain program describes one.
+fn plain_of(level: &Level) -> PlainLevel {
+    PlainLevel {
+        grid: Grid {
+            width: level.width,
+            length: level.length,
+            tile_width: level.tile_width,
+            tile_length: level.tile_length,
+        },
+        samples: level.samples,
+        bits: level.bits,
+        compression: level.compression,
+        offsets: level.offsets,
+        counts: level.counts,
+    }
 }
 
 fn compare_levels<R: Abort + AllocGlobal>(
@@ -27,7 +31,7 @@ fn compare_levels<R: Abort + AllocGlobal>(
 ) -> Result<(), Fail> {
     for (n, level) in levels.iter().enumerate() {
         match level_of(rt.alloc(), file, n)? {
-            Some(plain) => assert!(rt; is_same(level, &plain), "{name}: level {n}"),
+            Some(plain) => assert!(rt; plain == plain_of(level), "{name}: level {n}"),
             None => panic!(rt; "{name}: no level {n}"),
         }
     }

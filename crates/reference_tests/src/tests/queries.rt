@@ -68,73 +68,113 @@ fn expect_tiles(
     Ok(())
 }
 
+/// What f1 and f1m are read for, whatever is asked of their tile.
+const OF_ONE_TILE: [(u64, u64); 6] = [(0, 8), (8, 2), (10, 112), (102, 4), (114, 4), (122, 256)];
+
+/// What f2 is read for, where its last tile is asked for, or all of them.
+const OF_LAST_TILE: [(u64, u64); 6] = [
+    (0, 8),
+    (8, 2),
+    (10, 112),
+    (122, 1024),
+    (1146, 1024),
+    (67450, 256),
+];
+
+const OF_ALL_TILES: [(u64, u64); 6] = [
+    (0, 8),
+    (8, 2),
+    (10, 112),
+    (122, 1024),
+    (1146, 1024),
+    (2170, 65536),
+];
+
+/// What f3 is read for, where four tiles of its first level are asked for, or the tile of its second.
+const OF_FIRST_LEVEL: [(u64, u64); 8] = [
+    (0, 8),
+    (8, 2),
+    (10, 160),
+    (170, 2),
+    (172, 124),
+    (296, 16),
+    (312, 16),
+    (400, 1024),
+];
+
+const OF_SECOND_LEVEL: [(u64, u64); 8] = [
+    (0, 8),
+    (8, 2),
+    (10, 160),
+    (170, 2),
+    (172, 124),
+    (276, 4),
+    (288, 4),
+    (1424, 32),
+];
+
+/// A file of one tile with compression 5.
+fn compressed(alloc: Global) -> Result<Vec<u8>, Fail> {
+    let mut file = f1(alloc)?;
+    if let Some(byte) = file.get_mut(54) {
+        *byte = 5;
+    }
+    Ok(file)
+}
+
+/// Expects what f3 is read for, by windows and by its directories alone.
+fn expect_needs_of_levels(rt: &impl Abort, alloc: Global, file: &[u8]) -> Result<(), Fail> {
+    expect_needs(rt, alloc, file, window(15, 15, 2, 2, 0), &OF_FIRST_LEVEL, 8)?;
+    expect_needs(rt, alloc, file, window(0, 0, 1, 1, 1), &OF_SECOND_LEVEL, 8)?;
+    let every = needs_of_directories(alloc, file)?;
+    expect_ranges(rt, &every, &OF_FIRST_LEVEL[..5]);
+    Ok(())
+}
+
 #[test]
 fn lists_what_windows_need(rt: HostRuntime) -> Result<(), Fail> {
     let alloc = rt.alloc();
-    let one = [(0, 8), (8, 2), (10, 112), (102, 4), (114, 4), (122, 256)];
-    expect_needs(&rt, alloc, &f1(alloc)?, window(0, 0, 1, 1, 0), &one, 6)?;
-    expect_needs(&rt, alloc, &f1m(alloc)?, window(15, 15, 1, 1, 0), &one, 6)?;
-    let many = [
-        (0, 8),
-        (8, 2),
-        (10, 112),
-        (122, 1024),
-        (1146, 1024),
-        (67450, 256),
-    ];
-    let last = window(240, 240, 16, 16, 0);
-    expect_needs(&rt, alloc, &f2(alloc)?, last, &many, 6)?;
-    let joined = [
-        (0, 8),
-        (8, 2),
-        (10, 112),
-        (122, 1024),
-        (1146, 1024),
-        (2170, 65536),
-    ];
-    let whole = window(0, 0, 256, 256, 0);
-    expect_needs(&rt, alloc, &f2(alloc)?, whole, &joined, 10)?;
-    let mut compressed = f1(alloc)?;
-    if let Some(byte) = compressed.get_mut(54) {
-        *byte = 5;
-    }
-    expect_needs(&rt, alloc, &compressed, window(0, 0, 1, 1, 0), &one, 6)?;
-    let file = f3(alloc)?;
-    let first = [
-        (0, 8),
-        (8, 2),
-        (10, 160),
-        (170, 2),
-        (172, 124),
-        (296, 16),
-        (312, 16),
-        (400, 1024),
-    ];
-    expect_needs(&rt, alloc, &file, window(15, 15, 2, 2, 0), &first, 8)?;
-    let second = [
-        (0, 8),
-        (8, 2),
-        (10, 160),
-        (170, 2),
-        (172, 124),
-        (276, 4),
-        (288, 4),
-        (1424, 32),
-    ];
-    expect_needs(&rt, alloc, &file, window(0, 0, 1, 1, 1), &second, 8)?;
-    let every = needs_of_directories(alloc, &file)?;
-    expect_ranges(
-        &rt,
-        &every,
-        &[(0, 8), (8, 2), (10, 160), (170, 2), (172, 124)],
+    let (first, last) = (window(0, 0, 1, 1, 0), window(15, 15, 1, 1, 0));
+    expect_needs(&rt, alloc, &f1(alloc)?, first, &OF_ONE_TILE, 6)?;
+    expect_needs(&rt, alloc, &f1m(alloc)?, last, &OF_ONE_TILE, 6)?;
+    expect_needs(&rt, alloc, &compressed(alloc)?, first, &OF_ONE_TILE, 6)?;
+    let (last, whole) = (window(240, 240, 16, 16, 0), window(0, 0, 256, 256, 0));
+    expect_needs(&rt, alloc, &f2(alloc)?, last, &OF_LAST_TILE, 6)?;
+    expect_needs(&rt, alloc, &f2(alloc)?, whole, &OF_ALL_TILES, 10)?;
+    expect_needs_of_levels(&rt, alloc, &f3(alloc)?)
+}
+
+/// Expects that a window is outside of f1.
+fn expect_outside(rt: &impl Abort, alloc: Global, file: &[u8], query: Query) -> Result<(), Fail> {
+    let told = (
+        is_outside(alloc, file, query)?,
+        is_refused(alloc, file, query)?,
     );
+    assert_eq!(rt; told, (true, true));
+    expect_tiles(rt, alloc, file, query, &[])?;
+    expect_needs(rt, alloc, file, query, &OF_ONE_TILE[..3], 3)
+}
+
+/// Expects of f1 that its whole isn't refused, and which windows are too large.
+fn expect_sizes(rt: &impl Abort, alloc: Global, file: &[u8]) -> Result<(), Fail> {
+    let whole = window(0, 0, 16, 16, 0);
+    let told = (
+        is_outside(alloc, file, whole)?,
+        is_refused(alloc, file, whole)?,
+    );
+    assert_eq!(rt; told, (false, false));
+    let (most, more) = (window(0, 0, 4096, 1024, 0), window(0, 0, 4096, 1025, 0));
+    let told = (
+        is_too_large(alloc, file, most)?,
+        is_too_large(alloc, file, more)?,
+    );
+    assert_eq!(rt; told, (false, true));
     Ok(())
 }
 
 #[test]
 fn refuses_windows_outside_or_too_large(rt: HostRuntime) -> Result<(), Fail> {
-    let alloc = rt.alloc();
-    let file = f1(alloc)?;
+    let file = f1(rt.alloc())?;
     let rows = [
         window(16, 0, 1, 1, 0),
         window(0, 0, 0, 1, 0),
@@ -142,15 +182,9 @@ fn refuses_windows_outside_or_too_large(rt: HostRuntime) -> Result<(), Fail> {
         window(0, 0, 1, 1, 1),
     ];
     for query in rows {
-        assert!(rt; is_outside(alloc, &file, query)? && is_refused(alloc, &file, query)?);
-        expect_tiles(&rt, alloc, &file, query, &[])?;
-        expect_needs(&rt, alloc, &file, query, &[(0, 8), (8, 2), (10, 112)], 3)?;
+        expect_outside(&rt, rt.alloc(), &file, query)?;
     }
-    let whole = window(0, 0, 16, 16, 0);
-    assert!(rt; !is_outside(alloc, &file, whole)? && !is_refused(alloc, &file, whole)?);
-    assert!(rt; !is_too_large(alloc, &file, window(0, 0, 4096, 1024, 0))?);
-    assert!(rt; is_too_large(alloc, &file, window(0, 0, 4096, 1025, 0))?);
-    Ok(())
+    expect_sizes(&rt, rt.alloc(), &file)
 }
 
 #[test]
@@ -185,10 +219,8 @@ fn expect_rectangle(
     Ok(())
 }
 
-#[test]
-fn finds_the_rectangle_of_a_query(rt: HostRuntime) -> Result<(), Fail> {
-    let alloc = rt.alloc();
-    let file = f3(alloc)?;
+/// Expects that f3 is asked for these rectangles, of which those of the first level aren't refused.
+fn expect_rectangles(rt: &impl Abort, alloc: Global, file: &[u8]) -> Result<(), Fail> {
     let rows = [
         (window(5, 6, 7, 8, 1), 1, [5, 6, 7, 8]),
         (columns(0, 0, 32, 32, 16), 1, [0, 0, 16, 16]),
@@ -196,10 +228,14 @@ fn finds_the_rectangle_of_a_query(rt: HostRuntime) -> Result<(), Fail> {
         (columns(5, 0, 3, 1, 1), 1, [2, 0, 2, 1]),
     ];
     for (query, level, want) in rows {
-        expect_rectangle(&rt, alloc, &file, query, level, want)?;
-        assert!(rt; !is_refused(alloc, &file, query)? || level == 1);
+        expect_rectangle(rt, alloc, file, query, level, want)?;
+        assert!(rt; !is_refused(alloc, file, query)? || level == 1);
     }
-    assert_eq!(rt; asked_rectangle(alloc, &file, Query::Info)?, None);
+    Ok(())
+}
+
+/// Expects that windows by columns are outside of f3, and ask for no tile.
+fn expect_columns_outside(rt: &impl Abort, alloc: Global, file: &[u8]) -> Result<(), Fail> {
     let outside = [
         columns(0, 0, 32, 32, 0),
         columns(4294967295, 0, 2, 1, 1),
@@ -207,9 +243,19 @@ fn finds_the_rectangle_of_a_query(rt: HostRuntime) -> Result<(), Fail> {
         columns(0, 0, 0, 1, 1),
     ];
     for query in outside {
-        assert!(rt; is_outside(alloc, &file, query)?);
-        expect_tiles(&rt, alloc, &file, query, &[])?;
+        assert!(rt; is_outside(alloc, file, query)?);
+        expect_tiles(rt, alloc, file, query, &[])?;
     }
+    Ok(())
+}
+
+#[test]
+fn finds_the_rectangle_of_a_query(rt: HostRuntime) -> Result<(), Fail> {
+    let alloc = rt.alloc();
+    let file = f3(alloc)?;
+    expect_rectangles(&rt, alloc, &file)?;
+    assert_eq!(rt; asked_rectangle(alloc, &file, Query::Info)?, None);
+    expect_columns_outside(&rt, alloc, &file)?;
     assert!(rt; !is_refused(alloc, &file, Query::Info)?);
     expect_tiles(&rt, alloc, &file, columns(5, 0, 3, 1, 1), &[0])
 }

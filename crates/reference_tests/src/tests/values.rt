@@ -36,35 +36,54 @@ fn level(side: u32, compression: Compression, offsets: Place, counts: Place) -> 
     }
 }
 
-#[test]
-fn reads_single_samples(rt: HostRuntime) -> Result<(), Fail> {
-    let alloc = rt.alloc();
-    for file in [f1(alloc)?, f1m(alloc)?] {
-        assert_eq!(rt; sample(alloc, &file, 0, 15, 2, 0)?, Some(47));
-        assert_eq!(rt; sample(alloc, &file, 1, 0, 0, 0)?, None);
+/// A sample by its level, its column, its row and which of its pixel it is, and what it is.
+type Sample = ((u32, u32, u32, u16), Option<u64>);
+
+/// Expects these samples of a file.
+fn expect_samples<R: Abort + AllocGlobal>(
+    rt: &R,
+    file: &[u8],
+    rows: &[Sample],
+) -> Result<(), Fail> {
+    for ((level, x, y, c), want) in rows {
+        let found = sample(rt.alloc(), file, *level, *x, *y, *c)?;
+        assert_eq!(rt; found, *want, "in level {level} at {x} {y}");
     }
-    assert_eq!(rt; sample(alloc, &f2(alloc)?, 0, 240, 255, 0)?, Some(255));
-    assert_eq!(rt; sample(alloc, &f2b(alloc)?, 0, 240, 255, 0)?, Some(0));
-    assert_eq!(rt; sample(alloc, &f3(alloc)?, 0, 31, 15, 0)?, Some(17));
-    assert_eq!(rt; sample(alloc, &f3(alloc)?, 1, 3, 9, 0)?, Some(9));
-    assert_eq!(rt; sample(alloc, &f4(alloc)?, 0, 16, 17, 1)?, Some(3));
-    assert_eq!(rt; sample(alloc, &f6(alloc)?, 0, 1, 1, 0)?, Some(32785));
     Ok(())
 }
 
 #[test]
-fn reads_no_sample_of_a_damaged_tile(rt: HostRuntime) -> Result<(), Fail> {
+fn reads_single_samples(rt: HostRuntime) -> Result<(), Fail> {
     let alloc = rt.alloc();
+    let ramp = [((0, 15, 2, 0), Some(47)), ((1, 0, 0, 0), None)];
+    expect_samples(&rt, &f1(alloc)?, &ramp)?;
+    expect_samples(&rt, &f1m(alloc)?, &ramp)?;
+    expect_samples(&rt, &f2(alloc)?, &[((0, 240, 255, 0), Some(255))])?;
+    expect_samples(&rt, &f2b(alloc)?, &[((0, 240, 255, 0), Some(0))])?;
+    let levels = [((0, 31, 15, 0), Some(17)), ((1, 3, 9, 0), Some(9))];
+    expect_samples(&rt, &f3(alloc)?, &levels)?;
+    expect_samples(&rt, &f4(alloc)?, &[((0, 16, 17, 1), Some(3))])?;
+    expect_samples(&rt, &f6(alloc)?, &[((0, 1, 1, 0), Some(32785))])
+}
+
+/// A file of two levels, of which a tile of the second is damaged.
+fn damaged(alloc: Global) -> Result<Vec<u8>, Fail> {
     let mut file = f3(alloc)?;
     match file.get_mut(1454) {
         Some(byte) => *byte = 0xf2,
         None => return Err(Fail::new("short")),
     }
-    assert_eq!(rt; sample(alloc, &file, 1, 0, 0, 0)?, None);
-    assert_eq!(rt; sample(alloc, &file, 0, 0, 0, 0)?, Some(16));
+    Ok(file)
+}
+
+#[test]
+fn reads_no_sample_of_a_damaged_tile(rt: HostRuntime) -> Result<(), Fail> {
+    let alloc = rt.alloc();
+    let rows = [((1, 0, 0, 0), None), ((0, 0, 0, 0), Some(16))];
+    expect_samples(&rt, &damaged(alloc)?, &rows)?;
     let mut short = f1(alloc)?;
     short.truncate(377);
-    assert_eq!(rt; sample(alloc, &short, 0, 0, 0, 0)?, None);
+    expect_samples(&rt, &short, &[((0, 0, 0, 0), None)])?;
     let want = [(0, 8), (8, 2), (10, 112), (102, 4), (114, 4), (122, 256)];
     expect_needs(&rt, alloc, &short, window(0, 0, 1, 1, 0), &want, 5)
 }
@@ -96,33 +115,37 @@ fn describes_each_level(rt: HostRuntime) -> Result<(), Fail> {
     Ok(())
 }
 
+/// Values of fields of f3: directory, field, which value, and what it is.
+const VALUES: [(u32, u16, u64, Option<u64>); 15] = [
+    (0, 324, 0, Some(400)),
+    (0, 324, 3, Some(1168)),
+    (0, 324, 4, None),
+    (0, 325, 3, Some(256)),
+    (0, 254, 0, Some(0)),
+    (0, 277, 0, Some(1)),
+    (0, 33550, 2, Some(0x3ff0_0000_0000_0000)),
+    (0, 34735, 4, Some(1024)),
+    (0, 34735, 15, Some(0)),
+    (0, 34737, 6, Some(0x7c)),
+    (1, 254, 0, Some(1)),
+    (1, 259, 0, Some(32773)),
+    (1, 324, 0, Some(1424)),
+    (1, 325, 0, Some(32)),
+    (1, 33550, 0, None),
+];
+
 #[test]
 fn reads_numbers_and_values(rt: HostRuntime) -> Result<(), Fail> {
-    let alloc = rt.alloc();
-    let file = f3(alloc)?;
-    assert_eq!(rt; order_of(&file), Some(Order::Little));
-    assert_eq!(rt; order_of(&f1m(alloc)?), Some(Order::Big));
-    assert_eq!(rt; order_of(b"IM"), None);
-    assert_eq!(rt; number(&file, 384, 8), Some(0x0102_0304_0506_0708));
-    assert_eq!(rt; number(&file, 1449, 8), None);
-    let rows = [
-        (0, 324, 0, Some(400)),
-        (0, 324, 3, Some(1168)),
-        (0, 324, 4, None),
-        (0, 325, 3, Some(256)),
-        (0, 254, 0, Some(0)),
-        (0, 277, 0, Some(1)),
-        (0, 33550, 2, Some(0x3ff0_0000_0000_0000)),
-        (0, 34735, 4, Some(1024)),
-        (0, 34735, 15, Some(0)),
-        (0, 34737, 6, Some(0x7c)),
-        (1, 254, 0, Some(1)),
-        (1, 259, 0, Some(32773)),
-        (1, 324, 0, Some(1424)),
-        (1, 325, 0, Some(32)),
-        (1, 33550, 0, None),
+    let file = f3(rt.alloc())?;
+    let orders = [
+        order_of(&file),
+        order_of(&f1m(rt.alloc())?),
+        order_of(b"IM"),
     ];
-    for (k, tag, i, want) in rows {
+    assert_eq!(rt; orders, [Some(Order::Little), Some(Order::Big), None]);
+    let numbers = [number(&file, 384, 8), number(&file, 1449, 8)];
+    assert_eq!(rt; numbers, [Some(0x0102_0304_0506_0708), None]);
+    for (k, tag, i, want) in VALUES {
         assert_eq!(rt; value(&file, k, tag, i), want, "at {k} {tag} {i}");
     }
     Ok(())
@@ -148,18 +171,40 @@ fn front(file: &[u8], len: usize) -> &[u8] {
     file.get(..len).unwrap_or(file)
 }
 
-/// Expects all values of a field of the first directory.
+/// Expects all values of a field of the first directory, or that there is none.
 fn expect_values(
     rt: &impl Abort,
     alloc: Global,
     file: &[u8],
     tag: u16,
-    want: &[u64],
+    want: Option<&[u64]>,
 ) -> Result<(), Fail> {
-    match values(alloc, file, 0, tag)? {
-        Some(found) => assert_eq!(rt; found.as_slice(), want, "of {tag}"),
-        None => return Err(Fail::new("no values")),
+    let found = values(alloc, file, 0, tag)?;
+    match &found {
+        Some(found) => assert_eq!(rt; Some(found.as_slice()), want, "of {tag}"),
+        None => assert_eq!(rt; None, want, "of {tag}"),
     }
+    Ok(())
+}
+
+/// The numbers of the keys of f3.
+const KEYS: [u64; 16] = [
+    1, 1, 0, 3, 1024, 0, 1, 2, 1026, 34737, 7, 0, 2057, 34736, 1, 0,
+];
+
+/// The fields of f3 that tell where it lies, and one that it lacks.
+const PLACING: [(u16, Option<&[u64]>); 5] = [
+    (34735, Some(&KEYS)),
+    (34736, Some(&[0x0102_0304_0506_0708])),
+    (34737, Some(&[87, 71, 83, 32, 56, 52, 124, 0])),
+    (33550, Some(&[0x3ff0_0000_0000_0000; 3])),
+    (33922, None),
+];
+
+/// Expects the sides of two levels.
+fn expect_sides(rt: &impl Abort, alloc: Global, file: &[u8]) -> Result<(), Fail> {
+    let sides = level_sides(alloc, file)?.ok_or("no sides")?;
+    assert_eq!(rt; sides.as_slice(), [(32, 32), (16, 16)].as_slice());
     Ok(())
 }
 
@@ -167,20 +212,12 @@ fn expect_values(
 fn reads_what_info_tells(rt: HostRuntime) -> Result<(), Fail> {
     let alloc = rt.alloc();
     let file = f3(alloc)?;
-    match level_sides(alloc, &file)? {
-        Some(sides) => assert_eq!(rt; sides.as_slice(), [(32, 32), (16, 16)].as_slice()),
-        None => return Err(Fail::new("no sides")),
-    }
+    expect_sides(&rt, alloc, &file)?;
     assert_eq!(rt; value(&file, 0, 34735, 2), Some(0));
-    let keys = [
-        1, 1, 0, 3, 1024, 0, 1, 2, 1026, 34737, 7, 0, 2057, 34736, 1, 0,
-    ];
-    expect_values(&rt, alloc, &file, 34735, &keys)?;
-    expect_values(&rt, alloc, &file, 34736, &[0x0102_0304_0506_0708])?;
-    expect_values(&rt, alloc, &file, 34737, &[87, 71, 83, 32, 56, 52, 124, 0])?;
-    expect_values(&rt, alloc, &file, 33550, &[0x3ff0_0000_0000_0000; 3])?;
-    assert!(rt; values(alloc, &file, 0, 33922)?.is_none());
-    assert!(rt; values(alloc, front(&file, 383), 0, 34735)?.is_none());
+    for (tag, want) in PLACING {
+        expect_values(&rt, alloc, &file, tag, want)?;
+    }
+    expect_values(&rt, alloc, front(&file, 383), 34735, None)?;
     assert!(rt; level_sides(alloc, front(&file, 190))?.is_none());
     Ok(())
 }
@@ -269,23 +306,28 @@ fn reads_all_samples_of_even_tiles(rt: HostRuntime) -> Result<(), Fail> {
     expect_level(&rt, &f5(alloc)?, 0, (1280, 1024), cells_of(0, 256, 256, 5))
 }
 
+/// Expects a row of 20 pixels of f4.
+fn expect_pixels(rt: &impl Abort, row: &[u64], y: u16) -> Result<(), Fail> {
+    assert_eq!(rt; row.len(), 60);
+    for x in 0..20u16 {
+        let first = 3 * usize::from(x);
+        let pixel = row.get(first..first + 3).ok_or("no pixel")?;
+        let want = if x % 16 == 0 {
+            [u64::from(y % 16), u64::from(y / 16 * 2 + x / 16), 255]
+        } else {
+            [128; 3]
+        };
+        assert_eq!(rt; pixel, want.as_slice(), "at {x} {y}");
+    }
+    Ok(())
+}
+
 #[test]
 fn reads_three_samples_of_a_pixel(rt: HostRuntime) -> Result<(), Fail> {
     let rows = level_samples(rt.alloc(), &f4(rt.alloc())?, 0)?.ok_or("no samples")?;
     assert_eq!(rt; rows.len(), 18);
     for y in 0..18u16 {
-        let row = rows.get(usize::from(y)).ok_or("no row")?;
-        assert_eq!(rt; row.len(), 60);
-        for x in 0..20u16 {
-            let first = 3 * usize::from(x);
-            let pixel = row.get(first..first + 3).ok_or("no pixel")?;
-            let want = if x % 16 == 0 {
-                [u64::from(y % 16), u64::from(y / 16 * 2 + x / 16), 255]
-            } else {
-                [128; 3]
-            };
-            assert_eq!(rt; pixel, want.as_slice(), "at {x} {y}");
-        }
+        expect_pixels(&rt, rows.get(usize::from(y)).ok_or("no row")?, y)?;
     }
     Ok(())
 }
