@@ -1,5 +1,6 @@
 pub mod Fixtures
 pub mod Damaged
+mod Samples
 pub mod Numbers
 pub mod Parts
 pub mod Finding
