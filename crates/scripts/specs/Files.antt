@@ -12,3 +12,7 @@ file_at loaded path = option_map (λ file. file.bytes.items) (find (λ file. byt
 abbrev pub IsAdded : Loaded → Loaded → List ℕ → List ℕ → Type 0
 IsAdded old new path bytes =
     (at : List ℕ) → file_at new at ≡ option_or (file_at old at) (if bytes_eq path at then Some bytes else None)
+
+-- from each path the same is loaded
+abbrev pub HasTheSame : Loaded → Loaded → Type 0
+HasTheSame old new = (at : List ℕ) → file_at new at ≡ file_at old at

@@ -50,8 +50,8 @@ pub struct Loaded {
 }
 
 impl Loaded {
-    ghost use Rattle.std.specs.Prelude.{◌≡◌, ℕ, List, OnOk};
-    ghost use Rattle.scripts.specs.Files.{IsAdded, file_at};
+    ghost use Rattle.std.specs.Prelude.{◌≡◌, ℕ, List, OnErr, OnOk};
+    ghost use Rattle.scripts.specs.Files.{HasTheSame, IsAdded, file_at};
 
     pub fn new(alloc: Global) -> Loaded
         ensures { (path : List ℕ) → file_at result path ≡ None }
@@ -64,7 +64,8 @@ impl Loaded {
 
     /// Adds a file. Of several files of one path the first is loaded.
     pub fn add(&mut self, path: &[u8], bytes: Vec<u8>) -> Result<(), Memory>
-        ensures { OnOk result (IsAdded self.old self.new path.now bytes.items) }
+        ensures ok { OnOk result (IsAdded self.old self.new path.now bytes.items) }
+        ensures err { OnErr result (HasTheSame self.old self.new) }
     {
         let path = Vec::from_slice(self.alloc, path)?;
         Ok(self.files.push(LoadedFile { path, bytes })?)
