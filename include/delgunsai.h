@@ -2,7 +2,7 @@
  * socket. It gives the texts of requests, takes the bytes of answers, and reports.
  *
  * Link with libdelgunsai_c.a, which `rt lib` proves and builds in crates/delgunsai_c/out, and with the kit's liblibc_c.a, which
- * brings its heap over malloc, realloc and free. docs/LIBRARY.md has both lines of cc.
+ * brings its heap over malloc, realloc and free. docs/LIBRARY.md has the line of cc.
  *
  *     struct cog_client client = {0};
  *     struct cog_report report;
@@ -109,7 +109,8 @@ int32_t cog_client_open_info(struct cog_client *client);
 
 /* cog_client_request: goes on as far as the known bytes reach, and lays the text of the next request into the room: a GET with a Range.
  * Gives the text's length; 0, where nothing is asked: a report stands, or there is no query; COG_MEMORY or COG_NO_CLIENT. Asked again
- * before an answer it gives the same text. */
+ * before an answer it gives the same text. An unfinished answer is dropped, as by cog_client_open_.. and cog_client_forget too: what is left of
+ * it isn't fed. */
 int64_t cog_client_request(struct cog_client *client, uint8_t *room, size_t length);
 
 /* cog_client_later: lays the text of the request into the room that will come `index` requests after the next one, 0 for the one right
@@ -123,7 +124,8 @@ int64_t cog_client_later(struct cog_client *client, uint32_t index, uint8_t *roo
 int32_t cog_client_begin(struct cog_client *client);
 
 /* cog_client_feed: takes the next bytes of the answer, from its status line on, as many as there are. After COG_MEMORY the rest of the
- * answer is dropped, until cog_client_begin: what is fed of it changes nothing. Gives 0, COG_MEMORY or COG_NO_CLIENT. */
+ * answer is dropped, until cog_client_begin: what is fed of it changes nothing. Where no answer is unfinished, one begins
+ * here. Gives 0, COG_MEMORY or COG_NO_CLIENT. */
 int32_t cog_client_feed(struct cog_client *client, const uint8_t *piece, size_t length);
 
 /* What is said of an answer. */
@@ -175,7 +177,7 @@ int64_t cog_client_info(struct cog_client *client, uint8_t *room, size_t length)
  * always has `Connection: close`. */
 int64_t cog_client_check(struct cog_client *client, uint8_t *room, size_t length);
 
-enum { COG_SAME = 1, COG_OTHER = 2, COG_UNKNOWN = 3 /* for the reason of this number, 1 to 9 as COG_IGNORED, 12: nothing is known */ };
+enum { COG_SAME = 1, COG_OTHER = 2, COG_UNKNOWN = 3 /* for this reason: 1 to 6 or 9 as COG_IGNORED, or 12: nothing is known */ };
 
 /* cog_client_current: says what the answer to a check, or a front of it, tells of the tag. It changes nothing of the client. Gives 0 or
  * COG_NO_CLIENT. */

@@ -31,7 +31,7 @@ class OutOfMemory(Error, MemoryError):
 
 class Lost(Error, OSError):
     """No answer came, or none that brought anything, in three exchanges one after another; or the file was replaced three times while it
-    was read."""
+    was read; or 65,536 exchanges brought no report."""
 
 
 class NotUsed(Error):
