@@ -105,7 +105,7 @@ abbrev Keeps : SeenPiece → ClientState → ClientState → Type 0
 Keeps p old new = (f : List ℕ) → p.complete ≡ length f → IsPieceOf f p.first p.body → Knows f old → StaysOf f old new
 
 module _ (law : FrontsAreRead) (p : SeenPiece) (text : List ℕ) (reads : ReadsAnswer text (Ok p)) where
-  begun_agrees : (old mid new : ClientState) → name_of new ≡ name_of old → revision_of new ≡ Some (revision_of_piece p) → Begins p mid → Keeps p mid new
+  pub begun_agrees : (old mid new : ClientState) → name_of new ≡ name_of old → revision_of new ≡ Some (revision_of_piece p) → Begins p mid → Keeps p mid new
       → (book : Book) → IsReadAs (IsPieceOfBook (name_of old) book) text → ClientAgrees new book
   unfolding ClientAgrees
   begun_agrees old mid new name revision begins keeps book read = at (read (Ok p) reads)
@@ -119,7 +119,7 @@ module _ (law : FrontsAreRead) (p : SeenPiece) (text : List ℕ) (reads : ReadsA
         knows = (keeps source.file of.complete (piece_at source p of) (begins source.file (sym of.complete))).knows;
       })
 
-  kept_agrees : (old new : ClientState) → name_of new ≡ name_of old → revision_of old ≡ Some (revision_of_piece p) → revision_of new ≡ Some (revision_of_piece p) → Keeps p old new
+  pub kept_agrees : (old new : ClientState) → name_of new ≡ name_of old → revision_of old ≡ Some (revision_of_piece p) → revision_of new ≡ Some (revision_of_piece p) → Keeps p old new
       → (book : Book) → HasDistinctTags book → ClientAgrees old book → IsReadAs (IsPieceOfBook (name_of old) book) text → ClientAgrees new book
   unfolding ClientAgrees
   kept_agrees old new name before after keeps book distinct agrees read = at (read (Ok p) reads) (subst (λ v. IfSome v (KnowsOne old book)) before agrees)

@@ -17,3 +17,4 @@ pub mod FollowLemmas
 pub mod StopLemmas
 pub mod EndLemmas
 pub mod EarlyLemmas
+pub mod AgreeLemmas

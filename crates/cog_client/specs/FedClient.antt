@@ -1,6 +1,8 @@
 -- What a client holds now, and keeps of an answer, that was in a state when the answer began and to which a front of it came.
 use Rattle.std.specs.Prelude.{◌≡◌, ◌⊎◌, ℕ, ◌-◌, List, [], ◌++◌, length, take, Some, Ok}
 use Rattle.http_range.specs.Announced.{Announced, body_behind}
+use Rattle.http_range.specs.Book.{Book, HasDistinctTags}
+use Rattle.http_range.specs.Honest.{IsPieceOfBook, IsReadAs}
 use Rattle.http_range.specs.Reading.{ReadsHead}
 use Rattle.cog_client.specs.declared.body.Body.{Body}
 use Rattle.cog_client.specs.declared.case.Case.{Case}
@@ -9,7 +11,7 @@ use Rattle.cog_client.specs.declared.delivered.Ignored as why
 use Rattle.cog_client.specs.Arrival.{IsHeadless}
 use Rattle.cog_client.specs.Body.{IsBody}
 use Rattle.cog_client.specs.Case.{Revision}
-use Rattle.cog_client.specs.Client.{ClientState, asked_of, blocks_of, feed_of, revision_of}
+use Rattle.cog_client.specs.Client.{ClientAgrees, ClientState, asked_of, blocks_of, feed_of, name_of, revision_of}
 use Rattle.cog_client.specs.Fed.{case_of_head}
 use Rattle.cog_client.specs.Feeding.{Feed, nothing_fed, passed, follows}
 use Rattle.cog_client.specs.Steps.{Adopts}
@@ -77,3 +79,8 @@ pub record FedAllBut (s : ClientState) (p rest : List ℕ) (c : ClientState) : T
 
 abbrev pub FedBefore : ClientState → List ℕ → List ℕ → ClientState → Type 0
 FedBefore s p rest c = FedHeadless s p c ⊎ FedAllBut s p rest c
+
+-- A client agrees with a book in the midst of an answer, too, where what came of it is read as a piece of a file of its name in the book.
+abbrev pub FrontsKeepAgreement : Type 0
+FrontsKeepAgreement = (s c : ClientState) (p : List ℕ) (book : Book) → Fed s p c → HasDistinctTags book → ClientAgrees s book
+    → IsReadAs (IsPieceOfBook (name_of s) book) p → ClientAgrees c book

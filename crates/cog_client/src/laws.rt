@@ -4,14 +4,16 @@ ghost use Rattle.tiff_dir.specs.Needs.{IsEndOf};
 ghost use Rattle.tiff_dir.specs.Query.{needs};
 ghost use Rattle.cog_client.specs.Client.{AgreementIsSeen, query_of, to_come, ClientState, Knows};
 ghost use Rattle.cog_client.specs.Report.{TruthIsTold};
-ghost use Rattle.cog_client.specs.FedClient.{AnswersBeginAnywhere};
+ghost use Rattle.cog_client.specs.FedClient.{AnswersBeginAnywhere, FrontsKeepAgreement};
 ghost use Rattle.cog_client.specs.Fed.{CaseIsOfHead, CutsAreStored, EdgesAreStored, EndTells, LeavesByHead, PartsAreNotStored};
 ghost use Rattle.cog_client.specs.Progress.{AnswersReport, AskingLeavesAsMuch, CostIsMost, DeliveryReports, GoingOnLeavesNoMore, IsOwnAnswer, IsServed, NeededAreAsked, OneRangeIsAsked, OpeningLeavesCost, OwnAnswersAreServed, RequestReports, ServedBringOn};
 
 use cached_reader::looks_at_one_range;
 use cog_reader::{end_is_wanted, lengths_are_known, nothing_comes};
 use http_range::{clients_are_answered, fronts_are_read, heads_grow, publications_replace};
-use range_cache::{missing_is_exact, parts_bring_blocks, pieces_bring_blocks, stored_stay};
+use range_cache::{
+    missing_is_exact, parts_bring_blocks, pieces_bring_blocks, stored_are_held, stored_stay,
+};
 
 /// What a client still needs of a file for its query is the end of what the query needs of it.
 pub fn end_is_needed()
@@ -108,4 +110,13 @@ pub fn answers_begin_anywhere()
     ensures { AnswersBeginAnywhere }
 {
     heads_grow();
+}
+
+/// In the midst of an answer, of which pieces of files of a book came, a client agrees with the book as it did before. So it does after a
+/// call that lets the answer go, as `request` and `open` do: each says that it keeps what the client agrees with.
+pub fn fronts_keep_agreement()
+    ensures { FrontsKeepAgreement }
+{
+    fronts_are_read();
+    stored_are_held();
 }

@@ -25,8 +25,8 @@ pub use error::{ClientError, FetchError};
 pub use http_range::{Span, Tag, Why};
 pub use laws::{
     agreement_is_seen, answers_begin_anywhere, answers_come_in_pieces, end_is_needed,
-    equal_reports_are_true, left_never_grows, needed_are_asked, nothing_left_is_reported,
-    whole_answers_bring_on, whole_answers_report,
+    equal_reports_are_true, fronts_keep_agreement, left_never_grows, needed_are_asked,
+    nothing_left_is_reported, whole_answers_bring_on, whole_answers_report,
 };
 pub use pieces::Pieces;
 pub use report::Report;
