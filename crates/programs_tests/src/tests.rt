@@ -27,9 +27,15 @@ where
     R: Abort + Files + Clock + AllocGlobal + Net<Listener = TcpListener, Stream = TcpStream>,
 {
     let told = tell(rt, words)?;
-    assert_eq!(rt; str::from_utf8(&told.out), Ok(out), "of {name:?}");
-    assert_eq!(rt; str::from_utf8(&told.err), Ok(err), "of {name:?}");
-    assert_eq!(rt; told.status, status, "of {name:?}");
+    assert_eq!(rt;
+        (
+            str::from_utf8(&told.out),
+            str::from_utf8(&told.err),
+            told.status
+        ),
+        (Ok(out), Ok(err), status),
+        "of {name:?}"
+    );
     Ok(())
 }
 
@@ -42,9 +48,16 @@ where
     R: Abort + Files + Clock + AllocGlobal + Net<Listener = TcpListener, Stream = TcpStream>,
 {
     for row in rows {
-        let (line, err, status) = *row;
-        let words = words_of(rt.alloc(), line)?;
-        expect_told(rt, line, &words, ("", err, status))?;
+        expect_fault(rt, *row)?;
     }
     Ok(())
+}
+
+/// Expects what is told of the words of a row.
+fn expect_fault<R>(rt: &R, (line, err, status): FaultRow<'_>) -> Result<(), AllocError>
+where
+    R: Abort + Files + Clock + AllocGlobal + Net<Listener = TcpListener, Stream = TcpStream>,
+{
+    let words = words_of(rt.alloc(), line)?;
+    expect_told(rt, line, &words, ("", err, status))
 }

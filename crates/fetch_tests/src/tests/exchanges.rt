@@ -1,6 +1,7 @@
 //! What the transports bring.
 use cog_client::{Lost, Transport};
 use fixtures_support::{f1, f2};
+use std::process::Abort;
 use std::test::Fail;
 use transports::{Fate, InMemory, Scripted, server_of_one};
 
@@ -39,14 +40,23 @@ fn is_front(came: &Result<Vec<u8>, Lost>, length: Option<usize>) -> bool {
     }
 }
 
+/// Expects this of one exchange more, of seven.
+fn expect_front(
+    rt: &impl Abort,
+    transport: &mut Scripted<'_, InMemory<'_>>,
+    length: Option<usize>,
+) {
+    assert!(rt; transport.exchanges() < 7);
+    let came = transport.exchange(REQUEST);
+    assert!(rt; is_front(&came, length), "{length:?}");
+}
+
 #[test]
 fn loses_and_cuts_answers_by_its_list(rt: HostRuntime) -> Result<(), Fail> {
     let server = server_of_one(rt.alloc(), 1, b"a", f1(rt.alloc())?)?;
     let mut transport = Scripted::new(InMemory::new(&server, b"a"), &FATES);
     for length in LENGTHS {
-        assert!(rt; transport.exchanges() < 7);
-        let came = transport.exchange(REQUEST);
-        assert!(rt; is_front(&came, length), "{length:?}");
+        expect_front(&rt, &mut transport, length);
     }
     assert_eq!(rt; transport.exchanges(), 7);
     Ok(())
@@ -60,14 +70,19 @@ const MESSAGES: [(&[u8], bool); 4] = [
     (b"\r\n", true),
 ];
 
+/// Expects that the answer to a message comes, or doesn't, by one exchange more, of four.
+fn expect_answer(rt: &impl Abort, transport: &mut InMemory<'_>, message: &[u8], comes: bool) {
+    assert!(rt; transport.exchanges() < 4);
+    assert_eq!(rt; transport.exchange(message).is_ok(), comes, "{message:?}");
+}
+
 #[test]
 fn brings_no_answer_about_another_file(rt: HostRuntime) -> Result<(), Fail> {
     let mut server = server_of_one(rt.alloc(), 1, b"a", f1(rt.alloc())?)?;
     server.publish(b"b", f2(rt.alloc())?)?;
     let mut transport = InMemory::new(&server, b"a");
     for (message, comes) in MESSAGES {
-        assert!(rt; transport.exchanges() < 4);
-        assert_eq!(rt; transport.exchange(message).is_ok(), comes, "{message:?}");
+        expect_answer(&rt, &mut transport, message, comes);
     }
     Ok(())
 }

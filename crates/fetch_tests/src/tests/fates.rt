@@ -2,7 +2,7 @@
 //! 174 bytes, that of f2's first answer 171. So what comes of an answer that is cut after 0, 170 or 171 bytes has no whole block; after
 //! 16,555 bytes the first block of f2 is whole, and the other answers are shorter. An answer that is lost or brings no block changes
 //! nothing of what is needed: the report stands with the first answer that brings blocks, of f2 with the second.
-use super::fetched::{fetch_by, fetch_pieces_by};
+use super::fetched::{Fetched, fetch_by, fetch_pieces_by};
 use super::{LAST_TILE, window};
 use cog_client::{Query, Report};
 use cog_server::Server;
@@ -63,28 +63,50 @@ fn are_same(found: Option<&Report>, want: Option<&Report>) -> bool {
     }
 }
 
+impl Case<'_> {
+    /// Whether that is fetched which is wanted where so many fates are used up.
+    fn is_met(&self, fetched: &Fetched, used: Option<usize>) -> bool {
+        let exchanges = used.unwrap_or(TRIES as usize) as u64;
+        let want = used.map(|_| self.report);
+        fetched.exchanges == exchanges && are_same(fetched.report.as_ref(), want)
+    }
+}
+
+/// Expects what is wanted where these fates befall the answers.
 fn expect_list(
     rt: &(impl Abort + AllocGlobal),
     case: &Case<'_>,
     fates: &[Fate],
 ) -> Result<(), Fail> {
-    let alloc = rt.alloc();
-    let fetched = fetch_by(alloc, case.server, case.query, fates, TRIES)?;
-    let used = used_up(fates, case.needed);
-    let want = used.map(|_| case.report);
-    let exchanges = used.unwrap_or(TRIES as usize) as u64;
-    assert_eq!(rt; fetched.exchanges, exchanges, "{fates:?}");
-    assert!(rt; are_same(fetched.report.as_ref(), want), "{fates:?}");
+    let fetched = fetch_by(rt.alloc(), case.server, case.query, fates, TRIES)?;
+    let is_met = case.is_met(&fetched, used_up(fates, case.needed));
+    assert!(rt; is_met, "{fates:?}");
+    Ok(())
+}
+
+/// Expects it where the answers come in pieces.
+fn expect_list_in_pieces(
+    rt: &(impl Abort + AllocGlobal),
+    case: &Case<'_>,
+    fates: &[Fate],
+) -> Result<(), Fail> {
+    let fetched = fetch_pieces_by(rt.alloc(), case.server, case.query, fates, &SIZES, TRIES)?;
+    let is_met = case.is_met(&fetched, used_up(fates, case.needed));
+    assert!(rt; is_met, "{fates:?}, in pieces");
+    Ok(())
+}
+
+/// Expects it where the answers come whole, and, of up to three fates, in pieces.
+fn expect_both(
+    rt: &(impl Abort + AllocGlobal),
+    case: &Case<'_>,
+    fates: &[Fate],
+) -> Result<(), Fail> {
+    expect_list(rt, case, fates)?;
     if fates.len() > 3 {
         return Ok(());
     }
-    let fetched = fetch_pieces_by(alloc, case.server, case.query, fates, &SIZES, TRIES)?;
-    assert_eq!(rt; fetched.exchanges, exchanges, "{fates:?}, in pieces");
-    assert!(rt;
-        are_same(fetched.report.as_ref(), want),
-        "{fates:?}, in pieces"
-    );
-    Ok(())
+    expect_list_in_pieces(rt, case, fates)
 }
 
 /// The list of a number: its digits to the base 6, the last one first.
@@ -105,9 +127,18 @@ fn expect_lists(
 ) -> Result<(), Fail> {
     for number in 0..count {
         set_fates(fates, number);
-        expect_list(rt, case, fates)?;
+        expect_both(rt, case, fates)?;
     }
     Ok(())
+}
+
+/// All lists of a case.
+fn expect_every(rt: &(impl Abort + AllocGlobal), case: &Case<'_>) -> Result<(), Fail> {
+    expect_both(rt, case, &[])?;
+    expect_lists(rt, case, &mut [Fate::Lost; 1], 6)?;
+    expect_lists(rt, case, &mut [Fate::Lost; 2], 36)?;
+    expect_lists(rt, case, &mut [Fate::Lost; 3], 216)?;
+    expect_lists(rt, case, &mut [Fate::Lost; 4], 1296)
 }
 
 /// All lists, beside the report of a run in which every answer comes whole.
@@ -126,11 +157,7 @@ fn expect_all(
         needed,
         report: &report,
     };
-    expect_list(rt, &case, &[])?;
-    expect_lists(rt, &case, &mut [Fate::Lost; 1], 6)?;
-    expect_lists(rt, &case, &mut [Fate::Lost; 2], 36)?;
-    expect_lists(rt, &case, &mut [Fate::Lost; 3], 216)?;
-    expect_lists(rt, &case, &mut [Fate::Lost; 4], 1296)
+    expect_every(rt, &case)
 }
 
 #[test]

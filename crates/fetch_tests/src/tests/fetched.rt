@@ -1,6 +1,8 @@
 //! Fetching from a server of one file, which is published as `a`.
+ghost use Rattle.std.specs.Prelude.{◌+◌, ◌^◌, ◌<◌};
+
 use super::LAST_TILE;
-use cog_client::{Client, Outcome, Pieces, Query, Report, Transport};
+use cog_client::{Client, ClientError, Outcome, Pieces, Query, Report, Transport};
 use cog_fetch::{fetch, fetch_pieces};
 use cog_server::Server;
 use std::alloc::Global;
@@ -14,6 +16,37 @@ pub struct Fetched {
     pub exchanges: u64,
 }
 
+impl Fetched {
+    /// How many exchanges there were, and whether the report is of the last tile of f2. None where there is no report.
+    pub fn found(&self) -> (u64, Option<bool>) {
+        (self.exchanges, self.report.as_ref().map(is_last_tile))
+    }
+}
+
+/// What a client fetches over a transport.
+fn fetch_report<T: Transport>(
+    alloc: Global,
+    client: &mut Client,
+    transport: &mut T,
+    tries: u32,
+) -> Result<Fetched, Fail>
+    requires { T.count transport.old + tries < 2 ^ 64 }
+{
+    let report = match fetch(client, transport, tries)? {
+        None => None,
+        Some(report) => Some(report.copy(alloc)?),
+    };
+    let exchanges = transport.exchanges();
+    Ok(Fetched { report, exchanges })
+}
+
+/// A client of `a` that is asked this.
+fn asked(alloc: Global, query: Query) -> Result<Client, ClientError> {
+    let mut client = Client::new(alloc, b"cog.test", b"a", 66)?;
+    client.open(query);
+    Ok(client)
+}
+
 /// What a new client fetches where these fates befall the answers.
 pub fn fetch_by(
     alloc: Global,
@@ -22,14 +55,25 @@ pub fn fetch_by(
     fates: &[Fate],
     tries: u32,
 ) -> Result<Fetched, Fail> {
-    let mut client = Client::new(alloc, b"cog.test", b"a", 66)?;
-    client.open(query);
+    let mut client = asked(alloc, query)?;
     let mut transport = Scripted::new(InMemory::new(server, b"a"), fates);
-    let report = match fetch(&mut client, &mut transport, tries)? {
+    fetch_report(alloc, &mut client, &mut transport, tries)
+}
+
+/// What a client fetches of a source of pieces.
+fn fetch_report_in_pieces<P: Pieces>(
+    alloc: Global,
+    client: &mut Client,
+    pieces: &mut P,
+    tries: u32,
+) -> Result<Fetched, Fail>
+    requires { P.count pieces.old + tries < 2 ^ 64 }
+{
+    let report = match fetch_pieces(client, pieces, tries)? {
         None => None,
         Some(report) => Some(report.copy(alloc)?),
     };
-    let exchanges = transport.exchanges();
+    let exchanges = pieces.starts();
     Ok(Fetched { report, exchanges })
 }
 
@@ -42,16 +86,10 @@ pub fn fetch_pieces_by(
     sizes: &[usize],
     tries: u32,
 ) -> Result<Fetched, Fail> {
-    let mut client = Client::new(alloc, b"cog.test", b"a", 66)?;
-    client.open(query);
+    let mut client = asked(alloc, query)?;
     let scripted = Scripted::new(InMemory::new(server, b"a"), fates);
     let mut pieces = InPieces::new(alloc, scripted, sizes);
-    let report = match fetch_pieces(&mut client, &mut pieces, tries)? {
-        None => None,
-        Some(report) => Some(report.copy(alloc)?),
-    };
-    let exchanges = pieces.starts();
-    Ok(Fetched { report, exchanges })
+    fetch_report_in_pieces(alloc, &mut client, &mut pieces, tries)
 }
 
 /// Whether it is the last tile of f2, whose samples are all 255, under the first tag of the first epoch.

@@ -3,8 +3,10 @@ use super::LAST_TILE;
 use super::fetched::is_last_tile;
 use cog_client::{Client, ClientError};
 use cog_fetch::fetch;
+use cog_server::Server;
 use fixtures_support::f2;
 use std::alloc::Global;
+use std::process::Abort;
 use std::test::Fail;
 use transports::{InMemory, server_of_one};
 
@@ -14,6 +16,17 @@ fn make_again(alloc: Global) -> Result<Client, ClientError> {
         Err(ClientError::Memory) => Client::new(alloc, b"cog.test", b"a", 66),
         made => made,
     }
+}
+
+/// Expects the last tile from the second fetching. The first is refused under its number, or isn't.
+fn fetch_again(rt: &impl Abort, server: &Server, client: &mut Client) -> Result<(), Fail> {
+    let mut transport = InMemory::new(server, b"a");
+    if let Err(refusal) = fetch(client, &mut transport, 3) {
+        assert_eq!(rt; refusal.number(), 1);
+    }
+    let report = fetch(client, &mut transport, 3)?.ok_or("no report")?;
+    assert!(rt; is_last_tile(report));
+    Ok(())
 }
 
 /// Fetching is refused, or loses one answer of three; the client goes on to the same report.
@@ -27,11 +40,5 @@ fn goes_on_after_refused_memory(rt: HostRuntime) -> Result<(), Fail> {
     };
     let mut client = make_again(rt.alloc())?;
     client.open(LAST_TILE);
-    let mut transport = InMemory::new(&server, b"a");
-    if let Err(refusal) = fetch(&mut client, &mut transport, 3) {
-        assert_eq!(rt; refusal.number(), 1);
-    }
-    let report = fetch(&mut client, &mut transport, 3)?.ok_or("no report")?;
-    assert!(rt; is_last_tile(report));
-    Ok(())
+    fetch_again(&rt, &server, &mut client)
 }

@@ -2,9 +2,9 @@
 use super::LAST_TILE;
 use cog_client::{Client, ClientError, Outcome, Report, Transport};
 use cog_fetch::{fetch, fetch_pieces};
+use cog_server::Server;
 use fixtures_support::{f2, f2b};
 use std::alloc::Global;
-use std::process::Abort;
 use std::test::Fail;
 use transports::{InPieces, Replaced, server_of_one};
 
@@ -12,9 +12,12 @@ const OLD: &[u8] = b"\"1-1\"";
 
 const NEW: &[u8] = b"\"2-1\"";
 
+/// A row of the table.
+type Row = (u64, &'static [u8], u8, u64);
+
 /// How many exchanges come to the server of the old file, the tag and the samples of the report, and how many exchanges lead to it. With
 /// one of the old file the next answer is the whole new one, of which the first 65,536 bytes are kept, and a third brings the rest.
-const ROWS: [(u64, &[u8], u8, u64); 4] = [
+const ROWS: [Row; 4] = [
     (0, NEW, 0, 2),
     (1, NEW, 0, 3),
     (2, OLD, 255, 2),
@@ -30,40 +33,74 @@ fn client(alloc: Global) -> Result<Client, ClientError> {
     Ok(client)
 }
 
-fn expect_report(rt: &impl Abort, report: &Report, tag: &[u8], sample: u8) -> Result<(), Fail> {
-    assert_eq!(rt; report.tag.as_bytes(), tag);
-    assert_eq!(rt; report.query, LAST_TILE);
-    let Outcome::Window(window) = &report.outcome else {
-        return Err(Fail::from("no window"));
-    };
-    assert_eq!(rt; window.pixels.as_slice(), [sample; 256].as_slice());
-    Ok(())
+/// Whether a report is of the last tile, under a tag, of samples that are all the same.
+fn is_of(report: &Report, tag: &[u8], sample: u8) -> bool {
+    match &report.outcome {
+        Outcome::Window(window) => {
+            report.tag.as_bytes() == tag
+                && report.query == LAST_TILE
+                && window.pixels.as_slice() == [sample; 256].as_slice()
+        }
+        _ => false,
+    }
+}
+
+/// Whether a client fetches what a row says.
+fn fetches(
+    client: &mut Client,
+    (old, new): (&Server, &Server),
+    (left, tag, sample, exchanges): Row,
+) -> Result<bool, Fail> {
+    let mut transport = Replaced::new(old, new, b"a", left);
+    let report = fetch(client, &mut transport, 4)?.ok_or("no report")?;
+    Ok(is_of(report, tag, sample) && transport.exchanges() == exchanges)
+}
+
+/// Whether a new client does.
+fn is_met(alloc: Global, servers: (&Server, &Server), row: Row) -> Result<bool, Fail> {
+    let mut client = client(alloc)?;
+    fetches(&mut client, servers, row)
 }
 
 #[test]
 fn fetches_the_one_file_or_the_other(rt: HostRuntime) -> Result<(), Fail> {
     let old = server_of_one(rt.alloc(), 1, b"a", f2(rt.alloc())?)?;
     let new = server_of_one(rt.alloc(), 2, b"a", f2b(rt.alloc())?)?;
-    for (left, tag, sample, exchanges) in ROWS {
-        let mut transport = Replaced::new(&old, &new, b"a", left);
-        let mut client = client(rt.alloc())?;
-        let report = fetch(&mut client, &mut transport, 4)?.ok_or("no report")?;
-        expect_report(&rt, report, tag, sample)?;
-        assert_eq!(rt; transport.exchanges(), exchanges, "{left}");
+    for row in ROWS {
+        assert!(rt; is_met(rt.alloc(), (&old, &new), row)?, "{}", row.0);
     }
     Ok(())
+}
+
+/// Whether a client fetches the same report where the answers come in pieces.
+fn fetches_pieces(
+    alloc: Global,
+    client: &mut Client,
+    (old, new): (&Server, &Server),
+    (left, tag, sample, _): Row,
+) -> Result<bool, Fail> {
+    let transport = Replaced::new(old, new, b"a", left);
+    let mut pieces = InPieces::new(alloc, transport, &SIZES);
+    let report = fetch_pieces(client, &mut pieces, 4)?.ok_or("no report")?;
+    Ok(is_of(report, tag, sample))
+}
+
+/// Whether a new client does.
+fn is_met_in_pieces(alloc: Global, servers: (&Server, &Server), row: Row) -> Result<bool, Fail> {
+    let mut client = client(alloc)?;
+    fetches_pieces(alloc, &mut client, servers, row)
 }
 
 #[test]
 fn fetches_the_one_file_or_the_other_in_pieces(rt: HostRuntime) -> Result<(), Fail> {
     let old = server_of_one(rt.alloc(), 1, b"a", f2(rt.alloc())?)?;
     let new = server_of_one(rt.alloc(), 2, b"a", f2b(rt.alloc())?)?;
-    for (left, tag, sample, _) in ROWS {
-        let transport = Replaced::new(&old, &new, b"a", left);
-        let mut pieces = InPieces::new(rt.alloc(), transport, &SIZES);
-        let mut client = client(rt.alloc())?;
-        let report = fetch_pieces(&mut client, &mut pieces, 4)?.ok_or("no report")?;
-        expect_report(&rt, report, tag, sample)?;
+    for row in ROWS {
+        assert!(rt;
+            is_met_in_pieces(rt.alloc(), (&old, &new), row)?,
+            "{}",
+            row.0
+        );
     }
     Ok(())
 }

@@ -3,6 +3,7 @@ use cog_server::PublishError;
 use programs::Fault;
 use programs_support::{Capture, tell};
 use scripts::ScriptError;
+use std::process::Abort;
 use std::test::Fail;
 use tiff_dir::FileFault;
 
@@ -64,13 +65,24 @@ fn tells_a_fault_by_its_program_and_words(rt: HostRuntime) -> Result<(), Fail> {
         (Fault::CantWrite, "cogserve", "can't write", 1),
     ];
     for (fault, program, words, status) in table {
-        let line = format!(in rt.alloc(); "{program}: {words}\n")?;
         assert!(rt;
-            is_told(Capture::new(&rt), program, &fault, line.as_str(), status),
+            is_told_by_words(&rt, program, &fault, words, status)?,
             "{program}: {words}"
         );
     }
     Ok(())
+}
+
+/// Whether the fault is told by its program and these words, and ends with this status.
+fn is_told_by_words(
+    rt: &HostRuntime,
+    program: &str,
+    fault: &Fault,
+    words: &str,
+    status: u8,
+) -> Result<bool, Fail> {
+    let line = format!(in rt.alloc(); "{program}: {words}\n")?;
+    Ok(is_told(Capture::new(rt), program, fault, line.as_str(), status))
 }
 
 #[test]
@@ -104,9 +116,19 @@ fn tells_each_fault_by_its_number_and_name(rt: HostRuntime) -> Result<(), Fail> 
     let told = tell(&rt, &["cogread", "--help"])?;
     let help = str::from_utf8(&told.out).unwrap_or_default();
     for (fault, name, _) in FILE_FAULTS {
-        let number = fault.number();
-        let part = format!(in rt.alloc(); "\n  {number:>2}  {name} ")?;
-        assert!(rt; help.contains(part.as_str()), "{name}");
+        expect_named(&rt, help, fault.number(), name)?;
     }
+    Ok(())
+}
+
+/// Expects that help names a fault with its number.
+fn expect_named<R: Abort + AllocGlobal>(
+    rt: &R,
+    help: &str,
+    number: u8,
+    name: &str,
+) -> Result<(), Fail> {
+    let part = format!(in rt.alloc(); "\n  {number:>2}  {name} ")?;
+    assert!(rt; help.contains(part.as_str()), "{name}");
     Ok(())
 }

@@ -3,6 +3,7 @@ use super::{FaultRow, expect_faults};
 use disk_files::replace_file;
 use std::fs;
 use std::os::unix::fs::symlink;
+use std::process::Abort;
 use std::rt::Files;
 use std::test::Fail;
 
@@ -35,8 +36,10 @@ fn puts_another_file_in_its_place(rt: HostRuntime) -> Result<(), Fail> {
     fs::write(&rt, path, "before")?;
     fs::hard_link(&rt, path, name)?;
     replace_file(&rt, path, b"af", b"ter")?;
-    assert!(rt; has(&rt, path, b"after"));
-    assert!(rt; has(&rt, name, b"before"));
+    assert_eq!(rt;
+        (has(&rt, path, b"after"), has(&rt, name, b"before")),
+        (true, true)
+    );
     fs::remove_file(&rt, path)?;
     fs::remove_file(&rt, name)?;
     Ok(())
@@ -45,22 +48,48 @@ fn puts_another_file_in_its_place(rt: HostRuntime) -> Result<(), Fail> {
 /// A link stands in the place where the file is written first: what it leads to stays as it is, there or not.
 #[test]
 fn follows_no_link_beside_the_file(rt: HostRuntime) -> Result<(), Fail> {
-    let (path, beside) = ("programs_tests_linked", "programs_tests_linked.part");
-    let (other, none) = ("programs_tests_other", "programs_tests_missing");
+    let path = "programs_tests_linked";
     fs::write(&rt, path, "before")?;
-    fs::write(&rt, other, "other")?;
-    symlink(&rt, other, beside)?;
-    replace_file(&rt, path, b"af", b"ter")?;
-    assert!(rt; has(&rt, path, b"after"));
-    assert!(rt; has(&rt, other, b"other"));
-    assert!(rt; fs::symlink_metadata(&rt, path)?.is_file());
-    symlink(&rt, none, beside)?;
-    replace_file(&rt, path, b"", b"last")?;
-    assert!(rt; has(&rt, path, b"last"));
-    assert!(rt; fs::symlink_metadata(&rt, none).is_err());
-    assert!(rt; fs::symlink_metadata(&rt, beside).is_err());
+    expect_other_kept(&rt, path, "programs_tests_other")?;
+    expect_none_made(&rt, path, "programs_tests_missing")?;
     fs::remove_file(&rt, path)?;
-    fs::remove_file(&rt, other)?;
+    Ok(())
+}
+
+const BESIDE_LINKED: &str = "programs_tests_linked.part";
+
+/// Expects that another file is kept where a link leads to it, and that a file takes the path, not the link.
+fn expect_other_kept<R: Abort + Files + AllocGlobal>(
+    rt: &R,
+    path: &str,
+    other: &str,
+) -> Result<(), Fail> {
+    fs::write(rt, other, "other")?;
+    symlink(rt, other, BESIDE_LINKED)?;
+    replace_file(rt, path, b"af", b"ter")?;
+    let is_file = fs::symlink_metadata(rt, path)?.is_file();
+    assert_eq!(rt;
+        (has(rt, path, b"after"), has(rt, other, b"other"), is_file),
+        (true, true, true)
+    );
+    fs::remove_file(rt, other)?;
+    Ok(())
+}
+
+/// Expects that no file is made where a link leads to none, and that the link is gone.
+fn expect_none_made<R: Abort + Files + AllocGlobal>(
+    rt: &R,
+    path: &str,
+    none: &str,
+) -> Result<(), Fail> {
+    symlink(rt, none, BESIDE_LINKED)?;
+    replace_file(rt, path, b"", b"last")?;
+    let is_made = fs::symlink_metadata(rt, none).is_ok();
+    let is_beside = fs::symlink_metadata(rt, BESIDE_LINKED).is_ok();
+    assert_eq!(rt;
+        (has(rt, path, b"last"), is_made, is_beside),
+        (true, false, false)
+    );
     Ok(())
 }
 
@@ -70,8 +99,8 @@ fn leaves_the_file_where_nothing_can_be_written(rt: HostRuntime) -> Result<(), F
     let (path, beside) = ("programs_tests_kept", "programs_tests_kept.part");
     fs::write(&rt, path, "before")?;
     fs::create_dir(&rt, beside)?;
-    assert!(rt; replace_file(&rt, path, b"after", b"").is_err());
-    assert!(rt; has(&rt, path, b"before"));
+    let is_refused = replace_file(&rt, path, b"after", b"").is_err();
+    assert_eq!(rt; (is_refused, has(&rt, path, b"before")), (true, true));
     fs::remove_dir(&rt, beside)?;
     fs::remove_file(&rt, path)?;
     Ok(())

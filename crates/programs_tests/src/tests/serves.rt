@@ -1,9 +1,11 @@
 //! `cogserve`: the lines of its faults, and the lines of what was published before. No listener can have its address.
-use super::expect_told;
+use super::{Want, expect_told};
 use std::alloc::{AllocError, Global};
 use std::convert::AsStr;
 use std::fs::OpenFile;
-use std::rt::Files;
+use std::net::{Net, TcpListener, TcpStream};
+use std::process::Abort;
+use std::rt::{Clock, Files};
 use std::test::Fail;
 use std::{fs, io};
 
@@ -17,16 +19,22 @@ fn words_of<S: AsStr>(
     files: &[S],
 ) -> Result<Vec<String>, AllocError> {
     let mut words = Vec::new(alloc);
-    for word in LISTENS_NOWHERE {
-        words.push(String::from_str(alloc, word)?)?;
-    }
-    words.push(String::from_str(alloc, epoch)?)?;
-    words.push(String::from_str(alloc, "--connections")?)?;
-    words.push(String::from_str(alloc, connections)?)?;
-    for file in files {
-        words.push(String::from_str(alloc, file.as_str())?)?;
-    }
+    push_each(alloc, &mut words, &LISTENS_NOWHERE)?;
+    push_each(alloc, &mut words, &[epoch, "--connections", connections])?;
+    push_each(alloc, &mut words, files)?;
     Ok(words)
+}
+
+/// Puts each of these behind the words.
+fn push_each<S: AsStr>(
+    alloc: Global,
+    words: &mut Vec<String>,
+    more: &[S],
+) -> Result<(), AllocError> {
+    for word in more {
+        words.push(String::from_str(alloc, word.as_str())?)?;
+    }
+    Ok(())
 }
 
 /// One file, without a path.
@@ -49,10 +57,22 @@ const OF_WORDS: [(&str, &str, &[&str], &str); 9] = [
 #[test]
 fn refuses_the_first_word_of_another_form(rt: HostRuntime) -> Result<(), Fail> {
     for (epoch, connections, files, err) in OF_WORDS {
-        let words = words_of(rt.alloc(), epoch, connections, files)?;
-        expect_told(&rt, err, &words, ("", err, 2))?;
+        expect_words(&rt, (epoch, connections, files), ("", err, 2))?;
     }
     Ok(())
+}
+
+/// Expects what is told of an epoch, a number of connections and files.
+fn expect_words<R>(
+    rt: &R,
+    (epoch, connections, files): (&str, &str, &[&str]),
+    (out, err, status): Want<'_>,
+) -> Result<(), AllocError>
+where
+    R: Abort + Files + Clock + AllocGlobal + Net<Listener = TcpListener, Stream = TcpStream>,
+{
+    let words = words_of(rt.alloc(), epoch, connections, files)?;
+    expect_told(rt, err, &words, (out, err, status))
 }
 
 /// An option that may be left out, and the word of it that is no number of its range.
@@ -75,19 +95,23 @@ const WITHIN: [(&str, &str); 4] = [
 
 #[test]
 fn refuses_numbers_past_the_limits_of_options(rt: HostRuntime) -> Result<(), Fail> {
-    for (option, word, err) in OF_CHOICES {
-        let mut words = words_of(rt.alloc(), "1", "1", NO_FILE)?;
-        words.push(String::from_str(rt.alloc(), option)?)?;
-        words.push(String::from_str(rt.alloc(), word)?)?;
-        expect_told(&rt, err, &words, ("", err, 2))?;
+    for row in OF_CHOICES {
+        expect_choice(&rt, row)?;
     }
     for (option, word) in WITHIN {
-        let mut words = words_of(rt.alloc(), "1", "1", NO_FILE)?;
-        words.push(String::from_str(rt.alloc(), option)?)?;
-        words.push(String::from_str(rt.alloc(), word)?)?;
-        expect_told(&rt, option, &words, ("", "cogserve: not a file: a\n", 2))?;
+        expect_choice(&rt, (option, word, "cogserve: not a file: a\n"))?;
     }
     Ok(())
+}
+
+/// Expects what is told on standard error of an option with this word.
+fn expect_choice<R>(rt: &R, (option, word, err): (&str, &str, &str)) -> Result<(), AllocError>
+where
+    R: Abort + Files + Clock + AllocGlobal + Net<Listener = TcpListener, Stream = TcpStream>,
+{
+    let words = words_of(rt.alloc(), "1", "1", &["a", option, word])?;
+    let name = format!(in rt.alloc(); "{option} {word}")?;
+    expect_told(rt, name.as_str(), &words, ("", err, 2))
 }
 
 /// An epoch and files, and what is printed of them to standard output and told on standard error.
@@ -130,8 +154,7 @@ fn make_files<R: Files>(rt: &R) -> io::Result<()> {
 fn publishes_the_files_before_the_first_fault(rt: HostRuntime) -> Result<(), Fail> {
     make_files(&rt)?;
     for (epoch, files, out, err) in OF_FILES {
-        let words = words_of(rt.alloc(), epoch, "1", files)?;
-        expect_told(&rt, err, &words, (out, err, 1))?;
+        expect_words(&rt, (epoch, "1", files), (out, err, 1))?;
     }
     for path in PATHS {
         fs::remove_file(&rt, path)?;
@@ -196,8 +219,7 @@ const LOGGED: [(&str, &str, &str); 4] = [
 fn tells_with_a_log_why_it_ends(rt: HostRuntime) -> Result<(), Fail> {
     fs::write(&rt, "programs_tests_logged", "some bytes")?;
     for (file, out, err) in LOGGED {
-        let words = words_of(rt.alloc(), "1", "1", &[file, "--log"])?;
-        expect_told(&rt, file, &words, (out, err, 1))?;
+        expect_words(&rt, ("1", "1", &[file, "--log"]), (out, err, 1))?;
     }
     fs::remove_file(&rt, "programs_tests_logged")?;
     Ok(())

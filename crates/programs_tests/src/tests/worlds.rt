@@ -1,8 +1,11 @@
 //! `cogworld`, and words that name no program.
-use super::{FaultRow, expect_faults, expect_told};
+use super::{FaultRow, Want, expect_faults, expect_told};
 use fixtures_support::f1;
 use programs_support::{Capture, tell, tell_on};
 use std::fs;
+use std::net::{Net, TcpListener, TcpStream};
+use std::process::Abort;
+use std::rt::{Clock, Files};
 use std::test::Fail;
 
 /// The log of the stored script.
@@ -65,14 +68,22 @@ const SCRIPTS: [(&str, &str, &str, u8); 6] = [
 fn runs_a_script_of_the_disk_or_tells_its_first_fault(rt: HostRuntime) -> Result<(), Fail> {
     fs::write(&rt, FILE, f1(rt.alloc())?.as_slice())?;
     for (script, out, err, status) in SCRIPTS {
-        fs::write(&rt, PATH, script)?;
-        expect_told(&rt, script, &["cogworld", PATH], (out, err, status))?;
-        for size in ["1", "171", "1069056"] {
-            let words = ["cogworld", "--pieces", size, PATH];
-            expect_told(&rt, script, &words, (out, err, status))?;
-        }
+        expect_script(&rt, script, (out, err, status))?;
     }
     fs::remove_file(&rt, FILE)?;
     fs::remove_file(&rt, PATH)?;
+    Ok(())
+}
+
+/// Expects what is told of a script, in pieces of each size.
+fn expect_script<R>(rt: &R, script: &str, want: Want<'_>) -> Result<(), Fail>
+where
+    R: Abort + Files + Clock + AllocGlobal + Net<Listener = TcpListener, Stream = TcpStream>,
+{
+    fs::write(rt, PATH, script)?;
+    expect_told(rt, script, &["cogworld", PATH], want)?;
+    for size in ["1", "171", "1069056"] {
+        expect_told(rt, script, &["cogworld", "--pieces", size, PATH], want)?;
+    }
     Ok(())
 }

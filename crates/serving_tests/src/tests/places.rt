@@ -74,9 +74,32 @@ fn expect_answer<R: Abort>(
     now: u64,
 ) -> Result<(), Fail> {
     client.write_all(ASK.as_bytes())?;
+    expect_answered(rt, client, serving, server, now)
+}
+
+/// Expects an answer at this moment, to what was asked on a connection.
+fn expect_answered<R: Abort>(
+    rt: &R,
+    client: &mut TcpStream,
+    serving: &mut Serving,
+    server: &Server,
+    now: u64,
+) -> Result<(), Fail> {
     serving.wait(now)?;
     serving.turns(server, now, &mut Nobody);
     read_answer(rt, client)
+}
+
+/// Expects how many are accepted at a moment, and how many have ended.
+fn expect_turn<R: Abort>(
+    rt: &R,
+    serving: &mut Serving,
+    server: &Server,
+    now: u64,
+    want: (u32, u32),
+) -> Result<(), Fail> {
+    assert_eq!(rt; turn(serving, server, now)?, want);
+    Ok(())
 }
 
 #[test]
@@ -85,7 +108,7 @@ fn answers_beside_those_who_say_nothing(rt: HostRuntime) -> Result<(), Fail> {
     let _silent = connect(&rt, address, "")?;
     let _begun = connect(&rt, address, "GET /a HTTP/1.1\r\n")?;
     let mut client = connect(&rt, address, "")?;
-    assert_eq!(rt; turn(&mut serving, &server, 0)?, (3, 0));
+    expect_turn(&rt, &mut serving, &server, 0, (3, 0))?;
     for now in 1..9 {
         expect_answer(&rt, &mut client, &mut serving, &server, now)?;
     }
@@ -99,20 +122,39 @@ fn gives_a_newcomer_a_place(rt: HostRuntime) -> Result<(), Fail> {
     let (mut serving, server, address) = serving(&rt, 2)?;
     let _begun = connect(&rt, address, "GET")?;
     let mut idle = connect(&rt, address, "")?;
-    assert_eq!(rt; turn(&mut serving, &server, 10)?, (2, 0));
+    expect_turn(&rt, &mut serving, &server, 10, (2, 0))?;
     let mut second = connect(&rt, address, "G")?;
-    serving.wait(20)?;
-    assert_eq!(rt; turn(&mut serving, &server, 20)?, (1, 1));
-    assert_eq!(rt; idle.read(&mut [0])?, 0);
+    expect_instead_of_idle(&rt, &mut serving, &server, &mut idle)?;
     let mut third = connect(&rt, address, "")?;
-    serving.wait(30)?;
-    assert_eq!(rt; turn(&mut serving, &server, 1_009)?, (0, 1));
-    assert_eq!(rt; turn(&mut serving, &server, 1_010)?, (1, 2));
-    expect_answer(&rt, &mut third, &mut serving, &server, 1_010)?;
+    expect_instead_of_begun(&rt, &mut serving, &server, &mut third)?;
     second.write_all(&ASK.as_bytes()[1..])?;
-    serving.wait(1_011)?;
-    serving.turns(&server, 1_011, &mut Nobody);
-    read_answer(&rt, &mut second)
+    expect_answered(&rt, &mut second, &mut serving, &server, 1_011)
+}
+
+/// Expects that a newcomer is accepted at once, and that this connection has ended.
+fn expect_instead_of_idle<R: Abort>(
+    rt: &R,
+    serving: &mut Serving,
+    server: &Server,
+    idle: &mut TcpStream,
+) -> Result<(), Fail> {
+    serving.wait(20)?;
+    expect_turn(rt, serving, server, 20, (1, 1))?;
+    assert_eq!(rt; idle.read(&mut [0])?, 0);
+    Ok(())
+}
+
+/// Expects that a newcomer is accepted when the patience has run out, and not before.
+fn expect_instead_of_begun<R: Abort>(
+    rt: &R,
+    serving: &mut Serving,
+    server: &Server,
+    newcomer: &mut TcpStream,
+) -> Result<(), Fail> {
+    serving.wait(30)?;
+    expect_turn(rt, serving, server, 1_009, (0, 1))?;
+    expect_turn(rt, serving, server, 1_010, (1, 2))?;
+    expect_answer(rt, newcomer, serving, server, 1_010)
 }
 
 /// With one place a newcomer waits until the connection before it has ended.
@@ -120,17 +162,26 @@ fn gives_a_newcomer_a_place(rt: HostRuntime) -> Result<(), Fail> {
 fn serves_one_after_another_with_one_place(rt: HostRuntime) -> Result<(), Fail> {
     let (mut serving, server, address) = serving(&rt, 1)?;
     let first = connect(&rt, address, "")?;
-    assert_eq!(rt; turn(&mut serving, &server, 0)?, (1, 0));
+    expect_turn(&rt, &mut serving, &server, 0, (1, 0))?;
     let mut second = connect(&rt, address, "")?;
     serving.wait(1)?;
-    assert_eq!(rt; turn(&mut serving, &server, 3_600_000)?, (0, 0));
+    expect_turn(&rt, &mut serving, &server, 3_600_000, (0, 0))?;
     drop(first);
+    expect_instead_of_the_first(&rt, &mut serving, &server, &mut second)
+}
+
+/// Expects that a newcomer is accepted once the first connection has ended.
+fn expect_instead_of_the_first<R: Abort>(
+    rt: &R,
+    serving: &mut Serving,
+    server: &Server,
+    newcomer: &mut TcpStream,
+) -> Result<(), Fail> {
     serving.wait(3_600_001)?;
-    serving.turns(&server, 3_600_001, &mut Nobody);
-    serving.turns(&server, 3_600_001, &mut Nobody);
-    assert_eq!(rt; turn(&mut serving, &server, 3_600_001)?, (1, 1));
-    expect_answer(&rt, &mut second, &mut serving, &server, 3_600_001)?;
-    Ok(())
+    serving.turns(server, 3_600_001, &mut Nobody);
+    serving.turns(server, 3_600_001, &mut Nobody);
+    expect_turn(rt, serving, server, 3_600_001, (1, 1))?;
+    expect_answer(rt, newcomer, serving, server, 3_600_001)
 }
 
 /// What comes behind the last message is dropped, and the connection closed after two seconds.
@@ -138,16 +189,20 @@ fn serves_one_after_another_with_one_place(rt: HostRuntime) -> Result<(), Fail> 
 fn drains_for_two_seconds(rt: HostRuntime) -> Result<(), Fail> {
     let (mut serving, server, address) = serving(&rt, 2)?;
     let mut client = connect(&rt, address, "no head\r\n\r\n")?;
-    assert_eq!(rt; turn(&mut serving, &server, 5)?, (1, 1));
+    expect_turn(&rt, &mut serving, &server, 5, (1, 1))?;
     client.write_all(b"more")?;
     serving.turns(&server, 2_004, &mut Nobody);
     let mut next = connect(&rt, address, "")?;
-    assert_eq!(rt; turn(&mut serving, &server, 2_004)?, (0, 1));
-    serving.wait(2_004)?;
-    assert_eq!(rt; turn(&mut serving, &server, 2_004)?, (1, 1));
+    expect_one_more(&rt, &mut serving, &server)?;
     serving.turns(&server, 2_005, &mut Nobody);
     let answer = std::io::read_to_string(rt.alloc(), client)?;
     assert!(rt; answer.as_str().starts_with("HTTP/1.1 400 Bad Request\r\n"));
-    expect_answer(&rt, &mut next, &mut serving, &server, 2_005)?;
-    Ok(())
+    expect_answer(&rt, &mut next, &mut serving, &server, 2_005)
+}
+
+/// Expects that a newcomer is accepted once it was waited for.
+fn expect_one_more<R: Abort>(rt: &R, serving: &mut Serving, server: &Server) -> Result<(), Fail> {
+    expect_turn(rt, serving, server, 2_004, (0, 1))?;
+    serving.wait(2_004)?;
+    expect_turn(rt, serving, server, 2_004, (1, 1))
 }

@@ -37,6 +37,16 @@ where
     peer.exchange(alloc, stream, socket, room)
 }
 
+/// Three answers on one connection, in pieces of at most 1,000 bytes, of one, and of 170.
+fn exchange_in_turn<R>(alloc: Global, peer: &Peer, socket: &mut Socket<'_, R>) -> Result<(), Fail>
+where
+    R: Net<Stream = TcpStream> + AllocGlobal,
+{
+    let mut stream = begin(alloc, peer, socket)?;
+    go_on(alloc, peer, &mut stream, socket, 19, &mut [0; 1])?;
+    go_on(alloc, peer, &mut stream, socket, 29, &mut [0; 170])
+}
+
 /// Three answers, taken in pieces of at most 1,000 bytes, of one, and of 170, behind each of which a request is sent.
 #[test]
 fn sends_requests_one_behind_another(rt: HostRuntime) -> Result<(), Fail> {
@@ -44,9 +54,7 @@ fn sends_requests_one_behind_another(rt: HostRuntime) -> Result<(), Fail> {
     let peer = Peer::new(&rt, f1(alloc)?)?;
     let mut socket = Socket::new(&rt, peer.address.as_str());
     socket.keep_open();
-    let mut stream = begin(alloc, &peer, &mut socket)?;
-    go_on(alloc, &peer, &mut stream, &mut socket, 19, &mut [0; 1])?;
-    go_on(alloc, &peer, &mut stream, &mut socket, 29, &mut [0; 170])
+    exchange_in_turn(alloc, &peer, &mut socket)
 }
 
 /// A request that ends the connection is sent, whose answer says so. The connection.
@@ -62,6 +70,20 @@ where
     peer.exchange_anew(alloc, socket, &mut [0; 1000])
 }
 
+/// A connection that ends stays, and the next request comes on another.
+fn begin_behind_closing<R>(
+    alloc: Global,
+    peer: &Peer,
+    socket: &mut Socket<'_, R>,
+) -> Result<(), Fail>
+where
+    R: Net<Stream = TcpStream> + AllocGlobal,
+{
+    let _closing = begin_closing(alloc, peer, socket)?;
+    begin(alloc, peer, socket)?;
+    Ok(())
+}
+
 /// An answer that says that the connection ends.
 #[test]
 fn connects_anew_behind_an_answer_that_closes(rt: HostRuntime) -> Result<(), Fail> {
@@ -69,9 +91,7 @@ fn connects_anew_behind_an_answer_that_closes(rt: HostRuntime) -> Result<(), Fai
     let peer = Peer::new(&rt, f1(alloc)?)?;
     let mut socket = Socket::new(&rt, peer.address.as_str());
     socket.keep_open();
-    let _closing = begin_closing(alloc, &peer, &mut socket)?;
-    begin(alloc, &peer, &mut socket)?;
-    Ok(())
+    begin_behind_closing(alloc, &peer, &mut socket)
 }
 
 /// An answer of which the first bytes are read. The connection.
@@ -107,15 +127,26 @@ where
     Ok(stream)
 }
 
+/// The connections of these two stay, and each request comes on another.
+fn begin_behind_both<R>(
+    rt: &(impl Abort + AllocGlobal),
+    peer: &Peer,
+    socket: &mut Socket<'_, R>,
+) -> Result<(), Fail>
+where
+    R: Net<Stream = TcpStream> + AllocGlobal,
+{
+    let _in_part = begin_in_part(rt, peer, socket)?;
+    let _without_length = begin_without_length(rt, peer, socket)?;
+    begin(rt.alloc(), peer, socket)?;
+    Ok(())
+}
+
 /// An answer that isn't read to its end, and one without a length, whose end isn't waited for.
 #[test]
 fn connects_anew_behind_an_answer_without_an_end(rt: HostRuntime) -> Result<(), Fail> {
-    let alloc = rt.alloc();
-    let peer = Peer::new(&rt, f1(alloc)?)?;
+    let peer = Peer::new(&rt, f1(rt.alloc())?)?;
     let mut socket = Socket::new(&rt, peer.address.as_str());
     socket.keep_open();
-    let _in_part = begin_in_part(&rt, &peer, &mut socket)?;
-    let _without_length = begin_without_length(&rt, &peer, &mut socket)?;
-    begin(alloc, &peer, &mut socket)?;
-    Ok(())
+    begin_behind_both(&rt, &peer, &mut socket)
 }

@@ -111,11 +111,11 @@ where
     Ok(())
 }
 
-#[test]
-fn reads_windows_over_a_socket(rt: HostRuntime) -> Result<(), Fail> {
-    let alloc = rt.alloc();
-    let peer = Peer::new(&rt, f1(alloc)?)?;
-    let mut client = Client::new(alloc, b"cog.test", b"a", 66)?;
+/// Expects the windows from one client.
+fn expect_windows<R>(rt: &R, peer: &Peer, client: &mut Client) -> Result<(), Fail>
+where
+    R: Runtime + Abort + AllocGlobal + Net<Listener = TcpListener, Stream = TcpStream>,
+{
     for (query, count, text) in [
         (
             window(2, 1, 3, 2),
@@ -124,9 +124,16 @@ fn reads_windows_over_a_socket(rt: HostRuntime) -> Result<(), Fail> {
         ),
         (window(15, 15, 1, 1), 0, b"P5\n1 1\n255\n\xff".as_slice()),
     ] {
-        expect_text(&rt, &peer, &mut client, query, (count, text))?;
+        expect_text(rt, peer, client, query, (count, text))?;
     }
     Ok(())
+}
+
+#[test]
+fn reads_windows_over_a_socket(rt: HostRuntime) -> Result<(), Fail> {
+    let peer = Peer::new(&rt, f1(rt.alloc())?)?;
+    let mut client = Client::new(rt.alloc(), b"cog.test", b"a", 66)?;
+    expect_windows(&rt, &peer, &mut client)
 }
 
 /// The info of f3.
@@ -134,14 +141,21 @@ const INFO: &[u8] = b"tag \"1-1\"\nlevel 0 32 32\nlevel 1 16 16\nminor 0\nkey 10
     key 1026 ascii WGS 84|\nkey 2057 doubles 0102030405060708\n\
     scale 3ff0000000000000 3ff0000000000000 3ff0000000000000\n";
 
-#[test]
-fn reads_info_over_a_socket(rt: HostRuntime) -> Result<(), Fail> {
-    let alloc = rt.alloc();
-    let peer = Peer::new(&rt, f3(alloc)?)?;
-    let mut client = Client::new(alloc, b"cog.test", b"a", 66)?;
-    expect_text(&rt, &peer, &mut client, Query::Info, (1, INFO))?;
+/// Expects the info from a client that has the first publication.
+fn expect_info<R>(rt: &R, peer: &Peer, client: &mut Client) -> Result<(), Fail>
+where
+    R: Runtime + Abort + AllocGlobal + Net<Listener = TcpListener, Stream = TcpStream>,
+{
+    expect_text(rt, peer, client, Query::Info, (1, INFO))?;
     assert!(rt; client.tag() == Some(&publication_tag(1, 1)));
     Ok(())
+}
+
+#[test]
+fn reads_info_over_a_socket(rt: HostRuntime) -> Result<(), Fail> {
+    let peer = Peer::new(&rt, f3(rt.alloc())?)?;
+    let mut client = Client::new(rt.alloc(), b"cog.test", b"a", 66)?;
+    expect_info(&rt, &peer, &mut client)
 }
 
 /// A request of no server.
