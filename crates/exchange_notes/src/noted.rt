@@ -1,5 +1,7 @@
 //! A source of answers in pieces that is another one, and notes what came of the last exchange.
-ghost use Rattle.std.specs.Prelude.{◌≡◌, ◌+◌, [], false, length, min};
+ghost use Rattle.std.specs.Prelude.{◌≡◌, ◌+◌, [], IfSome, false, length, min};
+ghost use Rattle.std.specs.Char.{is_ascii_digit};
+ghost use Rattle.std.specs.List.{AllPass};
 ghost use Rattle.exchange_notes.specs.Noted.{HasCome, NotesOf, bytes_of, front_of, sent_of, source_of};
 
 use cog_client::{Lost, Pieces, Why};
@@ -69,10 +71,16 @@ impl<P> Noted<P> {
         &self.range
     }
 
-    /// The status of the last answer, by its three digits.
-    pub(crate) fn status(&self) -> Option<&str> {
+    /// The status of the last answer, by its three digits (RFC 9112, section 4). None where other bytes stand in their place.
+    pub(crate) fn status(&self) -> Option<&str>
+        ensures { IfSome result (λ text. AllPass is_ascii_digit text.now) }
+    {
         let line = self.front.strip_prefix(b"HTTP/1.1 ".as_slice())?;
-        str::from_utf8(line.get(..3)?).ok()
+        let digits = line.get(..3)?;
+        if !digits.iter().all(|byte| byte.is_ascii_digit()) {
+            return None;
+        }
+        str::from_utf8(digits).ok()
     }
 
     /// How many bytes came of the last answer, its head among them.

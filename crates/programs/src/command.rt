@@ -69,7 +69,8 @@ Usage: {name} cogserve --listen HOST:PORT --epoch N --connections N [--at-once N
        {name} cogread info SERVER NAME [--requests N] [--blocks N] [--ahead N] [--keep]
        {name} cogread describe SERVER NAME [--json] [--requests N] [--blocks N] [--ahead N] [--keep]
        {name} cogread window .. --whole [--level N] ..
-       {name} cogread .. http://HOST[:PORT]/NAME .. [--close] [--output FILE] [--verbose | --progress]
+       {name} cogread .. http://HOST[:PORT]/NAME .. [--close]
+       {name} cogread .. [--output FILE] [--verbose | --progress]
        {name} cogworld [--pieces N] SCRIPT
        {name} --version
 

@@ -1,12 +1,15 @@
 //! `cogread --verbose`: each exchange is told, and why there is no window. The time of an exchange is any number. `cogread --progress`:
 //! how far the exchanges have come.
-use cog_client::{Client, Query};
+ghost use Rattle.std.specs.Prelude.{◌+◌, ◌^◌, ◌<◌};
+
+use cog_client::{Client, Lost, Pieces, Query, Transport};
 use cog_server::Server;
 use exchange_notes::{Noted, NotedNet};
 use fixtures_support::f1;
 use programs::{Asked, Exchanges, Telling};
 use programs_support::{Capture, tell};
 use std::alloc::{AllocError, Global};
+use std::process::Abort;
 use std::rt::Clock;
 use std::test::Fail;
 use tiff_dir::Pick;
@@ -29,20 +32,20 @@ fn without_times(alloc: Global, text: &str) -> Result<String, AllocError> {
     Ok(told)
 }
 
-/// Asks a query of a server in memory, whose answers have these fates, in three exchanges at most, of which this is told.
-fn ask_and_tell<R: Print + Eprint + AllocGlobal + Clock>(
+/// The sizes of the pieces in which answers come.
+const SIZES: [usize; 3] = [1, 170, 4096];
+
+/// Asks a query of a source, in three exchanges at most, of which this is told.
+fn ask_and_tell<R: Print + Eprint + AllocGlobal + Clock, P: Pieces + Drop>(
     rt: &R,
-    server: &Server,
+    pieces: P,
     query: Query,
-    fates: &[Fate],
     telling: Telling,
-) -> Result<(), Fail> {
+) -> Result<(), Fail>
+    requires { P.count pieces + 3 < 2 ^ 64 }
+{
     let mut client = Client::new(rt.alloc(), b"cog.test", b"a", 66)?;
-    let lossy = Scripted::new(InMemory::new(server, b"a"), fates);
-    let mut noted = Noted::new(
-        rt.alloc(),
-        InPieces::new(rt.alloc(), lossy, &[1, 170, 4096]),
-    );
+    let mut noted = Noted::new(rt.alloc(), pieces);
     let net = NotedNet::new(rt);
     let exchanges = Exchanges {
         rt,
@@ -56,7 +59,14 @@ fn ask_and_tell<R: Print + Eprint + AllocGlobal + Clock>(
     Ok(())
 }
 
-/// What is told of a query on standard error.
+/// What was told on standard error.
+fn told_in<R: AllocGlobal>(capture: Capture<'_, R>) -> Result<String, AllocError> {
+    let alloc = capture.alloc();
+    let (_, err) = capture.into_texts();
+    without_times(alloc, str::from_utf8(&err).unwrap_or("?"))
+}
+
+/// What is told of a query of a server in memory, whose answers have these fates.
 fn told_of<R: AllocGlobal + Clock>(
     capture: Capture<'_, R>,
     server: &Server,
@@ -64,10 +74,10 @@ fn told_of<R: AllocGlobal + Clock>(
     fates: &[Fate],
     telling: Telling,
 ) -> Result<String, Fail> {
-    let alloc = capture.alloc();
-    ask_and_tell(&capture, server, query, fates, telling)?;
-    let (_, err) = capture.into_texts();
-    Ok(without_times(alloc, str::from_utf8(&err).unwrap_or("?"))?)
+    let lossy = Scripted::new(InMemory::new(server, b"a"), fates);
+    let pieces = InPieces::new(capture.alloc(), lossy, &SIZES);
+    ask_and_tell(&capture, pieces, query, telling)?;
+    Ok(told_in(capture)?)
 }
 
 /// A window of one pixel, in this column.
@@ -108,6 +118,82 @@ fn tells_each_exchange(rt: HostRuntime) -> Result<(), Fail> {
     for (fates, x, want) in TOLD {
         let told = told_of(Capture::new(&rt), &server, pixel(x), fates, Telling::Each)?;
         assert_eq!(rt; told.as_str(), want);
+    }
+    Ok(())
+}
+
+/// A server that answers each request by this text.
+#[derive(Drop)]
+struct Says {
+    alloc: Global,
+    text: &'static [u8],
+    exchanges: u64,
+}
+
+impl Transport for Says {
+    ghost speaks_for = { λ _ _. ⊥ };
+
+    ghost count = { λ s. s.exchanges };
+
+    fn exchange(&mut self, _request: &[u8]) -> Result<Vec<u8>, Lost> {
+        self.exchanges += 1;
+        Vec::from_slice(self.alloc, self.text).map_err(|_| Lost)
+    }
+
+    fn exchanges(&self) -> u64 {
+        self.exchanges
+    }
+}
+
+/// What a server says, and what is told of each exchange. A status is three digits (RFC 9112, section 4): no other byte is told as one.
+const SAID: [(&[u8], &str); 4] = [
+    (
+        b"HTTP/1.1 404 Not Found\r\nContent-Length: 0\r\n\r\n",
+        "404, 45 bytes, T ms: 404: the server has no such file\n",
+    ),
+    (
+        b"HTTP/1.1 2\x1bc\r\nContent-Length: 0\r\n\r\n",
+        "35 bytes, T ms: no head of HTTP/1.1 in 4096 bytes, or more than 32 fields\n",
+    ),
+    (
+        b"HTTP/1.1 20",
+        "11 bytes, T ms: the answer ends inside its head\n",
+    ),
+    (
+        b"HTTP/1.1 206",
+        "206, 12 bytes, T ms: the answer ends inside its head\n",
+    ),
+];
+
+/// Expects that three exchanges are told like this, and that no report came.
+fn expect_said<R: Abort + AllocGlobal + Clock>(
+    rt: &R,
+    text: &'static [u8],
+    want: &str,
+) -> Result<(), Fail> {
+    let capture = Capture::new(rt);
+    let alloc = capture.alloc();
+    let says = Says {
+        alloc,
+        text,
+        exchanges: 0,
+    };
+    ask_and_tell(
+        &capture,
+        InPieces::new(alloc, says, &SIZES),
+        pixel(1),
+        Telling::Each,
+    )?;
+    let told = told_in(capture)?;
+    let line = format!(in alloc; "cogread: GET /a bytes=0-65535: {want}")?;
+    assert!(rt; told.as_str().starts_with(line.as_str()), "{told}");
+    Ok(())
+}
+
+#[test]
+fn tells_no_status_but_of_digits(rt: HostRuntime) -> Result<(), Fail> {
+    for (text, want) in SAID {
+        expect_said(&rt, text, want)?;
     }
     Ok(())
 }
