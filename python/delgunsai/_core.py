@@ -18,6 +18,8 @@ SAME, OTHER, UNKNOWN = 1, 2, 3
 REQUEST_ROOM, TAG_ROOM = 1024, 64
 AHEAD = 64
 MEMORY = -4
+LONG = frozenset(('new', 'free', 'forget', 'request', 'feed', 'end', 'pixels', 'info'))
+"""The calls that may go over blocks, samples or keys."""
 
 Piece = Union[memoryview, bytes]
 NARROW, WIDE = numpy.dtype('u1'), numpy.dtype('u2')
@@ -44,6 +46,7 @@ def _load() -> ctypes.CDLL:
     if not path.exists():
         raise ImportError(f'{path} is missing: `pip install ./python` compiles it')
     library = ctypes.CDLL(str(path))
+    held = ctypes.PyDLL(str(path))       # keeps the interpreter's lock in short calls: beside a busy thread it takes up to 5 ms to get it back
     client, text, room, number = ctypes.POINTER(Handle), ctypes.c_char_p, ctypes.c_void_p, ctypes.c_uint32
     calls = {
         'new': (ctypes.c_int32, [text, ctypes.c_size_t, text, ctypes.c_size_t, number, client]),
@@ -66,9 +69,10 @@ def _load() -> ctypes.CDLL:
         'current': (ctypes.c_int32, [client, text, ctypes.c_size_t, ctypes.POINTER(Said)]),
     }
     for name, (result, arguments) in calls.items():
-        call = getattr(library, 'cog_client_' + name)
+        call = getattr(library if name in LONG else held, 'cog_client_' + name)
         call.restype = result
         call.argtypes = arguments
+        setattr(library, 'cog_client_' + name, call)
     return library
 
 
@@ -117,9 +121,10 @@ class Core:
         length = _checked(_library.cog_client_request(self._at, self._room, REQUEST_ROOM))
         return self._room.raw[:length] if length else None
 
-    def later(self, most: int) -> List[bytes]:
-        """The requests that will come after the next one, as far as they are known before its answer, and at most so many."""
-        requests: List[bytes] = []
+    def later(self, most: int, known: List[bytes]) -> List[bytes]:
+        """The requests that will come after the next one, as far as they are known before its answer, and at most so many. The first of
+        them are these, which were told before."""
+        requests = known[:most]
         while len(requests) < most:
             length = _checked(_library.cog_client_later(self._at, len(requests), self._room, REQUEST_ROOM))
             if length == 0:

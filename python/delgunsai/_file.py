@@ -23,6 +23,7 @@ Result = TypeVar('Result')
 TRIES = 3
 EXCHANGES = 65536
 CUT, REVISION, LENGTH = 1, 10, 11
+UNSATISFIABLE = 416
 FRONT = 16
 GREATEST = 2 ** 32 - 1
 LONGEST = 2 ** 31 // 1000                               # seconds that poll() takes
@@ -207,7 +208,7 @@ class File:
                 if report.kind == _core.FAULT:
                     raise fault_of(report.fault, report.field)
                 return report, self._tag
-            if failures == TRIES and isinstance(failed, NotUsed) and failed.reason in (REVISION, LENGTH):
+            if failures == TRIES and isinstance(failed, NotUsed) and _tells_another(failed, request):
                 self._core.forget()                        # the server passes If-Range over, or gives one tag to two files
                 self._info, failures, restarts = None, 0, restarts + 1
                 continue
@@ -227,7 +228,8 @@ class File:
         self._core.begin()
         lost: Optional[Exception] = None
         try:
-            self._source.exchange(request, self._core.later(self._source.depth), self._feed)
+            known = self._source.sent[1:] if self._source.sent[:1] == [request] else []
+            self._source.exchange(request, self._core.later(self._source.depth, known), self._feed)
         except self._source.final:
             raise
         except OSError as error:
@@ -235,7 +237,7 @@ class File:
         kind, number = self._core.end()
         if kind == _core.IGNORED:
             refusal = NotUsed(number, _status_of(self._front))
-            if number != CUT and number < REVISION and not self._source.shared:
+            if number != CUT and number < REVISION and not self._source.shared and not _tells_another(refusal, request):
                 raise refusal
             return kind, lost or refusal
         if kind == _core.TOOK and number == 0:
@@ -246,6 +248,11 @@ class File:
         if len(self._front) < FRONT:
             self._front += bytes(piece[:FRONT])
         self._core.feed(piece)
+
+
+def _tells_another(refusal: NotUsed, request: bytes) -> bool:
+    """Whether the file is another one than what was read: where If-Range is passed over, it may end before the range."""
+    return refusal.reason in (REVISION, LENGTH) or refusal.status == UNSATISFIABLE and b'\r\nIf-Range: ' in request
 
 
 def _status_of(front: bytes) -> Optional[int]:

@@ -2,7 +2,6 @@
 from __future__ import annotations
 
 import dataclasses
-import re
 import struct
 from typing import Dict, List, Optional, Tuple, Union
 
@@ -36,7 +35,7 @@ def _doubles(words: List[str]) -> Tuple[float, ...]:
 
 
 def _text(escaped: str) -> bytes:
-    return re.sub(rb'\\x([0-9a-f]{2})', lambda match: bytes.fromhex(match[1].decode()), escaped.encode('ascii'))
+    return escaped.encode('ascii').decode('unicode_escape').encode('latin-1')
 
 
 def _value(kind: str, rest: str) -> Value:

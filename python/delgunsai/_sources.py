@@ -2,6 +2,7 @@
 from __future__ import annotations
 
 import encodings.idna                                    # which connect() imports: half done at a fork it would hang the child
+import functools
 import http.client
 import os
 import re
@@ -38,6 +39,8 @@ class Source(Protocol):
     """How many requests that will come later it takes."""
     shared: bool
     """Whether the last request was sent with others."""
+    sent: List[bytes]
+    """The requests that were sent and aren't answered, in order."""
     final: Tuple[Type[OSError], ...]
     """After which errors no other exchange is tried."""
 
@@ -88,10 +91,10 @@ class _Head:
     """What the head of an answer says of its end (RFC 9112, section 6.3), and of the connection. Of a body that goes on behind all that can
     be of use the end isn't waited for: of another revision than that of If-Range its front is."""
 
-    FIELDS = re.compile(rb'\r\n(content-length|transfer-encoding|connection|etag):[ \t]*(.*?)[ \t]*(?=\r\n)')
+    FIELDS = re.compile(rb'\r\n(content-length|transfer-encoding|connection|etag):(.*)(?=\r\n)')
 
     def __init__(self, head: bytes, request: bytes) -> None:
-        fields = self.FIELDS.findall((head + b'\r\n').lower())
+        fields = [(name, value.strip(b' \t')) for name, value in self.FIELDS.findall((head + b'\r\n').lower())]
         lengths = [value for name, value in fields if name == b'content-length']
         empty = request.startswith(b'HEAD ') or head[8:12] in (b' 204', b' 304')
         known = len(lengths) == 1 and lengths[0].isdigit() and len(lengths[0]) < 20
@@ -99,7 +102,7 @@ class _Head:
         self.length: Optional[int] = None if coded else 0 if empty else int(lengths[0]) if known else None
         """How many bytes follow the head; None where it doesn't say so, and then none is of use."""
         self.closes = not head.startswith(b'HTTP/1.1') or CLOSE in request or any(
-            name == b'connection' and b'close' in re.split(rb'[ \t]*,[ \t]*', value) for name, value in fields)
+            name == b'connection' and b'close' in [word.strip(b' \t') for word in value.split(b',')] for name, value in fields)
         if self.length is not None and self.length > FRONT:
             tag = re.search(rb'\r\nIf-Range: (.*)\r\n', request)
             other = tag is not None and (b'etag', tag[1].lower()) not in fields
@@ -107,6 +110,14 @@ class _Head:
             most = max(FRONT, int(asked[2]) + 1) if asked else FRONT
             self.closes = self.closes or self.length > most
             self.length = min(self.length, most)
+
+
+@functools.lru_cache(None)
+def _trusting() -> ssl.SSLContext:
+    """A context that trusts the certificates which the system has at the first call: to read them takes longer than many a window."""
+    context = ssl.create_default_context()
+    context.set_alpn_protocols(['http/1.1'])
+    return context
 
 
 class Host:
@@ -120,13 +131,13 @@ class Host:
         self.where = address.url
         if address.secure:
             self._connection: http.client.HTTPConnection = http.client.HTTPSConnection(
-                address.host.rstrip('.'), address.port, timeout=timeout, context=context)
+                address.host.rstrip('.'), address.port, timeout=timeout, context=context or _trusting())
         else:
             self._connection = http.client.HTTPConnection(address.host, address.port, timeout=timeout)
         self._room = memoryview(bytearray(PIECE))
         self._begin = self._end = 0
         """Where in the room the bytes are that were read and aren't taken."""
-        self._sent: List[bytes] = []
+        self.sent: List[bytes] = []
         """What was sent on this connection and isn't answered."""
         self._ahead = self.shared = False
         """Whether the request that is answered was sent with an earlier one; with others."""
@@ -138,16 +149,17 @@ class Host:
 
     def exchange(self, request: bytes, later: List[bytes], take: Take) -> None:
         well, self._well = self._well, False
-        if not well or self._process != os.getpid() or self._sent[:1] not in ([], [request]):
+        if not well or self._process != os.getpid() or self.sent[:1] not in ([], [request]):
             self._process = os.getpid()                  # the connection stays the parent's: to close it here sends nothing, of TLS neither
             self.close()
             later = []                                   # not at once after a failure (RFC 9112, section 9.3.2), nor after others
-        self._ahead = self.shared = len(self._sent) > 0
+        self._ahead = self.shared = len(self.sent) > 0
         goes_on = False
         try:
             goes_on = self._receive(self._first(request, later), request, take)
             if goes_on:
-                self._sent.pop(0)
+                self.sent.pop(0)
+                self._losses = 0 if self._ahead else self._losses
             else:
                 self._lose()
             self._well = goes_on or CLOSE in request
@@ -167,7 +179,6 @@ class Host:
                 self._send([request, *later])
                 first = self._beginning()
                 if first and first[8:12] != b' 408':
-                    self._losses = 0 if self._ahead else self._losses
                     return first
             except (ConnectionError, ssl.SSLError):
                 pass
@@ -191,9 +202,9 @@ class Host:
 
     def _send(self, requests: List[bytes]) -> None:
         """Sends those of the requests that weren't sent."""
-        count = len(self._sent)
-        if requests[:count] == self._sent and len(requests) > count:
-            self._sent = requests
+        count = len(self.sent)
+        if requests[:count] == self.sent and len(requests) > count:
+            self.sent = requests
             self.shared = len(requests) > 1
             self._connection.sock.sendall(b''.join(requests[count:]))
 
@@ -202,7 +213,7 @@ class Host:
         its end nor bytes that weren't asked for."""
         if self._connection.sock is None:
             return False
-        if self._sent:
+        if self.sent:
             return True
         if self._begin < self._end:
             return False
@@ -261,7 +272,7 @@ class Host:
         return False
 
     def close(self) -> None:
-        self._sent = []
+        self.sent = []
         self._begin = self._end = 0
         self._connection.close()
 
@@ -271,16 +282,17 @@ class Disk:
     is handed on only where the file didn't change while it was read."""
 
     depth, shared = 0, False
+    sent: List[bytes] = []
     final: Tuple[Type[OSError], ...] = (FileNotFoundError, IsADirectoryError, NotADirectoryError, PermissionError)
 
     def __init__(self, path: Union[str, os.PathLike[str]]) -> None:
+        name = os.fsdecode(path)
         with open(path, 'rb'):
             pass
-        name = os.fsdecode(path)
         self.where = name if os.path.isabs(name) else os.path.join(os.getcwd(), name)
 
     def exchange(self, request: bytes, later: List[bytes], take: Take) -> None:
-        with open(self.where, 'rb') as file:
+        with open(self.where, 'rb', buffering=0) as file:
             state = os.fstat(file.fileno())
             size = state.st_size
             tag = b'"%x-%x-%x"' % (state.st_ino, size, state.st_mtime_ns)
@@ -304,10 +316,11 @@ def _answer(request: bytes, tag: bytes, size: int, file: BinaryIO) -> Iterator[b
         return
     first, last = map(int, RANGE.findall(request)[0])
     condition = re.findall(rb'\r\nIf-Range: (.*?)\r\n', request)
-    if first >= size:
+    other = bool(condition) and condition[0] != tag          # which goes before the range (RFC 9110, section 13.2.2)
+    if first >= size and not (other and size):
         yield b'HTTP/1.1 416 Range Not Satisfiable\r\nContent-Range: bytes */%d\r\nContent-Length: 0\r\n\r\n' % size
         return
-    if condition and condition[0] != tag:
+    if other:
         yield b'HTTP/1.1 200 OK\r\nETag: %s\r\nContent-Length: %d\r\n\r\n' % (tag, size)
         yield file.read(FRONT)
         return

@@ -219,6 +219,8 @@ def served(request, text, tag=b'"1"'):
     first, last = map(int, re.search(rb'bytes=([0-9]+)-([0-9]+)', request).groups())
     if b'If-Range: ' in request and b'If-Range: ' + tag + b'\r\n' not in request:
         return head(b'200 OK', b'ETag: ' + tag, length % len(text)) + text
+    if first >= len(text):
+        return head(b'416 Range Not Satisfiable', b'Content-Range: bytes */%d' % len(text), length % 0)
     part = text[first:last + 1]
     return head(b'206 Partial Content', b'ETag: ' + tag, b'Content-Range: bytes %d-%d/%d' % (first, first + len(part) - 1, len(text)),
                 length % len(part)) + part

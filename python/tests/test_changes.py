@@ -139,6 +139,25 @@ class Replaced(unittest.TestCase):
             self.assertNotEqual(file.tag, tag)
             self.assertTrue(file.same())
 
+    def test_shorter_on_the_disk(self):
+        place = os.path.join(FOLDER, 'changing-shorter')
+        for samples in numpy.zeros((1000, 1000), 'uint8'), numpy.full((100, 1000), 9, 'uint8'), numpy.zeros((0, 0), 'uint8'):
+            with open(place + '-next', 'wb') as out:
+                out.write(plain(samples) if samples.size else b'')
+            os.replace(place + '-next', place)
+            if len(samples) == 1000:
+                file = delgunsai.open_file(place)
+                self.addCleanup(file.close)
+                self.assertTrue((file.read(x=0, y=0, width=10, height=10) == 0).all())
+            elif len(samples) == 100:
+                self.assertRaises(delgunsai.Outside, file.read, x=900, y=900, width=100, height=100)
+                self.assertEqual(file.levels, [(1000, 100)])
+                self.assertTrue((file.read(x=900, y=0, width=100, height=100) == 9).all())
+            else:
+                with self.assertRaises(delgunsai.NotUsed) as seen:
+                    file.read(x=500, y=0, width=400, height=100)
+                self.assertEqual(seen.exception.status, 416)
+
     def test_in_place_nothing_is_handed_on(self):
         place = os.path.join(FOLDER, 'changing-bytes')
         with open(place, 'wb') as file:
@@ -179,6 +198,15 @@ class Unconditional(unittest.TestCase):
         with self.replaced((self.whole(0), b'"1"'), (plain(numpy.full((300, 900), 9, 'uint8')), b'"1"')) as file:
             self.assertTrue((file.read(x=200, y=100, width=300, height=200) == 9).all())
             self.assertEqual(file.levels, [(900, 300)])
+
+    def test_shorter(self):
+        """The file that comes in its place ends before what is asked for."""
+        short = plain(numpy.full((100, 600), 9, 'uint8'))
+        with self.replaced((self.whole(0), b'"1"'), (short, b'"2"')) as file:
+            with self.assertRaises(delgunsai.Outside):
+                file.read(x=500, y=500, width=100, height=100)
+            self.assertEqual((file.tag, file.levels), ('"2"', [(600, 100)]))
+            self.assertTrue((file.read(x=0, y=0, width=600, height=100) == 9).all())
 
     def test_each_time(self):
         def answer(request, number):

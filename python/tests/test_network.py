@@ -1,4 +1,5 @@
 """Processes that are forked, servers that bring nothing, and answers that nobody needs."""
+import contextlib
 import os
 import signal
 import subprocess
@@ -6,10 +7,11 @@ import sys
 import threading
 import time
 import unittest
+from unittest import mock
 
 import delgunsai
 import numpy
-from delgunsai import _sources
+from delgunsai import _core, _sources
 from files import noise, plain
 from servers import Batching, Ends, Made, Nginx, Resets, head, served
 from support import CORE, EXAMPLE, FOLDER, HEAP, TLS, TOP, needs
@@ -210,6 +212,33 @@ class AtOnce(unittest.TestCase):
             self.assertGreater(host.depth, 0)
             host.close()
 
+    def test_cut_behind_the_first(self):
+        """A server that cuts the second of the answers that it gives at once, each time, is asked one at a time in the end."""
+        seen = set()
+
+        def answer(request, _):
+            text, is_cut = served(request, TEXT), b'50-' in request and request not in seen
+            seen.add(request)
+            return Ends(text[:-1]) if is_cut else text
+        with Made(answer) as server:
+            host, lost = _sources.Host(_sources.Address(server.url()), 5, None), 0
+            for first in range(100, 2000, 100):
+                for at in first, first + 50, first + 50:
+                    text = bytearray()
+                    host.exchange(of_bytes(at), [of_bytes(first + 50)] if at == first else [], text.extend)
+                    lost += not text.endswith(TEXT[at:at + 10])
+            host.close()
+        self.assertEqual((host.depth, lost), (0, 19))
+
+    def test_sent_once(self):
+        """What was sent is neither told by the core nor sent again."""
+        with Made(lambda request, _: served(request, TEXT)) as server, delgunsai.open(server.url()) as file:
+            with mock.patch.object(_core.Core, 'later', autospec=True, side_effect=_core.Core.later) as later:
+                self.assertTrue(tall(file, 0) and tall(file, 500))
+            known = [call.args[2] for call in later.call_args_list]
+            self.assertTrue(any(known))
+            self.assertEqual(server.requests, len(known))
+
     def test_after_same(self):
         """The connection that `same` ends isn't lost: the next requests are sent at once."""
         counts = []
@@ -328,6 +357,14 @@ class Unneeded(unittest.TestCase):
         whole = head(b'200 OK', b'ETag: "1"', b'Content-Length: %d' % len(TEXT)) + TEXT
         with Made(lambda *_: whole) as server, delgunsai.open(server.url()) as file:
             self.assertTrue(right(file, 0, 0, 10) and right(file, 800, 800) and right(file, 300, 300))
+
+    def test_fields_of_spaces(self):
+        """A head is read in a time that grows with its length alone."""
+        start = time.monotonic()
+        for field in b'ETag:' + b' ' * 3900 + b'\n', b'ETag: x' + b' ' * 3900 + b'y', b'Connection:' + b' ,' * 1900 + b' x':
+            with Made(lambda *_: head(b'200 OK', b'Content-Length: 0', field)) as server, delgunsai.open(server.url()) as file:
+                self.assertRaises(delgunsai.NotUsed, lambda: file.levels)
+        self.assertLess(time.monotonic() - start, 5)
 
     def test_interim_answers(self):
         """Answers of 1xx stand before the one that counts."""

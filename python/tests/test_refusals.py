@@ -41,6 +41,9 @@ class Refused(unittest.TestCase):
         for path, error in (place, FileNotFoundError), (FOLDER, IsADirectoryError):
             with self.subTest(path), self.assertRaises(error):
                 delgunsai.open_file(path)
+        number = os.dup(0)
+        self.addCleanup(os.close, number)                  # which fails where it was closed before
+        self.assertRaises(TypeError, delgunsai.open_file, number)
         shutil.copy(EXAMPLE, place)
         with delgunsai.open_file(place) as file:
             with mock.patch('delgunsai._sources.open', create=True, side_effect=PermissionError):
