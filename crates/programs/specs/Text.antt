@@ -1,5 +1,5 @@
 -- What `cogread` writes of a file, and when it is true.
-use Rattle.std.specs.Prelude.{◌≡◌, ◌≤◌, ℕ, ◌⊎◌, List, [], ◌++◌, Option, Some, IfSome, Result, Ok, Err, ⊤}
+use Rattle.std.specs.Prelude.{◌≡◌, ◌≤◌, ℕ, ◌⊎◌, List, [], ◌++◌, Option, Some, None, IfSome, Result, Ok, Err, ⊤}
 use Rattle.tiff_dir.specs.declared.query.Query.{Query}
 use Rattle.tiff_dir.specs.declared.query.Query.TheVariants.{Window, Info}
 use Rattle.tiff_dir.specs.declared.query.Pick.TheVariants.{Level}
@@ -36,17 +36,21 @@ IsFor f (asked.Query query) q = q ≡ query
 IsFor f (asked.Whole level) q = (q ≡ Info) ⊎ IsOfWhole f level q
 IsFor f (asked.Description form) q = q ≡ Info
 
+-- a whole level is asked for, and so far its sides are told
+abbrev pub TellsSides : Asked → Outcome → Type 0
+TellsSides (asked.Whole level) (outcome.Info i) = ⊤
+TellsSides a o = ⊥
+
 -- A text, or a fault of the file, is what an outcome says of the file of this tag: a window is written as a graymap or a pixmap, and of a
 -- whole level nothing else. The text of Info begins with the line of the tag, and it and a description have no samples. That there is no
--- report is said of a whole level alone.
+-- report is said of a whole level alone, where its sides were told last.
 abbrev pub IsWritten : Asked → (tag : List ℕ) → Outcome → Result Text Fault → Type 0
 IsWritten a tag (outcome.Window v) (Ok text) = text.head.items ++ text.samples.now ≡ netpbm v.samples v.bits v.w v.h v.pixels.items
 IsWritten (asked.Query query) tag (outcome.Info i) (Ok text) = IsOfTag tag text.head.items × (text.samples.now ≡ [])
 IsWritten (asked.Whole level) tag (outcome.Info i) (Ok text) = ⊥
 IsWritten (asked.Description form) tag (outcome.Info i) (Ok text) = text.samples.now ≡ []
 IsWritten a tag (outcome.Fault fault) (Ok text) = ⊥
-IsWritten (asked.Query query) tag o (Err NoReport) = ⊥
-IsWritten (asked.Description form) tag o (Err NoReport) = ⊥
+IsWritten a tag o (Err NoReport) = TellsSides a o
 IsWritten a tag o (Err (OfFile fault)) = o ≡ outcome.Fault fault
 IsWritten a tag o (Err fault) = ⊤
 
@@ -78,6 +82,11 @@ IsOfReading fault = ⊥
 -- What is written of a file is true of one publication of the book.
 abbrev pub WritesTrue : List ℕ → Book → Asked → Result Text Fault → Type 0
 WritesTrue name book a written = IsOfFile written → IsTrueOfBook name book a written
+
+-- Nothing stands that could be written: no report, or of a whole level one that tells its sides.
+abbrev pub HasNothing : Asked → Option Report → Type 0
+HasNothing a None = ⊤
+HasNothing a (Some r) = TellsSides a r.outcome
 
 -- a number that isn't above the most isn't afterwards
 abbrev pub StaysWithin : (most before after : ℕ) → Type 0

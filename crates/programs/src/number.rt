@@ -1,5 +1,5 @@
 //! Numbers of command lines.
-ghost use Rattle.std.specs.Prelude.{◌≡◌, ◌≤◌, ◌⊎◌, None, Some, IfErr, IfOk, OnErr};
+ghost use Rattle.std.specs.Prelude.{◌≡◌, ◌≤◌, ◌⊎◌, None, Some, IfErr, IfOk, IfSome, OnErr};
 ghost use Rattle.std.specs.Option.{option_copied};
 ghost use Rattle.command_lines.specs.Number.{number_from};
 ghost use Rattle.programs.specs.Number.{IsOfNumber, Names, number_or};
@@ -30,6 +30,8 @@ pub fn number_or<R: AllocGlobal>(
     default: u32,
 ) -> Result<u32, Fault>
     ensures ok { IfOk result (λ n. number_or least greatest default (option_copied word.entry) ≡ Some n) }
+    ensures err { OnErr result (number_or least greatest default (option_copied word.entry) ≡ None) }
+    ensures told { IfErr result (λ fault. IfSome (option_copied word.entry) (λ told. Names told fault)) }
     ensures kinds { IfErr result IsOfNumber }
     ensures low { IfOk result (λ n. least ≤ n ⊎ (n ≡ default)) }
 {

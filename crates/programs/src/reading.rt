@@ -2,13 +2,15 @@
 ghost use Rattle.std.specs.Prelude.{◌≡◌, ◌≢◌, ℕ, ◌+◌, ◌<◌, ◌≤◌, ◌^◌, ◌⊎◌, false, Err, IfErr, IfSome, OnOk, Some, slice_get};
 ghost use Rattle.http_range.specs.Book.{Book, HasDistinctTags};
 ghost use Rattle.cog_client.specs.Calls.{IsIdle};
+ghost use Rattle.cog_client.specs.declared.report.Report.{Report};
 ghost use Rattle.cog_client.specs.Client.{name_of, report_of, ClientAgrees};
+ghost use Rattle.cog_client.specs.Keeps.{Stands};
 ghost use Rattle.cog_client.specs.Transport.{KeepsReading, ReadsBook};
 ghost use Rattle.exchange_notes.specs.Noted.{source_of};
 ghost use Rattle.programs.specs.declared.fault.Fault.TheVariants.{NoReport};
 ghost use Rattle.programs.specs.declared.reading.Asked.TheVariants.{Whole};
 ghost use Rattle.programs.specs.Exchanges.{AsksOf, Ends, StillReads};
-ghost use Rattle.programs.specs.Text.{IsOfReading, IsOfWholeBy, IsWritten, StaysWithin, WritesTrue};
+ghost use Rattle.programs.specs.Text.{HasNothing, IsOfFile, IsOfReading, IsOfWholeBy, IsWritten, StaysWithin, WritesTrue};
 
 use crate::fault::Fault;
 use crate::text::Text;
@@ -161,7 +163,17 @@ impl<R: Eprint + Clock + AllocGlobal> Exchanges<'_, '_, R> {
         let fetched = self.fetch_asked(client, noted, asked);
         self.end_line();
         fetched?;
-        let client: &'c Client = client;
+        self.text_at(client, asked)
+    }
+
+    /// The text of the report that stands. That there is none is told only where none stands, or of a whole level one that tells its sides.
+    fn text_at<'c>(&self, client: &'c Client, asked: Asked) -> Result<Text<'c>, Fault>
+        ensures written { IsOfFile result
+            → (r : Report) × Stands client.now (Some r) × IsWritten asked r.tag r.outcome result }
+        ensures left { result ≡ Err NoReport → HasNothing asked (report_of client.now) }
+        ensures silent { report_of client.now ≡ None → result ≡ Err NoReport }
+        ensures kinds { IfErr result IsOfReading }
+    {
         let Some(report) = client.report() else {
             self.tell_no_report();
             return Err(Fault::NoReport);
