@@ -10,6 +10,7 @@ pub nobody_yet : (a b c : Serving) → NobodyComes a b → NobodyComes b c → N
 nobody_yet a b c first then = record {
   places = λ k none. then.places k (first.places k none);
   accepted = then.accepted ∙ first.accepted;
+  room = then.room ∙ first.room;
   limits = then.limits ∙ first.limits;
   ended = le_trans first.ended then.ended;
 }

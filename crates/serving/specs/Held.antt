@@ -22,6 +22,10 @@ limits_of s = s.limits
 abbrev pub places_of : Serving → Table
 places_of s = s.held.connections.table.entries
 
+-- how many places there are
+abbrev pub room_of : Serving → ℕ
+room_of s = s.held.connections.table.cap
+
 -- the number of the next one that gets a place
 abbrev pub next_of : Serving → ℕ
 next_of s = s.held.connections.next
@@ -31,9 +35,10 @@ abbrev pub KeepsBusy : ℕ → Serving → Serving → Type 0
 KeepsBusy now old new = (k : ℕ) (p : Timed) → timed_at k (places_of old) ≡ Some p →
     MayYield now (limits_of old).patience p ⊎ (timed_at k (places_of new) ≡ Some p)
 
--- nobody is accepted, nobody gets a place, and none that ended is forgotten
+-- nobody is accepted, nobody gets a place, there are as many places, and none that ended is forgotten
 pub record NobodyComes (old new : Serving) : Type 0 where
   pub places : (k : ℕ) → timed_at k (places_of old) ≡ None → timed_at k (places_of new) ≡ None
   pub accepted : accepted_of new ≡ accepted_of old
+  pub room : room_of new ≡ room_of old
   pub limits : limits_of new ≡ limits_of old
   pub ended : ended_of old ≤ ended_of new

@@ -1,8 +1,9 @@
 //! The sockets of a server: who gets a place, whose turn it is, and how long to wait.
-ghost use Rattle.std.specs.Prelude.{◌≡◌, ◌≢◌, ◌+◌, ◌-◌, ◌*◌, ◌<◌, ◌≤◌, ◌^◌, ◌⊎◌, ◌↔◌, ℕ, [], IfOk, IfSome, IsSomeAnd, IsTrue, None, OnErr, OnOk, Some, false, slice_get, true};
+ghost use Rattle.std.specs.Prelude.{◌≡◌, ◌≢◌, ◌+◌, ◌-◌, ◌*◌, ◌<◌, ◌≤◌, ◌^◌, ◌⊎◌, ◌↔◌, ℕ, [], IfOk, IfSome, IsSomeAnd, IsTrue, None, OnErr, OnOk, Some, false, length, slice_get, true};
 ghost use Rattle.std.specs.Duration.{as_nanos};
+ghost use Rattle.std.specs.NonZero.{non_zero_usize_get};
 ghost use Rattle.cog_connections.specs.Table.{OthersStay, timed_at};
-ghost use Rattle.serving.specs.Held.{KeepsBusy, NobodyComes, accepted_of, ended_of, limits_of, next_of, places_of};
+ghost use Rattle.serving.specs.Held.{KeepsBusy, NobodyComes, accepted_of, ended_of, limits_of, next_of, places_of, room_of};
 ghost use Rattle.serving.specs.Refusals.{HasNoRoom, IsPassing};
 ghost use Rattle.serving.specs.Turns.{GivesPlace};
 ghost use Rattle.serving.specs.declared.serving.TheConstants.{RETRY};
@@ -51,6 +52,7 @@ fn note(events: &Events, held: &mut Open, ready: &mut VecDeque<u64>) -> bool
     ensures places { (k : ℕ) → timed_at k held.old.connections.table.entries ≡ None
         → timed_at k held.new.connections.table.entries ≡ None }
     ensures ended { held.old.ended ≤ held.new.ended }
+    ensures cap { held.new.connections.table.cap ≡ held.old.connections.table.cap }
 {
     let mut knocks = false;
     for event in events {
@@ -108,6 +110,7 @@ impl Serving {
     ) -> io::Result<Self>
         ensures none { IfOk result (λ s. (accepted_of s ≡ 0) × (places_of s ≡ [])) }
         ensures limits { IfOk result (λ s. limits_of s ≡ limits) }
+        ensures room { IfOk result (λ s. room_of s ≡ non_zero_usize_get limits.at_once) }
     {
         listener.set_nonblocking(true)?;
         let mut listener = TcpListener::from_std(listener);
@@ -154,6 +157,7 @@ impl Serving {
         ensures few { accepted_of self.old ≤ (limits_of self.old).connections
             → accepted_of self.new ≤ (limits_of self.old).connections }
         ensures limits { limits_of self.new ≡ limits_of self.old }
+        ensures room { room_of self.new ≡ room_of self.old }
         ensures ended { ended_of self.old ≤ ended_of self.new }
 
         // Nobody loses a place but those that may, and each newcomer that gets one counts.
@@ -162,7 +166,7 @@ impl Serving {
     {
         let before = self.accepted;
         for _ in 0..u32::MAX {
-            if !self.is_awaited() || !(self.held.has_place() || self.displace(now)) {
+            if !self.is_awaited() || !self.has_place(now) {
                 break;
             }
             match self.listener.accept() {
@@ -211,8 +215,19 @@ impl Serving {
         self.knocks && self.accepted < self.limits.connections
     }
 
-    /// Makes a place for a newcomer, and says whether it did.
+    /// Whether there is a place for a newcomer: a free one, or one that another connection loses.
+    fn has_place(&mut self, now: u64) -> bool
+        ensures free { length (places_of self.old) < room_of self.old → (result ≡ true) × (self.new ≡ self.old) }
+        ensures nobody { NobodyComes self.old self.new }
+        ensures busy { KeepsBusy now self.old self.new }
+        ensures next { next_of self.new ≡ next_of self.old }
+    {
+        self.held.has_place() || self.displace(now)
+    }
+
+    /// Makes a place for a newcomer where none is free, or where the system had no room for one, and says whether it did.
     fn displace(&mut self, now: u64) -> bool
+        requires { (room_of self.old ≤ length (places_of self.old)) ⊎ (self.old.is_starved ≡ true) }
         ensures one { self.old.held.connections.table.cap ≡ 1 → result ≡ false }
         ensures no { result ≡ false → self.new.held.connections ≡ self.old.held.connections }
         ensures yes { result ≡ true → GivesPlace now self.old.limits.patience self.old.held.connections.table.entries
@@ -248,6 +263,7 @@ impl Serving {
             self.new.held.connections.table.entries }
         ensures accepted { accepted_of self.old + 1 < 2 ^ 32 → accepted_of self.new ≡ accepted_of self.old + 1 }
         ensures limits { limits_of self.new ≡ limits_of self.old }
+        ensures room { room_of self.new ≡ room_of self.old }
         ensures ended { ended_of self.old ≤ ended_of self.new }
         ensures busy { KeepsBusy now self.old self.new }
         ensures next { next_of self.new ≤ next_of self.old + 1 }

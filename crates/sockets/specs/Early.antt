@@ -1,12 +1,17 @@
 -- Requests that are sent early, one behind another on a connection that is kept (RFC 9112, section 9.3.2): a server answers them in their
 -- order.
-use Rattle.std.specs.Prelude.{◌≡◌, ◌<◌, ◌≤◌, ℕ, List, [], ◌∷◌, IfSome, map, ⊤}
+use Rattle.std.specs.Prelude.{◌≡◌, ◌<◌, ◌≤◌, ℕ, List, [], ◌∷◌, Option, IfSome, map, ⊤}
+use Rattle.std.specs.Option.{option_map}
 use Rattle.cog_fetch.specs.AnswerEnd.{lacks_of}
 use Rattle.cog_fetch.specs.declared.answer_end.Lacks.TheVariants.{Body}
 use Rattle.sockets.specs.declared.kept.Kept.{Kept}
 use Rattle.sockets.specs.declared.socket.Socket.{Socket}
 use Rattle.sockets.specs.declared.kept.Turn.{Turn}
 use Rattle.sockets.specs.declared.kept.Turn.TheVariants.{Anew, Sends, Sent}
+
+-- the text that is sent once more where its connection turns out to be closed
+abbrev pub again_of : Kept → Option (List ℕ)
+again_of k = option_map (λ t. t.items) k.again
 
 -- the texts of those that were sent and whose turn hasn't come, the next one first
 abbrev pub early_of : Kept → List (List ℕ)

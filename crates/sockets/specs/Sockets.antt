@@ -1,9 +1,10 @@
 -- What others know of a source over sockets.
-use Rattle.std.specs.Prelude.{◌≡◌, ℕ, nat_eq, Bool, true, false, List, IfSome, IsSome, IsSomeAnd}
+use Rattle.std.specs.Prelude.{◌≡◌, ℕ, nat_eq, Bool, true, false, List, [], IfSome, IsSome, IsSomeAnd, is_some}
 use Rattle.cog_fetch.specs.AnswerEnd.{Came, lacks_of}
 use Rattle.cog_fetch.specs.declared.answer_end.Lacks.{Lacks}
 use Rattle.cog_fetch.specs.declared.answer_end.Lacks.TheVariants.{Body, End, Head}
 use Rattle.sockets.specs.declared.socket.Socket.{Socket}
+use Rattle.sockets.specs.Early.{early_of}
 
 -- the exchanges so far
 abbrev pub exchanges_of : {R : Type 0} → Socket R → ℕ
@@ -17,7 +18,15 @@ server_of s = s.server.now
 abbrev pub IsConnected : {R : Type 0} → Socket R → Type 0
 IsConnected s = IsSome s.stream
 
--- the connection is kept, and these bytes of the answer on it came
+-- it keeps its connections
+abbrev pub keeps : {R : Type 0} → Socket R → Bool
+keeps s = is_some s.kept
+
+-- where the connection is kept, nothing of an answer came on it, and no request was sent early
+abbrev pub IsFresh : {R : Type 0} → Socket R → Type 0
+IsFresh s = IfSome s.kept (λ k. Came k.end [] × (early_of k ≡ []))
+
+-- where the connection is kept, these bytes of the answer on it came
 abbrev pub HasCome : {R : Type 0} → Socket R → List ℕ → Type 0
 HasCome s bytes = IfSome s.kept (λ k. Came k.end bytes)
 

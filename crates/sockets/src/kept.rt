@@ -1,9 +1,9 @@
 //! What is known of a connection that is kept from answer to answer.
-ghost use Rattle.std.specs.Prelude.{◌≡◌, ◌<◌, ◌≤◌, ◌++◌, ◌∷◌, ◌⊎◌, ℕ, [], List, IsSome, true};
+ghost use Rattle.std.specs.Prelude.{◌≡◌, ◌<◌, ◌≤◌, ◌++◌, ◌∷◌, ◌⊎◌, ℕ, [], List, IfSome, IsSome, None, Some, true};
 ghost use Rattle.cog_fetch.specs.declared.answer_end.Lacks.TheVariants.{Body, End};
 ghost use Rattle.cog_fetch.specs.AnswerEnd.{lacks_of, Came, IsWholeAnswer};
 ghost use Rattle.sockets.specs.declared.kept.Turn.TheVariants.{Anew};
-ghost use Rattle.sockets.specs.Early.{early_of, IsTurn};
+ghost use Rattle.sockets.specs.Early.{again_of, early_of, IsTurn};
 ghost use Rattle.sockets.specs.Sockets.{is_over};
 
 use cog_fetch::{AnswerEnd, Lacks};
@@ -55,6 +55,7 @@ impl Kept {
     pub(crate) fn begin(&mut self)
         ensures came { Came self.new.end [] }
         ensures early { early_of self.new ≡ [] }
+        ensures again { again_of self.new ≡ None }
     {
         self.end.begin();
         self.again = None;
@@ -68,6 +69,7 @@ impl Kept {
         ensures whole { ¬ (result ≡ Anew) → (bytes : List ℕ) → Came self.old.end bytes → IsWholeAnswer bytes }
         ensures begun { Came self.new.end [] }
         ensures turn { IsTurn result (early_of self.old) request.now (early_of self.new) }
+        ensures again { ¬ (result ≡ Anew) → again_of self.new ≡ Some request.now }
     {
         let may_go_on = self.end.may_go_on();
         self.end.begin();
@@ -88,6 +90,7 @@ impl Kept {
     fn turn(&mut self, request: &[u8]) -> Turn
         ensures turn { IsTurn result (early_of self.old) request.now (early_of self.new) }
         ensures end { self.new.end ≡ self.old.end }
+        ensures again { again_of self.new ≡ again_of self.old }
     {
         match self.early.pop_front() {
             None => Turn::Sends,
@@ -170,8 +173,10 @@ impl Kept {
         let _ = self.end.came(bytes);
     }
 
-    /// The request that is sent once more, if no byte of its answer came.
+    /// The request that is sent once more, if no byte of its answer came. It is sent no third time.
     pub(crate) fn unanswered(&mut self) -> Option<Vec<u8>>
+        ensures same { IfSome result (λ text. again_of self.old ≡ Some text.items) }
+        ensures once { IsSome result → again_of self.new ≡ None }
         ensures none { IsSome result → (bytes : List ℕ) → Came self.old.end bytes → bytes ≡ [] }
         ensures end { self.new.end ≡ self.old.end }
     {

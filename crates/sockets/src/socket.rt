@@ -1,8 +1,9 @@
 //! Connections to a server that is named by its address: one for each request, or one that is kept from answer to answer.
-ghost use Rattle.std.specs.Prelude.{◌≡◌, ◌≤◌, ◌⊎◌, ◌++◌, ℕ, List, ◌↔◌, IfOk, IsErr, IsSome, IsTrue, OnOk, length, take, true};
+ghost use Rattle.std.specs.Prelude.{◌≡◌, ◌≤◌, ◌⊎◌, ◌++◌, ℕ, List, [], ◌↔◌, IfOk, IfSome, IsErr, IsSome, IsTrue, OnOk, Some, false, length, take, true};
 ghost use Rattle.cog_fetch.specs.AnswerEnd.{IsWholeAnswer};
-ghost use Rattle.sockets.specs.Early.{IsOwnPiece};
-ghost use Rattle.sockets.specs.Sockets.{exchanges_of, server_of, HasCome, IsConnected, IsOver, IsUntold};
+ghost use Rattle.sockets.specs.declared.kept.Turn.TheVariants.{Anew};
+ghost use Rattle.sockets.specs.Early.{IsOwnPiece, again_of};
+ghost use Rattle.sockets.specs.Sockets.{exchanges_of, keeps, server_of, HasCome, IsConnected, IsFresh, IsOver, IsUntold};
 
 use crate::kept::{Kept, Turn};
 use cog_client::{Lost, Pieces};
@@ -39,6 +40,7 @@ impl<'r, R> Socket<'r, R> {
         ensures server { server_of result ≡ server.entry.now }
         ensures exchanges { exchanges_of result ≡ 0 }
         ensures alone { ¬ IsConnected result }
+        ensures apart { keeps result ≡ false }
     {
         Socket {
             rt,
@@ -84,6 +86,7 @@ impl<'r, R> Socket<'r, R> {
         ensures server { server_of self.new ≡ server_of self.old }
         ensures exchanges { exchanges_of self.new ≡ exchanges_of self.old }
         ensures noted { (front : List ℕ) → HasCome self.old front → HasCome self.new (front ++ bytes.now) ⊎ IsUntold self.new }
+        ensures stays { keeps self.new ≡ keeps self.old }
     {
         let Some(kept) = &mut self.kept else {
             return;
@@ -102,6 +105,7 @@ impl<'r, R> Socket<'r, R> {
         ensures own { IfOk result (IsOwnPiece self.old) }
         ensures noted { IfOk result (λ n. (front : List ℕ) → HasCome self.old front
             → HasCome self.new (front ++ take n out.new) ⊎ IsUntold self.new) }
+        ensures stays { keeps self.new ≡ keeps self.old }
     {
         let most = self.piece(out.len());
         let count = self.receive(&mut out[..most])?;
@@ -122,8 +126,10 @@ impl<'r, R> Socket<'r, R> {
     /// The request that is sent once more: its connection was kept, and ended before a byte of its answer came.
     fn unanswered(&mut self) -> Option<Vec<u8>>
         ensures ended { IsSome result → ¬ IsConnected self.old }
+        ensures same { IfSome result (λ text. IfSome self.old.kept (λ k. again_of k ≡ Some text.items)) }
         ensures server { server_of self.new ≡ server_of self.old }
         ensures exchanges { exchanges_of self.new ≡ exchanges_of self.old }
+        ensures stays { keeps self.new ≡ keeps self.old }
     {
         match (&self.stream, &mut self.kept) {
             (None, Some(kept)) => kept.unanswered(),
@@ -140,6 +146,8 @@ impl<'r, R: Net<Stream = TcpStream> + AllocGlobal> Socket<'r, R> {
         ensures server { server_of self.new ≡ server_of self.old }
         ensures exchanges { exchanges_of self.new ≡ exchanges_of self.old }
         ensures alone { ¬ IsConnected self.new }
+        ensures keeps { keeps self.new ≡ true }
+        ensures fresh { IsFresh self.new }
     {
         self.stream = None;
         self.kept = Some(Kept::new(self.rt.alloc()));
@@ -151,6 +159,8 @@ impl<'r, R: Net<Stream = TcpStream> + AllocGlobal> Socket<'r, R> {
         ensures exchanges { exchanges_of self.new ≡ exchanges_of self.old }
         ensures connected { OnOk result (IsConnected self.new) }
         ensures alone { IsErr result → ¬ IsConnected self.new }
+        ensures begun { OnOk result (HasCome self.new []) }
+        ensures stays { keeps self.new ≡ keeps self.old }
     {
         if self.send_on(request) {
             return Ok(());
@@ -165,14 +175,44 @@ impl<'r, R: Net<Stream = TcpStream> + AllocGlobal> Socket<'r, R> {
         ensures exchanges { exchanges_of self.new ≡ exchanges_of self.old }
         ensures connected { result ≡ true → IsConnected self.new }
         ensures whole { result ≡ true → (bytes : List ℕ) → HasCome self.old bytes → IsWholeAnswer bytes }
+        ensures begun { result ≡ true → HasCome self.new [] }
+        ensures stays { keeps self.new ≡ keeps self.old }
     {
-        let (Some(kept), Some(stream)) = (&mut self.kept, &mut self.stream) else {
+        if self.stream.is_none() {
             return false;
-        };
-        match kept.goes_on(self.rt.alloc(), request) {
+        }
+        match self.turn(request) {
             Turn::Sent => true,
-            Turn::Sends => stream.write_all(request).is_ok(),
+            Turn::Sends => self.write(request),
             Turn::Anew => false,
+        }
+    }
+
+    /// How a request comes behind the answer before, on the connection that is kept.
+    fn turn(&mut self, request: &[u8]) -> Turn
+        ensures server { server_of self.new ≡ server_of self.old }
+        ensures exchanges { exchanges_of self.new ≡ exchanges_of self.old }
+        ensures stream { self.new.stream ≡ self.old.stream }
+        ensures whole { ¬ (result ≡ Anew) → (bytes : List ℕ) → HasCome self.old bytes → IsWholeAnswer bytes }
+        ensures begun { ¬ (result ≡ Anew) → HasCome self.new [] }
+        ensures stays { keeps self.new ≡ keeps self.old }
+    {
+        match &mut self.kept {
+            Some(kept) => kept.goes_on(self.rt.alloc(), request),
+            None => Turn::Anew,
+        }
+    }
+
+    /// Writes a request on the connection that is there, and says whether it did.
+    fn write(&mut self, request: &[u8]) -> bool
+        ensures server { server_of self.new ≡ server_of self.old }
+        ensures exchanges { exchanges_of self.new ≡ exchanges_of self.old }
+        ensures connected { result ≡ true → IsConnected self.new }
+        ensures kept { self.new.kept ≡ self.old.kept }
+    {
+        match &mut self.stream {
+            Some(stream) => stream.write_all(request).is_ok(),
+            None => false,
         }
     }
 
@@ -180,6 +220,7 @@ impl<'r, R: Net<Stream = TcpStream> + AllocGlobal> Socket<'r, R> {
     fn send_early(&mut self, requests: &[Vec<u8>])
         ensures server { server_of self.new ≡ server_of self.old }
         ensures exchanges { exchanges_of self.new ≡ exchanges_of self.old }
+        ensures stays { keeps self.new ≡ keeps self.old }
     {
         let alloc = self.rt.alloc();
         let (Some(kept), Some(stream)) = (&mut self.kept, &mut self.stream) else {
@@ -202,6 +243,8 @@ impl<'r, R: Net<Stream = TcpStream> + AllocGlobal> Socket<'r, R> {
         ensures exchanges { exchanges_of self.new ≡ exchanges_of self.old }
         ensures connected { OnOk result (IsConnected self.new) }
         ensures alone { IsErr result → ¬ IsConnected self.new }
+        ensures fresh { IsFresh self.new }
+        ensures stays { keeps self.new ≡ keeps self.old }
     {
         self.stream = None;
         if let Some(kept) = &mut self.kept {
@@ -221,6 +264,7 @@ impl<'r, R: Net<Stream = TcpStream> + AllocGlobal> Socket<'r, R> {
         ensures few { IfOk result (λ n. n ≤ length out.new) }
         ensures server { server_of self.new ≡ server_of self.old }
         ensures exchanges { exchanges_of self.new ≡ exchanges_of self.old }
+        ensures stays { keeps self.new ≡ keeps self.old }
     {
         let read = self.receive_noting(out);
         let Some(request) = self.unanswered() else {
@@ -235,7 +279,7 @@ impl<R: Net<Stream = TcpStream> + AllocGlobal> Pieces for Socket<'_, R> {
     ghost use Rattle.std.specs.Prelude.{◌≡◌, ◌<◌, ◌≤◌, [], IfOk, Ok, length};
     ghost use Rattle.cog_client.specs.Pieces.{BringsOf};
     ghost use Rattle.cog_client.specs.Transport.{SpeaksOn};
-    ghost use Rattle.sockets.specs.Sockets.{exchanges_of, IsOver, Nothing};
+    ghost use Rattle.sockets.specs.Sockets.{exchanges_of, keeps, IsOver, Nothing};
 
     ghost speaks_for = { λ _ _. Nothing };
 
@@ -253,6 +297,7 @@ impl<R: Net<Stream = TcpStream> + AllocGlobal> Pieces for Socket<'_, R> {
 
         // Behind an answer that is whole, or isn't waited for, nothing is told.
         ensures over { IsOver self.old → result ≡ Ok 0 }
+        ensures stays { keeps self.new ≡ keeps self.old }
 
         // So it keeps the trait's law, as a source that speaks for no file.
         ensures fits { IfOk result (λ n. n ≤ length out.new) }

@@ -6,4 +6,5 @@ abbrev pub invariant-loop-event : goal.invariant-loop-event
 invariant-loop-event l = record {
   places : (k : ℕ) → timed_at k l.fn.held.connections.table.entries ≡ None → timed_at k l.held.connections.table.entries ≡ None;
   ended : l.fn.held.ended ≤ l.held.ended;
+  cap : l.held.connections.table.cap ≡ l.fn.held.connections.table.cap;
 }

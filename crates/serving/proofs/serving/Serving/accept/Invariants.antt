@@ -1,10 +1,11 @@
 use Rattle.std.specs.Prelude.{◌≡◌, ◌+◌, ◌-◌, ◌≤◌}
-use Rattle.serving.specs.Held.{KeepsBusy, accepted_of, ended_of, limits_of, next_of}
+use Rattle.serving.specs.Held.{KeepsBusy, accepted_of, ended_of, limits_of, next_of, room_of}
 use Rattle.serving.proofs.serving.Serving.accept.Given as goal
 
 abbrev pub invariant-loop : goal.invariant-loop
 invariant-loop l = record {
   limits : limits_of l.self ≡ limits_of l.fn.self;
+  room : room_of l.self ≡ room_of l.fn.self;
   before : l.before ≡ accepted_of l.fn.self;
   more : accepted_of l.fn.self ≤ accepted_of l.self;
   ended : ended_of l.fn.self ≤ ended_of l.self;
