@@ -1,9 +1,10 @@
 //! What a client reads of an answer.
 use super::answer_heads::FIRST_HEAD;
 use super::fronts::told_of_head;
-use super::tags::{LONGEST_TAG, tag_1};
+use super::tags::LONGEST_TAG;
 use http_range::{Memory, Piece, Reading, Why, read_answer, read_request};
 use std::alloc::Global;
+use std::process::Abort;
 use std::test::Fail;
 
 /// The number of the reason why an answer is not used, or 0 for a piece.
@@ -21,11 +22,43 @@ fn piece(bytes: &[u8]) -> Result<Piece<'_>, Fail> {
     }
 }
 
+/// Expects the tag and the bytes of a piece, and whether it is the whole file, its first position, and the length of the file.
+fn expect_piece(
+    rt: &impl Abort,
+    piece: &Piece<'_>,
+    (tag, body): (&[u8], &[u8]),
+    numbers: (bool, u64, u64),
+) {
+    assert_eq!(rt; piece.tag.as_bytes(), tag);
+    assert_eq!(rt; piece.body, body);
+    assert_eq!(rt; (piece.whole, piece.first, piece.complete), numbers);
+}
+
+/// The first head with the first bytes of the body.
+fn first_answer(alloc: Global) -> Result<Vec<u8>, Memory> {
+    let mut text = Vec::from_slice(alloc, FIRST_HEAD)?;
+    text.extend_from_slice(b"II*")?;
+    Ok(text)
+}
+
+/// Expects that a front of the first answer is told under this number.
+fn expect_told(rt: &impl Abort, text: &[u8], (cut, want): (usize, u8)) {
+    assert!(rt; cut <= text.len(), "at {cut}");
+    assert_eq!(rt; told(&text[..cut]), want, "at {cut}");
+}
+
+/// Expects that a front of the first answer brings these bytes of the body.
+fn expect_body(rt: &impl Abort, text: &[u8], (cut, body): (usize, &[u8])) -> Result<(), Fail> {
+    assert!(rt; cut <= text.len(), "at {cut}");
+    let piece = piece(&text[..cut])?;
+    expect_piece(rt, &piece, (b"\"1-1\"", body), (false, 0, 67706));
+    Ok(())
+}
+
 #[test]
 fn takes_the_bytes_of_the_body_that_came(rt: HostRuntime) -> Result<(), Fail> {
-    let mut text = Vec::from_slice(rt.alloc(), FIRST_HEAD)?;
-    text.extend_from_slice(b"II*")?;
-    for (cut, want) in [
+    let text = first_answer(rt.alloc())?;
+    for row in [
         (0usize, 1u8),
         (1, 1),
         (170, 1),
@@ -33,17 +66,10 @@ fn takes_the_bytes_of_the_body_that_came(rt: HostRuntime) -> Result<(), Fail> {
         (172, 0),
         (174, 0),
     ] {
-        assert!(rt; cut <= text.len(), "at {cut}");
-        assert_eq!(rt; told(&text[..cut]), want, "at {cut}");
+        expect_told(&rt, &text, row);
     }
-    for (cut, body) in [(171usize, b"".as_slice()), (172, b"I"), (174, b"II*")] {
-        assert!(rt; cut <= text.len(), "at {cut}");
-        let piece = piece(&text[..cut])?;
-        assert!(rt; piece.tag == tag_1()?, "at {cut}");
-        assert!(rt; !piece.whole, "at {cut}");
-        assert_eq!(rt; piece.first, 0, "at {cut}");
-        assert_eq!(rt; piece.complete, 67706, "at {cut}");
-        assert_eq!(rt; piece.body, body, "at {cut}");
+    for row in [(171usize, b"".as_slice()), (172, b"I"), (174, b"II*")] {
+        expect_body(&rt, &text, row)?;
     }
     Ok(())
 }
@@ -58,14 +84,20 @@ const LINES: [&[u8]; 7] = [
     b"Connection: close",
 ];
 
+/// Appends a line.
+fn push_line(text: &mut Vec<u8>, line: &[u8]) -> Result<(), Memory> {
+    text.extend_from_slice(line)?;
+    text.extend_from_slice(b"\r\n")?;
+    Ok(())
+}
+
 /// The first head, with another line at a place.
 fn with_line(alloc: Global, place: usize, line: &[u8]) -> Result<Vec<u8>, Memory> {
     let mut text = Vec::new(alloc);
     for (i, old) in LINES.iter().enumerate() {
-        text.extend_from_slice(if i == place { line } else { *old })?;
-        text.extend_from_slice(b"\r\n")?;
+        push_line(&mut text, if i == place { line } else { *old })?;
     }
-    text.extend_from_slice(b"\r\n")?;
+    push_line(&mut text, b"")?;
     Ok(text)
 }
 
@@ -106,8 +138,11 @@ const CHANGED_LINES: [(usize, &str, u8); 28] = [
 fn tells_why_an_answer_is_not_used(rt: HostRuntime) -> Result<(), Fail> {
     for (place, line, want) in CHANGED_LINES {
         let text = with_line(rt.alloc(), place, line.as_bytes())?;
-        assert_eq!(rt; told(text.as_slice()), want, "{line:?}");
-        assert_eq!(rt; told_of_head(text.as_slice()), want, "{line:?}");
+        assert_eq!(rt;
+            (told(&text), told_of_head(&text)),
+            (want, want),
+            "{line:?}"
+        );
     }
     let same = with_line(rt.alloc(), 7, b"")?;
     assert_eq!(rt; same.as_slice(), FIRST_HEAD);
@@ -122,17 +157,24 @@ const LENGTHS: [(&str, Option<u64>); 4] = [
     ("36893488147419103232", None),
 ];
 
+/// A head with this length of a whole file.
+fn with_length(alloc: Global, length: &str) -> Result<String, Fail> {
+    Ok(format!(in alloc; "HTTP/1.1 200 OK\r\nETag: \"1\"\r\nContent-Length: {length}\r\n\r\n")?)
+}
+
+/// The length of the file of which an answer brings a piece.
+fn complete(bytes: &[u8]) -> Option<u64> {
+    match read_answer(bytes) {
+        Reading::Piece(piece) => Some(piece.complete),
+        Reading::NotUsed(_) => None,
+    }
+}
+
 #[test]
 fn reads_lengths_of_64_bits(rt: HostRuntime) -> Result<(), Fail> {
     for (length, want) in LENGTHS {
-        let text = format!(in rt.alloc();
-            "HTTP/1.1 200 OK\r\nETag: \"1\"\r\nContent-Length: {length}\r\n\r\n"
-        )?;
-        let got = match read_answer(text.as_bytes()) {
-            Reading::Piece(piece) => Some(piece.complete),
-            Reading::NotUsed(_) => None,
-        };
-        assert_eq!(rt; got, want, "{length}");
+        let text = with_length(rt.alloc(), length)?;
+        assert_eq!(rt; complete(text.as_bytes()), want, "{length}");
     }
     Ok(())
 }
@@ -158,6 +200,14 @@ fn takes_tags_up_to_64_bytes(rt: HostRuntime) -> Result<(), Fail> {
     Ok(())
 }
 
+/// The status for which an answer is not used, or 0.
+fn status(bytes: &[u8]) -> u16 {
+    match read_answer(bytes) {
+        Reading::NotUsed(Why::Status(code)) => code,
+        _ => 0,
+    }
+}
+
 #[test]
 fn tells_a_status_that_is_not_used(rt: HostRuntime) {
     for (text, want) in [
@@ -168,12 +218,8 @@ fn tells_a_status_that_is_not_used(rt: HostRuntime) {
             302,
         ),
     ] {
-        let status = match read_answer(text.as_bytes()) {
-            Reading::NotUsed(Why::Status(code)) => code,
-            _ => 0,
-        };
-        assert_eq!(rt; status, want, "{text:?}");
-        assert_eq!(rt; told(text.as_bytes()), 3, "{text:?}");
+        let bytes = text.as_bytes();
+        assert_eq!(rt; (status(bytes), told(bytes)), (want, 3), "{text:?}");
     }
 }
 
@@ -189,19 +235,11 @@ fn reads_heads_as_other_servers_write_them(rt: HostRuntime) -> Result<(), Fail> 
     let text =
         b"HTTP/1.1 206 \r\nDate: Sun, 06 Nov 1994 08:49:37 GMT\r\nSERVER: x/1.0 (y)\r\ncontent-length:3\r\ncontent-range: bytes 5-7/9\r\nConnection: keep-alive\r\netag:\t \"a\\b\" \r\n\r\nabcde";
     let part = piece(text)?;
-    assert_eq!(rt; part.tag.as_bytes(), b"\"a\\b\"".as_slice());
-    assert!(rt; !part.whole);
-    assert_eq!(rt; part.first, 5);
-    assert_eq!(rt; part.complete, 9);
-    assert_eq!(rt; part.body, b"abc".as_slice());
+    expect_piece(&rt, &part, (b"\"a\\b\"", b"abc"), (false, 5, 9));
     let text =
         b"HTTP/1.0 200\nVary: *\nContent-Range: bytes */4\nETag: \"\"\nContent-Length: 4\n\nab";
     let whole = piece(text)?;
-    assert_eq!(rt; whole.tag.as_bytes(), b"\"\"".as_slice());
-    assert!(rt; whole.whole);
-    assert_eq!(rt; whole.first, 0);
-    assert_eq!(rt; whole.complete, 4);
-    assert_eq!(rt; whole.body, b"ab".as_slice());
+    expect_piece(&rt, &whole, (b"\"\"", b"ab"), (true, 0, 4));
     Ok(())
 }
 
@@ -215,51 +253,75 @@ pub fn padded(alloc: Global, front: &[u8], n: usize, back: &[u8]) -> Result<Vec<
     Ok(text)
 }
 
+/// Whether a request is read of the front filled up to `n` bytes, and then the back.
+fn is_padded_request(alloc: Global, front: &[u8], n: usize, back: &[u8]) -> Result<bool, Memory> {
+    let text = padded(alloc, front, n, back)?;
+    Ok(read_request(&text).is_some())
+}
+
+/// What is told of the front filled up to `n` bytes, and then the back.
+fn told_of_padded(alloc: Global, front: &[u8], n: usize, back: &[u8]) -> Result<u8, Memory> {
+    let text = padded(alloc, front, n, back)?;
+    Ok(told(&text))
+}
+
 #[test]
 fn takes_heads_of_8192_and_4096_bytes_and_no_more(rt: HostRuntime) -> Result<(), Fail> {
     let front = b"GET /a HTTP/1.1\r\nA: ";
-    let whole = padded(rt.alloc(), front, 8188, b"\r\n\r\n")?;
-    assert!(rt; read_request(whole.as_slice()).is_some());
-    let long = padded(rt.alloc(), front, 8189, b"\r\n\r\n")?;
-    assert!(rt; read_request(long.as_slice()).is_none());
+    for (n, want) in [(8188, true), (8189, false)] {
+        let is_read = is_padded_request(rt.alloc(), front, n, b"\r\n\r\n")?;
+        assert_eq!(rt; is_read, want, "{n}");
+    }
     let front = b"HTTP/1.1 200 OK\r\nETag: \"1\"\r\nContent-Length: 0\r\nA: ";
-    let whole = padded(rt.alloc(), front, 4092, b"\r\n\r\n")?;
-    assert_eq!(rt; told(whole.as_slice()), 0);
-    let long = padded(rt.alloc(), front, 4093, b"\r\n\r\n")?;
-    assert_eq!(rt; told(long.as_slice()), 2);
-    let cut = padded(rt.alloc(), front, 4095, b"")?;
-    assert_eq!(rt; told(cut.as_slice()), 1);
-    let full = padded(rt.alloc(), front, 4096, b"")?;
-    assert_eq!(rt; told(full.as_slice()), 2);
+    for (n, back, want) in [
+        (4092, b"\r\n\r\n".as_slice(), 0),
+        (4093, b"\r\n\r\n", 2),
+        (4095, b"", 1),
+        (4096, b"", 2),
+    ] {
+        let told = told_of_padded(rt.alloc(), front, n, back)?;
+        assert_eq!(rt; told, want, "{n}");
+    }
     Ok(())
 }
 
-/// A head with so many further fields.
-fn many(alloc: Global, front: &[u8], fields: u32) -> Result<Vec<u8>, Memory> {
+/// The front, so many further fields, and the back.
+fn many(alloc: Global, front: &[u8], fields: u32, back: &[u8]) -> Result<Vec<u8>, Memory> {
     let mut text = Vec::from_slice(alloc, front)?;
     for _ in 0..fields {
         text.extend_from_slice(b"A: 1\r\n")?;
     }
+    text.extend_from_slice(back)?;
     Ok(text)
+}
+
+/// What is told of a head with so many further fields, and then the back.
+fn told_of_many(alloc: Global, fields: u32, back: &[u8]) -> Result<u8, Memory> {
+    let front = b"HTTP/1.1 200 OK\r\nETag: \"1\"\r\nContent-Length: 0\r\n";
+    let text = many(alloc, front, fields, back)?;
+    Ok(told(&text))
+}
+
+/// Whether a request with so many fields is read.
+fn is_request_of_many(alloc: Global, fields: u32) -> Result<bool, Memory> {
+    let text = many(alloc, b"GET /a HTTP/1.1\r\n", fields, b"\r\n")?;
+    Ok(read_request(&text).is_some())
 }
 
 #[test]
 fn takes_32_fields_and_no_more(rt: HostRuntime) -> Result<(), Fail> {
-    let front = b"HTTP/1.1 200 OK\r\nETag: \"1\"\r\nContent-Length: 0\r\n";
-    let mut text = many(rt.alloc(), front, 30)?;
-    assert_eq!(rt; told(text.as_slice()), 1);
-    text.extend_from_slice(b"\r\n")?;
-    assert_eq!(rt; told(text.as_slice()), 0);
-    let mut text = many(rt.alloc(), front, 31)?;
-    assert_eq!(rt; told(text.as_slice()), 2);
-    text.extend_from_slice(b"\r\n")?;
-    assert_eq!(rt; told(text.as_slice()), 2);
-    let front = b"GET /a HTTP/1.1\r\n";
-    let mut text = many(rt.alloc(), front, 32)?;
-    text.extend_from_slice(b"\r\n")?;
-    assert!(rt; read_request(text.as_slice()).is_some());
-    let mut text = many(rt.alloc(), front, 33)?;
-    text.extend_from_slice(b"\r\n")?;
-    assert!(rt; read_request(text.as_slice()).is_none());
+    for (fields, back, want) in [
+        (30, b"".as_slice(), 1),
+        (30, b"\r\n", 0),
+        (31, b"", 2),
+        (31, b"\r\n", 2),
+    ] {
+        let told = told_of_many(rt.alloc(), fields, back)?;
+        assert_eq!(rt; told, want, "{fields}");
+    }
+    for (fields, want) in [(32, true), (33, false)] {
+        let is_read = is_request_of_many(rt.alloc(), fields)?;
+        assert_eq!(rt; is_read, want, "{fields}");
+    }
     Ok(())
 }

@@ -1,6 +1,8 @@
 //! Conditions of requests, and checks.
+use super::requests::request_of;
 use super::tags::tag_1;
-use http_range::{CheckReading, any_match, read_check, read_request, write_check};
+use http_range::{CheckReading, Request, Tag, any_match, read_check, write_check};
+use std::process::Abort;
 use std::test::Fail;
 
 /// Values of a condition, and whether they match the tag weakly and strongly.
@@ -28,26 +30,18 @@ const VALUES: [(&str, bool, bool); 17] = [
 fn matches_a_tag_of_a_list_weakly_or_strongly(rt: HostRuntime) -> Result<(), Fail> {
     let tag = tag_1()?;
     for (value, weak, strong) in VALUES {
+        let bytes = value.as_bytes();
         assert_eq!(rt;
-            any_match(value.as_bytes(), &tag, false),
-            weak,
-            "{value:?} weakly"
-        );
-        assert_eq!(rt;
-            any_match(value.as_bytes(), &tag, true),
-            strong,
-            "{value:?} strongly"
+            (any_match(bytes, &tag, false), any_match(bytes, &tag, true)),
+            (weak, strong),
+            "{value:?} weakly and strongly"
         );
     }
     Ok(())
 }
 
-#[test]
-fn matches_a_condition_in_its_only_field(rt: HostRuntime) -> Result<(), Fail> {
-    let tag = tag_1()?;
-    let request = read_request(
-        b"GET /a HTTP/1.1\r\nHost: h\r\nConnection: te,\t Close \r\nIf-Match: \"1-2\"\r\nif-match: x, W/\"1-1\"\r\nIf-None-Match: \"1-2\"\r\nIf-None-Match: W/\"1-1\"\r\n\r\n",
-    ).ok_or("no request")?;
+/// Expects what the fields of a request say, and whether the tag matches them.
+fn expect_fields(rt: &impl Abort, request: &Request<'_>, tag: &Tag) {
     assert!(rt; request.has_member(b"connection", b"CLOSE"));
     assert!(rt; !request.has_member(b"Connection", b"clos"));
     assert!(rt; !request.has_member(b"Host", b"close"));
@@ -56,9 +50,17 @@ fn matches_a_condition_in_its_only_field(rt: HostRuntime) -> Result<(), Fail> {
     assert_eq!(rt; request.only(b"host"), Some(b"h".as_slice()));
     assert!(rt; request.only(b"If-Match").is_none());
     assert!(rt; request.only(b"If-Range").is_none());
-    assert!(rt; !request.one_matches(b"If-Match", &tag, true));
-    assert!(rt; request.one_matches(b"If-None-Match", &tag, false));
-    assert!(rt; !request.one_matches(b"If-None-Match", &tag, true));
+    assert!(rt; !request.one_matches(b"If-Match", tag, true));
+    assert!(rt; request.one_matches(b"If-None-Match", tag, false));
+    assert!(rt; !request.one_matches(b"If-None-Match", tag, true));
+}
+
+#[test]
+fn matches_a_condition_in_its_only_field(rt: HostRuntime) -> Result<(), Fail> {
+    let request = request_of(
+        b"GET /a HTTP/1.1\r\nHost: h\r\nConnection: te,\t Close \r\nIf-Match: \"1-2\"\r\nif-match: x, W/\"1-1\"\r\nIf-None-Match: \"1-2\"\r\nIf-None-Match: W/\"1-1\"\r\n\r\n",
+    )?;
+    expect_fields(&rt, &request, &tag_1()?);
     Ok(())
 }
 
@@ -88,17 +90,24 @@ const ANSWERS: [(&str, u8); 11] = [
     ("HTTP/1.1 304 Not Modified\r\nETag: \"1-1\"\r\nContent-Encoding: gzip\r\n\r\n", 9),
 ];
 
+/// The number of the reason why an answer to a check is not used, or 0 for this tag.
+fn told_of_check(bytes: &[u8], tag: &Tag) -> Option<u8> {
+    match read_check(bytes) {
+        CheckReading::Seen(seen) if seen == *tag => Some(0),
+        CheckReading::Seen(_) => None,
+        CheckReading::NotUsed(why) => Some(why.number()),
+    }
+}
+
 #[test]
 fn reads_the_tag_of_an_answer_to_a_check(rt: HostRuntime) -> Result<(), Fail> {
     let tag = tag_1()?;
     for (text, want) in ANSWERS {
-        match read_check(text.as_bytes()) {
-            CheckReading::Seen(seen) => {
-                assert_eq!(rt; want, 0, "{text:?}");
-                assert!(rt; seen == tag, "{text:?}");
-            }
-            CheckReading::NotUsed(why) => assert_eq!(rt; why.number(), want, "{text:?}"),
-        }
+        assert_eq!(rt;
+            told_of_check(text.as_bytes(), &tag),
+            Some(want),
+            "{text:?}"
+        );
     }
     Ok(())
 }

@@ -1,45 +1,77 @@
 //! What a client reads of the head at the front of an answer that arrives in pieces.
 use super::answer_heads::FIRST_HEAD;
 use super::answers::{padded, told};
-use super::tags::tag_1;
-use http_range::{Head, HeadReading, Why, read_head};
+use http_range::{Head, HeadReading, Memory, read_head};
+use std::alloc::Global;
+use std::process::Abort;
 use std::test::Fail;
 
-fn head(bytes: &[u8]) -> Result<Head, Why> {
+fn head(bytes: &[u8]) -> Result<Head, Fail> {
     match read_head(bytes) {
         HeadReading::Head(head) => Ok(head),
-        HeadReading::NotUsed(why) => Err(why),
+        HeadReading::NotUsed(_) => Err(Fail::from("not used")),
     }
 }
 
 /// The number of the reason why a head is not used, or 0 for one that brings a piece.
 pub fn told_of_head(bytes: &[u8]) -> u8 {
-    head(bytes).err().map_or(0, |why| why.number())
+    match read_head(bytes) {
+        HeadReading::Head(_) => 0,
+        HeadReading::NotUsed(why) => why.number(),
+    }
+}
+
+/// What a head says: the tag, whether the answer is the whole file, the first position, the length of the file, and the lengths of
+/// the body and of the head.
+fn said(head: &Head) -> (&[u8], bool, u64, u64, u64, usize) {
+    (
+        head.tag.as_bytes(),
+        head.whole,
+        head.first,
+        head.complete,
+        head.length,
+        head.size,
+    )
+}
+
+/// The first head with the first bytes of the body.
+fn first_answer(alloc: Global) -> Result<Vec<u8>, Memory> {
+    let mut text = Vec::from_slice(alloc, FIRST_HEAD)?;
+    text.extend_from_slice(b"II*\0")?;
+    Ok(text)
+}
+
+/// Expects that a front of the first answer is told under this number.
+fn expect_told(rt: &impl Abort, text: &[u8], (cut, want): (usize, u8)) {
+    assert!(rt; cut <= text.len(), "at {cut}");
+    let front = &text[..cut];
+    assert_eq!(rt;
+        (told_of_head(front), told(front)),
+        (want, want),
+        "at {cut}"
+    );
+}
+
+/// Expects that a front of the first answer has the whole head.
+fn expect_first_head(rt: &impl Abort, text: &[u8], cut: usize) -> Result<(), Fail> {
+    assert!(rt; cut <= text.len(), "at {cut}");
+    let head = head(&text[..cut])?;
+    assert_eq!(rt;
+        said(&head),
+        (b"\"1-1\"".as_slice(), false, 0, 67706, 65536, 171),
+        "at {cut}"
+    );
+    Ok(())
 }
 
 #[test]
 fn reads_every_front_of_the_first_answer(rt: HostRuntime) -> Result<(), Fail> {
-    let mut text = Vec::from_slice(rt.alloc(), FIRST_HEAD)?;
-    text.extend_from_slice(b"II*\0")?;
+    let text = first_answer(rt.alloc())?;
     for cut in 0..text.len() + 1 {
-        assert!(rt; cut <= text.len(), "at {cut}");
-        let front = &text[..cut];
-        assert_eq!(rt;
-            told_of_head(front),
-            if cut < 171 { 1 } else { 0 },
-            "at {cut}"
-        );
-        assert_eq!(rt; told(front), told_of_head(front), "at {cut}");
+        expect_told(&rt, &text, (cut, if cut < 171 { 1 } else { 0 }));
     }
     for cut in [171usize, 172, 175] {
-        assert!(rt; cut <= text.len(), "at {cut}");
-        let head = head(&text[..cut]).map_err(|_| "not used")?;
-        assert!(rt; head.tag == tag_1()?, "at {cut}");
-        assert!(rt; !head.whole, "at {cut}");
-        assert_eq!(rt; head.first, 0, "at {cut}");
-        assert_eq!(rt; head.complete, 67706, "at {cut}");
-        assert_eq!(rt; head.length, 65536, "at {cut}");
-        assert_eq!(rt; head.size, 171, "at {cut}");
+        expect_first_head(&rt, &text, cut)?;
     }
     Ok(())
 }
@@ -50,34 +82,50 @@ const LAST_PIECE: &[u8] =
 
 #[test]
 fn tells_the_length_of_the_body_and_not_what_follows(rt: HostRuntime) -> Result<(), Fail> {
-    let part = head(LAST_PIECE).map_err(|_| "not used")?;
-    assert_eq!(rt; part.first, 5);
-    assert_eq!(rt; part.complete, 9);
-    assert_eq!(rt; part.length, 3);
-    assert_eq!(rt; part.size, 77);
-    let whole = head(b"HTTP/1.0 200\nETag: \"\"\nContent-Length: 4\n\n").map_err(|_| "not used")?;
-    assert!(rt; whole.whole);
-    assert_eq!(rt; whole.first, 0);
-    assert_eq!(rt; whole.complete, 4);
-    assert_eq!(rt; whole.length, 4);
-    assert_eq!(rt; whole.size, 41);
+    let part = head(LAST_PIECE)?;
+    assert_eq!(rt;
+        (part.first, part.complete, part.length, part.size),
+        (5, 9, 3, 77)
+    );
+    let whole = head(b"HTTP/1.0 200\nETag: \"\"\nContent-Length: 4\n\n")?;
+    assert_eq!(rt; said(&whole), (b"\"\"".as_slice(), true, 0, 4, 4, 41));
     Ok(())
+}
+
+/// A head that is filled up to `n` bytes, its end, and a byte of the body.
+fn padded_answer(alloc: Global, n: usize) -> Result<Vec<u8>, Memory> {
+    padded(
+        alloc,
+        b"HTTP/1.1 200 OK\r\nETag: \"1\"\r\nContent-Length: 1\r\nA: ",
+        n,
+        b"\r\n\r\nI",
+    )
+}
+
+/// Expects that a front of an answer is told under this number, by its head.
+fn expect_told_of_head(rt: &impl Abort, text: &[u8], (cut, want): (usize, u8)) {
+    assert!(rt; cut <= text.len(), "at {cut}");
+    assert_eq!(rt; told_of_head(&text[..cut]), want, "at {cut}");
+}
+
+/// The length of the head of an answer.
+fn size(bytes: &[u8]) -> Option<usize> {
+    match read_head(bytes) {
+        HeadReading::Head(head) => Some(head.size),
+        HeadReading::NotUsed(_) => None,
+    }
 }
 
 #[test]
 fn settles_a_head_at_4096_bytes(rt: HostRuntime) -> Result<(), Fail> {
-    let front = b"HTTP/1.1 200 OK\r\nETag: \"1\"\r\nContent-Length: 1\r\nA: ";
-    let whole = padded(rt.alloc(), front, 4092, b"\r\n\r\nI")?;
-    assert_eq!(rt; whole.len(), 4097);
-    for (cut, want) in [(4095usize, 1u8), (4096, 0), (4097, 0)] {
-        assert!(rt; cut <= whole.len(), "at {cut}");
-        assert_eq!(rt; told_of_head(&whole[..cut]), want, "at {cut}");
+    let whole = padded_answer(rt.alloc(), 4092)?;
+    assert_eq!(rt; (whole.len(), size(&whole)), (4097, Some(4096)));
+    for row in [(4095usize, 1u8), (4096, 0), (4097, 0)] {
+        expect_told_of_head(&rt, &whole, row);
     }
-    assert_eq!(rt; head(whole.as_slice()).map_err(|_| "not used")?.size, 4096);
-    let long = padded(rt.alloc(), front, 4093, b"\r\n\r\nI")?;
-    for (cut, want) in [(4095usize, 1u8), (4096, 2), (4097, 2), (4098, 2)] {
-        assert!(rt; cut <= long.len(), "at {cut}");
-        assert_eq!(rt; told_of_head(&long[..cut]), want, "at {cut}");
+    let long = padded_answer(rt.alloc(), 4093)?;
+    for row in [(4095usize, 1u8), (4096, 2), (4097, 2), (4098, 2)] {
+        expect_told_of_head(&rt, &long, row);
     }
     Ok(())
 }
