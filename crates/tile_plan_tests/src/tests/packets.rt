@@ -4,7 +4,9 @@ ghost use Rattle.std.specs.Prelude.{◌<◌, ◌≤◌, IfOk};
 use fixtures_support::Numbers;
 use packbits::unpack;
 use std::alloc::{AllocError, Global};
+use std::process::Abort;
 use std::test::Fail;
+use tiff_dir::FileFault;
 
 /// Appends a packet that stands for up to `room` bytes, and says for how many.
 fn push_packet(bytes: &mut Vec<u8>, numbers: &mut Numbers, room: usize) -> Result<usize, AllocError>
@@ -60,25 +62,46 @@ fn packets(
     Ok(bytes)
 }
 
+/// Expects the answer of the plain program to packets in rows of so many bytes, and says whether it is that they fill all rows.
+fn expect_same(
+    rt: &impl Abort,
+    (seg, row): (&[u8], usize),
+    (answer, out): (Result<(), FileFault>, &[u8]),
+    want: Option<&[u8]>,
+) -> bool {
+    match want {
+        Some(text) if text.len() == out.len() => {
+            assert!(rt; answer.is_ok(), "seed 2026: {seg:?} in rows of {row}");
+            assert_eq!(rt; out, text, "seed 2026: {seg:?}");
+            true
+        }
+        _ => {
+            assert!(rt; answer.is_err(), "seed 2026: {seg:?} in rows of {row}");
+            false
+        }
+    }
+}
+
+/// Expects it of the next packets, and says whether they fill all rows.
+fn expect_next(rt: &(impl Abort + AllocGlobal), numbers: &mut Numbers) -> Result<bool, Fail> {
+    let alloc = rt.alloc();
+    let row = 1 + numbers.below(200);
+    let rows = numbers.below(5);
+    let seg = packets(alloc, numbers, row, rows)?;
+    let mut out = vec![in alloc; 0u8; row * rows]?;
+    let answer = unpack(&seg, row, &mut out);
+    let want = reference_support::unpack(alloc, &seg, row)?;
+    let text = want.as_ref().map(|text| text.as_slice());
+    Ok(expect_same(rt, (&seg, row), (answer, &out), text))
+}
+
 #[test]
 fn unpacks_random_packets_as_the_plain_program_does(rt: HostRuntime) -> Result<(), Fail> {
-    let alloc = rt.alloc();
     let mut numbers = Numbers::new(2026);
     let mut good = 0u32;
     for _ in 0..2000 {
-        let row = 1 + numbers.below(200);
-        let rows = numbers.below(5);
-        let seg = packets(alloc, &mut numbers, row, rows)?;
-        let mut out = vec![in alloc; 0u8; row * rows]?;
-        let answer = unpack(&seg, row, &mut out);
-        let want = reference_support::unpack(alloc, &seg, row)?;
-        match want {
-            Some(text) if text.len() == out.len() => {
-                assert!(rt; answer.is_ok(), "seed 2026: {seg:?} in rows of {row}");
-                assert_eq!(rt; out.as_slice(), text.as_slice(), "seed 2026: {seg:?}");
-                good = good.saturating_add(1);
-            }
-            _ => assert!(rt; answer.is_err(), "seed 2026: {seg:?} in rows of {row}"),
+        if expect_next(&rt, &mut numbers)? {
+            good = good.saturating_add(1);
         }
     }
     assert!(rt; 1000 < good && good < 1900, "seed 2026: {good}");

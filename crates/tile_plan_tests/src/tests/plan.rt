@@ -2,51 +2,72 @@
 use crate::tests::image::{Image, change};
 use crate::tests::of_level;
 use fixtures_support::{f3, f5};
+use std::alloc::Global;
+use std::process::Abort;
 use std::test::Fail;
-use tiff_dir::FileFault;
+use tiff_dir::{FileFault, Query};
 use tile_plan::{Group, PlanError};
 
 /// The first and last byte and the number of tiles of a group.
-fn shape(group: &Group) -> (u64, u64, usize) {
+type Shape = (u64, u64, usize);
+
+fn shape(group: &Group) -> Shape {
     (group.span.first, group.span.last, group.tiles.len())
+}
+
+/// The shapes of the groups of a window.
+fn shapes(alloc: Global, image: &Image, window: Query) -> Result<Vec<Shape>, Fail> {
+    let plan = image
+        .plan(alloc, window)
+        .map_err(|_| Fail::new("no groups"))?;
+    Ok(plan.iter().map(shape).collect::<Vec<_>>(alloc)?)
+}
+
+/// Expects these shapes of the groups of a file's window.
+fn expect_shapes(
+    rt: &(impl Abort + AllocGlobal),
+    file: Vec<u8>,
+    window: Query,
+    want: &[Shape],
+) -> Result<(), Fail> {
+    let image = Image::new(rt.alloc(), file)?;
+    let shapes = shapes(rt.alloc(), &image, window)?;
+    assert_eq!(rt; shapes.as_slice(), want);
+    Ok(())
 }
 
 /// The groups of f5's whole window: 16 tiles have as many bytes as a group may have.
 #[test]
 fn joins_tiles_up_to_the_limit(rt: HostRuntime) -> Result<(), Fail> {
-    let image = Image::new(rt.alloc(), f5(rt.alloc())?)?;
-    let plan = image
-        .plan(rt.alloc(), of_level(0, 0, 1280, 1024, 0))
-        .map_err(|_| Fail::new("no groups"))?;
-    let shapes = plan.iter().map(shape).collect::<Vec<_>>(rt.alloc())?;
-    let want = [(16384, 1064959, 16), (1064960, 1327103, 4)];
-    assert_eq!(rt; shapes.as_slice(), want.as_slice());
-    Ok(())
+    expect_shapes(
+        &rt,
+        f5(rt.alloc())?,
+        of_level(0, 0, 1280, 1024, 0),
+        &[(16384, 1064959, 16), (1064960, 1327103, 4)],
+    )
+}
+
+/// The whole window of f3's first level.
+fn whole() -> Query {
+    of_level(0, 0, 32, 32, 0)
+}
+
+/// f3, where all tiles have the offset of the first.
+fn equal_offsets(alloc: Global) -> Result<Vec<u8>, Fail> {
+    let mut file = f3(alloc)?;
+    for tile in 1..4 {
+        change(&mut file, 296 + 4 * tile, 0x90);
+        change(&mut file, 297 + 4 * tile, 1);
+    }
+    Ok(file)
 }
 
 /// f3's tiles follow each other; with equal offsets each is a group.
 #[test]
 fn joins_no_tiles_of_equal_offsets(rt: HostRuntime) -> Result<(), Fail> {
-    let whole = of_level(0, 0, 32, 32, 0);
-    let image = Image::new(rt.alloc(), f3(rt.alloc())?)?;
-    let plan = image
-        .plan(rt.alloc(), whole)
-        .map_err(|_| Fail::new("no groups"))?;
-    let shapes = plan.iter().map(shape).collect::<Vec<_>>(rt.alloc())?;
-    assert_eq!(rt; shapes.as_slice(), [(400, 1423, 4)].as_slice());
-
-    let mut file = f3(rt.alloc())?;
-    for tile in 1..4 {
-        change(&mut file, 296 + 4 * tile, 0x90);
-        change(&mut file, 297 + 4 * tile, 1);
-    }
-    let image = Image::new(rt.alloc(), file)?;
-    let plan = image
-        .plan(rt.alloc(), whole)
-        .map_err(|_| Fail::new("no groups"))?;
-    assert_eq!(rt; plan.len(), 4);
-    assert!(rt; plan.iter().all(|group| shape(group) == (400, 655, 1)));
-    Ok(())
+    expect_shapes(&rt, f3(rt.alloc())?, whole(), &[(400, 1423, 4)])?;
+    let file = equal_offsets(rt.alloc())?;
+    expect_shapes(&rt, file, whole(), &[(400, 655, 1); 4])
 }
 
 /// What is wrong with one of f3's tiles: the place of a byte of an array, its value, and what is told.
@@ -59,14 +80,20 @@ const WRONG: [(usize, u8, FileFault); 4] = [
     (310, 1, FileFault::PastEnd),
 ];
 
+/// Why there is no plan of f3's whole window where these bytes are changed.
+fn refusal(alloc: Global, changes: &[(usize, u8)]) -> Result<Option<PlanError>, Fail> {
+    let mut file = f3(alloc)?;
+    for (place, byte) in changes {
+        change(&mut file, *place, *byte);
+    }
+    let image = Image::new(alloc, file)?;
+    Ok(image.plan(alloc, whole()).err())
+}
+
 #[test]
 fn refuses_each_wrong_tile(rt: HostRuntime) -> Result<(), Fail> {
-    let whole = of_level(0, 0, 32, 32, 0);
     for (place, byte, fault) in WRONG {
-        let mut file = f3(rt.alloc())?;
-        change(&mut file, place, byte);
-        let image = Image::new(rt.alloc(), file)?;
-        let plan = image.plan(rt.alloc(), whole).err();
+        let plan = refusal(rt.alloc(), &[(place, byte)])?;
         assert_eq!(rt; plan, Some(PlanError::File(fault)), "{place}");
     }
     Ok(())
@@ -75,18 +102,12 @@ fn refuses_each_wrong_tile(rt: HostRuntime) -> Result<(), Fail> {
 /// Two tiles of f3 with a fault each: the first one's is told. A tile with both: its size.
 #[test]
 fn tells_the_fault_of_the_first_tile(rt: HostRuntime) -> Result<(), Fail> {
-    let whole = of_level(0, 0, 32, 32, 0);
     for (first, second, fault) in [
         ((302, 1), (325, 2), FileFault::PastEnd),
         ((317, 2), (310, 1), FileFault::TileSize),
         ((310, 1), (325, 2), FileFault::TileSize),
     ] {
-        let mut file = f3(rt.alloc())?;
-        for (place, byte) in [first, second] {
-            change(&mut file, place, byte);
-        }
-        let image = Image::new(rt.alloc(), file)?;
-        let plan = image.plan(rt.alloc(), whole).err();
+        let plan = refusal(rt.alloc(), &[first, second])?;
         assert_eq!(rt; plan, Some(PlanError::File(fault)), "{first:?} {second:?}");
     }
     Ok(())

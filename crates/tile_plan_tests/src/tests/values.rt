@@ -1,5 +1,6 @@
 //! Worked values.
 use packbits::{pack_row, unpack};
+use std::process::Abort;
 use std::test::Fail;
 use tiff_dir::FileFault;
 
@@ -16,14 +17,19 @@ const ZEROS: [(&[u8], usize, bool); 9] = [
     (&[0xe1, 0x00], 32, false),
 ];
 
+/// Expects that packed bytes stand for so many 00, or don't.
+fn expect_zeros(rt: &impl Abort, seg: &[u8], good: bool, out: &mut [u8]) {
+    let answer = unpack(seg, 16, out);
+    let want = if good { Ok(()) } else { Err(FileFault::Packet) };
+    assert_eq!(rt; answer, want, "{seg:?}");
+    assert!(rt; !good || out.iter().all(|b| *b == 0), "{seg:?}");
+}
+
 #[test]
 fn takes_packets_that_fill_their_rows_alone(rt: HostRuntime) -> Result<(), Fail> {
     for (seg, len, good) in ZEROS {
         let mut out = vec![in rt.alloc(); 9u8; len]?;
-        let answer = unpack(seg, 16, &mut out);
-        let want = if good { Ok(()) } else { Err(FileFault::Packet) };
-        assert_eq!(rt; answer, want, "{seg:?}");
-        assert!(rt; !good || out.iter().all(|b| *b == 0), "{seg:?}");
+        expect_zeros(&rt, seg, good, &mut out);
     }
     Ok(())
 }
@@ -46,6 +52,16 @@ fn unpacks_the_example_of_the_standard(rt: HostRuntime) {
     assert_eq!(rt; unpack(&EXAMPLE, 12, &mut out), Err(FileFault::Packet));
 }
 
+/// Expects a row of the packets that are made of it.
+fn expect_row(rt: &(impl Abort + AllocGlobal), row: &[u8]) -> Result<(), Fail> {
+    assert!(rt; !row.is_empty());
+    let seg = pack_row(rt.alloc(), row).ok().ok_or("no memory")?;
+    let mut out = vec![in rt.alloc(); 9u8; row.len()]?;
+    assert_eq!(rt; unpack(&seg, row.len(), &mut out), Ok(()));
+    assert_eq!(rt; out.as_slice(), row);
+    Ok(())
+}
+
 #[test]
 fn unpacks_what_it_packed(rt: HostRuntime) -> Result<(), Fail> {
     for row in [
@@ -56,10 +72,7 @@ fn unpacks_what_it_packed(rt: HostRuntime) -> Result<(), Fail> {
         &[7, 7],
         &[7, 8],
     ] {
-        let seg = pack_row(rt.alloc(), row).ok().ok_or("no memory")?;
-        let mut out = vec![in rt.alloc(); 9u8; row.len()]?;
-        assert_eq!(rt; unpack(&seg, row.len(), &mut out), Ok(()));
-        assert_eq!(rt; out.as_slice(), row);
+        expect_row(&rt, row)?;
     }
     Ok(())
 }
