@@ -1,5 +1,5 @@
 //! The packed tiles of files of the disk.
-ghost use Rattle.std.specs.Prelude.{IfOk};
+ghost use Rattle.std.specs.Prelude.{IfOk, OnOk};
 ghost use Rattle.tiff_dir.specs.Walk.{HasEnded};
 
 use anyhow::{Result, bail};
@@ -17,17 +17,16 @@ const REPEATS: u32 = 64;
 /// The most ranges of a file's directories.
 const MAX_RANGES: u32 = 65;
 
-/// A walk over all directories of a file.
-fn walk_over(alloc: Global, file: &[u8]) -> Result<Walk>
-    ensures { IfOk result HasEnded }
+/// Walks over all directories of a file.
+fn walk_on(walk: &mut Walk, file: &[u8]) -> Result<()>
+    ensures { OnOk result (HasEnded walk.new) }
 {
-    let mut walk = Walk::new(alloc);
     for _ in 0..=MAX_RANGES {
         let Ok(next) = walk.need(file.len() as u64) else {
             bail!("a directory ends after the file");
         };
         let Some(span) = next else {
-            return Ok(walk);
+            return Ok(());
         };
         let bytes = &file[span.first as usize..span.last as usize + 1];
         if walk.give(bytes).is_err() {
@@ -37,6 +36,15 @@ fn walk_over(alloc: Global, file: &[u8]) -> Result<Walk>
     bail!("too many ranges")
 }
 
+/// A walk over all directories of a file.
+fn walk_over(alloc: Global, file: &[u8]) -> Result<Walk>
+    ensures { IfOk result HasEnded }
+{
+    let mut walk = Walk::new(alloc);
+    walk_on(&mut walk, file)?;
+    Ok(walk)
+}
+
 /// The bytes of an array.
 fn array(file: &[u8], place: Place) -> Option<&[u8]> {
     let first = usize::try_from(place.first).ok()?;
@@ -44,9 +52,8 @@ fn array(file: &[u8], place: Place) -> Option<&[u8]> {
     file.get(first..first.checked_add(len)?)
 }
 
-/// Unpacks each tile of a packed level, and says how many bytes they have.
-fn unpack_level(alloc: Global, file: &[u8], order: Order, level: &Level) -> Result<u64> {
-    let mut out = vec![in alloc; 0u8; level.plain_size()]?;
+/// Unpacks each tile of a packed level to the same place, and says how many bytes they have.
+fn unpack_tiles(file: &[u8], order: Order, level: &Level, out: &mut [u8]) -> Result<u64> {
     let (Some(offsets), Some(counts)) = (array(file, level.offsets), array(file, level.counts))
     else {
         bail!("an array ends after the file");
@@ -61,7 +68,7 @@ fn unpack_level(alloc: Global, file: &[u8], order: Order, level: &Level) -> Resu
         let Some(seg) = rest.and_then(|rest| rest.get(..len as usize)) else {
             bail!("a tile ends after the file");
         };
-        if unpack(seg, level.plain_row(), &mut out).is_err() {
+        if unpack(seg, level.plain_row(), out).is_err() {
             bail!("damaged packets");
         }
         bytes = bytes.wrapping_add(out.len() as u64);
@@ -69,22 +76,36 @@ fn unpack_level(alloc: Global, file: &[u8], order: Order, level: &Level) -> Resu
     Ok(bytes)
 }
 
-/// Prints how many GB a second the packed tiles of a file are unpacked to.
-pub fn measure_file(rt: &(impl Print + Clock + Files + AllocGlobal), path: &str) -> Result<()> {
-    let alloc = rt.alloc();
-    let mut file = Vec::new(alloc);
-    File::open(rt, path)?.read_to_end(&mut file)?;
-    let walk = walk_over(alloc, &file)?;
-    let start = Instant::now(rt)?;
+/// Unpacks each tile of a packed level, and says how many bytes they have.
+fn unpack_level(alloc: Global, file: &[u8], order: Order, level: &Level) -> Result<u64> {
+    let mut out = vec![in alloc; 0u8; level.plain_size()]?;
+    unpack_tiles(file, order, level, &mut out)
+}
+
+/// Unpacks the tiles of the packed levels, as often as they are, and says how many bytes they have.
+fn unpack_levels(alloc: Global, file: &[u8], order: Order, levels: &[Level]) -> Result<u64> {
     let mut bytes = 0u64;
-    for level in walk.levels() {
+    for level in levels {
         if level.compression == Compression::PackBits {
             for _ in 0..REPEATS {
-                let count = unpack_level(alloc, &file, walk.order(), level)?;
+                let count = unpack_level(alloc, file, order, level)?;
                 bytes = bytes.wrapping_add(count);
             }
         }
     }
+    Ok(bytes)
+}
+
+/// Prints how many GB a second the packed levels of a file are unpacked to.
+fn measure_levels(
+    rt: &(impl Print + Clock + AllocGlobal),
+    path: &str,
+    file: &[u8],
+    order: Order,
+    levels: &[Level],
+) -> Result<()> {
+    let start = Instant::now(rt)?;
+    let bytes = unpack_levels(rt.alloc(), file, order, levels)?;
     let seconds = start.elapsed(rt)?.as_secs_f64();
     let kibibytes = f64::from(u32::try_from(bytes / 1024)?);
     println!(rt;
@@ -92,4 +113,18 @@ pub fn measure_file(rt: &(impl Print + Clock + Files + AllocGlobal), path: &str)
         kibibytes * 1024.0 / seconds / 1e9
     )?;
     Ok(())
+}
+
+/// The bytes of a file of the disk.
+fn read_file(rt: &(impl Files + AllocGlobal), path: &str) -> Result<Vec<u8>> {
+    let mut file = Vec::new(rt.alloc());
+    File::open(rt, path)?.read_to_end(&mut file)?;
+    Ok(file)
+}
+
+/// Prints how many GB a second the packed tiles of a file are unpacked to.
+pub fn measure_file(rt: &(impl Print + Clock + Files + AllocGlobal), path: &str) -> Result<()> {
+    let file = read_file(rt, path)?;
+    let walk = walk_over(rt.alloc(), &file)?;
+    measure_levels(rt, path, &file, walk.order(), walk.levels())
 }

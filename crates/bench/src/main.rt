@@ -32,14 +32,24 @@ fn rate(seconds: f64) -> f64 {
     f64::from(REPEATS) * 65536.0 / seconds / 1e9
 }
 
+/// Unpacks a tile, and compares it with what it was made of.
+fn is_unpacked(seg: &[u8], plain: &[u8], out: &mut [u8]) -> bool {
+    let fault = unpack(seg, ROW, out).err();
+    fault.is_none() && &*out == plain
+}
+
+/// Whether a tile of a kind is unpacked to what it was made of.
+fn check_unpack(alloc: Global, kind: Kind) -> Result<bool> {
+    let mut out = vec![in alloc; 0u8; TILE]?;
+    let seg = packed(alloc, kind)?;
+    let plain = plain(alloc, kind)?;
+    Ok(is_unpacked(&seg, &plain, &mut out))
+}
+
 /// Unpacks a tile of each kind, and compares it with what it was made of.
 fn check(rt: &impl Print, alloc: Global) -> Result<()> {
     for kind in Kind::ALL {
-        let mut out = vec![in alloc; 0u8; TILE]?;
-        let seg = packed(alloc, kind)?;
-        let fault = unpack(&seg, ROW, &mut out).err();
-        let same = out.as_slice() == plain(alloc, kind)?.as_slice();
-        println!(rt; "unpack {}: {}", kind.name(), fault.is_none() && same)?;
+        println!(rt; "unpack {}: {}", kind.name(), check_unpack(alloc, kind)?)?;
     }
     println!(rt; "blit: {}", check_blit(alloc)?)?;
     let mut pairs = *b"0123456789abcdefghijklmnopqrstuvwxyz";
@@ -49,20 +59,30 @@ fn check(rt: &impl Print, alloc: Global) -> Result<()> {
     check_serving(rt, alloc)
 }
 
+/// Copies a tile of each number to its place.
+fn blit_all(alloc: Global, picture: &mut Picture) -> Result<()> {
+    for tile in 0..4 {
+        picture.blit(tile, &vec![in alloc; tile as u8; TILE]?);
+    }
+    Ok(())
+}
+
+/// Whether a picture's samples are the numbers of their tiles.
+fn are_numbers(samples: &[u8]) -> bool {
+    let mut good = samples.len() == 4 * TILE;
+    for (place, byte) in samples.iter().enumerate() {
+        good = good && usize::from(*byte) == place / 131072 * 2 + place / 256 % 2;
+    }
+    good
+}
+
 /// Whether four tiles become the picture of their samples.
 fn check_blit(alloc: Global) -> Result<bool> {
     let Some(mut picture) = Picture::new(alloc) else {
         bail!("no memory");
     };
-    for tile in 0..4 {
-        picture.blit(tile, &vec![in alloc; tile as u8; TILE]?);
-    }
-    let samples = picture.into_data();
-    let mut good = samples.len() == 4 * TILE;
-    for (place, byte) in samples.iter().enumerate() {
-        good = good && usize::from(*byte) == place / 131072 * 2 + place / 256 % 2;
-    }
-    Ok(good)
+    blit_all(alloc, &mut picture)?;
+    Ok(are_numbers(&picture.into_data()))
 }
 
 /// Copies each of the four tiles.
@@ -96,40 +116,81 @@ fn copy_often(from: &[u8], out: &mut [u8]) -> bool {
     true
 }
 
-fn measure(rt: &(impl Print + Clock), alloc: Global) -> Result<()> {
-    let mut out = vec![in alloc; 0u8; TILE]?;
+/// Prints the rate at which a tile of a kind is unpacked.
+fn measure_unpack(rt: &(impl Print + Clock), kind: Kind, seg: &[u8], out: &mut [u8]) -> Result<()> {
+    let start = Instant::now(rt)?;
+    let good = unpack_often(seg, out);
+    let seconds = start.elapsed(rt)?.as_secs_f64();
+    ensure!(good, "unpack");
+    println!(rt; "unpack {}: {:.2} GB/s", kind.name(), rate(seconds))?;
+    Ok(())
+}
+
+/// Prints the rate at which a tile of each kind is unpacked.
+fn measure_kinds(rt: &(impl Print + Clock), alloc: Global, out: &mut [u8]) -> Result<()> {
     for kind in Kind::ALL {
         let seg = packed(alloc, kind)?;
-        let start = Instant::now(rt)?;
-        let good = unpack_often(&seg, &mut out);
-        let seconds = start.elapsed(rt)?.as_secs_f64();
-        ensure!(good, "unpack");
-        println!(rt; "unpack {}: {:.2} GB/s", kind.name(), rate(seconds))?;
+        measure_unpack(rt, kind, &seg, out)?;
     }
+    Ok(())
+}
+
+/// Prints the rate at which tiles are copied into a picture.
+fn measure_blit(rt: &(impl Print + Clock), picture: &mut Picture, tile: &[u8]) -> Result<()> {
+    let start = Instant::now(rt)?;
+    blit_often(picture, tile);
+    let seconds = start.elapsed(rt)?.as_secs_f64();
+    println!(rt; "blit: {:.2} GB/s", rate(seconds))?;
+    Ok(())
+}
+
+/// The same, of a new picture.
+fn measure_picture(rt: &(impl Print + Clock), alloc: Global, tile: &[u8]) -> Result<()> {
     let Some(mut picture) = Picture::new(alloc) else {
         bail!("no memory");
     };
+    measure_blit(rt, &mut picture, tile)
+}
+
+/// The loops over tiles.
+fn measure_tiles(rt: &(impl Print + Clock), alloc: Global) -> Result<()> {
+    let mut out = vec![in alloc; 0u8; TILE]?;
+    measure_kinds(rt, alloc, &mut out)?;
+    measure_picture(rt, alloc, &out)
+}
+
+/// Prints the rate at which pairs are exchanged.
+fn measure_swap(rt: &(impl Print + Clock), bytes: &mut [u8]) -> Result<()> {
     let start = Instant::now(rt)?;
-    blit_often(&mut picture, &out);
+    swap_often(bytes);
     let seconds = start.elapsed(rt)?.as_secs_f64();
-    println!(rt; "blit: {:.2} GB/s", rate(seconds))?;
-    measure_mebibyte(rt, alloc)
+    println!(rt; "swap_pairs: {:.2} GB/s", 16.0 * rate(seconds))?;
+    Ok(())
+}
+
+/// Prints the rate at which bytes are copied.
+fn measure_copy(rt: &(impl Print + Clock), from: &[u8], out: &mut [u8]) -> Result<()> {
+    let start = Instant::now(rt)?;
+    let good = copy_often(from, out);
+    let seconds = start.elapsed(rt)?.as_secs_f64();
+    ensure!(good, "copy");
+    println!(rt; "copy: {:.2} GB/s", 16.0 * rate(seconds))?;
+    Ok(())
 }
 
 /// The exchange of pairs in 1 MiB, and a copy of it.
 fn measure_mebibyte(rt: &(impl Print + Clock), alloc: Global) -> Result<()> {
     let mut out = vec![in alloc; 1u8; MEBIBYTE]?;
-    let start = Instant::now(rt)?;
-    swap_often(&mut out);
-    let seconds = start.elapsed(rt)?.as_secs_f64();
-    println!(rt; "swap_pairs: {:.2} GB/s", 16.0 * rate(seconds))?;
+    measure_swap(rt, &mut out)?;
     let from = vec![in alloc; 2u8; MEBIBYTE]?;
-    let start = Instant::now(rt)?;
-    let good = copy_often(&from, &mut out);
-    let seconds = start.elapsed(rt)?.as_secs_f64();
-    ensure!(good, "copy");
-    println!(rt; "copy: {:.2} GB/s", 16.0 * rate(seconds))?;
-    measure_serving(rt, alloc)
+    measure_copy(rt, &from, &mut out)
+}
+
+fn measure(rt: &(impl Print + Clock), alloc: Global) -> Result<()> {
+    measure_tiles(rt, alloc)?;
+    measure_mebibyte(rt, alloc)?;
+    measure_serving(rt, alloc)?;
+    measure_pieces(rt, alloc)
 }
 
 fn main(rt: HostRuntime) -> Result<()> {
@@ -143,8 +204,7 @@ fn main(rt: HostRuntime) -> Result<()> {
         }
     }
     if measures {
-        measure(&rt, alloc)?;
-        measure_pieces(&rt, alloc)
+        measure(&rt, alloc)
     } else {
         check(&rt, alloc)
     }

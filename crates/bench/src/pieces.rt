@@ -3,7 +3,7 @@ use crate::MEBIBYTE;
 use anyhow::{Result, bail, ensure};
 use cog_client::Client;
 use cog_server::Server;
-use std::alloc::Global;
+use std::alloc::{AllocError, Global};
 use std::rt::Clock;
 use std::time::Instant;
 use tiff_dir::{Memory, Pick, Query};
@@ -29,17 +29,30 @@ const ENTRIES: [(u16, u16, u32, u32); 10] = [
     (325, 4, 1, 1_048_576),
 ];
 
-/// A file of that image.
-fn image(alloc: Global) -> Result<Vec<u8>> {
-    let mut file = Vec::from_slice(alloc, b"II*\0\x08\0\0\0\x0a\0")?;
-    for (tag, kind, count, value) in ENTRIES {
-        file.extend_from_slice(&tag.to_le_bytes())?;
-        file.extend_from_slice(&kind.to_le_bytes())?;
-        file.extend_from_slice(&count.to_le_bytes())?;
-        file.extend_from_slice(&value.to_le_bytes())?;
+/// Appends an entry of a directory.
+fn push_entry(
+    file: &mut Vec<u8>,
+    (tag, kind, count, value): (u16, u16, u32, u32),
+) -> Result<(), AllocError> {
+    file.extend_from_slice(&tag.to_le_bytes())?;
+    file.extend_from_slice(&kind.to_le_bytes())?;
+    file.extend_from_slice(&count.to_le_bytes())?;
+    file.extend_from_slice(&value.to_le_bytes())
+}
+
+/// Appends that image to the head of a file.
+fn push_image(file: &mut Vec<u8>) -> Result<(), AllocError> {
+    for entry in ENTRIES {
+        push_entry(file, entry)?;
     }
     file.extend_from_slice(&[0; 4])?;
-    file.resize(134 + MEBIBYTE, 7)?;
+    file.resize(134 + MEBIBYTE, 7)
+}
+
+/// A file of that image.
+fn image(alloc: Global) -> Result<Vec<u8>, AllocError> {
+    let mut file = Vec::from_slice(alloc, b"II*\0\x08\0\0\0\x0a\0")?;
+    push_image(&mut file)?;
     Ok(file)
 }
 
@@ -68,6 +81,28 @@ fn hand(client: &mut Client, answer: &[u8], piece: Option<usize>) -> Result<(), 
     Ok(())
 }
 
+/// Lets a client without blocks take the first answer.
+fn begin(client: &mut Client, server: &Server) -> Result<()> {
+    client.forget();
+    let answer = asked(client, server)?;
+    ensure!(hand(client, &answer, None).is_ok(), "no memory");
+    Ok(())
+}
+
+/// How many seconds a client needs to take the last answer before its report.
+fn seconds_of(
+    rt: &impl Clock,
+    client: &mut Client,
+    answer: &[u8],
+    piece: Option<usize>,
+) -> Result<f64> {
+    let start = Instant::now(rt)?;
+    let taken = hand(client, answer, piece);
+    let seconds = start.elapsed(rt)?.as_secs_f64();
+    ensure!(taken.is_ok() && client.report().is_some(), "no report");
+    Ok(seconds)
+}
+
 /// How many MB a second of the second answer a client takes, which has the image's last 983,174 bytes.
 fn rate(
     rt: &impl Clock,
@@ -77,22 +112,22 @@ fn rate(
 ) -> Result<f64> {
     let mut seconds = 0.0;
     for _ in 0..REPEATS {
-        client.forget();
-        let first = asked(client, server)?;
-        ensure!(hand(client, &first, None).is_ok(), "no memory");
+        begin(client, server)?;
         let answer = asked(client, server)?;
-        let start = Instant::now(rt)?;
-        let taken = hand(client, &answer, piece);
-        seconds += start.elapsed(rt)?.as_secs_f64();
-        ensure!(taken.is_ok() && client.report().is_some(), "no report");
+        seconds += seconds_of(rt, client, &answer, piece)?;
     }
     Ok(f64::from(REPEATS) * 983_174.0 / seconds / 1e6)
 }
 
-/// Prints the rates, of each size in turn.
-pub fn measure_pieces(rt: &(impl Print + Clock), alloc: Global) -> Result<()> {
+/// A server of the image.
+fn server_of_image(alloc: Global) -> Result<Server> {
     let mut server = Server::new(alloc, 1);
     server.publish(b"a", image(alloc)?)?;
+    Ok(server)
+}
+
+/// A client that asks for the whole image.
+fn client_of_image(alloc: Global) -> Result<Client> {
     let mut client = Client::new(alloc, b"h", b"a", 66)?;
     client.open(Query::Window {
         x: 0,
@@ -101,11 +136,28 @@ pub fn measure_pieces(rt: &(impl Print + Clock), alloc: Global) -> Result<()> {
         h: 1024,
         pick: Pick::Level(0),
     });
-    let whole = rate(rt, &mut client, &server, None)?;
+    Ok(client)
+}
+
+/// Prints the rates of a client, of each size in turn.
+fn print_rates(rt: &(impl Print + Clock), client: &mut Client, server: &Server) -> Result<()> {
+    let whole = rate(rt, client, server, None)?;
     println!(rt; "deliver: {whole:.0} MB/s")?;
     for piece in PIECES {
-        let rate = rate(rt, &mut client, &server, Some(piece))?;
+        let rate = rate(rt, client, server, Some(piece))?;
         println!(rt; "pieces of {piece}: {rate:.0} MB/s")?;
     }
     Ok(())
+}
+
+/// Prints the rates of a new client.
+fn measure_client(rt: &(impl Print + Clock), alloc: Global, server: &Server) -> Result<()> {
+    let mut client = client_of_image(alloc)?;
+    print_rates(rt, &mut client, server)
+}
+
+/// Prints the rates, of each size in turn.
+pub fn measure_pieces(rt: &(impl Print + Clock), alloc: Global) -> Result<()> {
+    let server = server_of_image(alloc)?;
+    measure_client(rt, alloc, &server)
 }

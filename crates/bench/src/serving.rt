@@ -93,44 +93,89 @@ fn serve_often(server: &Server, stream: &[u8], meter: &mut Meter, repeats: u32) 
     Ok(meter.bytes.wrapping_sub(before))
 }
 
-/// Whether an answer is the head and the file's bytes, and whether a hundred have as many bytes as they should.
-pub fn check_serving(rt: &impl Print, alloc: Global) -> Result<()> {
-    let server = server_of_mebibyte(alloc)?;
-    let stream = requests(alloc, 65535)?;
+/// What a hundred answers to such requests are.
+fn answers(alloc: Global, server: &Server, stream: &[u8]) -> Result<ScriptedOutlet> {
     let mut outlet = ScriptedOutlet::new(alloc, Vec::new(alloc), AfterPieces::All);
-    server.serve(&mut Stream::new(stream.as_slice()), &mut outlet)?;
+    server.serve(&mut Stream::new(stream), &mut outlet)?;
+    Ok(outlet)
+}
+
+/// Whether the first of a hundred answers is the head and these 64 KiB, and all have as many bytes as they should.
+fn is_hundredfold(taken: &[u8], body: &[u8]) -> bool {
+    let one = HEAD.len() + 65536;
+    taken.get(..HEAD.len()) == Some(HEAD)
+        && taken.get(HEAD.len()..one) == Some(body)
+        && taken.len() == one * 100
+}
+
+/// Whether an answer of 64 KiB is the head and the file's bytes, and a hundred have as many bytes as they should.
+fn serve_64_kib(alloc: Global, server: &Server) -> Result<bool> {
+    let stream = requests(alloc, 65535)?;
+    let outlet = answers(alloc, server, &stream)?;
     let body = vec![in alloc; 7u8; 65536]?;
-    let one = HEAD.len() + body.len();
-    let same = outlet.taken().get(..HEAD.len()) == Some(HEAD)
-        && outlet.taken().get(HEAD.len()..one) == Some(body.as_slice())
-        && outlet.taken().len() == one * 100;
-    println!(rt; "serve 64 KiB: {same}")?;
+    Ok(is_hundredfold(outlet.taken(), &body))
+}
+
+/// Whether a hundred answers of 1 MiB have as many bytes as they should.
+fn serve_1_mib(alloc: Global, server: &Server) -> Result<bool> {
     let mut meter = Meter::new(alloc)?;
     let stream = requests(alloc, MEBIBYTE - 1)?;
-    let bytes = serve_often(&server, &stream, &mut meter, 1)?;
+    let bytes = serve_often(server, &stream, &mut meter, 1)?;
     let head = (HEAD.len() + 4) as u64;
-    println!(rt; "serve 1 MiB: {}", bytes == (head + 1048576) * 100)?;
-    println!(rt; "single bytes: {}", serve_single_bytes(alloc, &server)?)?;
+    Ok(bytes == (head + 1048576) * 100)
+}
+
+/// Prints what a server's answers are.
+fn check_server(rt: &impl Print, alloc: Global, server: &Server) -> Result<()> {
+    println!(rt; "serve 64 KiB: {}", serve_64_kib(alloc, server)?)?;
+    println!(rt; "serve 1 MiB: {}", serve_1_mib(alloc, server)?)?;
+    println!(rt; "single bytes: {}", serve_single_bytes(alloc, server)?)?;
     Ok(())
 }
 
-/// Prints how many answers a second are served, and how long single bytes take.
-pub fn measure_serving(rt: &(impl Print + Clock), alloc: Global) -> Result<()> {
+/// Whether an answer is the head and the file's bytes, and whether a hundred have as many bytes as they should.
+pub fn check_serving(rt: &impl Print, alloc: Global) -> Result<()> {
     let server = server_of_mebibyte(alloc)?;
-    let mut meter = Meter::new(alloc)?;
+    check_server(rt, alloc, &server)
+}
+
+/// Prints how many answers a second are served.
+fn measure_stream(
+    rt: &(impl Print + Clock),
+    server: &Server,
+    stream: &[u8],
+    meter: &mut Meter,
+    name: &str,
+) -> Result<()> {
+    let start = Instant::now(rt)?;
+    serve_often(server, stream, meter, REPEATS)?;
+    let seconds = start.elapsed(rt)?.as_secs_f64();
+    println!(rt;
+        "serve {name}: {:.0} answers/s",
+        f64::from(REPEATS) * 100.0 / seconds
+    )?;
+    Ok(())
+}
+
+/// Prints how many answers of each length a second are served.
+fn measure_streams(
+    rt: &(impl Print + Clock),
+    alloc: Global,
+    server: &Server,
+    meter: &mut Meter,
+) -> Result<()> {
     for (name, last) in [("1 KiB", 1023), ("64 KiB", 65535), ("1 MiB", MEBIBYTE - 1)] {
         let stream = requests(alloc, last)?;
-        let start = Instant::now(rt)?;
-        serve_often(&server, &stream, &mut meter, REPEATS)?;
-        let seconds = start.elapsed(rt)?.as_secs_f64();
-        println!(rt;
-            "serve {name}: {:.0} answers/s",
-            f64::from(REPEATS) * 100.0 / seconds
-        )?;
+        measure_stream(rt, server, &stream, meter, name)?;
     }
+    Ok(())
+}
+
+/// Prints how long single bytes take.
+fn measure_single_bytes(rt: &(impl Print + Clock), alloc: Global, server: &Server) -> Result<()> {
     let start = Instant::now(rt)?;
     for _ in 0..REPEATS {
-        ensure!(serve_single_bytes(alloc, &server)?, "single bytes");
+        ensure!(serve_single_bytes(alloc, server)?, "single bytes");
     }
     let seconds = start.elapsed(rt)?.as_secs_f64();
     println!(rt;
@@ -138,4 +183,17 @@ pub fn measure_serving(rt: &(impl Print + Clock), alloc: Global) -> Result<()> {
         seconds * 1e6 / f64::from(REPEATS)
     )?;
     Ok(())
+}
+
+/// Prints what a server's answers and single bytes take.
+fn measure_server(rt: &(impl Print + Clock), alloc: Global, server: &Server) -> Result<()> {
+    let mut meter = Meter::new(alloc)?;
+    measure_streams(rt, alloc, server, &mut meter)?;
+    measure_single_bytes(rt, alloc, server)
+}
+
+/// Prints how many answers a second are served, and how long single bytes take.
+pub fn measure_serving(rt: &(impl Print + Clock), alloc: Global) -> Result<()> {
+    let server = server_of_mebibyte(alloc)?;
+    measure_server(rt, alloc, &server)
 }

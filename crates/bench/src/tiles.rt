@@ -6,10 +6,7 @@ pub const ROW: usize = 256;
 
 pub const TILE: usize = 65536;
 
-/// Where the packets of 1, 2 and so on to 16 bytes begin in a row; behind them those of 1 to 15 bytes fill it.
-const STARTS: [usize; 16] = [0, 1, 3, 6, 10, 15, 21, 28, 36, 45, 55, 66, 78, 91, 105, 120];
-
-/// Where the second row of them begins.
+/// Where packets of 1, 2 and so on to 15 bytes begin behind those of 1, 2 and so on to 16 bytes.
 const AGAIN: usize = 136;
 
 /// What a tile is made of.
@@ -75,12 +72,12 @@ impl Kind {
 /// The head of the packet of 1 to 16 bytes that begins at a place of a row, if one does.
 fn short_head(place: usize) -> Option<u8> {
     let place = if place < AGAIN { place } else { place - AGAIN };
-    let mut head = 0u8;
-    for start in &STARTS {
-        if *start == place {
+    let mut start = 0usize;
+    for head in 0..16u8 {
+        if start == place {
             return Some(head);
         }
-        head = head.wrapping_add(1);
+        start = start.wrapping_add(usize::from(head) + 1);
     }
     None
 }
