@@ -1,4 +1,5 @@
 """Windows beside rasterio, over loopback and over round trips of 40 ms."""
+import ctypes
 import os
 import random
 import shutil
@@ -12,7 +13,7 @@ import delgunsai
 import numpy
 from delgunsai import _sources
 from files import PLAIN, TRANSLATE
-from floor import Floor
+from floor import Compiled, Floor
 from servers import Cogserve, Nginx
 from support import EXAMPLE, FOLDER, RASTERIO, TLS, free_port
 
@@ -49,16 +50,16 @@ def timed(readers, windows, row):
             sys.exit(f'python: the window {window} differs')
 
 
-def both(url, windows, passes, floor=None):
-    """How long both, and a floor if there is one, take to open a file of which nothing is kept and to read these windows; and how long for
-    the same windows again, so many passes in all."""
+def both(url, windows, passes, floors=()):
+    """How long both, and the floors if there are any, take to open a file of which nothing is kept and to read these windows; and how long
+    for the same windows again, so many passes in all."""
     import rasterio
     from rasterio.windows import Window
     opened = [seconds(delgunsai.open, url, blocks=4096), seconds(rasterio.open, '/vsicurl/' + url)]
     with opened[0][1] as file, opened[1][1] as other:
         readers = [lambda _, window: file.read(x=window[0], y=window[1], width=window[2], height=window[3]),
                    lambda _, window: other.read(1, window=Window(*window))]
-        readers += [lambda number, _: floor.read(number)] if floor else []
+        readers += [lambda number, _, floor=floor: floor.read(number) for floor in floors]
         took = [[0.0] * len(readers) for _ in range(passes)]
         took[0][:2] = [second for second, _ in opened]
         for row in took:
@@ -66,18 +67,18 @@ def both(url, windows, passes, floor=None):
     return took
 
 
-def tell(row, count, mine, other, floor=None):
-    """Prints how long so many windows took both, and the floor."""
+def tell(row, count, mine, other, *floors):
+    """Prints how long so many windows took both, and the floors."""
     print(f'{row}: {count} windows of {SIDE} by {SIDE}: {mine:.3f} s, {count / mine:.0f} in a second; rasterio {other:.3f} s, '
           f'{count / other:.0f} in a second; {other / mine:.2f} times its rate', flush=True)
-    if floor:
-        print(f'  in turn with them a program in Python that only exchanges and copies: {floor:.3f} s, {count / floor:.0f} in a second; '
+    for language, floor in zip(('Python', 'C'), floors):
+        print(f'  in turn with them a program in {language} that only exchanges and copies: {floor:.3f} s, {count / floor:.0f} in a second; '
               f"{other / floor:.2f} times rasterio's rate", flush=True)
 
 
 def compare(rows, urls, windows, floors=None):
-    """Reads the windows of each file by both, and its floor, once for each row, and tells how long the best of each took."""
-    took = [both(url, windows, len(rows), floor) for url, floor in zip(urls, floors or [None] * len(urls))]
+    """Reads the windows of each file by both, and its floors, once for each row, and tells how long the best of each took."""
+    took = [both(url, windows, len(rows), *own) for url, own in zip(urls, zip(floors) if floors else [()] * len(urls))]
     for row, times in zip(rows, zip(*took)):
         tell(row, len(windows), *(min(seconds) for seconds in zip(*times)))
 
@@ -117,17 +118,11 @@ def planned(url, path, windows):
     return b''.join(plan)
 
 
-def least(server, plan, windows):
-    """Tells how long the same requests and the copies of the windows take a program in C that does nothing else, alone."""
-    place, program = os.path.join(FOLDER, 'plan'), os.path.join(FOLDER, 'floor')
-    with open(place, 'wb') as file:
-        file.write(plan)
-    here = os.path.dirname(os.path.abspath(__file__))
-    subprocess.run([os.environ.get('CC', 'cc'), '-O2', '-o', program, os.path.join(here, 'floor.c')], check=True)
-    line = [program, str(server.port), place]
-    took = min(float(subprocess.run(line, check=True, capture_output=True).stdout) for _ in range(ROUNDS))
-    print(f'a program in C that only exchanges and copies, alone: {len(windows)} windows: {took:.3f} s, {len(windows) / took:.0f} in a '
-          'second', flush=True)
+def compiled():
+    """The library of floor.c."""
+    here, place = os.path.dirname(os.path.abspath(__file__)), os.path.join(FOLDER, 'floor.so')
+    subprocess.run([os.environ.get('CC', 'cc'), '-O2', '-shared', '-fPIC', '-o', place, os.path.join(here, 'floor.c')], check=True)
+    return ctypes.CDLL(place)
 
 
 def beside_nginx(path, windows):
@@ -149,9 +144,9 @@ def main(near=1000, far=200):
     names = [f'{k}.tif' for k in range(ROUNDS + SHARES + 1)]      # one for each round, since GDAL keeps what it read of a URL
     with Cogserve({name: path for name in names}) as server:
         urls = [server.url(name) for name in names[:ROUNDS]]
-        plans = [planned(url, path, windows[:near]) for url in urls]
-        compare(['loopback', 'the same again'], urls, windows[:near], [Floor(server.port, plan) for plan in plans])
-        least(server, plans[0], windows[:near])
+        library, plans = compiled(), [planned(url, path, windows[:near]) for url in urls]
+        compare(['loopback', 'the same again'], urls, windows[:near],
+                [(Floor(server.port, plan), Compiled(library, server.port, plan)) for plan in plans])
         if TLS:
             beside_nginx(path, windows[:near])
         spread(f'loopback, {SHARES} files', [server.url(name) for name in names[ROUNDS:-1]], windows[:near])

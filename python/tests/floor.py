@@ -1,5 +1,7 @@
-"""The windows of a plan, in Python, without anything but the network and the copy of their samples: what floor.c does, over the socket of a
-connection of http.client, and by numpy."""
+"""The windows of a plan without anything but the network and the copy of their samples: in Python, over the socket of a connection of
+http.client, and by numpy; and in C (floor.c). A plan is of 32-bit numbers: the length of the file, tiles in a row, sides of tiles and windows,
+how many tiles, their offsets; then 1, a length and a request, or 2, a column and a row of a window."""
+import ctypes
 import http.client
 import struct
 
@@ -101,4 +103,27 @@ class Floor:
             out[side - y:, :side - x] = tiles[first + across][:y, x:]
         if x > 0 and y > 0:
             out[side - y:, side - x:] = tiles[first + across + 1][:y, :x]
+        return out
+
+
+class Compiled:
+    """The same by floor.c, whose library this is."""
+
+    def __init__(self, library, port, plan):
+        length, across, side, self.window, count = struct.unpack_from('<5I', plan)
+        offsets = struct.unpack_from(f'<{count}I', plan, 20)
+        self.steps = steps_of(plan, 20 + 4 * count)
+        library.floor_new.restype = ctypes.c_void_p
+        library.floor_new.argtypes = [ctypes.c_ushort, ctypes.c_size_t, *[ctypes.c_uint] * 3, ctypes.POINTER(ctypes.c_uint), ctypes.c_size_t]
+        self.at = library.floor_new(port, length, across, side, self.window, (ctypes.c_uint * count)(*offsets), count)
+        self.call = library.floor_read
+        self.call.restype = None
+        self.call.argtypes = [ctypes.c_void_p, ctypes.c_char_p, ctypes.c_size_t, ctypes.c_int, ctypes.c_uint, ctypes.c_uint, ctypes.c_void_p]
+
+    def read(self, number):
+        requests, column, row = self.steps[number]
+        self.steps[number] = [], column, row
+        text = b''.join(requests)
+        out = numpy.empty((self.window, self.window), numpy.uint8)
+        self.call(self.at, text, len(text), len(requests), column, row, out.ctypes.data)
         return out
