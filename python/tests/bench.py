@@ -50,7 +50,16 @@ def timed(readers, windows, row):
             sys.exit(f'python: the window {window} differs')
 
 
-def both(url, windows, passes, floors=()):
+def apart(readers, windows, row):
+    """Reads all windows by one of these after another, and adds to the row how long each took."""
+    for one, read in enumerate(readers):
+        start = time.perf_counter()
+        for number, window in enumerate(windows):
+            read(number, window)
+        row[one] += time.perf_counter() - start
+
+
+def both(url, windows, passes, floors=(), way=timed):
     """How long both, and the floors if there are any, take to open a file of which nothing is kept and to read these windows; and how long
     for the same windows again, so many passes in all."""
     import rasterio
@@ -63,7 +72,7 @@ def both(url, windows, passes, floors=()):
         took = [[0.0] * len(readers) for _ in range(passes)]
         took[0][:2] = [second for second, _ in opened]
         for row in took:
-            timed(readers, windows, row)
+            way(readers, windows, row)
     return took
 
 
@@ -72,13 +81,13 @@ def tell(row, count, mine, other, *floors):
     print(f'{row}: {count} windows of {SIDE} by {SIDE}: {mine:.3f} s, {count / mine:.0f} in a second; rasterio {other:.3f} s, '
           f'{count / other:.0f} in a second; {other / mine:.2f} times its rate', flush=True)
     for language, floor in zip(('Python', 'C'), floors):
-        print(f'  in turn with them a program in {language} that only exchanges and copies: {floor:.3f} s, {count / floor:.0f} in a second; '
+        print(f'  beside them a program in {language} that only exchanges and copies: {floor:.3f} s, {count / floor:.0f} in a second; '
               f"{other / floor:.2f} times rasterio's rate", flush=True)
 
 
-def compare(rows, urls, windows, floors=None):
+def compare(rows, urls, windows, floors=None, way=timed):
     """Reads the windows of each file by both, and its floors, once for each row, and tells how long the best of each took."""
-    took = [both(url, windows, len(rows), *own) for url, own in zip(urls, zip(floors) if floors else [()] * len(urls))]
+    took = [both(url, windows, len(rows), own, way) for url, own in zip(urls, floors or [()] * len(urls))]
     for row, times in zip(rows, zip(*took)):
         tell(row, len(windows), *(min(seconds) for seconds in zip(*times)))
 
@@ -141,15 +150,16 @@ def main(near=1000, far=200):
     source = random.Random(1)
     windows = [(source.randint(0, WIDTH - SIDE), source.randint(0, HEIGHT - SIDE), SIDE, SIDE) for _ in range(max(near, far))]
     path = written()
-    names = [f'{k}.tif' for k in range(ROUNDS + SHARES + 1)]      # one for each round, since GDAL keeps what it read of a URL
+    names = [f'{k}.tif' for k in range(2 * ROUNDS + SHARES + 1)]  # one for each round, since GDAL keeps what it read of a URL
     with Cogserve({name: path for name in names}) as server:
-        urls = [server.url(name) for name in names[:ROUNDS]]
-        library, plans = compiled(), [planned(url, path, windows[:near]) for url in urls]
-        compare(['loopback', 'the same again'], urls, windows[:near],
-                [(Floor(server.port, plan), Compiled(library, server.port, plan)) for plan in plans])
+        library, urls = compiled(), [server.url(name) for name in names[:2 * ROUNDS]]
+        plans = [planned(url, path, windows[:near]) for url in urls]
+        floors = [(Floor(server.port, plan), Compiled(library, server.port, plan)) for plan in plans]
+        compare(['loopback, in turn', 'the same again'], urls[:ROUNDS], windows[:near], floors[:ROUNDS])
+        compare(['loopback, one after another', 'the same again'], urls[ROUNDS:], windows[:near], floors[ROUNDS:], apart)
         if TLS:
             beside_nginx(path, windows[:near])
-        spread(f'loopback, {SHARES} files', [server.url(name) for name in names[ROUNDS:-1]], windows[:near])
+        spread(f'loopback, {SHARES} files', [server.url(name) for name in names[2 * ROUNDS:-1]], windows[:near])
         port = free_port()
         relay = subprocess.Popen([sys.executable, os.path.join(os.path.dirname(os.path.abspath(__file__)), 'relay.py'), str(port),
                                   f'127.0.0.1:{server.port}', str(ROUND_TRIP)], stdout=subprocess.PIPE)
