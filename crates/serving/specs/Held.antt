@@ -1,8 +1,10 @@
 -- What others know of a server's sockets.
-use Rattle.std.specs.Prelude.{◌≡◌, ◌⊎◌, ◌≤◌, ℕ, None, Some}
+use Rattle.std.specs.Prelude.{◌≡◌, ◌⊎◌, ◌-◌, ◌*◌, ◌≤◌, ℕ, Option, None, Some, IfSome, IsSomeAnd}
+use Rattle.std.specs.declared.time.Duration.{Duration}
+use Rattle.std.specs.Duration.{as_nanos}
 use Rattle.cog_connections.specs.declared.timed.Timed.{Timed}
 use Rattle.cog_connections.specs.Table.{Table, timed_at}
-use Rattle.cog_connections.specs.Yielding.{MayYield}
+use Rattle.cog_connections.specs.Yielding.{MayYield, WakesAt}
 use Rattle.serving.specs.declared.serving.Limits.{Limits}
 use Rattle.serving.specs.declared.serving.Serving.{Serving}
 
@@ -29,6 +31,16 @@ room_of s = s.held.connections.table.cap
 -- the number of the next one that gets a place
 abbrev pub next_of : Serving → ℕ
 next_of s = s.held.connections.next
+
+-- by this moment one is looked at that will have made no progress for as long as the patience, the first that will
+abbrev pub WakesBy : Serving → Option ℕ → Type 0
+WakesBy s by = (wake : Option ℕ)
+    × WakesAt (limits_of s).patience (places_of s) wake × IfSome wake (λ moment. IsSomeAnd by (λ first. first ≤ moment))
+
+-- no longer than until then is waited
+abbrev pub WakesIn : ℕ → Serving → Option Duration → Type 0
+WakesIn now s wait = (wake : Option ℕ)
+    × WakesAt (limits_of s).patience (places_of s) wake × IfSome wake (λ moment. IsSomeAnd wait (λ d. as_nanos d ≤ (moment - now) * 1000000))
 
 -- a connection that had a place has it as it was, unless a newcomer may take it at this moment
 abbrev pub KeepsBusy : ℕ → Serving → Serving → Type 0

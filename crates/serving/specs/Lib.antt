@@ -1,3 +1,4 @@
 pub mod Held
 pub mod Refusals
 pub mod Turns
+pub mod Draining

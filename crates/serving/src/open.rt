@@ -49,6 +49,8 @@ pub struct Open {
 }
 
 impl Open {
+    ghost use Rattle.serving.specs.Draining.{DrainsAt};
+
     /// None, with so many places.
     pub fn new(alloc: Global, places: NonZeroUsize) -> Result<Self, Memory>
         ensures none { IfOk result (λ o. o.connections.table.entries ≡ []) }
@@ -196,7 +198,7 @@ impl Open {
     ) -> Turn
         ensures kept { KeepsPlaces number self.old.connections self.new.connections }
         ensures ended { result ≡ Ended → HasEndedAt number self.new.connections.table.entries
-            ⊎ IsDrainedAt number self.new.connections.table.entries }
+            ⊎ (DrainsAt number self.old × IsDrainedAt number self.new.connections.table.entries) }
         ensures counted { self.new.ended ≡ self.old.ended }
     {
         let Some(peer) = self.peers.get_mut(&number) else {

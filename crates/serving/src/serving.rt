@@ -3,7 +3,7 @@ ghost use Rattle.std.specs.Prelude.{◌≡◌, ◌≢◌, ◌+◌, ◌-◌, ◌*
 ghost use Rattle.std.specs.Duration.{as_nanos};
 ghost use Rattle.std.specs.NonZero.{non_zero_usize_get};
 ghost use Rattle.cog_connections.specs.Table.{OthersStay, timed_at};
-ghost use Rattle.serving.specs.Held.{KeepsBusy, NobodyComes, accepted_of, ended_of, limits_of, next_of, places_of, room_of};
+ghost use Rattle.serving.specs.Held.{KeepsBusy, NobodyComes, accepted_of, ended_of, limits_of, next_of, places_of, room_of, WakesBy, WakesIn};
 ghost use Rattle.serving.specs.Refusals.{HasNoRoom, IsPassing};
 ghost use Rattle.serving.specs.Turns.{GivesPlace};
 ghost use Rattle.serving.specs.declared.serving.TheConstants.{RETRY};
@@ -360,8 +360,10 @@ impl Serving {
     /// When a newcomer that waits is looked at again: where a connection may lose its place, and after a second where there was no room for
     /// it.
     fn looks_at(&self, now: u64) -> Option<u64>
-        ensures { self.now.is_starved ≡ true → self.now.knocks ≡ true → accepted_of self.now < (limits_of self.now).connections
+        ensures starved { self.now.is_starved ≡ true → self.now.knocks ≡ true → accepted_of self.now < (limits_of self.now).connections
             → IsSomeAnd result (λ moment. moment ≤ now + RETRY) }
+        ensures place { self.now.knocks ≡ true → accepted_of self.now < (limits_of self.now).connections → room_of self.now ≢ 1
+            → WakesBy self.now result }
     {
         if !self.is_awaited() {
             return None;
@@ -382,6 +384,8 @@ impl Serving {
             IsSomeAnd result (λ wait. as_nanos wait ≤ (drain.0 - now) * 1000000)) }
         ensures starved { self.now.is_starved ≡ true → self.now.knocks ≡ true → accepted_of self.now < (limits_of self.now).connections
             → IsSomeAnd result (λ wait. as_nanos wait ≤ RETRY * 1000000) }
+        ensures place { self.now.ready.items ≡ [] → self.now.knocks ≡ true → accepted_of self.now < (limits_of self.now).connections
+            → room_of self.now ≢ 1 → WakesIn now self.now result }
     {
         if !self.ready.is_empty() {
             return Some(Duration::ZERO);
