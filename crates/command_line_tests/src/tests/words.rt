@@ -4,6 +4,7 @@ use clap::error::ErrorKind;
 use command_lines::{AskedWords, ReadLine, WindowWords, read_line, serve_line, world_line};
 use programs_support::words_of;
 use std::alloc::{AllocError, Global};
+use std::process::Abort;
 use std::test::Fail;
 
 const WINDOW: WindowWords<'static> = WindowWords {
@@ -49,29 +50,6 @@ const DESCRIPTION: ReadLine<'static> = ReadLine {
     ..LINE
 };
 
-/// Words of `cogread`, and the line that they are.
-#[rattlefmt::skip]
-const READ: [(&str, ReadLine<'static>); 18] = [
-    ("cogread window h:1 a 2 1 3 2", LINE),
-    ("cogread window h:1 a 2 1 3 2 --level 0", ReadLine { asked: AskedWords::Window(OF_LEVEL_0), ..LINE }),
-    ("cogread window --columns=4 h:1 a 2 1 3 2", ReadLine { asked: AskedWords::Window(OF_4_COLUMNS), ..LINE }),
-    ("cogread info h:1 a", INFO),
-    ("cogread info --blocks 66 h:1 --requests=1 a", ReadLine { requests: Some("1"), blocks: Some("66"), ..INFO }),
-    ("cogread window --requests x h:1 a 2 1 3 2 --blocks ''", ReadLine { requests: Some("x"), blocks: Some(""), ..LINE }),
-    ("cogread window h:1 --ahead=64 a 2 1 3 2", ReadLine { ahead: Some("64"), ..LINE }),
-    ("cogread window h:1 a --whole", ReadLine { asked: AskedWords::Whole { level: None }, ..LINE }),
-    ("cogread window --level 1 h:1 --whole a", ReadLine { asked: AskedWords::Whole { level: Some("1") }, ..LINE }),
-    ("cogread info --keep h:1 a", ReadLine { keep: true, ..INFO }),
-    ("cogread window h:1 a 2 1 3 2 --keep", ReadLine { keep: true, ..LINE }),
-    ("cogread info h:1 a --close", ReadLine { close: true, ..INFO }),
-    ("cogread info h:1 --verbose a", ReadLine { verbose: true, ..INFO }),
-    ("cogread info h:1 a --progress", ReadLine { progress: true, ..INFO }),
-    ("cogread describe h:1 a", DESCRIPTION),
-    ("cogread describe --blocks 66 h:1 a --keep", ReadLine { blocks: Some("66"), keep: true, ..DESCRIPTION }),
-    ("cogread describe h:1 --json a", ReadLine { asked: AskedWords::Description { is_json: true }, ..LINE }),
-    ("cogread window h:1 a 2 1 3 2 --output=w.pgm", ReadLine { output: Some("w.pgm"), ..LINE }),
-];
-
 fn is_read(alloc: Global, line: &str, want: &ReadLine<'_>) -> Result<bool, AllocError> {
     let words = words_of(alloc, line)?;
     let is_read = match read_line(alloc, &words) {
@@ -81,12 +59,57 @@ fn is_read(alloc: Global, line: &str, want: &ReadLine<'_>) -> Result<bool, Alloc
     Ok(is_read)
 }
 
+/// Expects the line that these words of `cogread` are. Each is a call of its own, since a table of such lines takes minutes to prove.
+fn expect_read(
+    rt: &(impl Abort + AllocGlobal),
+    line: &str,
+    want: &ReadLine<'_>,
+) -> Result<(), Fail> {
+    assert!(rt; is_read(rt.alloc(), line, want)?, "{line:?}");
+    Ok(())
+}
+
+/// The lines of windows.
+#[rattlefmt::skip]
+fn expect_windows(rt: &(impl Abort + AllocGlobal)) -> Result<(), Fail> {
+    expect_read(rt, "cogread window h:1 a 2 1 3 2", &LINE)?;
+    expect_read(rt, "cogread window h:1 a 2 1 3 2 --level 0", &ReadLine { asked: AskedWords::Window(OF_LEVEL_0), ..LINE })?;
+    expect_read(rt, "cogread window --columns=4 h:1 a 2 1 3 2", &ReadLine { asked: AskedWords::Window(OF_4_COLUMNS), ..LINE })?;
+    expect_read(rt, "cogread window --requests x h:1 a 2 1 3 2 --blocks ''", &ReadLine { requests: Some("x"), blocks: Some(""), ..LINE })?;
+    expect_read(rt, "cogread window h:1 --ahead=64 a 2 1 3 2", &ReadLine { ahead: Some("64"), ..LINE })?;
+    expect_read(rt, "cogread window h:1 a 2 1 3 2 --keep", &ReadLine { keep: true, ..LINE })?;
+    expect_read(rt, "cogread window h:1 a 2 1 3 2 --output=w.pgm", &ReadLine { output: Some("w.pgm"), ..LINE })?;
+    Ok(())
+}
+
+/// The lines of whole levels, and of infos.
+#[rattlefmt::skip]
+fn expect_wholes_and_infos(rt: &(impl Abort + AllocGlobal)) -> Result<(), Fail> {
+    expect_read(rt, "cogread window h:1 a --whole", &ReadLine { asked: AskedWords::Whole { level: None }, ..LINE })?;
+    expect_read(rt, "cogread window --level 1 h:1 --whole a", &ReadLine { asked: AskedWords::Whole { level: Some("1") }, ..LINE })?;
+    expect_read(rt, "cogread info h:1 a", &INFO)?;
+    expect_read(rt, "cogread info --blocks 66 h:1 --requests=1 a", &ReadLine { requests: Some("1"), blocks: Some("66"), ..INFO })?;
+    expect_read(rt, "cogread info --keep h:1 a", &ReadLine { keep: true, ..INFO })?;
+    expect_read(rt, "cogread info h:1 a --close", &ReadLine { close: true, ..INFO })?;
+    expect_read(rt, "cogread info h:1 --verbose a", &ReadLine { verbose: true, ..INFO })?;
+    expect_read(rt, "cogread info h:1 a --progress", &ReadLine { progress: true, ..INFO })?;
+    Ok(())
+}
+
+/// The lines of descriptions.
+#[rattlefmt::skip]
+fn expect_descriptions(rt: &(impl Abort + AllocGlobal)) -> Result<(), Fail> {
+    expect_read(rt, "cogread describe h:1 a", &DESCRIPTION)?;
+    expect_read(rt, "cogread describe --blocks 66 h:1 a --keep", &ReadLine { blocks: Some("66"), keep: true, ..DESCRIPTION })?;
+    expect_read(rt, "cogread describe h:1 --json a", &ReadLine { asked: AskedWords::Description { is_json: true }, ..LINE })?;
+    Ok(())
+}
+
 #[test]
 fn reads_the_options_of_cogread_anywhere(rt: HostRuntime) -> Result<(), Fail> {
-    for (line, want) in &READ {
-        assert!(rt; is_read(rt.alloc(), line, want)?, "{line:?}");
-    }
-    Ok(())
+    expect_windows(&rt)?;
+    expect_wholes_and_infos(&rt)?;
+    expect_descriptions(&rt)
 }
 
 /// Words of `cogserve`: the address, the epoch, the number of connections, how many at once, the patience, the files, and whether
