@@ -1,6 +1,6 @@
 -- The whole answer to what a client asks for brings it on.
 use Rattle.std.proofs.Common.{◌≡◌, ℕ, ◌+◌, ◌-◌, ◌*◌, ◌<◌, ◌≤◌, Bool, true, false, cond, min, List, [], ◌∷◌, length, take, drop, Option, Some, None, Result, Ok, Err, refl, sym, ap, ◌∙◌, subst, arith, inl, inr, append-nil, length-take, length-drop}
-use Rattle.std.specs.Prelude.{IfOk, nat_le, nat_lt, not, ◌==◌}
+use Rattle.std.specs.Prelude.{IfOk, IsOkAnd, nat_le, nat_lt, not, ◌==◌}
 use Rattle.std.specs.List.{slice_range}
 use Rattle.std.specs.Option.{option_map}
 use Rattle.std.specs.Str.{bytes_eq}
@@ -34,11 +34,12 @@ use Rattle.cog_client.specs.declared.delivered.Delivered.{Delivered}
 use Rattle.cog_client.specs.declared.delivered.Ignored.TheVariants.{NotAsked, OtherLength, OtherRevision}
 use Rattle.cog_client.specs.declared.delivered.Delivered.TheVariants.{Took, Restarted}
 use Rattle.cog_client.specs.Case.{Revision, case_of, is_beside}
-use Rattle.cog_client.specs.Take.{Holding, IsIgnored, asked_or_first, brought_by, stored_of, take as taken, take_by}
+use Rattle.cog_client.specs.Take.{Holding, IsIgnored, asked_or_first, brought_by, revision_of_piece, stored_of, take as taken, take_by}
 use Rattle.cog_client.specs.Client.{ClientState, Knows, asked_of, blocks_of, holding, host_of, name_of, revision_of, tag_of, to_come, closes}
 use Rattle.cog_client.specs.Keeps.{AsksFor, DeliversKeeping, Lacks, StaysOf}
 use Rattle.cached_reader.specs.Going.{AreSame}
-use Rattle.cog_client.specs.Progress.{BringsOn, IsOwnAnswer, IsServed, OwnAnswersAreServed, ServedBringOn, all_of, left, left_of, part_of, piece_for}
+use Rattle.cog_client.specs.Progress.{BringsOn, IsGiven, IsOwnAnswer, IsServed, OwnAnswersAreServed, ServedBringOn, left, left_of}
+use Rattle.cog_client.proofs.DeliverLemmas.{piece_at}
 use Rattle.cog_client.proofs.ProgressLemmas.{LengthsAreKnown, first_split, inside, known_length, left_on, missing_inside}
 
 -- ---- what the whole answer is read as
@@ -52,6 +53,17 @@ whole_seen s =
     ap (λ (b : Bool). cond b (reply_seen s.reply (take (length (text_of s) - n) s.body)) (Err Cut)) enough
     ∙ ap (λ k. reply_seen s.reply (take k s.body)) rest
     ∙ ap (reply_seen s.reply) (take_all (length s.body) s.body (omega arith))
+
+-- the bytes a to b of a publication, as a 206 brings them, and all of them, as a 200 does
+abbrev part_of : Publication → ℕ → ℕ → SeenPiece
+part_of p a b = record { tag = p.tag; whole = false; first = a; complete = length p.file; body = slice_range p.file a (b + 1) }
+
+abbrev all_of : Publication → SeenPiece
+all_of p = record { tag = p.tag; whole = true; first = 0; complete = length p.file; body = p.file }
+
+-- what this server brings of it to a request for bytes of it under a tag, or none
+abbrev piece_for : Publication → Span → Option (List ℕ) → SeenPiece
+piece_for p s known = cond (is_current known p.tag) (part_of p s.first (min s.last (length p.file - 1))) (all_of p)
 
 -- the bytes a to b of a publication as a reply carries them
 abbrev sent_part : Publication → ℕ → ℕ → SeenPiece
@@ -103,6 +115,10 @@ own_reading answered fronts c p span text own r reads begins =
 
 -- ---- what each case of it does
 
+ok_of : {A E : Type 0} (r : Result A E) (P : A → Type 0) → IsOkAnd r P → (x : A) × (r ≡ Ok x) × P x
+ok_of (Ok x) P h = (x, refl, h)
+ok_of (Err e) P h = absurd h
+
 -- what the delivery of a piece in this case does
 record Does (k : Case) (p : SeenPiece) (old new : ClientState) (what : Delivered) : Type 0 where
   says : what ≡ (take_by k (holding old) p).says
@@ -132,20 +148,65 @@ record IsCase (k : Case) (p : Publication) (v : Option Revision) (piece : SeenPi
   used : (what : Delivered) (h : Holding) → what ≡ (take_by k h piece).says → IsIgnored what → ⊥
   revision : (h : Holding) → h.revision ≡ v → (take_by k h piece).leaves.revision ≡ Some (record { tag = p.tag; complete = length p.file })
 
+-- the revision that is begun is that of the publication
+revision_is : (p : Publication) (piece : SeenPiece) → IsOf p piece → Some (revision_of_piece piece) ≡ Some (record { tag = p.tag; complete = length p.file })
+revision_is p piece of = ap Some (ap (λ t. record { tag = t; complete = piece.complete }) of.tag ∙ ap (λ n. record { tag = p.tag; complete = n }) of.complete)
+
 -- without a revision
-adopts : (p : Publication) (a b : ℕ) → IsCase cases.Adopted p None (part_of p a b)
-adopts p a b = record { used = λ what h is. took what _ is; revision = λ h is. refl }
+adopts : (p : Publication) (piece : SeenPiece) → IsOf p piece → IsCase cases.Adopted p None piece
+adopts p piece of = record { used = λ what h is. took what _ is; revision = λ h is. revision_is p piece of }
 
 -- with another one
-restarts : (p : Publication) (v : Revision) → IsCase cases.Restarted p (Some v) (all_of p)
-restarts p v = record { used = λ what h is. restarted what is; revision = λ h is. refl }
+restarts : (p : Publication) (v : Revision) (piece : SeenPiece) → IsOf p piece → IsCase cases.Restarted p (Some v) piece
+restarts p v piece of = record { used = λ what h is. restarted what is; revision = λ h is. revision_is p piece of }
 
 -- with this one
-takes : (p : Publication) (v : Revision) (a b : ℕ) → v.tag ≡ p.tag → v.complete ≡ length p.file → IsCase cases.Accepted p (Some v) (part_of p a b)
-takes p v a b tag complete = record {
+takes : (p : Publication) (v : Revision) (piece : SeenPiece) → v.tag ≡ p.tag → v.complete ≡ length p.file → IsCase cases.Accepted p (Some v) piece
+takes p v piece tag complete = record {
   used = λ what h is. took what _ is;
   revision = λ h is. is ∙ ap Some (ap (λ t. record { tag = t; complete = v.complete }) tag ∙ ap (λ n. record { tag = p.tag; complete = n }) complete);
 }
+
+-- ---- what this server brings
+
+part_length : (p : Publication) (a b : ℕ) → a ≤ b → b < length p.file → length (part_of p a b).body ≡ b - a + 1
+part_length p a b low high = omega (arith, length-take (b + 1 - a) (drop a p.file), length-drop a p.file)
+
+part_is : (p : Publication) (a b : ℕ) → a ≤ b → b < length p.file → IsOf p (part_of p a b)
+part_is p a b low high =
+    let size = part_length p a b low high in
+    record {
+      tag = refl;
+      complete = refl;
+      place = omega (arith, size, low, high);
+      from_start = λ whole. (let wrong : false ≡ true = whole in cc);
+      body = (drop (b + 1 - a) (drop a p.file), take-append-drop (b + 1 - a) (drop a p.file));
+    }
+
+-- it is what a server gives
+own_given : (p : Publication) (s : Span) (known : Option (List ℕ)) → (is_current known p.tag ≡ true → s.first < length p.file) → IsGiven p s known (piece_for p s known)
+own_given p s known low = elim (cases_Bool (is_current known p.tag)) [
+  | inl current ↦
+      let some = low current in
+      let up = s.ascending in
+      let b = min s.last (length p.file - 1) in
+      let long = part_length p s.first b (omega (arith, some, up)) (omega (arith, some)) in
+      subst (IsGiven p s known) (sym (ap served current)) (record {
+        of = part_is p s.first b (omega (arith, some, up)) (omega (arith, some));
+        begins = λ _. omega arith;
+        ends = λ _. omega (arith, some, up, long);
+        all = λ other. (let wrong : true ≡ false = sym current ∙ other in cc);
+      })
+  | inr other ↦ subst (IsGiven p s known) (sym (ap served other)) (record {
+    of = record { tag = refl; complete = refl; place = omega arith; from_start = λ _. refl; body = ([], append-nil p.file) };
+    begins = λ _. omega arith;
+    ends = λ _. omega arith;
+    all = λ _. refl;
+  })
+]
+  where
+    served : Bool → SeenPiece
+    served current = cond current (part_of p s.first (min s.last (length p.file - 1))) (all_of p)
 
 -- ---- what is asked of the revision that the client has
 
@@ -195,42 +256,25 @@ asked_of_file f c v ahead s size knows l =
       within = omega (arith, within, size);
     }
 
-part_length : (p : Publication) (a b : ℕ) → a ≤ b → b < length p.file → length (part_of p a b).body ≡ b - a + 1
-part_length p a b low high = omega (arith, length-take (b + 1 - a) (drop a p.file), length-drop a p.file)
+-- the piece has all of what is asked
+pub record HasAll (p : Publication) (s : Span) (piece : SeenPiece) : Type 0 where
+  pub of : IsOf p piece
+  pub begins : piece.first ≤ s.first
+  pub ends : s.last < piece.first + length piece.body
 
--- it is one of the publication
-part_is : (p : Publication) (a b : ℕ) → a ≤ b → b < length p.file → IsOf p (part_of p a b)
-part_is p a b low high =
-    let size = part_length p a b low high in
-    record {
-      tag = refl;
-      complete = refl;
-      place = omega (arith, size, low, high);
-      from_start = λ whole. (let wrong : false ≡ true = whole in cc);
-      body = (drop (b + 1 - a) (drop a p.file), take-append-drop (b + 1 - a) (drop a p.file));
-    }
-
-pub served_piece : (p : Publication) (s : Span) (known : Option (List ℕ)) → (is_current known p.tag ≡ true → s.first < length p.file) → IsOf p (piece_for p s known)
-served_piece p s known begins = by (is_current known p.tag) begins
-  where
-    by : (current : Bool) → (current ≡ true → s.first < length p.file) → IsOf p (cond current (part_of p s.first (min s.last (length p.file - 1))) (all_of p))
-    by true low =
-        let some = low refl in
-        let up = s.ascending in
-        part_is p s.first (min s.last (length p.file - 1)) (omega (arith, some, up)) (omega (arith, some))
-    by false low = record { tag = refl; complete = refl; place = omega arith; from_start = λ _. refl; body = ([], append-nil p.file) }
-
-case_taken : (p : Publication) (v : Revision) (s : Span) → bytes_eq v.tag p.tag ≡ true → v.complete ≡ length p.file → s.last < length p.file
-    → case_of (Some v) (Some s) (part_of p s.first s.last) ≡ cases.Accepted
-case_taken p v s tag complete high =
-    let size = part_length p s.first s.last s.ascending high in
+case_taken : (p : Publication) (v : Revision) (s : Span) (piece : SeenPiece) → bytes_eq v.tag p.tag ≡ true → v.complete ≡ length p.file → HasAll p s piece
+    → case_of (Some v) (Some s) piece ≡ cases.Accepted
+case_taken p v s piece tag complete has =
+    let size = has.of.complete in
     let low = s.ascending in
-    let same : (v.complete == length p.file) ≡ true = grind (arith, nat_tests) in
-    let beside : is_beside s (part_of p s.first s.last) ≡ false = grind (arith, nat_tests, size) in
-    pick (bytes_eq v.tag p.tag) (v.complete == length p.file) (is_beside s (part_of p s.first s.last)) tag same beside
+    let begins = has.begins in
+    let ends = has.ends in
+    let same : (v.complete == piece.complete) ≡ true = grind (arith, nat_tests, size, complete) in
+    let beside : is_beside s piece ≡ false = grind (arith, nat_tests, low, begins, ends) in
+    pick (bytes_eq v.tag piece.tag) (v.complete == piece.complete) (is_beside s piece) (ap (bytes_eq v.tag) has.of.tag ∙ tag) same beside
   where
     pick : (tag length beside : Bool) → tag ≡ true → length ≡ true → beside ≡ false
-        → cond (not tag) (cases.Ignored OtherRevision) (cond (not length) (cases.Ignored OtherLength) (cond beside (cases.Ignored NotAsked) cases.Accepted)) ≡ cases.Accepted
+        → cond (not tag) (cond piece.whole cases.Restarted (cases.Ignored OtherRevision)) (cond (not length) (cases.Ignored OtherLength) (cond beside (cases.Ignored NotAsked) cases.Accepted)) ≡ cases.Accepted
     pick true true false t l b = refl
     pick true true true t l b = cc
     pick true false beside t l b = cc
@@ -267,10 +311,11 @@ brought_lies only complete first body s from to k first_is last_is among =
     whole_lies complete s.first (s.last + 1) from to k first_is last_is (and_parts _ _ (only complete first body s k among)).1
 
 -- the blocks of the piece are stored: one of them was missing, and none of the range leaves
-fewer : StoringLaws → (p : Publication) (c : ClientState) (v : Revision) (ahead : ℕ) (s : Span) → length p.file ≡ v.complete → Knows p.file c → Lacks c v ahead s
-    → left_of p.file (numbers (stored_of (part_of p s.first s.last) s (blocks_of c)).entries) (to_come c p.file) + 1 ≤ left p.file c
+fewer : StoringLaws → (p : Publication) (c : ClientState) (v : Revision) (ahead : ℕ) (s : Span) (piece : SeenPiece) → HasAll p s piece → length p.file ≡ v.complete → Knows p.file c
+    → Lacks c v ahead s
+    → left_of p.file (numbers (stored_of piece s (blocks_of c)).entries) (to_come c p.file) + 1 ≤ left p.file c
 unfolding left asked_of_file
-fewer laws p c v ahead s size knows l =
+fewer laws p c v ahead s piece has size knows l =
     let f = p.file in
     let b = blocks_of c in
     let there = numbers b.entries in
@@ -279,28 +324,29 @@ fewer laws p c v ahead s size knows l =
     let n = first_block r.first in
     let count = blocks r.first r.len in
     let first = q.first in
-    let last = q.last in
+    let complete : piece.complete ≡ length f = has.of.complete in
+    let last : s.last + 1 ≡ min (q.to * 16384) piece.complete = q.last ∙ ap (min (q.to * 16384)) (sym complete) in
     let low = q.low in
     let begins = q.begins in
     let ends = q.ends in
     let run = q.some in
-    let piece = part_of p s.first s.last in
     let up = s.ascending in
-    let high : s.last < length f = omega arith in
-    let long = part_length p s.first s.last up high in
+    let starts = has.begins in
+    let covers = has.ends in
     let new = brought_by piece s in
     let gone : AreGone there (numbers new) =
     λ k among.
-    let lies = brought_lies laws.only (length f) s.first piece.body s q.from q.to k first last among in
+    let lies = brought_lies laws.only piece.complete piece.first piece.body s q.from q.to k first last among in
     l.missing.gone k lies.0 lies.1 in
-    let few : length new ≤ q.to - q.from = laws.whole (length f) s.first piece.body s (q.to - q.from) (omega arith) in
+    let few : length new ≤ q.to - q.from = laws.whole piece.complete piece.first piece.body s (q.to - q.from) (omega (arith, first, last, run)) in
     let room = l.room.room in
-    let stays = laws.stay b (length f) s.first piece.body s n count gone (omega (arith, few, room)) l.room.led in
-    let whole : is_brought (length f) s.first (length piece.body) s q.from ≡ true =
-    and_from _ _ (whole_at (length f) s.first (s.first + length piece.body) q.from (omega arith) (omega arith) (omega arith))
-    (whole_at (length f) s.first (s.last + 1) q.from (omega arith) (omega arith) (omega arith)) in
+    let stays = laws.stay b piece.complete piece.first piece.body s n count gone (omega (arith, few, room)) l.room.led in
+    let whole : is_brought piece.complete piece.first (length piece.body) s q.from ≡ true =
+    and_from _ _
+    (whole_at piece.complete piece.first (piece.first + length piece.body) q.from (omega (arith, first, last, up)) (omega (arith, first, starts)) (omega (arith, first, last, run, covers)))
+    (whole_at piece.complete s.first (s.last + 1) q.from (omega (arith, first, last, up)) (omega (arith, first)) (omega (arith, first, last, run))) in
     let one = laws.fewer there (numbers (stored_of piece s b).entries) n count q.from stays.kept begins ends (l.missing.gone q.from (omega arith) run)
-    (stays.came q.from (laws.brought (length f) s.first piece.body s q.from whole)) in
+    (stays.came q.from (laws.brought piece.complete piece.first piece.body s q.from whole)) in
     let here = inside f r v.complete size l.missing.within in
     omega (
       arith,
@@ -326,25 +372,29 @@ module _ (old new : ClientState) (p : Publication) (span : Span) (text : List �
         less = less;
       }
 
-  read_as : (known : Option (List ℕ)) → tag_of old ≡ known → d.seen.reading ≡ Ok (piece_for p span known)
-  read_as known is = served.read d.seen.reading d.seen.reads ∙ ap (λ o. Ok (piece_for p span o)) is
+  -- the piece that is read
+  given : (known : Option (List ℕ)) → tag_of old ≡ known → (piece : SeenPiece) × (d.seen.reading ≡ Ok piece) × IsGiven p span known piece
+  given known is = ok_of d.seen.reading (IsGiven p span known) (subst (λ o. IsOkAnd d.seen.reading (IsGiven p span o)) is (served.read d.seen.reading d.seen.reads))
 
   begins : revision_of old ≡ None → BringsOn p old new what
   begins is =
       let none = tag_in old None is in
-      let b = min span.last (length p.file - 1) in
-      brings cases.Adopted None (part_of p span.first b) (adopts p span.first b) is (read_as None none) refl (λ e. absurd (none-some p.tag (sym none ∙ e)))
+      let read = given None none in
+      brings cases.Adopted None read.0 (adopts p read.0 read.2.of) is read.1 refl (λ e. absurd (none-some p.tag (sym none ∙ e)))
 
   other : (v : Revision) → revision_of old ≡ Some v → bytes_eq v.tag p.tag ≡ false → BringsOn p old new what
   other v is differ =
       let tag = tag_in old (Some v) is in
       let wrong : bytes_eq v.tag p.tag ≡ true → ⊥ = λ t. (let e : true ≡ false = sym t ∙ differ in cc) in
-      let reading = read_as (Some v.tag) tag ∙ ap (λ t. Ok (cond t (part_of p span.first (min span.last (length p.file - 1))) (all_of p))) differ in
-      brings cases.Restarted (Some v) (all_of p) (restarts p v) is reading (restarts_by differ)
+      let read = given (Some v.tag) tag in
+      let of = read.2.of in
+      brings cases.Restarted (Some v) read.0 (restarts p v read.0 of) is read.1 (restarts_by read.0 (ap (bytes_eq v.tag) of.tag ∙ differ) (read.2.all differ))
       (λ e. absurd (wrong ((bytes_eq-Decides v.tag p.tag).1 (same_Some _ _ (sym tag ∙ e)))))
     where
-      restarts_by : bytes_eq v.tag p.tag ≡ false → case_of (Some v) (Some span) (all_of p) ≡ cases.Restarted
-      restarts_by e = ap (λ t. cond (not t) cases.Restarted (cond (not (v.complete == length p.file)) (cases.Ignored OtherLength) (cond (is_beside span (all_of p)) (cases.Ignored NotAsked) cases.Accepted))) e
+      restarts_by : (piece : SeenPiece) → bytes_eq v.tag piece.tag ≡ false → piece.whole ≡ true → case_of (Some v) (Some span) piece ≡ cases.Restarted
+      restarts_by piece e whole =
+          ap (λ t. cond (not t) (cond piece.whole cases.Restarted (cases.Ignored OtherRevision)) (cond (not (v.complete == piece.complete)) (cases.Ignored OtherLength) (cond (is_beside span piece) (cases.Ignored NotAsked) cases.Accepted))) e
+          ∙ ap (λ w. cond w cases.Restarted (cases.Ignored OtherRevision)) whole
 
   same : LengthsAreKnown → FoundAreThere → MissingIsSame → StoringLaws
       → (v : Revision) → revision_of old ≡ Some v → bytes_eq v.tag p.tag ≡ true → Knows p.file old → Lacks old v served.ahead span → BringsOn p old new what
@@ -357,24 +407,23 @@ module _ (old new : ClientState) (p : Publication) (span : Span) (text : List �
       let fits = q.fits in
       let up = span.ascending in
       let high : span.last < length p.file = omega arith in
-      let piece = part_of p span.first span.last in
-      let long = part_length p span.first span.last up high in
-      let reading : d.seen.reading ≡ Ok piece =
-      read_as (Some v.tag) tag ∙ ap (λ t. Ok (cond t (part_of p span.first (min span.last (length p.file - 1))) (all_of p))) equal
-      ∙ ap (λ b. Ok (part_of p span.first b)) fits in
-      let applies = case_taken p v span equal (sym size) high in
-      let case = takes p v span.first span.last own_tag (sym size) in
+      let read = given (Some v.tag) tag in
+      let piece = read.0 in
+      let ends = read.2.ends equal in
+      let has : HasAll p span piece = record { of = read.2.of; begins = read.2.begins equal; ends = omega (arith, ends, high) } in
+      let reading : d.seen.reading ≡ Ok piece = read.1 in
+      let applies = case_taken p v span piece equal (sym size) has in
+      let case = takes p v piece own_tag (sym size) in
       let at : case_of (revision_of old) (asked_of old) piece ≡ cases.Accepted = ap (λ o. case_of o (asked_of old) piece) is ∙ ap (λ a. case_of (Some v) a piece) served.asked ∙ applies in
       let does = does_of cases.Accepted piece old new text what d reading at in
-      let ends : span.last + 1 ≡ span.first + length piece.body = omega (arith, long, up) in
-      let of : IsPieceOf p.file piece.first piece.body = ap (λ k. slice_range p.file span.first k) ends in
+      let of : IsPieceOf p.file piece.first piece.body = piece_at p piece has.of in
       let still : revision_of new ≡ revision_of old = does.revision in
       let stays : StaysOf p.file old new = d.file p.file still (subst (λ r. IfOk r (λ x. IsPieceOf p.file x.first x.body)) (sym reading) of) knows in
       let blocks : AreSame (stored_of piece span (blocks_of old)) (blocks_of new) =
       subst (λ a. AreSame (stored_of piece (asked_or_first a) (blocks_of old)) (blocks_of new)) served.asked does.blocks in
       let on = left_on there laws.few missing p.file old new (stored_of piece span (blocks_of old)) blocks stays.come in
       brings cases.Accepted (Some v) piece case is reading applies
-      (λ _. omega (arith, on, fewer laws p old v served.ahead span size knows l))
+      (λ _. omega (arith, on, fewer laws p old v served.ahead span piece has size knows l))
 
 -- ---- the laws
 
@@ -397,8 +446,8 @@ module _ (lengths : LengthsAreKnown) where
     asked = own.asked;
     ahead = own.ahead;
     asks = own.asks;
-    begins = begins_in;
-    read = λ r reads. own_reading answered fronts c p span text own r reads begins_in;
+    read = λ r reads.
+        subst (λ r. IsOkAnd r (IsGiven p span (tag_of c))) (sym (own_reading answered fronts c p span text own r reads begins_in)) (own_given p span (tag_of c) begins_in);
   }
     where
       lawful : IsPublication p

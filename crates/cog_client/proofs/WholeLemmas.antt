@@ -1,6 +1,6 @@
 -- Whole answers, one after another, lead to a report.
-use Rattle.std.proofs.Common.{◌≡◌, ◌⊎◌, ℕ, zero, suc, true, ◌+◌, ◌<◌, ◌≤◌, List, Option, Some, None, refl, sym, ap, ◌∙◌, subst, arith, inl, inr}
-use Rattle.std.specs.Prelude.{IfOk, IfSome, IsSome, is_some}
+use Rattle.std.proofs.Common.{◌≡◌, ◌⊎◌, ℕ, zero, suc, true, ◌+◌, ◌<◌, ◌≤◌, List, Option, Some, None, Result, Ok, Err, refl, sym, ap, ◌∙◌, subst, arith, inl, inr}
+use Rattle.std.specs.Prelude.{IfOk, IfSome, IsOkAnd, IsSome, is_some}
 use Rattle.std.specs.Option.{option_map}
 use Rattle.std.proofs.lemmas.Bool.{false≢true}
 use Rattle.std.proofs.lemmas.Option.{none-some, same_Some}
@@ -15,8 +15,7 @@ use Rattle.cog_client.specs.declared.report.Report.{Report}
 use Rattle.cog_client.specs.Case.{Revision}
 use Rattle.cog_client.specs.Client.{ClientAgrees, ClientState, Knows, KnowsOne, asked_of, how_of, name_of, query_of, report_of, revision_of, tag_of}
 use Rattle.cog_client.specs.Keeps.{AsksLike}
-use Rattle.cog_client.specs.Progress.{AnswersReport, AreExchanges, AskingLeavesAsMuch, BringsOn, CostIsMost, DeliveryReports, Exchanges, GoingOnLeavesNoMore, IsOwnAnswer, IsServed, OwnAnswersAreServed, ServedBringOn, left}
-use Rattle.cog_client.proofs.OwnLemmas.{served_piece}
+use Rattle.cog_client.specs.Progress.{AnswersReport, AreExchanges, AskingLeavesAsMuch, BringsOn, CostIsMost, DeliveryReports, Exchanges, GoingOnLeavesNoMore, IsGiven, IsOwnAnswer, IsServed, OwnAnswersAreServed, ServedBringOn, left}
 
 -- what is known of the single steps
 pub record StepLaws : Type 0 where
@@ -52,6 +51,10 @@ IsWithin p q m c = (cost p.file q < m) ⊎ ((tag_of c ≡ Some p.tag) × (left p
 
 some_of : {A : Type 0} (o : Option A) (x : A) (P : A → Type 0) → o ≡ Some x → IfSome o P → P x
 some_of o x P is h = subst (λ z. IfSome z P) is h
+
+if_ok : {A E : Type 0} (r : Result A E) (P Q : A → Type 0) → ((x : A) → P x → Q x) → IsOkAnd r P → IfOk r Q
+if_ok (Ok x) P Q to h = to x h
+if_ok (Err e) P Q to h = absurd h
 
 some_left : (n : ℕ) → (n ≡ 0 → ⊥) → 1 ≤ n
 some_left zero not = absurd (not refl)
@@ -122,8 +125,8 @@ module _ (laws : StepLaws) (book : Book) (p : Publication) (q : Query) (distinct
 
       read : IsReadAs (IsPieceOfBook (name_of x.waiting) book) x.text
       read r reads =
-          subst (λ r. IfOk r (IsPieceOfBook (name_of x.waiting) book)) (sym (served.read r reads))
-          (p, among, served.named, served_piece p x.span (tag_of x.waiting) served.begins)
+          if_ok r (IsGiven p x.span (tag_of x.waiting)) (IsPieceOfBook (name_of x.waiting) book)
+          (λ piece given. (p, among, served.named, given.of)) (served.read r reads)
 
       after : ClientAgrees next book
       after = x.delivers.agrees book distinct agrees read

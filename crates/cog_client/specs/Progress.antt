@@ -1,6 +1,6 @@
 -- How much of a file a client still has to get for its query, counted in blocks, and what its calls make of that.
-use Rattle.std.specs.Prelude.{◌≡◌, ◌⊎◌, ℕ, zero, suc, ◌+◌, ◌-◌, ◌*◌, ◌<◌, ◌≤◌, true, false, min, not, if◌then◌else◌, List, [], ◌∷◌, length, sum_by, Option, Some, IfSome, IsSome, Result, Ok}
-use Rattle.std.specs.List.{filter, slice_range, IsAmong}
+use Rattle.std.specs.Prelude.{◌≡◌, ◌⊎◌, ℕ, zero, suc, ◌+◌, ◌-◌, ◌*◌, ◌<◌, ◌≤◌, true, false, min, not, if◌then◌else◌, List, [], ◌∷◌, length, sum_by, Option, Some, IfSome, IsSome, IsTrue, IsOkAnd, Result}
+use Rattle.std.specs.List.{filter, IsAmong}
 use Rattle.tiff_dir.specs.declared.query.Query.{Query}
 use Rattle.tiff_dir.specs.declared.span.Span.{Span}
 use Rattle.tiff_dir.specs.Needs.{Extent, ends_past}
@@ -8,6 +8,7 @@ use Rattle.tiff_dir.specs.Query.{blocks_of_extent as touched, cost, needs}
 use Rattle.http_range.specs.Ask.{CanAsk, request_by}
 use Rattle.http_range.specs.declared.reading.Why.{Why}
 use Rattle.http_range.specs.Book.{Publication, Book, Catalogue, HasDistinctTags, In, IsCatalogue, published}
+use Rattle.http_range.specs.Honest.{IsPieceOf}
 use Rattle.http_range.specs.Piece.{SeenPiece}
 use Rattle.http_range.specs.Reading.{ReadsAnswer}
 use Rattle.http_range.specs.Response.{Response, IsAnswer, is_current, text_of}
@@ -120,17 +121,14 @@ pub record IsOwnAnswer (c : ClientState) (p : Publication) (span : Span) (text :
   pub answers : IsAnswer catalogue (request_by (closes c) (host_of c) (name_of c) span.first span.last (tag_of c)) response
   pub shown : text ≡ text_of response
 
--- the bytes a to b of a publication, as a 206 brings them, and all of them, as a 200 does
-abbrev pub part_of : Publication → ℕ → ℕ → SeenPiece
-part_of p a b = record { tag = p.tag; whole = false; first = a; complete = length p.file; body = slice_range p.file a (b + 1) }
-
-abbrev pub all_of : Publication → SeenPiece
-all_of p = record { tag = p.tag; whole = true; first = 0; complete = length p.file; body = p.file }
-
--- what a server of p answers that serves the range in full, as HTTP lets it, to a request for bytes of it under a tag, or none: the part,
--- and all of it where the tag is another one (RFC 9110, sections 13.1.5 and 14.2)
-abbrev pub piece_for : Publication → Span → Option (List ℕ) → SeenPiece
-piece_for p s known = if is_current known p.tag then part_of p s.first (min s.last (length p.file - 1)) else all_of p
+-- The piece is what a server of p gives to a request for bytes of it under a tag, or none: it is of p, and has all that is asked for, as a
+-- part or with more beside it, up to the whole file, as HTTP lets it (RFC 9110, section 14.2). Where the tag is another one it is told as the
+-- whole file (section 13.1.5), of which any front is enough.
+pub record IsGiven (p : Publication) (s : Span) (known : Option (List ℕ)) (piece : SeenPiece) : Type 0 where
+  pub of : IsPieceOf p piece
+  pub begins : is_current known p.tag ≡ true → piece.first ≤ s.first
+  pub ends : is_current known p.tag ≡ true → min (s.last + 1) (length p.file) ≤ piece.first + length piece.body
+  pub all : is_current known p.tag ≡ false → IsTrue piece.whole
 
 -- The text is read as that answer to what the client asks for, whichever server wrote it, and p has the client's name. However far the
 -- client looked ahead when it asked, it may look otherwise now.
@@ -139,8 +137,7 @@ pub record IsServed (c : ClientState) (p : Publication) (span : Span) (text : Li
   pub asked : asked_of c ≡ Some span
   pub ahead : ℕ
   pub asks : AsksFor c (revision_of c) ahead span
-  pub begins : is_current (tag_of c) p.tag ≡ true → span.first < length p.file
-  pub read : (r : Result SeenPiece Why) → ReadsAnswer text r → r ≡ Ok (piece_for p span (tag_of c))
+  pub read : (r : Result SeenPiece Why) → ReadsAnswer text r → IsOkAnd r (IsGiven p span (tag_of c))
 
 -- This server's own answers are so.
 abbrev pub OwnAnswersAreServed : Type 0

@@ -54,8 +54,8 @@ pub fn needed_are_asked()
     lengths_are_known();
 }
 
-/// The whole answer of a server that serves the range in full, as HTTP lets it, to what a client asks for leaves less, or begins with
-/// the server's revision. This server gives it.
+/// The answer of a server that gives all that a client asks for, or more, leaves less; under another tag any front of the whole file
+/// begins with the server's revision. This server's answers are such.
 pub fn whole_answers_bring_on()
     ensures served { ServedBringOn }
     ensures own { OwnAnswersAreServed }
@@ -69,8 +69,8 @@ pub fn whole_answers_bring_on()
     stored_stay();
 }
 
-/// After an opening as many whole answers as the query costs, and one more, lead to the report, however far the client looks ahead
-/// at each of them: answers of any server that serves ranges in full, and answers of this one.
+/// After an opening as many such answers as the query costs, and one more, lead to the report, however far the client looks ahead at
+/// each of them: those of any server, and those of this one.
 pub fn whole_answers_report()
     ensures served { AnswersReport IsServed }
     ensures own { AnswersReport IsOwnAnswer }
