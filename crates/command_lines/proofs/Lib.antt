@@ -1,1 +1,2 @@
+mod ArgumentLemmas
 mod LineLemmas

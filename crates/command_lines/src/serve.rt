@@ -48,49 +48,25 @@ fn files<'a>(alloc: Global) -> Arg<'a>
 fn serve_command<'a>(alloc: Global) -> Result<Command<'a>, AllocError>
     ensures { IfOk result (λ command. app_of command ≡ serve_app) }
 {
-    let listen = option(alloc, "listen", "HOST:PORT", "Where to listen (no default)");
-    let epoch = option(
-        alloc,
-        "epoch",
-        "N",
-        "A number greater than at each earlier start, 0 to 4294967295 (no default)",
-    );
-    let connections = option(
-        alloc,
-        "connections",
-        "N",
-        "How many connections to serve in all, 1 to 4294967295 (no default)",
-    );
-    let at_once = choice(
-        alloc,
-        "at-once",
-        "N",
-        "How many connections at once, 1 to 10000 (default 256)",
-    );
-    let patience = choice(
-        alloc,
-        "patience",
-        "SECONDS",
-        "How long a connection without progress keeps its place while another waits, 1 to 3600 (default 60)",
-    );
-    let log = flag(
-        alloc,
-        "log",
-        "Tells each answer on standard error, why a file isn't taken anew, and where it listens",
-    );
-    Ok(
-        Command::new(alloc, "cogserve")
-            .about("Serves files over HTTP by single byte ranges")
-            .version(VERSION)
-            .after_help(SERVE_NOTES)
-            .arg(listen)?
-            .arg(epoch)?
-            .arg(connections)?
-            .arg(files(alloc))?
-            .arg(at_once)?
-            .arg(patience)?
-            .arg(log)?,
-    )
+    let command = Command::new(alloc, "cogserve")
+        .about("Serves files over HTTP by single byte ranges")
+        .version(VERSION)
+        .after_help(SERVE_NOTES);
+    let help = "Where to listen (no default)";
+    let command = command.arg(option(alloc, "listen", "HOST:PORT", help))?;
+    let help = "A number greater than at each earlier start, 0 to 4294967295 (no default)";
+    let command = command.arg(option(alloc, "epoch", "N", help))?;
+    let help = "How many connections to serve in all, 1 to 4294967295 (no default)";
+    let command = command.arg(option(alloc, "connections", "N", help))?;
+    let command = command.arg(files(alloc))?;
+    let help = "How many connections at once, 1 to 10000 (default 256)";
+    let command = command.arg(choice(alloc, "at-once", "N", help))?;
+    let help =
+        "How long a connection without progress keeps its place while another waits, 1 to 3600 (default 60)";
+    let command = command.arg(choice(alloc, "patience", "SECONDS", help))?;
+    let help =
+        "Tells each answer on standard error, why a file isn't taken anew, and where it listens";
+    command.arg(flag(alloc, "log", help))
 }
 
 /// Reads `cogserve`'s words, of which the first is its own name.

@@ -32,20 +32,13 @@ fn script<'a>(alloc: Global) -> Arg<'a>
 fn world_command<'a>(alloc: Global) -> Result<Command<'a>, AllocError>
     ensures { IfOk result (λ command. app_of command ≡ world_app) }
 {
-    let pieces = choice(
-        alloc,
-        "pieces",
-        "N",
-        "Clients get each answer in pieces of so many bytes, 1 to 1069056 (default: whole)",
-    );
-    Ok(
-        Command::new(alloc, "cogworld")
-            .about("Runs a script of events and prints its log")
-            .version(VERSION)
-            .after_help(WORLD_NOTES)
-            .arg(script(alloc))?
-            .arg(pieces)?,
-    )
+    let command = Command::new(alloc, "cogworld")
+        .about("Runs a script of events and prints its log")
+        .version(VERSION)
+        .after_help(WORLD_NOTES)
+        .arg(script(alloc))?;
+    let help = "Clients get each answer in pieces of so many bytes, 1 to 1069056 (default: whole)";
+    command.arg(choice(alloc, "pieces", "N", help))
 }
 
 /// Reads `cogworld`'s words, of which the first is its own name. Words that clap takes are refused only for want of memory.
