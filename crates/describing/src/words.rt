@@ -2,6 +2,7 @@
 use crate::description::Description;
 use crate::facts::{CoordinateSystem, LevelFacts, RasterType};
 use crate::placement::{Corners, Placement};
+use report_text::Shown;
 use ryu::Buffer;
 use std::fmt;
 
@@ -14,23 +15,6 @@ impl fmt::Display for Pair {
         f.write_str(Buffer::new().format(self.0.0))?;
         f.write_str(" ")?;
         f.write_str(Buffer::new().format(self.0.1))
-    }
-}
-
-/// A text, whose characters that a terminal may take for commands are told as `\u{..}`.
-#[derive(Clone, Copy)]
-struct Shown<'a>(&'a str);
-
-impl fmt::Display for Shown<'_> {
-    fn fmt<W: fmt::Write>(&self, f: &mut fmt::Formatter<W>) -> fmt::Result {
-        for letter in self.0.chars() {
-            if letter.is_control() {
-                write!(f, "{}", letter.escape_unicode())?;
-            } else {
-                f.write_char(letter)?;
-            }
-        }
-        Ok(())
     }
 }
 

@@ -2,7 +2,7 @@
 use crate::noted::Came;
 use cog_client::Tag;
 use http_range::Head;
-use report_text::WhySentence;
+use report_text::{Shown, WhySentence};
 use std::fmt;
 use std::io::ErrorKind;
 
@@ -27,9 +27,9 @@ pub(crate) struct ExchangeLine<'c, 'n> {
     pub complete: Option<u64>,
 }
 
-/// A tag's text.
-fn tag_text(tag: &Tag) -> &str {
-    str::from_utf8(tag.as_bytes()).unwrap_or_default()
+/// A tag's text, as a terminal may see it. Without UTF-8 there is none.
+fn shown(tag: &Tag) -> Shown<'_> {
+    Shown(str::from_utf8(tag.as_bytes()).unwrap_or_default())
 }
 
 /// Whether a client reads the revision of this tag.
@@ -48,7 +48,7 @@ impl ExchangeLine<'_, '_> {
         head: &Head,
         count: u64,
     ) -> fmt::Result {
-        let tag = tag_text(&head.tag);
+        let tag = shown(&head.tag);
         if !reads(&self.after, &head.tag) {
             return write!(f, "of another content, tag {tag}: not taken");
         }

@@ -1,10 +1,13 @@
-//! Reports as users see them: a window as a picture, what Info tells as lines of text, and faults as sentences.
+//! Reports as users see them: a window as a picture, what Info tells as lines of text, faults as sentences, and texts
+//! of others without control characters.
 #![tactic(auto)]
 
 mod info;
 mod netpbm;
 mod sentences;
+mod shown;
 
 pub use info::info_text;
 pub use netpbm::{picture, picture_head};
 pub use sentences::{FaultSentence, RefusalSentence, WhySentence};
+pub use shown::Shown;

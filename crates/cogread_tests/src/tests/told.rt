@@ -145,8 +145,13 @@ impl Transport for Says {
     }
 }
 
-/// What a server says, and what is told of each exchange. A status is three digits (RFC 9112, section 4): no other byte is told as one.
-const SAID: [(&[u8], &str); 4] = [
+/// What a server says, and what is told of each exchange. A status is three digits (RFC 9112, section 4): no other byte is told as one. Of a
+/// tag, control characters aren't told as they came.
+const SAID: [(&[u8], &str); 5] = [
+    (
+        b"HTTP/1.1 206 Partial Content\r\nETag: \"\xc2\x9b1\"\r\nContent-Range: bytes 0-2/9\r\nContent-Length: 3\r\n\r\nabc",
+        "206, 95 bytes, T ms: 3 bytes of the file, tag \"\\u{9b}1\"\n",
+    ),
     (
         b"HTTP/1.1 404 Not Found\r\nContent-Length: 0\r\n\r\n",
         "404, 45 bytes, T ms: 404: the server has no such file\n",
@@ -191,7 +196,7 @@ fn expect_said<R: Abort + AllocGlobal + Clock>(
 }
 
 #[test]
-fn tells_no_status_but_of_digits(rt: HostRuntime) -> Result<(), Fail> {
+fn tells_what_a_terminal_may_see(rt: HostRuntime) -> Result<(), Fail> {
     for (text, want) in SAID {
         expect_said(&rt, text, want)?;
     }
