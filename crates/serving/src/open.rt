@@ -1,5 +1,5 @@
 //! The connections that have a place, with their sockets.
-ghost use Rattle.std.specs.Prelude.{◌≡◌, ◌≢◌, ◌⊎◌, ◌↔◌, ◌+◌, ◌<◌, ◌≤◌, ℕ, [], IfOk, IfSome, IsSome, IsSomeAnd, IsTrue, None, OnErr, Some, length, nat_eq, true};
+ghost use Rattle.std.specs.Prelude.{◌≡◌, ◌≢◌, ◌⊎◌, ◌↔◌, ◌+◌, ◌<◌, ◌≤◌, ◌^◌, ℕ, [], IfOk, IfSome, IsSome, IsSomeAnd, IsTrue, None, OnErr, Some, length, nat_eq, true};
 ghost use Rattle.std.specs.Map.{remove_entry};
 ghost use Rattle.std.specs.NonZero.{non_zero_usize_get};
 ghost use Rattle.cog_connections.specs.Table.{OthersStay, timed_at};
@@ -162,6 +162,8 @@ impl Open {
         ensures cap { self.new.connections.table.cap ≡ self.old.connections.table.cap }
         ensures entries { self.new.connections.table.entries ≡ remove_entry (nat_eq number) self.old.connections.table.entries }
         ensures next { self.new.connections.next ≡ self.old.connections.next }
+        ensures once { self.new.ended ≤ self.old.ended + 1 }
+        ensures drained { DrainsAt number self.old → self.new.ended ≡ self.old.ended }
     {
         if let Some(peer) = self.peers.remove(&number)
             && !peer.is_draining
@@ -176,6 +178,9 @@ impl Open {
         ensures kept { self.new.connections ≡ self.old.connections }
         ensures there { result ≡ true → IsSome (timed_at number self.old.connections.table.entries) }
         ensures ended { self.old.ended ≤ self.new.ended }
+        ensures once { self.new.ended ≤ self.old.ended + 1 }
+        ensures counted { result ≡ true → self.old.ended + 1 < 2 ^ 32 → self.new.ended ≡ self.old.ended + 1 }
+        ensures drains { result ≡ true → DrainsAt number self.new }
     {
         match self.peers.get_mut(&number) {
             Some(peer) if !peer.is_draining => {

@@ -1,12 +1,12 @@
 //! The sockets of a server: who gets a place, whose turn it is, and how long to wait.
-ghost use Rattle.std.specs.Prelude.{◌≡◌, ◌≢◌, ◌+◌, ◌-◌, ◌*◌, ◌<◌, ◌≤◌, ◌^◌, ◌⊎◌, ◌↔◌, ℕ, [], IfOk, IfSome, IsSomeAnd, IsTrue, None, OnErr, OnOk, Some, false, length, slice_get, true};
+ghost use Rattle.std.specs.Prelude.{◌≡◌, ◌≢◌, ◌+◌, ◌-◌, ◌*◌, ◌<◌, ◌≤◌, ◌^◌, ◌⊎◌, ◌↔◌, ◌++◌, ◌∷◌, ℕ, [], IfOk, IfSome, IsSomeAnd, IsTrue, None, OnErr, OnOk, Some, false, length, slice_get, true};
 ghost use Rattle.std.specs.Duration.{as_nanos};
 ghost use Rattle.std.specs.NonZero.{non_zero_usize_get};
 ghost use Rattle.cog_connections.specs.Table.{OthersStay, timed_at};
 ghost use Rattle.serving.specs.Held.{KeepsBusy, NobodyComes, accepted_of, ended_of, limits_of, next_of, places_of, room_of, WakesBy, WakesIn};
 ghost use Rattle.serving.specs.Refusals.{HasNoRoom, IsPassing};
 ghost use Rattle.serving.specs.Turns.{GivesPlace};
-ghost use Rattle.serving.specs.declared.serving.TheConstants.{RETRY};
+ghost use Rattle.serving.specs.declared.turn.Turn.TheVariants.{Ended, Failed, GoesOn, Waits};
 
 use crate::answered::Audience;
 use crate::open::Open;
@@ -247,6 +247,7 @@ impl Serving {
 
     /// Asks the system whether a newcomer waits. Until it says so, nobody is displaced for one.
     fn ask(&mut self) -> Result<(), AcceptError>
+        ensures asked { self.new.knocks ≡ false }
         ensures held { self.new.held ≡ self.old.held }
         ensures nobody { NobodyComes self.old self.new }
     {
@@ -265,6 +266,7 @@ impl Serving {
         ensures limits { limits_of self.new ≡ limits_of self.old }
         ensures room { room_of self.new ≡ room_of self.old }
         ensures ended { ended_of self.old ≤ ended_of self.new }
+        ensures asks { room_of self.new ≤ length (places_of self.new) → self.new.knocks ≡ false }
         ensures busy { KeepsBusy now self.old self.new }
         ensures next { next_of self.new ≤ next_of self.old + 1 }
     {
@@ -285,6 +287,8 @@ impl Serving {
         ensures kept { IfOk result (λ again. again ≡ false → self.new.held.connections ≡ self.old.held.connections) }
         ensures passing { OnOk result (IsPassing error) }
         ensures err { OnErr result (self.new.held.connections ≡ self.old.held.connections) }
+        // What passes ends nothing, but where the system can't be asked.
+        ensures last { OnErr result (IsPassing error → self.new.knocks ≡ false) }
         ensures nobody { NobodyComes self.old self.new }
         ensures busy { KeepsBusy now self.old self.new }
         ensures next { next_of self.new ≡ next_of self.old }
@@ -315,7 +319,22 @@ impl Serving {
         ensures nobody { NobodyComes self.old self.new }
     {
         let buffer = &mut self.buffer;
-        match self.held.turn(number, server, buffer, now, audience) {
+        let turn = self.held.turn(number, server, buffer, now, audience);
+        self.after(number, turn, now);
+    }
+
+    /// What comes behind a connection's turn: it waits, goes on, is read to its end where its answers are written, or is closed.
+    fn after(&mut self, number: u64, turn: Turn, now: u64)
+        ensures others { OthersStay number self.old.held.connections.table.entries self.new.held.connections.table.entries }
+        ensures nobody { NobodyComes self.old self.new }
+        ensures waits { turn ≡ Waits → self.new ≡ self.old }
+        ensures goes_on { turn ≡ GoesOn → (self.new.ready.items ≡ self.old.ready.items ++ number ∷ [])
+            ⊎ (timed_at number (places_of self.new) ≡ None) }
+        ensures ended { turn ≡ Ended → (self.new.ready.items ≡ self.old.ready.items ++ number ∷ [])
+            ⊎ (timed_at number (places_of self.new) ≡ None) }
+        ensures failed { turn ≡ Failed → timed_at number (places_of self.new) ≡ None }
+    {
+        match turn {
             Turn::Waits => {}
             Turn::GoesOn => self.make_ready(number),
             Turn::Ended => {
@@ -334,6 +353,7 @@ impl Serving {
     fn make_ready(&mut self, number: u64)
         ensures others { OthersStay number self.old.held.connections.table.entries self.new.held.connections.table.entries }
         ensures nobody { NobodyComes self.old self.new }
+        ensures ready { (self.new.ready.items ≡ self.old.ready.items ++ number ∷ []) ⊎ (timed_at number (places_of self.new) ≡ None) }
     {
         if self.ready.push_back(number).is_err() {
             self.held.close(number);
@@ -346,14 +366,26 @@ impl Serving {
         ensures nobody { NobodyComes self.old self.new }
     {
         for _ in 0..self.drains.len() {
-            let Some((ends, number)) = self.drains.front().copied() else {
-                return;
-            };
-            if ends > now {
-                return;
+            if !self.end_drain(now) {
+                break;
             }
-            self.drains.pop_front();
-            self.held.close(number);
+        }
+    }
+
+    /// Closes the connection whose drain ends first, if it has ended, and says whether it had.
+    fn end_drain(&mut self, now: u64) -> bool
+        ensures nobody { NobodyComes self.old self.new }
+        ensures early { IfSome (slice_get self.old.drains.items 0) (λ drain. now < drain.0 → (result ≡ false) × (self.new ≡ self.old)) }
+        ensures over { IfSome (slice_get self.old.drains.items 0) (λ drain. drain.0 ≤ now → (result ≡ true)
+            × (timed_at drain.1 (places_of self.new) ≡ None)) }
+    {
+        match self.drains.front().copied() {
+            Some((ends, number)) if ends <= now => {
+                self.drains.pop_front();
+                self.held.close(number);
+                true
+            }
+            _ => false,
         }
     }
 
@@ -361,9 +393,10 @@ impl Serving {
     /// it.
     fn looks_at(&self, now: u64) -> Option<u64>
         ensures starved { self.now.is_starved ≡ true → self.now.knocks ≡ true → accepted_of self.now < (limits_of self.now).connections
-            → IsSomeAnd result (λ moment. moment ≤ now + RETRY) }
+            → IsSomeAnd result (λ moment. moment ≤ now + 1000) }
         ensures place { self.now.knocks ≡ true → accepted_of self.now < (limits_of self.now).connections → room_of self.now ≢ 1
             → WakesBy self.now result }
+        ensures idle { self.now.knocks ≡ false → result ≡ None }
     {
         if !self.is_awaited() {
             return None;
@@ -383,9 +416,13 @@ impl Serving {
         ensures drain { IfSome (slice_get self.now.drains.items 0) (λ drain.
             IsSomeAnd result (λ wait. as_nanos wait ≤ (drain.0 - now) * 1000000)) }
         ensures starved { self.now.is_starved ≡ true → self.now.knocks ≡ true → accepted_of self.now < (limits_of self.now).connections
-            → IsSomeAnd result (λ wait. as_nanos wait ≤ RETRY * 1000000) }
+            → IsSomeAnd result (λ wait. as_nanos wait ≤ 1000 * 1000000) }
         ensures place { self.now.ready.items ≡ [] → self.now.knocks ≡ true → accepted_of self.now < (limits_of self.now).connections
             → room_of self.now ≢ 1 → WakesIn now self.now result }
+        // Nothing is looked at where nothing may go on, and nothing sooner than the first drain ends where nobody waits.
+        ensures idle { self.now.ready.items ≡ [] → self.now.drains.items ≡ [] → self.now.knocks ≡ false → result ≡ None }
+        ensures just { self.now.ready.items ≡ [] → self.now.knocks ≡ false → IfSome (slice_get self.now.drains.items 0) (λ drain.
+            IsSomeAnd result (λ wait. as_nanos wait ≡ (drain.0 - now) * 1000000)) }
     {
         if !self.ready.is_empty() {
             return Some(Duration::ZERO);

@@ -1,7 +1,8 @@
 //! A connection's turn: it goes on until its socket would block, and no longer than is fair to others.
-ghost use Rattle.std.specs.Prelude.{◌≡◌, ◌≢◌, ◌<◌, ◌↔◌, length, IfOk, IsSomeAnd, IsTrue, None, Some};
+ghost use Rattle.std.specs.Prelude.{◌≡◌, ◌≢◌, ◌<◌, ◌↔◌, false, length, IfOk, IsSomeAnd, IsTrue, None, Some};
 ghost use Rattle.std.specs.IoError.{error_kind};
 ghost use Rattle.cog_connections.specs.Table.{timed_at};
+ghost use Rattle.cog_server.specs.Status.{EndsBy};
 ghost use Rattle.std.specs.declared.io.ErrorKind.TheVariants.{Interrupted, WouldBlock};
 ghost use Rattle.serving.specs.Turns.{HasEndedAt, IsDrainedAt, KeepsPlaces};
 ghost use Rattle.serving.specs.declared.turn.Turn.TheVariants.{Ended, GoesOn, Waits};
@@ -45,7 +46,8 @@ fn is_waiting(connections: &Connections, number: u64) -> bool
 
 /// Whether all answers of a connection are written, or there is none of this number.
 fn has_ended(connections: &Connections, number: u64) -> bool
-    ensures { IsTrue result → HasEndedAt number connections.now.table.entries }
+    ensures ended { IsTrue result → HasEndedAt number connections.now.table.entries }
+    ensures open { result ≡ false → IsSomeAnd (timed_at number connections.now.table.entries) (λ p. EndsBy p.connection None) }
 {
     match connections.get(number) {
         Some(timed) => timed.connection.ended().is_some(),

@@ -1,5 +1,5 @@
 -- What others know of a source over sockets.
-use Rattle.std.specs.Prelude.{◌≡◌, ℕ, nat_eq, Bool, true, false, List, [], IfSome, IsSome, IsSomeAnd, is_some}
+use Rattle.std.specs.Prelude.{◌≡◌, ◌⊎◌, ◌++◌, ℕ, nat_eq, Bool, true, false, List, [], IfSome, IsSome, IsSomeAnd, is_some}
 use Rattle.cog_fetch.specs.AnswerEnd.{Came, lacks_of}
 use Rattle.cog_fetch.specs.declared.answer_end.Lacks.{Lacks}
 use Rattle.cog_fetch.specs.declared.answer_end.Lacks.TheVariants.{Body, End, Head}
@@ -33,6 +33,11 @@ HasCome s bytes = IfSome s.kept (λ k. Came k.end bytes)
 -- of the answer on the connection nothing is known any more: nothing may follow it
 abbrev pub IsUntold : {R : Type 0} → Socket R → Type 0
 IsUntold s = IfSome s.kept (λ k. lacks_of k.end ≡ End)
+
+-- What is read is noted behind what had come of the answer, or as its first bytes on a connection that was made anew; or nothing is known any more.
+abbrev pub Notes : {R : Type 0} → Socket R → Socket R → List ℕ → Type 0
+Notes old new bytes =
+    ((front : List ℕ) → HasCome old front → HasCome new (front ++ bytes) ⊎ IsUntold new) ⊎ (HasCome new bytes ⊎ IsUntold new)
 
 -- nothing more of an answer is waited for: it is whole, or has no length that can be trusted
 abbrev pub is_over : Lacks → Bool

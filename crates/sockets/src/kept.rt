@@ -1,7 +1,7 @@
 //! What is known of a connection that is kept from answer to answer.
-ghost use Rattle.std.specs.Prelude.{◌≡◌, ◌<◌, ◌≤◌, ◌++◌, ◌∷◌, ◌⊎◌, ℕ, [], List, IfSome, IsSome, None, Some, true};
+ghost use Rattle.std.specs.Prelude.{◌≡◌, ◌<◌, ◌≤◌, ◌++◌, ◌∷◌, ◌⊎◌, ℕ, [], List, IfSome, IsSome, IsTrue, None, Some, true};
 ghost use Rattle.cog_fetch.specs.declared.answer_end.Lacks.TheVariants.{Body, End};
-ghost use Rattle.cog_fetch.specs.AnswerEnd.{lacks_of, Came, IsWholeAnswer};
+ghost use Rattle.cog_fetch.specs.AnswerEnd.{lacks_of, Came, IsWholeAnswer, MayGoOn};
 ghost use Rattle.sockets.specs.declared.kept.Turn.TheVariants.{Anew};
 ghost use Rattle.sockets.specs.Early.{again_of, early_of, IsTurn};
 ghost use Rattle.sockets.specs.Sockets.{is_over};
@@ -67,6 +67,7 @@ impl Kept {
     /// sent once more. A request that was sent early has its turn only where it is this one, byte for byte.
     pub(crate) fn goes_on(&mut self, alloc: Global, request: &[u8]) -> Turn
         ensures whole { ¬ (result ≡ Anew) → (bytes : List ℕ) → Came self.old.end bytes → IsWholeAnswer bytes }
+        ensures goes { ¬ (result ≡ Anew) → (bytes : List ℕ) → Came self.old.end bytes → MayGoOn bytes }
         ensures begun { Came self.new.end [] }
         ensures turn { IsTurn result (early_of self.old) request.now (early_of self.new) }
         ensures again { ¬ (result ≡ Anew) → again_of self.new ≡ Some request.now }
@@ -160,7 +161,10 @@ impl Kept {
 
     /// Whether these bytes begin no answer, where the answer to a request that was sent early is to begin: something else stood behind the
     /// answer before, of which no more was read than it announced.
-    pub(crate) fn is_astray(&self, bytes: &[u8]) -> bool {
+    pub(crate) fn is_astray(&self, bytes: &[u8]) -> bool
+        ensures early { IsTrue result → self.now.was_early ≡ true }
+        ensures begun { IsTrue result → (front : List ℕ) → Came self.now.end front → front ≡ [] }
+    {
         let front = &bytes[..bytes.len().min(FRONT.len())];
         self.was_early && !self.end.has_begun() && !FRONT.starts_with(front)
     }
@@ -177,6 +181,7 @@ impl Kept {
     pub(crate) fn unanswered(&mut self) -> Option<Vec<u8>>
         ensures same { IfSome result (λ text. again_of self.old ≡ Some text.items) }
         ensures once { IsSome result → again_of self.new ≡ None }
+        ensures kept { result ≡ None → self.new ≡ self.old }
         ensures none { IsSome result → (bytes : List ℕ) → Came self.old.end bytes → bytes ≡ [] }
         ensures end { self.new.end ≡ self.old.end }
     {

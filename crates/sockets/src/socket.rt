@@ -1,9 +1,9 @@
 //! Connections to a server that is named by its address: one for each request, or one that is kept from answer to answer.
-ghost use Rattle.std.specs.Prelude.{◌≡◌, ◌≤◌, ◌⊎◌, ◌++◌, ℕ, List, [], ◌↔◌, IfOk, IfSome, IsErr, IsSome, IsTrue, OnOk, Some, false, length, take, true};
-ghost use Rattle.cog_fetch.specs.AnswerEnd.{IsWholeAnswer};
+ghost use Rattle.std.specs.Prelude.{◌≡◌, ◌≤◌, ◌⊎◌, ◌++◌, ◌<◌, ℕ, List, [], ◌↔◌, IfOk, IfSome, IsErr, IsSome, IsTrue, None, OnOk, Some, false, length, take, true};
+ghost use Rattle.cog_fetch.specs.AnswerEnd.{IsWholeAnswer, MayGoOn};
 ghost use Rattle.sockets.specs.declared.kept.Turn.TheVariants.{Anew};
 ghost use Rattle.sockets.specs.Early.{IsOwnPiece, again_of};
-ghost use Rattle.sockets.specs.Sockets.{exchanges_of, keeps, server_of, HasCome, IsConnected, IsFresh, IsOver, IsUntold};
+ghost use Rattle.sockets.specs.Sockets.{exchanges_of, keeps, server_of, HasCome, IsConnected, IsFresh, IsOver, IsUntold, Notes};
 
 use crate::kept::{Kept, Turn};
 use cog_client::{Lost, Pieces};
@@ -57,6 +57,9 @@ impl<'r, R> Socket<'r, R> {
         ensures server { server_of self.new ≡ server_of self.old }
         ensures exchanges { exchanges_of self.new ≡ exchanges_of self.old }
         ensures unsent { ¬ IsConnected self.old → IsErr result }
+        ensures goes_on { IfOk result (λ n. 0 < n → IsConnected self.new) }
+        ensures ended { IfOk result (λ n. n ≡ 0 → ¬ IsConnected self.new) }
+        ensures err { IsErr result → ¬ IsConnected self.new }
         ensures kept { self.new.kept ≡ self.old.kept }
     {
         let Some(stream) = &mut self.stream else {
@@ -86,6 +89,8 @@ impl<'r, R> Socket<'r, R> {
         ensures server { server_of self.new ≡ server_of self.old }
         ensures exchanges { exchanges_of self.new ≡ exchanges_of self.old }
         ensures noted { (front : List ℕ) → HasCome self.old front → HasCome self.new (front ++ bytes.now) ⊎ IsUntold self.new }
+        ensures alone { keeps self.old ≡ false → self.new.stream ≡ self.old.stream }
+        ensures goes_on { IfSome self.old.kept (λ kept. kept.was_early ≡ false → self.new.stream ≡ self.old.stream) }
         ensures stays { keeps self.new ≡ keeps self.old }
     {
         let Some(kept) = &mut self.kept else {
@@ -127,6 +132,7 @@ impl<'r, R> Socket<'r, R> {
     fn unanswered(&mut self) -> Option<Vec<u8>>
         ensures ended { IsSome result → ¬ IsConnected self.old }
         ensures same { IfSome result (λ text. IfSome self.old.kept (λ k. again_of k ≡ Some text.items)) }
+        ensures kept { result ≡ None → self.new ≡ self.old }
         ensures server { server_of self.new ≡ server_of self.old }
         ensures exchanges { exchanges_of self.new ≡ exchanges_of self.old }
         ensures stays { keeps self.new ≡ keeps self.old }
@@ -175,6 +181,7 @@ impl<'r, R: Net<Stream = TcpStream> + AllocGlobal> Socket<'r, R> {
         ensures exchanges { exchanges_of self.new ≡ exchanges_of self.old }
         ensures connected { result ≡ true → IsConnected self.new }
         ensures whole { result ≡ true → (bytes : List ℕ) → HasCome self.old bytes → IsWholeAnswer bytes }
+        ensures goes { result ≡ true → (bytes : List ℕ) → HasCome self.old bytes → MayGoOn bytes }
         ensures begun { result ≡ true → HasCome self.new [] }
         ensures stays { keeps self.new ≡ keeps self.old }
     {
@@ -194,6 +201,7 @@ impl<'r, R: Net<Stream = TcpStream> + AllocGlobal> Socket<'r, R> {
         ensures exchanges { exchanges_of self.new ≡ exchanges_of self.old }
         ensures stream { self.new.stream ≡ self.old.stream }
         ensures whole { ¬ (result ≡ Anew) → (bytes : List ℕ) → HasCome self.old bytes → IsWholeAnswer bytes }
+        ensures goes { ¬ (result ≡ Anew) → (bytes : List ℕ) → HasCome self.old bytes → MayGoOn bytes }
         ensures begun { ¬ (result ≡ Anew) → HasCome self.new [] }
         ensures stays { keeps self.new ≡ keeps self.old }
     {
@@ -258,28 +266,40 @@ impl<'r, R: Net<Stream = TcpStream> + AllocGlobal> Socket<'r, R> {
         Ok(())
     }
 
+    /// Sends a request once more, on a new connection, and reads the first bytes of its answer.
+    fn receive_anew(&mut self, request: &[u8], out: &mut [u8]) -> Result<usize, Lost>
+        ensures few { IfOk result (λ n. n ≤ length out.new) }
+        ensures server { server_of self.new ≡ server_of self.old }
+        ensures exchanges { exchanges_of self.new ≡ exchanges_of self.old }
+        ensures noted { IfOk result (λ n. HasCome self.new (take n out.new) ⊎ IsUntold self.new) }
+        ensures stays { keeps self.new ≡ keeps self.old }
+    {
+        self.connect(request)?;
+        self.receive_noting(out)
+    }
+
     /// Reads the next bytes of an answer on a connection that is kept. One that is found closed before the first byte of an answer is
     /// tried once anew.
     fn receive_next(&mut self, out: &mut [u8]) -> Result<usize, Lost>
         ensures few { IfOk result (λ n. n ≤ length out.new) }
         ensures server { server_of self.new ≡ server_of self.old }
         ensures exchanges { exchanges_of self.new ≡ exchanges_of self.old }
+        ensures noted { IfOk result (λ n. Notes self.old self.new (take n out.new)) }
         ensures stays { keeps self.new ≡ keeps self.old }
     {
         let read = self.receive_noting(out);
-        let Some(request) = self.unanswered() else {
-            return read;
-        };
-        self.connect(&request)?;
-        self.receive_noting(out)
+        match self.unanswered() {
+            Some(request) => self.receive_anew(&request, out),
+            None => read,
+        }
     }
 }
 
 impl<R: Net<Stream = TcpStream> + AllocGlobal> Pieces for Socket<'_, R> {
-    ghost use Rattle.std.specs.Prelude.{◌≡◌, ◌<◌, ◌≤◌, [], IfOk, Ok, length};
+    ghost use Rattle.std.specs.Prelude.{◌≡◌, ◌<◌, ◌≤◌, [], IfOk, Ok, length, take};
     ghost use Rattle.cog_client.specs.Pieces.{BringsOf};
     ghost use Rattle.cog_client.specs.Transport.{SpeaksOn};
-    ghost use Rattle.sockets.specs.Sockets.{exchanges_of, keeps, IsOver, Nothing};
+    ghost use Rattle.sockets.specs.Sockets.{exchanges_of, keeps, IsOver, Nothing, Notes};
 
     ghost speaks_for = { λ _ _. Nothing };
 
@@ -297,6 +317,8 @@ impl<R: Net<Stream = TcpStream> + AllocGlobal> Pieces for Socket<'_, R> {
 
         // Behind an answer that is whole, or isn't waited for, nothing is told.
         ensures over { IsOver self.old → result ≡ Ok 0 }
+        // What is told of an answer before is noted, so that its end is found.
+        ensures noted { ¬ IsOver self.old → IfOk result (λ n. Notes self.old self.new (take n out.new)) }
         ensures stays { keeps self.new ≡ keeps self.old }
 
         // So it keeps the trait's law, as a source that speaks for no file.
