@@ -1,6 +1,9 @@
 //! A file of the disk that is published, and when it has to be read again.
-ghost use Rattle.std.specs.Prelude.{◌≡◌, IfOk, IfSome, None, OnErr, OnOk};
+ghost use Rattle.std.specs.Prelude.{◌≡◌, ℕ, List, IfErr, IfOk, IfSome, IsSome, None, OnErr, OnOk};
+ghost use Rattle.http_range.specs.Book.{published};
+ghost use Rattle.cog_server.specs.Server.{IsRefusal, ServerState, refusal_of};
 ghost use Rattle.disk_files.specs.Published.{IsFileOf, IsPublished};
+ghost use Rattle.disk_files.specs.Watching.{IsRefusedBy, MayPass, seen_of};
 
 use crate::reading::{has_bytes, read_file};
 use crate::stamp::{Stamp, is_unchanged, stamp_of};
@@ -33,7 +36,9 @@ pub struct Watched<'a> {
 }
 
 /// Looks at a path, which is to be a file's: to open a pipe might wait for its writer.
-fn look<R: Files + Clock>(rt: &R, path: &str) -> Result<Option<Stamp>, WatchError> {
+fn look<R: Files + Clock>(rt: &R, path: &str) -> Result<Option<Stamp>, WatchError>
+    ensures refused { (s : ServerState) (name : List ℕ) → IfErr result (IsRefusedBy s name) }
+{
     let now = rt.since_1970();
     let metadata = fs::metadata(rt, path).map_err(WatchError::CantRead)?;
     if !metadata.is_file() {
@@ -54,7 +59,9 @@ fn publish_other(
     ensures ok { IfOk result (λ tag. IfSome tag (IsPublished name.now server.old server.new)) }
     ensures has { OnOk result (IsFileOf name.now file.items server.new) }
     ensures same { IfOk result (λ tag. tag ≡ None → server.new ≡ server.old) }
+    ensures first { published name.now server.old.catalogue ≡ None → IfOk result IsSome }
     ensures err { OnErr result (server.new ≡ server.old) }
+    ensures refused { IfErr result (IsRefusal (refusal_of server.old.count server.old.catalogue name.now file.items)) }
 {
     publications_replace();
     if let Some(old) = server.file(name)
@@ -87,6 +94,7 @@ impl<'a> Watched<'a> {
     ) -> Result<Tag, WatchError>
         ensures ok { IfOk result (IsPublished self.old.name.now server.old server.new) }
         ensures err { OnErr result (server.new ≡ server.old) }
+        ensures refused { IfErr result (IsRefusedBy server.old self.old.name.now) }
 
         // It is watched under its name, and by its path, from then on.
         ensures name { self.new.name ≡ self.old.name }
@@ -113,6 +121,11 @@ impl<'a> Watched<'a> {
         ensures ok { IfOk result (λ tag. IfSome tag (IsPublished self.old.name.now server.old server.new)) }
         ensures same { IfOk result (λ tag. tag ≡ None → server.new ≡ server.old) }
         ensures err { OnErr result (server.new ≡ server.old) }
+        ensures refused { IfErr result (IsRefusedBy server.old self.old.name.now) }
+
+        // A file that wasn't read yet, and has no publication, is published. What may pass is tried again.
+        ensures first { seen_of self.old ≡ None → published self.old.name.now server.old.catalogue ≡ None → IfOk result IsSome }
+        ensures again { IfErr result (λ why. MayPass why → seen_of self.new ≡ seen_of self.old) }
         ensures name { self.new.name ≡ self.old.name }
         ensures path { self.new.path ≡ self.old.path }
     {

@@ -1,0 +1,6 @@
+use Rattle.disk_files.proofs.WatchLemmas.{handed_on}
+use Rattle.disk_files.proofs.watched.Watched.publish_changed.Goals as goal
+
+pub returns-in_err-seen-clause-refused : goal.returns-in_err-seen-clause-refused
+returns-in_err-seen-clause-refused g c =
+    handed_on c.from_residual.result _ _ (c.in_err-seen.ensures.refused c.args.server.now c.args.self.now.name.now) c.from_residual.ensures.1

@@ -1,0 +1,24 @@
+-- Why a file of the disk isn't published, and what is remembered of it.
+use Rattle.std.specs.Prelude.{ℕ, List, Option, ⊤}
+use Rattle.cog_server.specs.Server.{IsRefusal, ServerState, refusal_of}
+use Rattle.cog_server.specs.declared.error.PublishError.TheVariants.{Memory}
+use Rattle.disk_files.specs.declared.stamp.Stamp.{Stamp}
+use Rattle.disk_files.specs.declared.watched.WatchError.{WatchError}
+use Rattle.disk_files.specs.declared.watched.WatchError.TheVariants.{CantRead, NotAFile, Refused}
+use Rattle.disk_files.specs.declared.watched.Watched.{Watched}
+
+-- what the disk said of the file when it was read last
+abbrev pub seen_of : Watched → Option Stamp
+seen_of w = w.seen
+
+-- where the server refuses it, it does so by its rules for some bytes
+abbrev pub IsRefusedBy : ServerState → List ℕ → WatchError → Type 0
+IsRefusedBy s name (Refused e) = (file : List ℕ) × IsRefusal (refusal_of s.count s.catalogue name file) e
+IsRefusedBy s name why = ⊤
+
+-- it may pass, though the file stays as it is: the file can't be read, or isn't there, or memory is wanting
+abbrev pub MayPass : WatchError → Type 0
+MayPass (CantRead e) = ⊤
+MayPass NotAFile = ⊤
+MayPass (Refused Memory) = ⊤
+MayPass (Refused e) = ⊥
