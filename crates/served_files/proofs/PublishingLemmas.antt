@@ -1,15 +1,16 @@
 -- Publications one behind another.
-use Rattle.std.proofs.Common.{◌≡◌, ◌≢◌, ◌<◌, ◌+◌, ℕ, true, false, List, length, nat_eq, slice_index_or, slice_set, sym, ap, subst, ◌∙◌, inl, inr, arith}
+use Rattle.std.proofs.Common.{◌≡◌, ◌≢◌, ◌<◌, ◌+◌, ℕ, ◌≤◌, true, false, List, [], ◌∷◌, ◌++◌, length, take, refl, nat_eq, slice_index_or, slice_set, sym, ap, subst, ◌∙◌, inl, inr, arith}
 use Rattle.std.specs.Prelude.{IsSome}
 use Rattle.std.proofs.Math.Seq.{map-set_same}
 use Rattle.std.proofs.lemmas.Bool.{cases_Bool}
 use Rattle.std.proofs.lemmas.Bool.Decides.{nat_tests, not_from_Decides}
-use Rattle.std.proofs.lemmas.List.{get_or-map, length-map}
+use Rattle.std.proofs.lemmas.List.{get_or-map, length-map, take_all, take_more}
 use Rattle.std.proofs.lemmas.Slice.Eq.{bytes_eq-Decides}
 use Rattle.std.specs.Str.{bytes_eq}
 use Rattle.cog_server.specs.Server.{ServerState}
 use Rattle.disk_files.specs.declared.watched.Watched.{Watched}
-use Rattle.served_files.specs.Publishing.{IsServed, KeepsOthers, KeepsOthersThan, names}
+use Rattle.disk_files.specs.Published.{IsPublished}
+use Rattle.served_files.specs.Publishing.{ArePublished, IsServed, KeepsOthers, KeepsOthersThan, names}
 
 -- a file that keeps its name leaves the names
 pub names_set : (files : List Watched) (k : ℕ) (w d : Watched) → w.name ≡ (slice_index_or files k d).name
@@ -60,6 +61,30 @@ served_then files k d ns t u bound same then served first i e below =
           (subst (λ ns. IsServed u (slice_index_or ns k e)) same (subst (IsServed u) (sym (name_there files k d e bound)) served))
       | inr different ↦ kept (slice_index_or files k d).name.now t u then served (slice_index_or ns i e) (first i e (before i k below different))
     ]
+
+-- one more is published behind those
+one_more : (ns : List (List ℕ)) (n : List ℕ) (s t u : ServerState) → ArePublished ns s t → (tag : List ℕ) × IsPublished n t u tag
+    → ArePublished (ns ++ n ∷ []) s u
+one_more [] n s t u same is = (u, subst (λ x. (tag : List ℕ) × IsPublished n x u tag) same is, refl)
+one_more (m ∷ ms) n s t u (mid, first, rest) is = (mid, first, one_more ms n mid t u rest is)
+
+-- each name up to this one is published, and this one then
+pub each_then : (files : List Watched) (k : ℕ) (d : Watched) (ns : List (List ℕ)) (s t u : ServerState) → k < length files → names files ≡ ns
+    → ArePublished (take k ns) s t → (tag : List ℕ) × IsPublished (slice_index_or files k d).name.now t u tag → ArePublished (take (k + 1) ns) s u
+each_then files k d ns s t u bound same first is =
+    let P : List (List ℕ) → Type 0 = λ xs. ArePublished (take k xs) s t → ArePublished (take (k + 1) xs) s u in
+    subst P same
+    (λ before. subst (λ xs. ArePublished xs s u) (sym (take_more (names files) k d.name.now (name_below files k bound)))
+    (one_more (take k (names files)) (slice_index_or (names files) k d.name.now) s t u before
+    (subst (λ n. (tag : List ℕ) × IsPublished n t u tag) (sym (name_there files k d d.name.now bound)) is)))
+    first
+
+-- where all names are passed, they are published
+pub all_published : (files : List Watched) (k : ℕ) (ns : List (List ℕ)) (s t : ServerState) → names files ≡ ns → length files ≤ k
+    → ArePublished (take k ns) s t → ArePublished ns s t
+all_published files k ns s t same all first =
+    let long : length ns ≤ k = subst (λ n. n ≤ k) (sym (length-map files (λ f. f.name.now)) ∙ ap length same) all in
+    subst (λ xs. ArePublished xs s t) (take_all k ns long) first
 
 -- the name is none of those up to this one
 pub none_then : (files : List Watched) (k : ℕ) (d : Watched) (name : List ℕ) → k < length files

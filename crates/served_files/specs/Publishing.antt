@@ -1,8 +1,9 @@
 -- What a server has after files of the disk were published.
-use Rattle.std.specs.Prelude.{◌≡◌, ◌≢◌, ℕ, List, map, All, IsSome}
+use Rattle.std.specs.Prelude.{◌≡◌, ◌≢◌, ℕ, List, [], ◌∷◌, map, All, IsSome}
 use Rattle.http_range.specs.Book.{published}
 use Rattle.cog_server.specs.Server.{ServerState}
 use Rattle.disk_files.specs.declared.watched.Watched.{Watched}
+use Rattle.disk_files.specs.Published.{IsPublished}
 
 -- the names of the files
 abbrev pub names : List Watched → List (List ℕ)
@@ -11,6 +12,11 @@ names files = map (λ f. f.name.now) files
 -- the server has a file under this name
 abbrev pub IsServed : ServerState → List ℕ → Type 0
 IsServed s name = IsSome (published name s.catalogue)
+
+-- The names were published one after another, each once, with the next tag of the epoch, and nothing else changed.
+abbrev pub ArePublished : List (List ℕ) → ServerState → ServerState → Type 0
+ArePublished [] s t = t ≡ s
+ArePublished (name ∷ names) s t = (mid : ServerState) × ((tag : List ℕ) × IsPublished name s mid tag) × ArePublished names mid t
 
 -- under every name but this one the server has what it had
 abbrev pub KeepsOthers : List ℕ → ServerState → ServerState → Type 0

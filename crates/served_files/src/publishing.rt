@@ -1,6 +1,7 @@
 //! The files that are published, and those that are published anew.
-ghost use Rattle.std.specs.Prelude.{◌≡◌, ◌↔◌, All, Contains, IsTrue, OnOk};
-ghost use Rattle.served_files.specs.Publishing.{IsServed, KeepsOthers, KeepsOthersThan, names};
+ghost use Rattle.std.specs.Prelude.{◌≡◌, ◌↔◌, ℕ, List, All, Contains, IsTrue, OnOk};
+ghost use Rattle.disk_files.specs.Published.{IsPublished};
+ghost use Rattle.served_files.specs.Publishing.{ArePublished, IsServed, KeepsOthers, KeepsOthersThan, names};
 
 use crate::error::{NotPublished, ServeError};
 use crate::log::Log;
@@ -23,6 +24,7 @@ fn publish_one<'a, R: Files + Clock + Print + Eprint + AllocGlobal>(
     file: &mut Watched<'a>,
 ) -> Result<(), ServeError<'a>>
     ensures served { OnOk result (IsServed server.new file.old.name.now) }
+    ensures next { OnOk result ((tag : List ℕ) × IsPublished file.old.name.now server.old server.new tag) }
     ensures others { KeepsOthers file.old.name.now server.old server.new }
     ensures name { file.new.name ≡ file.old.name }
 {
@@ -40,6 +42,7 @@ pub fn publish_all<'a, R: Files + Clock + Print + Eprint + AllocGlobal>(
     files: &mut [Watched<'a>],
 ) -> Result<(), ServeError<'a>>
     ensures served { OnOk result (All (IsServed server.new) (names files.old)) }
+    ensures each { OnOk result (ArePublished (names files.old) server.old server.new) }
     ensures others { KeepsOthersThan (names files.old) server.old server.new }
     ensures names { names files.new ≡ names files.old }
 {

@@ -1,6 +1,6 @@
 use Rattle.std.proofs.Common.{◌∙◌, sym, rules}
 use Rattle.std.proofs.lemmas.List.{length-set}
-use Rattle.served_files.proofs.PublishingLemmas.{names_set, others_then, served_then}
+use Rattle.served_files.proofs.PublishingLemmas.{each_then, names_set, others_then, served_then}
 use Rattle.served_files.proofs.publishing.publish_all.Goals as goal
 
 pub returns-in_err-publish_one-clause-names : goal.returns-in_err-publish_one-clause-names
@@ -17,5 +17,7 @@ loop-k-preserved g c = record {
   same = names_set c.loop-k.files c.loop-k.k c.publish_one.new.file _ c.publish_one.ensures.name ∙ c.loop-k.invariant.same;
   served = served_then c.loop-k.files c.loop-k.k _ _ c.loop-k.server c.publish_one.new.server (search rules) c.loop-k.invariant.same c.publish_one.ensures.others
       c.in_ok-publish_one.ensures.served c.loop-k.invariant.served;
+  each = each_then c.loop-k.files c.loop-k.k _ _ c.args.server.now c.loop-k.server c.publish_one.new.server (search rules) c.loop-k.invariant.same c.loop-k.invariant.each
+      c.in_ok-publish_one.ensures.next;
   others = others_then c.loop-k.files c.loop-k.k _ _ c.args.server.now c.loop-k.server c.publish_one.new.server (search rules) c.loop-k.invariant.same c.loop-k.invariant.others c.publish_one.ensures.others;
 }
