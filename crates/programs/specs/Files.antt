@@ -1,5 +1,5 @@
 -- The files that the words of `cogserve` name.
-use Rattle.std.specs.Prelude.{◌≡◌, ◌<◌, ◌==◌, ℕ, List, [], ◌∷◌, length, ⊤}
+use Rattle.std.specs.Prelude.{◌≡◌, ◌<◌, ◌≤◌, ◌==◌, ℕ, List, [], ◌∷◌, length, string_bytes, ⊤}
 use Rattle.std.specs.Borrow.{Bor}
 use Rattle.std.specs.List.{after_first, before_first, position_or_len}
 use Rattle.disk_files.specs.declared.watched.Watched.{Watched}
@@ -10,6 +10,16 @@ use Rattle.programs.specs.declared.fault.Fault.TheVariants.{NotAFile, Memory}
 abbrev pub IsFile : List ℕ → Watched → Type 0
 IsFile word file = (position_or_len (λ b. b == 61) word < length word)
     × (file.name.now ≡ before_first (λ b. b == 61) word) × (file.path.now ≡ after_first (λ b. b == 61) word)
+
+-- the word has no `=`
+abbrev pub IsNoFile : List ℕ → Type 0
+IsNoFile word = length word ≤ position_or_len (λ b. b == 61) word
+
+-- the fault names the word, or memory is wanting
+abbrev pub NamesFile : List ℕ → Fault → Type 0
+NamesFile word (NotAFile told) = string_bytes told ≡ word
+NamesFile word Memory = ⊤
+NamesFile word fault = ⊥
 
 -- these are the files of the words, one for each, in their order
 abbrev pub AreFiles : List (Bor (List ℕ)) → List Watched → Type 0

@@ -1,5 +1,5 @@
--- What the words of `cogread` ask for.
-use Rattle.std.specs.Prelude.{◌≡◌, ℕ, ◌^◌, ◌-◌, true, false, List, Option, Some, None, option_and_then}
+-- What the words of `cogread` ask for, and the numbers of its options and of `cogserve`'s.
+use Rattle.std.specs.Prelude.{◌≡◌, ◌⊎◌, ℕ, ◌^◌, ◌-◌, true, false, List, Option, Some, None, option_and_then}
 use Rattle.std.specs.Option.{option_copied}
 use Rattle.tiff_dir.specs.declared.query.Query.{Query}
 use Rattle.tiff_dir.specs.declared.query.Query.TheVariants.{Window, Info}
@@ -9,7 +9,9 @@ use Rattle.describing.specs.declared.description.Form.TheVariants.{Words, Json}
 use Rattle.command_lines.specs.Number.{number_from}
 use Rattle.command_lines.specs.declared.read.AskedWords.{AskedWords}
 use Rattle.command_lines.specs.declared.read.AskedWords.TheVariants as words
+use Rattle.command_lines.specs.declared.read.ReadLine.{ReadLine}
 use Rattle.command_lines.specs.declared.read.WindowWords.{WindowWords}
+use Rattle.command_lines.specs.declared.serve.ServeLine.{ServeLine}
 use Rattle.programs.specs.declared.reading.Asked.{Asked}
 use Rattle.programs.specs.declared.reading.Asked.TheVariants as asked
 use Rattle.programs.specs.Number.{number_or}
@@ -41,3 +43,50 @@ IsAsked (words.Description false) a = a ≡ asked.Description Words
 IsAsked (words.Window window) (asked.Query query) = IsWindow window query
 IsAsked (words.Whole level) (asked.Whole n) = level_number (option_copied level) ≡ Some n
 IsAsked w a = ⊥
+
+-- no level is picked by these words: the number of columns, or without it that of the level, is none
+abbrev pub IsNoPick : (level columns : Option (List ℕ)) → Type 0
+IsNoPick level (Some word) = number_32 word ≡ None
+IsNoPick level None = level_number level ≡ None
+
+-- one of the window's words is no number
+abbrev pub IsNoWindow : WindowWords → Type 0
+IsNoWindow words = (number_32 words.x.now ≡ None) ⊎ (number_32 words.y.now ≡ None) ⊎ (number_32 words.w.now ≡ None)
+    ⊎ (number_32 words.h.now ≡ None) ⊎ IsNoPick (option_copied words.level) (option_copied words.columns)
+
+-- the words ask for nothing, since one of them is no number
+abbrev pub AsksNothing : AskedWords → Type 0
+AsksNothing words.Info = ⊥
+AsksNothing (words.Description json) = ⊥
+AsksNothing (words.Window window) = IsNoWindow window
+AsksNothing (words.Whole level) = level_number (option_copied level) ≡ None
+
+-- how many exchanges at most, how many blocks are kept, and how many are asked for early, by the words of these options, or without them
+abbrev pub requests_number : Option (List ℕ) → Option ℕ
+requests_number word = number_or 1 65536 64 word
+
+abbrev pub blocks_number : Option (List ℕ) → Option ℕ
+blocks_number word = number_or 66 4096 256 word
+
+abbrev pub ahead_number : Option (List ℕ) → Option ℕ
+ahead_number word = number_or 0 64 0 word
+
+-- a word of the line is no number, or none within the bounds of its option
+abbrev pub HasNoNumber : ReadLine → Type 0
+HasNoNumber line = AsksNothing line.asked ⊎ (requests_number (option_copied line.requests) ≡ None)
+    ⊎ (blocks_number (option_copied line.blocks) ≡ None) ⊎ (ahead_number (option_copied line.ahead) ≡ None)
+
+-- of the words of `cogserve`: how many connections it ends behind, how many it serves at once, and how many seconds it waits for one
+abbrev pub connections_number : List ℕ → Option ℕ
+connections_number word = number_from 1 (2 ^ 32 - 1) word
+
+abbrev pub at_once_number : Option (List ℕ) → Option ℕ
+at_once_number word = number_or 1 10000 256 word
+
+abbrev pub patience_number : Option (List ℕ) → Option ℕ
+patience_number word = number_or 1 3600 60 word
+
+-- a word of the line that says something of connections is no number within its bounds
+abbrev pub HasNoLimit : ServeLine → Type 0
+HasNoLimit line = (connections_number line.connections.now ≡ None) ⊎ (at_once_number (option_copied line.at_once) ≡ None)
+    ⊎ (patience_number (option_copied line.patience) ≡ None)

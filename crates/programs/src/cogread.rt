@@ -1,8 +1,8 @@
 //! `cogread`: reads a window, the info or a description of a file over sockets.
-ghost use Rattle.std.specs.Prelude.{◌≡◌, IfErr, IfOk, Some};
+ghost use Rattle.std.specs.Prelude.{◌≡◌, IfErr, IfOk, OnErr, Some};
 ghost use Rattle.std.specs.Option.{option_copied};
-ghost use Rattle.programs.specs.Number.{IsOfNumber, number_or};
-ghost use Rattle.programs.specs.Words.{IsAsked, IsPick, IsWindow};
+ghost use Rattle.programs.specs.Number.{IsOfNumber};
+ghost use Rattle.programs.specs.Words.{AsksNothing, HasNoNumber, IsAsked, IsNoPick, IsNoWindow, IsPick, IsWindow, ahead_number, blocks_number, requests_number};
 
 use crate::fault::Fault;
 use crate::number::{number, number_or};
@@ -39,6 +39,7 @@ struct Numbers {
 
 fn pick<R: AllocGlobal>(rt: &R, words: &WindowWords<'_>) -> Result<Pick, Fault>
     ensures ok { IfOk result (IsPick (option_copied words.now.level) (option_copied words.now.columns)) }
+    ensures err { OnErr result (IsNoPick (option_copied words.now.level) (option_copied words.now.columns)) }
     ensures kinds { IfErr result IsOfNumber }
 {
     match words.columns {
@@ -49,6 +50,7 @@ fn pick<R: AllocGlobal>(rt: &R, words: &WindowWords<'_>) -> Result<Pick, Fault>
 
 fn window<R: AllocGlobal>(rt: &R, words: &WindowWords<'_>) -> Result<Query, Fault>
     ensures ok { IfOk result (IsWindow words.now) }
+    ensures err { OnErr result (IsNoWindow words.now) }
     ensures kinds { IfErr result IsOfNumber }
 {
     Ok(Query::Window {
@@ -62,6 +64,7 @@ fn window<R: AllocGlobal>(rt: &R, words: &WindowWords<'_>) -> Result<Query, Faul
 
 fn asked<R: AllocGlobal>(rt: &R, words: AskedWords<'_>) -> Result<Asked, Fault>
     ensures ok { IfOk result (IsAsked words.entry) }
+    ensures err { OnErr result (AsksNothing words.entry) }
     ensures kinds { IfErr result IsOfNumber }
 {
     match words {
@@ -77,9 +80,10 @@ fn asked<R: AllocGlobal>(rt: &R, words: AskedWords<'_>) -> Result<Asked, Fault>
 
 fn numbers_of<R: AllocGlobal>(rt: &R, line: &ReadLine<'_>) -> Result<Numbers, Fault>
     ensures asked { IfOk result (λ numbers. IsAsked line.now.asked numbers.asked) }
-    ensures requests { IfOk result (λ numbers. number_or 1 65536 64 (option_copied line.now.requests) ≡ Some numbers.requests) }
-    ensures blocks { IfOk result (λ numbers. number_or 66 4096 256 (option_copied line.now.blocks) ≡ Some numbers.blocks) }
-    ensures ahead { IfOk result (λ numbers. number_or 0 64 0 (option_copied line.now.ahead) ≡ Some numbers.ahead) }
+    ensures requests { IfOk result (λ numbers. requests_number (option_copied line.now.requests) ≡ Some numbers.requests) }
+    ensures blocks { IfOk result (λ numbers. blocks_number (option_copied line.now.blocks) ≡ Some numbers.blocks) }
+    ensures ahead { IfOk result (λ numbers. ahead_number (option_copied line.now.ahead) ≡ Some numbers.ahead) }
+    ensures err { OnErr result (HasNoNumber line.now) }
     ensures kinds { IfErr result IsOfNumber }
 {
     Ok(Numbers {

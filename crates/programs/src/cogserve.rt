@@ -1,10 +1,10 @@
 //! `cogserve`: publishes files of the disk and serves them over many connections at once.
-ghost use Rattle.std.specs.Prelude.{◌≡◌, ◌*◌, ◌-◌, ◌^◌, ◌++◌, ◌∷◌, [], IfErr, IfOk, OnOk, Some, option_map};
+ghost use Rattle.std.specs.Prelude.{◌≡◌, ◌*◌, ◌++◌, ◌∷◌, [], IfErr, IfOk, OnErr, OnOk, Some, option_map};
 ghost use Rattle.std.specs.Int.NonZero.{non_zero_usize_get};
 ghost use Rattle.std.specs.Option.{option_copied};
-ghost use Rattle.command_lines.specs.Number.{number_from};
-ghost use Rattle.programs.specs.Files.{AreFiles, IsFile, IsOfFiles};
-ghost use Rattle.programs.specs.Number.{IsOfNumber, number_or};
+ghost use Rattle.programs.specs.Files.{AreFiles, IsFile, IsNoFile, IsOfFiles, NamesFile};
+ghost use Rattle.programs.specs.Number.{IsOfNumber};
+ghost use Rattle.programs.specs.Words.{HasNoLimit, at_once_number, connections_number, patience_number};
 
 use crate::fault::Fault;
 use crate::number::{number, number_or};
@@ -70,12 +70,13 @@ where
 
 /// What the words say of connections: 256 at once, and a patience of 60 seconds, where they don't.
 fn limits_of<R: AllocGlobal>(rt: &R, line: &ServeLine<'_>) -> Result<Limits, Fault>
-    ensures connections { IfOk result (λ limits. number_from 1 (2 ^ 32 - 1) line.now.connections.now ≡ Some limits.connections) }
-    ensures at_once { IfOk result (λ limits. number_or 1 10000 256 (option_copied line.now.at_once)
+    ensures connections { IfOk result (λ limits. connections_number line.now.connections.now ≡ Some limits.connections) }
+    ensures at_once { IfOk result (λ limits. at_once_number (option_copied line.now.at_once)
         ≡ Some (non_zero_usize_get limits.at_once)) }
     // In milliseconds.
-    ensures patience { IfOk result (λ limits. option_map (λ seconds. seconds * 1000) (number_or 1 3600 60 (option_copied line.now.patience))
+    ensures patience { IfOk result (λ limits. option_map (λ seconds. seconds * 1000) (patience_number (option_copied line.now.patience))
         ≡ Some limits.patience) }
+    ensures err { OnErr result (HasNoLimit line.now) }
     ensures kinds { IfErr result IsOfNumber }
 {
     let connections = number(rt, line.connections, 1, u32::MAX)?;
@@ -91,6 +92,8 @@ fn limits_of<R: AllocGlobal>(rt: &R, line: &ServeLine<'_>) -> Result<Limits, Fau
 /// The file that a word names as `NAME=PATH`, cut at the first `=`.
 fn file_of<'a, R: AllocGlobal>(rt: &R, word: &'a str) -> Result<Watched<'a>, Fault>
     ensures ok { IfOk result (IsFile word.entry.now) }
+    ensures err { OnErr result (IsNoFile word.entry.now) }
+    ensures told { IfErr result (NamesFile word.entry.now) }
     ensures kinds { IfErr result IsOfFiles }
 {
     match word.split_once('=') {

@@ -47,6 +47,7 @@ pub enum Fault {
 }
 
 impl Fault {
+    ghost use Rattle.std.specs.Prelude.{is_ok};
     ghost use Rattle.programs.specs.Status.{EndsBy, EndsWith, HasStatus};
 
     /// The exit status: 0 for help and the version, 1 for files, sockets, publications and memory, 2 for the command line and scripts, 3 for a fault of the file
@@ -83,7 +84,7 @@ impl Fault {
         ensures { EndsWith self.now result }
     {
         let printed = self.print(rt, program);
-        let status = self.status_by(printed.is_ok());
+        let status = self.status_by(&printed);
         if let Err(error) = printed
             && self.status() == 0
         {
@@ -92,12 +93,12 @@ impl Fault {
         status
     }
 
-    /// The exit status where its line, or the help that was asked for, is printed, or isn't: 1 without that help.
-    fn status_by(&self, is_printed: bool) -> u8
-        ensures { EndsBy is_printed self.now result }
+    /// The exit status where its line, or the help that was asked for, is printed so, or isn't: 1 without that help.
+    fn status_by(&self, printed: &io::Result<()>) -> u8
+        ensures { EndsBy (is_ok printed.now) self.now result }
     {
         match self.status() {
-            0 if !is_printed => 1,
+            0 if printed.is_err() => 1,
             status => status,
         }
     }

@@ -1,5 +1,5 @@
 //! How `cogread` reads: its exchanges, which are told with `--verbose` and drawn with `--progress`, and what is asked of the file.
-ghost use Rattle.std.specs.Prelude.{◌≡◌, ◌≢◌, ℕ, ◌+◌, ◌<◌, ◌≤◌, ◌^◌, ◌⊎◌, false, Err, IfErr, IfSome, OnOk, Some, slice_get};
+ghost use Rattle.std.specs.Prelude.{◌≡◌, ◌≢◌, ℕ, ◌+◌, ◌<◌, ◌≤◌, ◌^◌, ◌⊎◌, false, true, Err, IfErr, IfSome, IsSomeAnd, None, OnOk, Some, slice_get};
 ghost use Rattle.http_range.specs.Book.{Book, HasDistinctTags};
 ghost use Rattle.cog_client.specs.Calls.{IsIdle};
 ghost use Rattle.cog_client.specs.declared.report.Report.{Report};
@@ -10,7 +10,7 @@ ghost use Rattle.exchange_notes.specs.Noted.{source_of};
 ghost use Rattle.programs.specs.declared.fault.Fault.TheVariants.{NoReport};
 ghost use Rattle.programs.specs.declared.reading.Asked.TheVariants.{Whole};
 ghost use Rattle.programs.specs.Exchanges.{AsksOf, Ends, StillReads};
-ghost use Rattle.programs.specs.Text.{HasNothing, IsOfFile, IsOfReading, IsOfWholeBy, IsWritten, StaysWithin, WritesTrue};
+ghost use Rattle.programs.specs.Text.{HasNothing, IsOfFile, IsOfReading, IsOfWholeBy, IsWritten, StaysWithin, TellsSides, WritesTrue};
 
 use crate::fault::Fault;
 use crate::text::Text;
@@ -239,8 +239,9 @@ fn level_sides(info: &Info, level: u32) -> (u32, u32)
 /// a window that isn't, either.
 #[tactic(auto, using(crate::proofs::WholeLemmas::whole_told))]
 fn whole_of(client: &Client, level: u32) -> Option<(Tag, Query)>
-    ensures { (book : Book) → HasDistinctTags book → ClientAgrees client.now book
+    ensures whole { (book : Book) → HasDistinctTags book → ClientAgrees client.now book
         → IfSome result (λ whole. IsOfWholeBy book whole.0 level whole.1) }
+    ensures none { result ≡ None → IfSome (report_of client.now) (λ r. TellsSides (Whole level) r.outcome → ⊥) }
 {
     fronts_are_read();
     let report = client.report()?;
@@ -254,7 +255,8 @@ fn whole_of(client: &Client, level: u32) -> Option<(Tag, Query)>
 
 /// Whether a client's report stands under another tag.
 fn has_another_tag(client: &Client, tag: &Tag) -> bool
-    ensures { result ≡ false → IfSome (report_of client.now) (λ r. r.tag ≡ tag.now) }
+    ensures same { result ≡ false → IfSome (report_of client.now) (λ r. r.tag ≡ tag.now) }
+    ensures other { result ≡ true → IsSomeAnd (report_of client.now) (λ r. r.tag ≢ tag.now) }
 {
     match client.report() {
         Some(report) => report.tag != *tag,

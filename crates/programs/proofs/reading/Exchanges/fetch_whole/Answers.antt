@@ -31,7 +31,7 @@ pub returns-then-not-has_another_tag-clause-asks : goal.returns-then-not-has_ano
 returns-then-not-has_another_tag-clause-asks g c = λ book reads.
     let first = c.fetch.ensures.keeps.reads book (opened_reads _ Info c.loop.client c.open.new.self book c.open.ensures (c.loop.invariant.reads book reads)) in
     let is = asks_query _ _ c.in-Some.window c.fetch.new.client c.open-in-loop.new.self c.fetch-in-loop.new.client c.open-in-loop.ensures c.fetch-in-loop.ensures.keeps in
-    asks_whole book c.args.level c.in-Some.tag c.in-Some.window c.fetch-in-loop.new.client is (c.has_another_tag.ensures c.if-not-has_another_tag.true) (c.in-Some.ensures book first.distinct first.agrees)
+    asks_whole book c.args.level c.in-Some.tag c.in-Some.window c.fetch-in-loop.new.client is (c.has_another_tag.ensures.same c.if-not-has_another_tag.true) (c.in-Some.ensures.whole book first.distinct first.agrees)
 
 pub loop-preserved : goal.loop-preserved
 loop-preserved g c = record {
