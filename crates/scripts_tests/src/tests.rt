@@ -39,10 +39,8 @@ fn shortened(alloc: Global) -> Result<Vec<u8>, Memory> {
     Ok(file)
 }
 
-/// The files of the scripts: the fixtures, an empty one, and f1 with a loop of directories, with compression 5, with a
-/// tile of 255 bytes and without its last byte.
-fn files(alloc: Global) -> Result<Loaded, Memory> {
-    let mut files = Loaded::new(alloc);
+/// Adds the fixtures.
+fn add_fixtures(alloc: Global, files: &mut Loaded) -> Result<(), Memory> {
     files.add(b"f1.tif", f1(alloc)?)?;
     files.add(b"f1m.tif", f1m(alloc)?)?;
     files.add(b"f2.tif", f2(alloc)?)?;
@@ -51,11 +49,25 @@ fn files(alloc: Global) -> Result<Loaded, Memory> {
     files.add(b"f4.tif", f4(alloc)?)?;
     files.add(b"f6.tif", f6(alloc)?)?;
     files.add(b"f6m.tif", f6m(alloc)?)?;
+    Ok(())
+}
+
+/// Adds an empty file, and f1 with a loop of directories, with compression 5, with a tile of 255 bytes and without its last
+/// byte.
+fn add_damaged(alloc: Global, files: &mut Loaded) -> Result<(), Memory> {
     files.add(b"empty", Vec::new(alloc))?;
     files.add(b"loop.tif", damaged(alloc, 118, 8)?)?;
     files.add(b"coded.tif", damaged(alloc, 54, 5)?)?;
     files.add(b"tile.tif", damaged_twice(alloc)?)?;
     files.add(b"short.tif", shortened(alloc)?)?;
+    Ok(())
+}
+
+/// The files of the scripts.
+fn files(alloc: Global) -> Result<Loaded, Memory> {
+    let mut files = Loaded::new(alloc);
+    add_fixtures(alloc, &mut files)?;
+    add_damaged(alloc, &mut files)?;
     Ok(files)
 }
 
@@ -70,22 +82,38 @@ fn events(alloc: Global, text: &str) -> Result<Vec<Event>, ScriptError> {
 /// Sizes of the pieces in which answers come: the head of an answer has about 171 bytes, a block 16,384.
 const PIECES: [usize; 5] = [1, 7, 171, 16_384, 100_000];
 
+/// The text of the log of a run, of answers that come whole, or in pieces of this size.
+fn text_of_run(alloc: Global, events: &[Event], piece: Option<usize>) -> Result<Vec<u8>, Memory> {
+    let mut log = Log::new(alloc);
+    match piece {
+        Some(piece) => run_cut(alloc, events, piece, &mut log)?,
+        None => run(alloc, events, &mut log)?,
+    }
+    log_text(alloc, &log)
+}
+
+/// Expects the log of a script's events, of answers that come whole, or in pieces of this size.
+fn expect_log(
+    rt: &(impl Abort + AllocGlobal),
+    events: &[Event],
+    (text, want): (&str, &str),
+    piece: Option<usize>,
+) -> Result<(), Fail> {
+    let found = text_of_run(rt.alloc(), events, piece)?;
+    assert_eq!(rt;
+        str::from_utf8(&found),
+        Ok(want),
+        "of the script {text:?} by {piece:?}"
+    );
+    Ok(())
+}
+
 /// Expects a script's log, whether answers come whole or in pieces.
 fn expect(rt: &(impl Abort + AllocGlobal), text: &str, want: &str) -> Result<(), Fail> {
     let events = events(rt.alloc(), text)?;
-    let mut log = Log::new(rt.alloc());
-    run(rt.alloc(), &events, &mut log)?;
-    let found = log_text(rt.alloc(), &log)?;
-    assert_eq!(rt; str::from_utf8(&found), Ok(want), "of the script {text:?}");
+    expect_log(rt, &events, (text, want), None)?;
     for piece in PIECES {
-        let mut log = Log::new(rt.alloc());
-        run_cut(rt.alloc(), &events, piece, &mut log)?;
-        let found = log_text(rt.alloc(), &log)?;
-        assert_eq!(rt;
-            str::from_utf8(&found),
-            Ok(want),
-            "of the script {text:?} by {piece}"
-        );
+        expect_log(rt, &events, (text, want), Some(piece))?;
     }
     Ok(())
 }
@@ -93,14 +121,20 @@ fn expect(rt: &(impl Abort + AllocGlobal), text: &str, want: &str) -> Result<(),
 /// The events of a script, and the lines that the log has of each.
 type Steps = &'static [(&'static str, &'static str)];
 
+/// Puts a line behind a text.
+fn push_line(text: &mut String, line: &str) -> Result<(), Memory> {
+    text.push_str(line)?;
+    text.push('\n')?;
+    Ok(())
+}
+
 /// The text of a script, and of its log.
 fn texts_of(alloc: Global, steps: Steps) -> Result<(String, String), Memory> {
     let mut script = String::new(alloc);
     let mut log = String::new(alloc);
-    for step in steps {
-        let (event, lines) = *step;
-        script.push_str(format!(in alloc; "{event}\n")?.as_str())?;
-        log.push_str(format!(in alloc; "{lines}\n")?.as_str())?;
+    for (event, lines) in steps {
+        push_line(&mut script, event)?;
+        push_line(&mut log, lines)?;
     }
     Ok((script, log))
 }

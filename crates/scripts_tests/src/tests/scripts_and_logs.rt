@@ -1,8 +1,8 @@
 //! Worked rows as scripts with their logs.
-use super::{Steps, expect, expect_after, expect_steps};
-use scripts::log_text;
+use super::{Steps, expect, expect_after, expect_log, expect_steps};
+use std::alloc::{AllocError, Global};
 use std::test::Fail;
-use world::{Event, Log, run};
+use world::Event;
 
 /// A window of f1.
 #[rattlefmt::skip]
@@ -158,26 +158,25 @@ fn refuses_names_of_other_bytes_and_empty_files(rt: HostRuntime) -> Result<(), F
     )
 }
 
-#[test]
-fn refuses_a_file_past_the_limit(rt: HostRuntime) -> Result<(), Fail> {
-    let alloc = rt.alloc();
-    let mut events = Vec::new(alloc);
-    for len in [67_108_865, 67_108_864] {
-        let name = Vec::from_slice(alloc, b"a")?;
-        let file = vec![in alloc; 0; len]?;
-        events.push(Event::Publish { name, file })?;
-    }
-    let mut log = Log::new(alloc);
-    run(alloc, &events, &mut log)?;
-    let text = log_text(alloc, &log)?;
-    assert_eq!(rt; str::from_utf8(&text), Ok("refused 3\npublished \"0-1\"\n"));
-    Ok(())
+/// The publication of so many bytes 0 as `a`.
+fn publication(alloc: Global, len: usize) -> Result<Event, AllocError> {
+    let name = Vec::from_slice(alloc, b"a")?;
+    let file = vec![in alloc; 0; len]?;
+    Ok(Event::Publish { name, file })
 }
 
-/// 64 names are taken, and a further one is refused; a name that is there is published again.
 #[test]
-fn refuses_the_65th_name(rt: HostRuntime) -> Result<(), Fail> {
-    let alloc = rt.alloc();
+fn refuses_a_file_past_the_limit(rt: HostRuntime) -> Result<(), Fail> {
+    let mut events = Vec::new(rt.alloc());
+    for len in [67_108_865, 67_108_864] {
+        events.push(publication(rt.alloc(), len)?)?;
+    }
+    let texts = ("two publications", "refused 3\npublished \"0-1\"\n");
+    expect_log(&rt, &events, texts, None)
+}
+
+/// A script that publishes f1 under 65 names and under the 64th again, and its log.
+fn texts_of_65_names(alloc: Global) -> Result<(String, String), AllocError> {
     let mut text = String::new(alloc);
     let mut want = String::new(alloc);
     for i in 0..64u8 {
@@ -186,5 +185,12 @@ fn refuses_the_65th_name(rt: HostRuntime) -> Result<(), Fail> {
     }
     text.push_str("publish n64 f1.tif\npublish n63 f1.tif\n")?;
     want.push_str("refused 4\npublished \"0-65\"\n")?;
+    Ok((text, want))
+}
+
+/// 64 names are taken, and a further one is refused; a name that is there is published again.
+#[test]
+fn refuses_the_65th_name(rt: HostRuntime) -> Result<(), Fail> {
+    let (text, want) = texts_of_65_names(rt.alloc())?;
     expect(&rt, text.as_str(), want.as_str())
 }
