@@ -1,6 +1,7 @@
 //! The events of the lines of a script, and the lines that are none.
 use scripts::{Loaded, ScriptError, script};
 use std::alloc::Global;
+use std::process::Abort;
 use std::test::Fail;
 use tiff_dir::{Pick, Query};
 use world::Event;
@@ -31,41 +32,66 @@ const BY_COLUMNS: Query = Query::Window {
     pick: Pick::Columns(2),
 };
 
+/// Whether a part of answer 5 is delivered to client 6, up to this place or whole.
+fn is_delivery(event: &Event, want: Option<u32>) -> bool {
+    matches!(event, Event::Deliver { client: 6, answer: 5, cut } if *cut == want)
+}
+
+/// Whether this file is published under this name.
+fn is_publication(event: &Event, want: (&[u8], &[u8])) -> bool {
+    matches!(event, Event::Publish { name, file } if (name.as_slice(), file.as_slice()) == want)
+}
+
+/// Whether a client of this name is made, of as many blocks as can be.
+fn is_client(event: &Event, want: &[u8]) -> bool {
+    matches!(event, Event::NewClient { name, blocks: u32::MAX } if name.as_slice() == want)
+}
+
+/// Whether this message is asked.
+fn is_ask(event: &Event, want: &[u8]) -> bool {
+    matches!(event, Event::Ask(message) if message.as_slice() == want)
+}
+
+/// Whether this is event `n` of a script with one of each kind.
+fn is_event(n: usize, event: &Event) -> bool {
+    match n {
+        0 => matches!(event, Event::Epoch(7)),
+        1 => is_publication(event, (b"a", b"FILE")),
+        2 => is_client(event, b"b/c"),
+        3 => matches!(event, Event::Open { client: 1, query } if *query == QUERY),
+        4 => matches!(event, Event::Exchange(9)),
+        5 => is_ask(event, b"\x00\xff\xab"),
+        6 => matches!(
+            event,
+            Event::Open {
+                client: 0,
+                query: Query::Info
+            }
+        ),
+        7 => matches!(event, Event::Open { client: 1, query } if *query == BY_COLUMNS),
+        8 => matches!(event, Event::Forget(8)),
+        9 => matches!(event, Event::AskFrom(7)),
+        10 => is_delivery(event, Some(4)),
+        11 => is_delivery(event, None),
+        12 => matches!(event, Event::Check(u32::MAX)),
+        _ => false,
+    }
+}
+
+/// Expects one event of each kind.
+fn expect_events(rt: &impl Abort, events: &[Event]) {
+    assert_eq!(rt; events.len(), 13);
+    for (n, event) in events.iter().enumerate() {
+        assert!(rt; is_event(n, event), "event {n}");
+    }
+}
+
 #[test]
 fn reads_an_event_of_each_kind(rt: HostRuntime) -> Result<(), Fail> {
     let text = b"# a comment\n\nepoch 007\npublish a data/f\nclient b/c 4294967295\n\
         open 1 level 2 3 4 5 6\n\nexchange 9\nask 00fFAb\nopen 0 info\nopen 1 columns 2 3 4 5 6\nforget 8\n\
         askfrom 7\ndeliver 6 5 4\ndeliver 6 5 -\ncheck 4294967295\n";
-    let events = events(rt.alloc(), text)?;
-    assert_eq!(rt; events.len(), 13);
-    assert!(rt; matches!(events[0], Event::Epoch(7)));
-    assert!(rt;
-        matches!(&events[1], Event::Publish { name, file } if name.as_slice() == b"a".as_slice() && file.as_slice() == b"FILE".as_slice())
-    );
-    assert!(rt;
-        matches!(&events[2], Event::NewClient { name, blocks: u32::MAX } if name.as_slice() == b"b/c".as_slice())
-    );
-    assert!(rt; matches!(&events[3], Event::Open { client: 1, query } if *query == QUERY));
-    assert!(rt; matches!(events[4], Event::Exchange(9)));
-    assert!(rt;
-        matches!(&events[5], Event::Ask(message) if message.as_slice() == b"\x00\xff\xab".as_slice())
-    );
-    assert!(rt;
-        matches!(
-            &events[6],
-            Event::Open {
-                client: 0,
-                query: Query::Info
-            }
-        )
-    );
-    assert!(rt; matches!(&events[7], Event::Open { client: 1, query } if *query == BY_COLUMNS));
-    assert!(rt; matches!(events[8], Event::Forget(8)));
-    assert!(rt; matches!(events[9], Event::AskFrom(7)));
-    for (event, want) in events[10..12].iter().zip([Some(4), None]) {
-        assert!(rt; matches!(event, Event::Deliver { client: 6, answer: 5, cut } if *cut == want));
-    }
-    assert!(rt; matches!(events[12], Event::Check(u32::MAX)));
+    expect_events(&rt, &events(rt.alloc(), text)?);
     Ok(())
 }
 
@@ -109,15 +135,18 @@ const NO_EVENTS: [&str; 36] = [
     "check 0 0",
 ];
 
+/// Expects that a line is no event.
+fn expect_no_event(rt: &(impl Abort + AllocGlobal), line: &str) -> Result<(), Fail> {
+    let text = format!(in rt.alloc(); "epoch 1\n#\n{line}\npublish a nowhere\n")?;
+    let refusal = events(rt.alloc(), text.as_bytes()).err();
+    assert_eq!(rt; refusal, Some(ScriptError::NotAnEvent(3)), "{line:?}");
+    Ok(())
+}
+
 #[test]
 fn refuses_a_line_of_another_form(rt: HostRuntime) -> Result<(), Fail> {
     for line in NO_EVENTS {
-        let text = format!(in rt.alloc(); "epoch 1\n#\n{line}\npublish a nowhere\n")?;
-        assert_eq!(rt;
-            events(rt.alloc(), text.as_bytes()).err(),
-            Some(ScriptError::NotAnEvent(3)),
-            "{line:?}"
-        );
+        expect_no_event(&rt, line)?;
     }
     Ok(())
 }
