@@ -2,6 +2,7 @@
 use fixtures_support::{f1, f1m};
 use reference_support::sample;
 use std::alloc::Global;
+use std::process::Abort;
 use std::test::Fail;
 use tiff_dir::{FileFault, Pick, Query};
 use world::{Event, Log, Outcome, Window, run};
@@ -29,8 +30,11 @@ fn read(alloc: Global, file: &[u8], sides: [u32; 4]) -> Result<Log, Fail> {
     Ok(log)
 }
 
-/// The last report, where it is a window of one sample of 8 bits to a pixel: its tag, sides and samples.
-fn last_window(log: &Log) -> Option<(&[u8], u32, u32, &[u8])> {
+/// What a report tells of a window: its tag, sides and samples.
+type Told<'a> = (&'a [u8], u32, u32, &'a [u8]);
+
+/// The last report, where it is a window of one sample of 8 bits to a pixel.
+fn last_window(log: &Log) -> Option<Told<'_>> {
     let report = log.entries.last()?.report.as_ref()?;
     match &report.outcome {
         Outcome::Window(
@@ -53,14 +57,19 @@ fn last_fault(log: &Log) -> Option<FileFault> {
     }
 }
 
+/// The sample in this column and row by the plain program.
+fn plain_sample(alloc: Global, file: &[u8], column: u32, row: u32) -> Result<u8, Fail> {
+    let value = sample(alloc, file, 0, column, row, 0)?.ok_or("no sample")?;
+    Ok(u8::try_from(value).ok().ok_or("more than a byte")?)
+}
+
 /// The samples of the rectangle by the plain program, row by row.
 fn samples(alloc: Global, file: &[u8], sides: [u32; 4]) -> Result<Vec<u8>, Fail> {
     let [x, y, w, h] = sides;
     let mut samples = Vec::new(alloc);
     for row in y..y.saturating_add(h) {
         for column in x..x.saturating_add(w) {
-            let value = sample(alloc, file, 0, column, row, 0)?.ok_or("no sample")?;
-            samples.push(u8::try_from(value).map_err(|_| "more than a byte")?)?;
+            samples.push(plain_sample(alloc, file, column, row)?)?;
         }
     }
     Ok(samples)
@@ -80,50 +89,82 @@ const WINDOWS: [[u32; 4]; 10] = [
     [15, 15, 1, 1],
 ];
 
+/// Whether this is a window of the first revision, of these sides and samples.
+fn is_window(told: Option<Told<'_>>, sides: [u32; 4], want: &[u8]) -> bool {
+    match told {
+        Some((tag, w, h, pixels)) => {
+            tag == b"\"1-1\"".as_slice() && (w, h) == (sides[2], sides[3]) && pixels == want
+        }
+        None => false,
+    }
+}
+
+/// Expects a log of five entries, the last of which reports a window of these sides and samples.
+fn expect_log(
+    rt: &impl Abort,
+    log: &Log,
+    (name, sides): (&str, [u32; 4]),
+    want: &[u8],
+) -> Result<(), Fail> {
+    assert_eq!(rt; log.entries.len(), 5, "{sides:?} of {name}");
+    let told = last_window(log);
+    assert!(rt;
+        is_window(told, sides, want),
+        "{sides:?} of {name}: {told:?}"
+    );
+    Ok(())
+}
+
+/// Expects the samples of a window of this file.
+fn expect_window(
+    rt: &(impl Abort + AllocGlobal),
+    (name, file): (&str, &[u8]),
+    sides: [u32; 4],
+    want: &[u8],
+) -> Result<(), Fail> {
+    let log = read(rt.alloc(), file, sides)?;
+    expect_log(rt, &log, (name, sides), want)
+}
+
 #[test]
 fn reports_the_samples_of_a_window(rt: HostRuntime) -> Result<(), Fail> {
     let alloc = rt.alloc();
-    for (name, file) in [("f1", f1(alloc)?), ("f1m", f1m(alloc)?)] {
-        let log = read(alloc, &file, [2, 1, 3, 2])?;
-        assert_eq!(rt; log.entries.len(), 5, "of {name}");
-        let want: [u8; 6] = [0x12, 0x13, 0x14, 0x22, 0x23, 0x24];
-        assert_eq!(rt;
-            last_window(&log),
-            Some((&b"\"1-1\""[..], 3, 2, &want[..])),
-            "of {name}"
-        );
+    let want: [u8; 6] = [0x12, 0x13, 0x14, 0x22, 0x23, 0x24];
+    expect_window(&rt, ("f1", &f1(alloc)?), [2, 1, 3, 2], &want)?;
+    expect_window(&rt, ("f1m", &f1m(alloc)?), [2, 1, 3, 2], &want)?;
+    expect_window(&rt, ("f1", &f1(alloc)?), [15, 15, 1, 1], &[0xff])
+}
+
+/// Expects the samples of each window that the plain program reads.
+fn expect_windows(rt: &(impl Abort + AllocGlobal), name: &str, file: &[u8]) -> Result<(), Fail> {
+    for sides in WINDOWS {
+        let want = samples(rt.alloc(), file, sides)?;
+        expect_window(rt, (name, file), sides, &want)?;
     }
-    let file = f1(alloc)?;
-    let log = read(alloc, &file, [15, 15, 1, 1])?;
-    assert_eq!(rt;
-        last_window(&log),
-        Some((&b"\"1-1\""[..], 1, 1, &[0xff][..]))
-    );
     Ok(())
 }
 
 #[test]
 fn reports_the_samples_that_the_plain_program_reads(rt: HostRuntime) -> Result<(), Fail> {
-    let alloc = rt.alloc();
-    for (name, file) in [("f1", f1(alloc)?), ("f1m", f1m(alloc)?)] {
-        for sides in WINDOWS {
-            let want = samples(alloc, &file, sides)?;
-            let log = read(alloc, &file, sides)?;
-            let (_, w, h, pixels) = last_window(&log).ok_or("no window")?;
-            assert_eq!(rt; (w, h), (sides[2], sides[3]), "{sides:?} of {name}");
-            assert_eq!(rt; pixels, want.as_slice(), "{sides:?} of {name}");
-        }
-    }
+    expect_windows(&rt, "f1", &f1(rt.alloc())?)?;
+    expect_windows(&rt, "f1m", &f1m(rt.alloc())?)
+}
+
+/// Expects that a window is a fault.
+fn expect_outside(
+    rt: &(impl Abort + AllocGlobal),
+    file: &[u8],
+    sides: [u32; 4],
+) -> Result<(), Fail> {
+    let log = read(rt.alloc(), file, sides)?;
+    assert_eq!(rt; last_fault(&log), Some(FileFault::Outside), "{sides:?}");
     Ok(())
 }
 
 #[test]
 fn reports_windows_outside_the_level_as_a_fault(rt: HostRuntime) -> Result<(), Fail> {
-    let alloc = rt.alloc();
-    let file = f1(alloc)?;
-    for sides in [[16, 0, 1, 1], [0, 0, 0, 1], [u32::MAX, 0, 2, 1]] {
-        let log = read(alloc, &file, sides)?;
-        assert_eq!(rt; last_fault(&log), Some(FileFault::Outside), "{sides:?}");
-    }
-    Ok(())
+    let file = f1(rt.alloc())?;
+    expect_outside(&rt, &file, [16, 0, 1, 1])?;
+    expect_outside(&rt, &file, [0, 0, 0, 1])?;
+    expect_outside(&rt, &file, [u32::MAX, 0, 2, 1])
 }
