@@ -49,18 +49,23 @@ impl Transport for Direct<'_> {
     }
 }
 
-/// Reads the window of the file `a`, in at most 64 exchanges, and keeps 256 blocks of 16,384 bytes for the next query.
-fn report_of_server(alloc: Global, server: &Server) -> Result<Option<Report>, Fail> {
+/// Reads the window of the file `a`, in at most 64 exchanges.
+fn report_to(alloc: Global, client: &mut Client, server: &Server) -> Result<Option<Report>, Fail> {
     let mut transport = Direct {
         server,
         exchanges: 0,
     };
-    let mut client = Client::new(alloc, b"localhost", b"a", 256)?;
     client.open(WINDOW);
-    match fetch(&mut client, &mut transport, 64)? {
+    match fetch(client, &mut transport, 64)? {
         Some(report) => Ok(Some(report.copy(alloc)?)),
         None => Ok(None),
     }
+}
+
+/// Reads it by a client that keeps 256 blocks of 16,384 bytes for the next query.
+fn report_of_server(alloc: Global, server: &Server) -> Result<Option<Report>, Fail> {
+    let mut client = Client::new(alloc, b"localhost", b"a", 256)?;
+    report_to(alloc, &mut client, server)
 }
 
 #[test]
