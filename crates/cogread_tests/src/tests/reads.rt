@@ -1,50 +1,70 @@
 //! `cogread` over a server in memory: what it prints, and the lines of its faults.
-use cog_client::{Client, Query};
+ghost use Rattle.std.specs.Prelude.{◌+◌, ◌^◌, ◌<◌};
+
+use cog_client::{Client, Pieces, Query};
 use cog_server::Server;
 use exchange_notes::{Noted, NotedNet};
-use fixtures_support::f1;
+use fixtures_support::{f1, f2, f2b};
 use programs::{Asked, Exchanges, Fault, Telling};
 use programs_support::{Capture, Told};
+use std::alloc::{AllocError, Global};
 use std::io;
 use std::rt::Clock;
 use std::test::Fail;
 use tiff_dir::Pick;
-use transports::{InMemory, InPieces, server_of_one};
+use transports::{InMemory, InPieces, Replaced, server_of_one};
 
-/// What is read of a server in memory, over a runtime, and whether it is written.
-fn read<R: AllocGlobal + Clock>(
+/// The sizes of the pieces in which answers come.
+const SIZES: [usize; 3] = [1, 170, 4096];
+
+/// What is read of a source, in four exchanges at most, over a runtime, and whether it is written.
+fn read<R: AllocGlobal + Clock, P: Pieces + Drop>(
     capture: &Capture<'_, R>,
-    server: &Server,
+    pieces: P,
     asked: Asked,
-) -> Result<(), Fault> {
+) -> Result<(), Fault>
+    requires { P.count pieces + 4 < 2 ^ 64 }
+{
     let alloc = capture.alloc();
     let Ok(mut client) = Client::new(alloc, b"cog.test", b"a", 66) else {
         return Err(Fault::Memory);
     };
-    let memory = InMemory::new(server, b"a");
-    let mut noted = Noted::new(alloc, InPieces::new(alloc, memory, &[1, 170, 4096]));
+    let mut noted = Noted::new(alloc, pieces);
     let exchanges = Exchanges {
         rt: capture,
         net: &NotedNet::new(capture),
-        requests: 3,
+        requests: 4,
         telling: Telling::Nothing,
     };
     let text = exchanges.text(&mut client, &mut noted, asked)?;
     Ok(text.write_to(&mut io::writer(capture))?)
 }
 
-/// What is printed of what is asked, told and ended with.
-pub fn told_of<R: AllocGlobal + Clock>(
+/// What is printed of what is asked of a source, told and ended with.
+fn told_over<R: AllocGlobal + Clock, P: Pieces + Drop>(
     capture: Capture<'_, R>,
-    server: &Server,
+    pieces: P,
     asked: Asked,
-) -> Told {
-    let status = match read(&capture, server, asked) {
+) -> Told
+    requires { P.count pieces + 4 < 2 ^ 64 }
+{
+    let status = match read(&capture, pieces, asked) {
         Ok(()) => 0,
         Err(fault) => fault.tell(&capture, "cogread"),
     };
     let (out, err) = capture.into_texts();
     Told { out, err, status }
+}
+
+/// What is printed of what is asked of a server in memory.
+pub fn told_of<R: AllocGlobal + Clock>(
+    capture: Capture<'_, R>,
+    server: &Server,
+    asked: Asked,
+) -> Told {
+    let memory = InMemory::new(server, b"a");
+    let pieces = InPieces::new(capture.alloc(), memory, &SIZES);
+    told_over(capture, pieces, asked)
 }
 
 /// Two rows of three columns, from row 1 on.
@@ -83,6 +103,37 @@ fn reads_the_whole_of_a_level(rt: HostRuntime) -> Result<(), Fail> {
     }
     assert_eq!(rt; told.out, want);
     assert!(rt; told.err.is_empty());
+    assert_eq!(rt; told.status, 0);
+    Ok(())
+}
+
+/// The picture of f2b, whose samples in the tile of 16 by 16 with the number t, row by row of tiles, are 255 - t.
+fn picture_of_f2b(alloc: Global) -> Result<Vec<u8>, AllocError> {
+    let mut picture = Vec::from_slice(alloc, b"P5\n256 256\n255\n")?;
+    for row in 0..=u8::MAX {
+        for column in 0..=u8::MAX {
+            picture.push(255 - (row / 16 * 16 + column / 16))?;
+        }
+    }
+    Ok(picture)
+}
+
+/// Of the old file an answer tells the sides of its level, and then the new one is there, whose sides are read before the whole of it.
+#[test]
+fn reads_the_whole_of_a_file_that_is_replaced(rt: HostRuntime) -> Result<(), Fail> {
+    let old = server_of_one(rt.alloc(), 1, b"a", f2(rt.alloc())?)?;
+    let new = server_of_one(rt.alloc(), 2, b"a", f2b(rt.alloc())?)?;
+    let replaced = Replaced::new(&old, &new, b"a", 1);
+    let pieces = InPieces::new(rt.alloc(), replaced, &SIZES);
+    let told = told_over(Capture::new(&rt), pieces, Asked::Whole { level: 0 });
+    let want = picture_of_f2b(rt.alloc())?;
+    assert!(rt;
+        told.out == want,
+        "{} bytes, {:?}, {}",
+        told.out.len(),
+        told.err,
+        told.status
+    );
     assert_eq!(rt; told.status, 0);
     Ok(())
 }
