@@ -9,8 +9,8 @@
 //! | `PROGRAM: not a number: WORD` | 2 | `serves`, `read_faults`, `worlds` |
 //! | `cogserve: not a file: WORD` | 2 | `serves` |
 //! | `cogserve: can't read PATH`, `cogserve: refused K NAME`, `cogserve: can't listen` | 1 | `serves`; 5 of the refusals in `faults` |
-//! | `cogserve: can't accept` | 1 | `serving_tests` |
-//! | why it ends, with a log (`--log`) | 1 | `serves`; the lines of the log in `serving_tests` |
+//! | `cogserve: can't accept` | 1 | `served_files_tests` |
+//! | why it ends, with a log (`--log`) | 1 | `serves`; the lines of the log in `served_files_tests` |
 //! | `cogread: refused K`, `cogread: not a place: URL: ..` | 2 | `read_faults` |
 //! | each exchange, and why there is no window (`--verbose`) | | `cogread_tests` |
 //! | how far the exchanges have come (`--progress`) | | `cogread_tests` |

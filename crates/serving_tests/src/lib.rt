@@ -1,4 +1,4 @@
-//! Tests of `cogserve` over sockets of one process: the lines that it prints, its log, and who has a place.
+//! Tests of a server's sockets: who has a place, and who gets one.
 #![tactic(auto)]
 
 #[cfg(test)]

@@ -1,15 +1,17 @@
 //! The log of `cogserve`: a line for each answer, why a file isn't taken anew, and where it listens.
 use super::lines::{connect, limits};
-use super::{places, server_of_f1};
 use cog_server::Server;
 use disk_files::Watched;
+use fixtures_support::f1;
 use programs_support::Capture;
 use served_files::{Log, ServeError, listen, publish_all, serve_connections};
+use serving::Serving;
 use std::fs;
 use std::io::Write;
-use std::net::{Net, TcpListener, TcpStream};
+use std::net::{Net, SocketAddr, TcpListener, TcpStream};
 use std::rt::{Clock, Files};
 use std::test::Fail;
+use transports::server_of_one;
 
 /// A log is kept.
 fn logged<R>(rt: &R) -> Log<'_, R> {
@@ -49,17 +51,28 @@ const ANSWERS: &str = "cogserve: connection 1: GET /a bytes=1-4: 206, 4 bytes\n\
 
 #[test]
 fn tells_each_answer(rt: HostRuntime) -> Result<(), Fail> {
-    let mut server = server_of_f1(rt.alloc())?;
+    let mut server = server_of_one(rt.alloc(), 1, b"a", f1(rt.alloc())?)?;
     let told = told_of(&rt, &mut server, &mut [], MESSAGES)?;
     assert_eq!(rt; told.as_str(), ANSWERS);
     Ok(())
 }
 
+/// The sockets of a server, for one connection, and their address.
+fn serving<R: AllocGlobal + Net<Listener = TcpListener, Stream = TcpStream>>(
+    rt: &R,
+) -> Result<(Serving, SocketAddr), Fail> {
+    let listener = TcpListener::bind(rt, "127.0.0.1:0")?;
+    let address = listener.local_addr()?;
+    Ok((Serving::new(rt, listener, limits(1))?, address))
+}
+
 /// The head of a request comes in two pieces.
 #[test]
 fn tells_the_whole_of_a_request_that_comes_in_pieces(rt: HostRuntime) -> Result<(), Fail> {
-    let (mut serving, server, address) = places::serving(&rt, 2)?;
-    let mut client = places::connect(&rt, address, "GET /a HTTP/1.1\r\nHost: h\r\nRan")?;
+    let server = server_of_one(rt.alloc(), 1, b"a", f1(rt.alloc())?)?;
+    let (mut serving, address) = serving(&rt)?;
+    let mut client = TcpStream::connect(&rt, address)?;
+    client.write_all(b"GET /a HTTP/1.1\r\nHost: h\r\nRan")?;
     let capture = Capture::new(&rt);
     let mut log = logged(&capture);
     if !matches!(serving.accept(0), Ok(1)) {
@@ -77,7 +90,7 @@ fn tells_the_whole_of_a_request_that_comes_in_pieces(rt: HostRuntime) -> Result<
     Ok(())
 }
 
-const PATH: &str = "serving_tests_logged";
+const PATH: &str = "served_files_tests_logged";
 
 /// A file is emptied, and then removed. The one that was published stays.
 #[test]
@@ -97,7 +110,7 @@ fn tells_why_a_file_is_not_taken_anew(rt: HostRuntime) -> Result<(), Fail> {
     let told = told_of(&rt, &mut server, &mut files, "")?;
     assert_eq!(rt;
         told.as_str(),
-        "cogserve: a isn't taken: can't read serving_tests_logged: No such file or directory (os error 2)\n"
+        "cogserve: a isn't taken: can't read served_files_tests_logged: No such file or directory (os error 2)\n"
     );
     assert!(rt; server.file(b"a") == Some(b"abcdefgh".as_slice()));
     Ok(())
@@ -120,7 +133,7 @@ fn tells_the_port_that_the_system_gave(rt: HostRuntime) -> Result<(), Fail> {
 #[test]
 fn serves_with_a_log_where_standard_output_is_closed(rt: HostRuntime) -> Result<(), Fail> {
     let capture = Capture::closed(&rt);
-    let path = "serving_tests_closed";
+    let path = "served_files_tests_closed";
     fs::write(&rt, path, "abcdefgh")?;
     let mut server = Server::new(rt.alloc(), 7);
     let mut files = vec![in rt.alloc(); Watched::new("a", path)]?;

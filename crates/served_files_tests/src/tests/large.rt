@@ -6,7 +6,7 @@ use std::process::Abort;
 use std::rt::{Clock, Files};
 use std::test::Fail;
 
-const PATH: &str = "serving_tests_large";
+const PATH: &str = "served_files_tests_large";
 
 /// Writes the file, and expects that it is published anew, as it is, and not once more.
 fn expect_anew<R: Abort + Files + Clock + AllocGlobal>(

@@ -1,5 +1,4 @@
 //! Connections of `cogserve` with the lines that it prints: the file of the disk is written anew between them.
-use super::server_of_f1;
 use cog_server::Server;
 use disk_files::Watched;
 use fixtures_support::f1;
@@ -16,6 +15,7 @@ use std::rt::{Clock, Files};
 use std::test::Fail;
 use std::time::Duration;
 use std::{fs, io, thread};
+use transports::server_of_one;
 
 const ASK: &str = "GET /a HTTP/1.1\r\nHost: h\r\nRange: bytes=1-4\r\n\r\n";
 
@@ -72,7 +72,7 @@ where
 /// and whether the file is published anew.
 type Turn = (Option<&'static str>, &'static str, u32, &'static str, bool);
 
-const PATH: &str = "serving_tests_served";
+const PATH: &str = "served_files_tests_served";
 
 /// A file that was left alone for so many milliseconds isn't read again until the disk says something else of it.
 const SETTLED: u64 = 2_100;
@@ -183,7 +183,7 @@ const LAST: &str = "GET /a HTTP/1.1\r\nHost: h\r\nRange: bytes=1-4\r\nConnection
 /// A client that stays behind its last answer, and does nothing, holds the server for two seconds, and not for ten.
 #[test]
 fn ends_where_a_client_stays(rt: HostRuntime) -> Result<(), Fail> {
-    let mut server = server_of_f1(rt.alloc())?;
+    let mut server = server_of_one(rt.alloc(), 1, b"a", f1(rt.alloc())?)?;
     let listener = TcpListener::bind(&rt, "127.0.0.1:0")?;
     let mut client = TcpStream::connect(&rt, listener.local_addr()?)?;
     client.write_all(LAST.as_bytes())?;
@@ -220,30 +220,30 @@ fn serves_on_where_standard_output_is_closed(rt: HostRuntime) -> Result<(), Fail
 /// Of two files of one name both are published, and only the last is looked at again.
 #[test]
 fn looks_again_at_the_last_file_of_a_name_alone(rt: HostRuntime) -> Result<(), Fail> {
-    fs::write(&rt, "serving_tests_first", "12345")?;
-    fs::write(&rt, "serving_tests_last", "abcde")?;
+    fs::write(&rt, "served_files_tests_first", "12345")?;
+    fs::write(&rt, "served_files_tests_last", "abcde")?;
     let mut files = vec![in rt.alloc();
-        Watched::new("a", "serving_tests_first"),
-        Watched::new("a", "serving_tests_last"),
+        Watched::new("a", "served_files_tests_first"),
+        Watched::new("a", "served_files_tests_last"),
     ]?;
     let mut server = Server::new(rt.alloc(), 7);
     let lines = "published a \"7-1\"\npublished a \"7-2\"\n";
     assert!(rt; is_published(&rt, &mut server, &mut files, lines));
-    fs::write(&rt, "serving_tests_first", "changed")?;
+    fs::write(&rt, "served_files_tests_first", "changed")?;
     let listener = TcpListener::bind(&rt, "127.0.0.1:0")?;
     let capture = Capture::new(&rt);
     let answer = answer_of(&capture, &mut server, &mut files, &listener)?;
     assert!(rt; answer.as_str().ends_with("\r\n\r\nbcde"));
     assert_eq!(rt; capture.into_texts().0.as_slice(), b"served 1\n".as_slice());
-    fs::remove_file(&rt, "serving_tests_first")?;
-    fs::remove_file(&rt, "serving_tests_last")?;
+    fs::remove_file(&rt, "served_files_tests_first")?;
+    fs::remove_file(&rt, "served_files_tests_last")?;
     Ok(())
 }
 
 /// A file is replaced by one of its length, and each is left alone until a change of it shows in what the disk says.
 #[test]
 fn serves_a_file_that_was_replaced_before(rt: HostRuntime) -> Result<(), Fail> {
-    let (path, other) = ("serving_tests_replaced", "serving_tests_other");
+    let (path, other) = ("served_files_tests_replaced", "served_files_tests_other");
     fs::write(&rt, path, "12345")?;
     fs::write(&rt, other, "abcde")?;
     thread::sleep(&rt, Duration::from_millis(SETTLED));
@@ -265,12 +265,12 @@ fn serves_a_file_that_was_replaced_before(rt: HostRuntime) -> Result<(), Fail> {
 #[test]
 fn publishes_the_bytes_of_the_file(rt: HostRuntime) -> Result<(), Fail> {
     let file = f1(rt.alloc())?;
-    fs::write(&rt, "serving_tests_fixture", &file)?;
-    let mut files = vec![in rt.alloc(); Watched::new("a", "serving_tests_fixture")]?;
+    fs::write(&rt, "served_files_tests_fixture", &file)?;
+    let mut files = vec![in rt.alloc(); Watched::new("a", "served_files_tests_fixture")]?;
     let mut server = Server::new(rt.alloc(), 1);
     assert!(rt; is_published(&rt, &mut server, &mut files, "published a \"1-1\"\n"));
     assert!(rt; server.file(b"a") == Some(file.as_slice()));
-    fs::remove_file(&rt, "serving_tests_fixture")?;
+    fs::remove_file(&rt, "served_files_tests_fixture")?;
     Ok(())
 }
 

@@ -1,0 +1,4 @@
+//! Tests of files that are served over sockets of one process.
+mod large;
+mod lines;
+mod logs;
