@@ -54,8 +54,9 @@ pub fn needed_are_asked()
     lengths_are_known();
 }
 
-/// The answer of a server that gives all that a client asks for, or more, leaves less; under another tag any front of the whole file
-/// begins with the server's revision. This server's answers are such.
+/// An answer that has all that a client asks for, or more, is never ignored, and leaves less where the client has the file's tag. A client
+/// without a revision reads the server's from then on, and so does one with another tag, for which any front of the whole file is enough.
+/// This server's answers are such.
 pub fn whole_answers_bring_on()
     ensures served { ServedBringOn }
     ensures own { OwnAnswersAreServed }
@@ -69,8 +70,8 @@ pub fn whole_answers_bring_on()
     stored_stay();
 }
 
-/// After an opening as many such answers as the query costs, and one more, lead to the report, however far the client looks ahead at
-/// each of them: those of any server, and those of this one.
+/// After an opening as many answers as the query costs, and one more, each as in `whole_answers_bring_on`, lead to the report, however far
+/// the client looks ahead at each of them: those of any server, and those of this one.
 pub fn whole_answers_report()
     ensures served { AnswersReport IsServed }
     ensures own { AnswersReport IsOwnAnswer }

@@ -11,12 +11,12 @@ use Rattle.disk_files.specs.declared.watched.Watched.{Watched}
 abbrev pub seen_of : Watched → Option Stamp
 seen_of w = w.seen
 
--- where the server refuses it, it does so by its rules for some bytes
+-- where the server refuses it, it does so by its rules for some bytes, or for want of memory where these refuse none
 abbrev pub IsRefusedBy : ServerState → List ℕ → WatchError → Type 0
 IsRefusedBy s name (Refused e) = (file : List ℕ) × IsRefusal (refusal_of s.count s.catalogue name file) e
 IsRefusedBy s name why = ⊤
 
--- it may pass, though the file stays as it is: the file can't be read, or isn't there, or memory is wanting
+-- the reason may pass, though the file stays as it is: it can't be read, the path is no file's, or memory is wanting
 abbrev pub MayPass : WatchError → Type 0
 MayPass (CantRead e) = ⊤
 MayPass NotAFile = ⊤

@@ -123,7 +123,8 @@ impl<'a> Watched<'a> {
         ensures err { OnErr result (server.new ≡ server.old) }
         ensures refused { IfErr result (IsRefusedBy server.old self.old.name.now) }
 
-        // A file that wasn't read yet, and has no publication, is published. What may pass is tried again.
+        // A look at a file of which nothing is remembered, and that has no publication, publishes it or fails. What may pass leaves what is
+        // remembered as it was.
         ensures first { seen_of self.old ≡ None → published self.old.name.now server.old.catalogue ≡ None → IfOk result IsSome }
         ensures again { IfErr result (λ why. MayPass why → seen_of self.new ≡ seen_of self.old) }
         ensures name { self.new.name ≡ self.old.name }

@@ -61,7 +61,8 @@ AsksNothing (words.Description json) = ⊥
 AsksNothing (words.Window window) = IsNoWindow window
 AsksNothing (words.Whole level) = level_number (option_copied level) ≡ None
 
--- how many exchanges at most, how many blocks are kept, and how many are asked for early, by the words of these options, or without them
+-- how many exchanges at most, how many blocks are kept, and how many blocks a request may ask for behind those that are needed next, by the
+-- words of these options, or without them
 abbrev pub requests_number : Option (List ℕ) → Option ℕ
 requests_number word = number_or 1 65536 64 word
 
@@ -76,7 +77,8 @@ abbrev pub HasNoNumber : ReadLine → Type 0
 HasNoNumber line = AsksNothing line.asked ⊎ (requests_number (option_copied line.requests) ≡ None)
     ⊎ (blocks_number (option_copied line.blocks) ≡ None) ⊎ (ahead_number (option_copied line.ahead) ≡ None)
 
--- of the words of `cogserve`: how many connections it ends behind, how many it serves at once, and how many seconds it waits for one
+-- of the words of `cogserve`: after how many connections it ends, how many it serves at once, and for how many seconds one without progress
+-- keeps its place while another waits
 abbrev pub connections_number : List ℕ → Option ℕ
 connections_number word = number_from 1 (2 ^ 32 - 1) word
 

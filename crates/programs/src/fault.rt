@@ -93,7 +93,7 @@ impl Fault {
         status
     }
 
-    /// The exit status where its line, or the help that was asked for, is printed so, or isn't: 1 without that help.
+    /// The exit status by what printing its line, or the help that was asked for, came to: 1 where that help isn't printed.
     fn status_by(&self, printed: &io::Result<()>) -> u8
         ensures { EndsBy (is_ok printed.now) self.now result }
     {

@@ -1,5 +1,5 @@
 //! Reports as users see them: a window as a picture, what Info tells as lines of text, faults as sentences, and texts
-//! of others without control characters.
+//! that others wrote, with their control characters told as `\u{..}`.
 #![tactic(auto)]
 
 mod info;

@@ -13,7 +13,7 @@ names files = map (λ f. f.name.now) files
 abbrev pub IsServed : ServerState → List ℕ → Type 0
 IsServed s name = IsSome (published name s.catalogue)
 
--- The names were published one after another, each once, with the next tag of the epoch, and nothing else changed.
+-- Some bytes were published under each of the names, in their order, each once and with the next tag of the epoch, and nothing else changed.
 abbrev pub ArePublished : List (List ℕ) → ServerState → ServerState → Type 0
 ArePublished [] s t = t ≡ s
 ArePublished (name ∷ names) s t = (mid : ServerState) × ((tag : List ℕ) × IsPublished name s mid tag) × ArePublished names mid t

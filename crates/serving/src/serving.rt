@@ -287,7 +287,7 @@ impl Serving {
         ensures kept { IfOk result (λ again. again ≡ false → self.new.held.connections ≡ self.old.held.connections) }
         ensures passing { OnOk result (IsPassing error) }
         ensures err { OnErr result (self.new.held.connections ≡ self.old.held.connections) }
-        // What passes ends nothing, but where the system can't be asked.
+        // Where an error that passes is told, no newcomer counts as waiting.
         ensures last { OnErr result (IsPassing error → self.new.knocks ≡ false) }
         ensures nobody { NobodyComes self.old self.new }
         ensures busy { KeepsBusy now self.old self.new }
@@ -372,7 +372,7 @@ impl Serving {
         }
     }
 
-    /// Closes the connection whose drain ends first, if it has ended, and says whether it had.
+    /// Closes the connection whose drain ends first, if the moment for that has come, and says whether it had.
     fn end_drain(&mut self, now: u64) -> bool
         ensures nobody { NobodyComes self.old self.new }
         ensures early { IfSome (slice_get self.old.drains.items 0) (λ drain. now < drain.0 → (result ≡ false) × (self.new ≡ self.old)) }
@@ -419,7 +419,8 @@ impl Serving {
             → IsSomeAnd result (λ wait. as_nanos wait ≤ 1000 * 1000000) }
         ensures place { self.now.ready.items ≡ [] → self.now.knocks ≡ true → accepted_of self.now < (limits_of self.now).connections
             → room_of self.now ≢ 1 → WakesIn now self.now result }
-        // Nothing is looked at where nothing may go on, and nothing sooner than the first drain ends where nobody waits.
+        // Where no connection may go on and no newcomer waits, it is waited just until the first drain ends, or without a limit where there
+        // is none.
         ensures idle { self.now.ready.items ≡ [] → self.now.drains.items ≡ [] → self.now.knocks ≡ false → result ≡ None }
         ensures just { self.now.ready.items ≡ [] → self.now.knocks ≡ false → IfSome (slice_get self.now.drains.items 0) (λ drain.
             IsSomeAnd result (λ wait. as_nanos wait ≡ (drain.0 - now) * 1000000)) }

@@ -34,7 +34,7 @@ HasCome s bytes = IfSome s.kept (λ k. Came k.end bytes)
 abbrev pub IsUntold : {R : Type 0} → Socket R → Type 0
 IsUntold s = IfSome s.kept (λ k. lacks_of k.end ≡ End)
 
--- What is read is noted behind what had come of the answer, or as its first bytes on a connection that was made anew; or nothing is known any more.
+-- What is read is noted behind what had come of the answer, or as the first bytes of one; or nothing is known any more.
 abbrev pub Notes : {R : Type 0} → Socket R → Socket R → List ℕ → Type 0
 Notes old new bytes =
     ((front : List ℕ) → HasCome old front → HasCome new (front ++ bytes) ⊎ IsUntold new) ⊎ (HasCome new bytes ⊎ IsUntold new)

@@ -317,7 +317,7 @@ impl<R: Net<Stream = TcpStream> + AllocGlobal> Pieces for Socket<'_, R> {
 
         // Behind an answer that is whole, or isn't waited for, nothing is told.
         ensures over { IsOver self.old → result ≡ Ok 0 }
-        // What is told of an answer before is noted, so that its end is found.
+        // What is told of an answer until then is noted, so that its end is found.
         ensures noted { ¬ IsOver self.old → IfOk result (λ n. Notes self.old self.new (take n out.new)) }
         ensures stays { keeps self.new ≡ keeps self.old }
 
