@@ -121,9 +121,10 @@ pub record IsOwnAnswer (c : ClientState) (p : Publication) (span : Span) (text :
   pub answers : IsAnswer catalogue (request_by (closes c) (host_of c) (name_of c) span.first span.last (tag_of c)) response
   pub shown : text ≡ text_of response
 
--- The piece is what a server of p gives to a request for bytes of it under a tag, or none: it is of p, and has all that is asked for, as a
--- part or with more beside it, up to the whole file, as HTTP lets it (RFC 9110, section 14.2). Where the tag is another one it is told as the
--- whole file (section 13.1.5), of which any front is enough.
+-- The piece is of p, and serves a request for these bytes under a known tag, or none. Where that is p's tag, or there is none, the piece has
+-- all of them that the file has: as a part, with more beside it, or within the whole file, as where the server ignores Range (RFC 9110,
+-- section 14.2). Where the tag is another one, it is read as the whole file (section 13.1.5), and any front of that is enough. A part with
+-- less than was asked for, as HTTP lets a server give too (section 15.3.7), is none.
 pub record IsGiven (p : Publication) (s : Span) (known : Option (List ℕ)) (piece : SeenPiece) : Type 0 where
   pub of : IsPieceOf p piece
   pub begins : is_current known p.tag ≡ true → piece.first ≤ s.first

@@ -79,13 +79,6 @@ each_then files k d ns s t u bound same first is =
     (subst (λ n. (tag : List ℕ) × IsPublished n t u tag) (sym (name_there files k d d.name.now bound)) is)))
     first
 
--- where all names are passed, they are published
-pub all_published : (files : List Watched) (k : ℕ) (ns : List (List ℕ)) (s t : ServerState) → names files ≡ ns → length files ≤ k
-    → ArePublished (take k ns) s t → ArePublished ns s t
-all_published files k ns s t same all first =
-    let long : length ns ≤ k = subst (λ n. n ≤ k) (sym (length-map files (λ f. f.name.now)) ∙ ap length same) all in
-    subst (λ xs. ArePublished xs s t) (take_all k ns long) first
-
 -- the name is none of those up to this one
 pub none_then : (files : List Watched) (k : ℕ) (d : Watched) (name : List ℕ) → k < length files
     → false ≡ bytes_eq (slice_index_or files k d).name.now name
