@@ -17,3 +17,7 @@ IsPublished name s t tag = (file : List ℕ)
 -- these bytes are what was published last under a name
 abbrev pub IsFileOf : (name file : List ℕ) → ServerState → Type 0
 IsFileOf name file s = option_map (λ p. p.file) (published name s.catalogue) ≡ Some file
+
+-- under a name there are other bytes than before, if there were any
+abbrev pub HasOther : (name : List ℕ) (s t : ServerState) → Type 0
+HasOther name s t = (file : List ℕ) → IsFileOf name file s → ¬ (IsFileOf name file t)

@@ -2,7 +2,7 @@
 ghost use Rattle.std.specs.Prelude.{◌≡◌, ℕ, List, IfErr, IfOk, IfSome, IsSome, None, OnErr, OnOk};
 ghost use Rattle.http_range.specs.Book.{published};
 ghost use Rattle.cog_server.specs.Server.{IsRefusal, ServerState, refusal_of};
-ghost use Rattle.disk_files.specs.Published.{IsFileOf, IsPublished};
+ghost use Rattle.disk_files.specs.Published.{HasOther, IsFileOf, IsPublished};
 ghost use Rattle.disk_files.specs.Watching.{IsRefusedBy, MayPass, seen_of};
 
 use crate::reading::{has_bytes, read_file};
@@ -58,6 +58,7 @@ fn publish_other(
 ) -> Result<Option<Tag>, PublishError>
     ensures ok { IfOk result (λ tag. IfSome tag (IsPublished name.now server.old server.new)) }
     ensures has { OnOk result (IsFileOf name.now file.items server.new) }
+    ensures other { IfOk result (λ tag. IsSome tag → HasOther name.now server.old server.new) }
     ensures same { IfOk result (λ tag. tag ≡ None → server.new ≡ server.old) }
     ensures first { published name.now server.old.catalogue ≡ None → IfOk result IsSome }
     ensures err { OnErr result (server.new ≡ server.old) }
@@ -119,6 +120,7 @@ impl<'a> Watched<'a> {
         server: &mut Server,
     ) -> Result<Option<Tag>, WatchError>
         ensures ok { IfOk result (λ tag. IfSome tag (IsPublished self.old.name.now server.old server.new)) }
+        ensures other { IfOk result (λ tag. IsSome tag → HasOther self.old.name.now server.old server.new) }
         ensures same { IfOk result (λ tag. tag ≡ None → server.new ≡ server.old) }
         ensures err { OnErr result (server.new ≡ server.old) }
         ensures refused { IfErr result (IsRefusedBy server.old self.old.name.now) }

@@ -56,6 +56,14 @@ fn exchange_told<R: Eprint + Clock, P: Pieces>(
     Ok(true)
 }
 
+/// How many exchanges may follow, of so many at most, one that comes behind so many.
+fn later_of(requests: u32, done: u32) -> u32
+    requires { done < requests }
+    ensures { done + 1 + result ≡ requests }
+{
+    requests - done - 1
+}
+
 /// Sends the client's requests to a source that is noted, until a report stands, in so many exchanges at most. Each of them is told on
 /// standard error; a line that can't be written is lost. Want of memory ends it.
 pub fn exchanges_told<R: Eprint + Clock, P: Pieces>(
@@ -71,7 +79,7 @@ pub fn exchanges_told<R: Eprint + Clock, P: Pieces>(
     ensures few { P.count (source_of noted.new) ≤ P.count (source_of noted.old) + requests }
 {
     for done in 0..requests {
-        if !exchange_told(rt, net, client, noted, requests - done - 1)? {
+        if !exchange_told(rt, net, client, noted, later_of(requests, done))? {
             break;
         }
     }

@@ -5,6 +5,7 @@ ghost use Rattle.hex.specs.Hex.{decode_of};
 ghost use Rattle.scripts.specs.Line.{IsOnlyNumber, IsScriptFault, IsWindow, NoFile, Reads, ReadsLine, ReadsWords, texts};
 ghost use Rattle.scripts.specs.Script.{AreEvents, FindsTheSame, IsEvent, IsPick, IsQuery, are_filled, cut, is_read, lines, number};
 ghost use Rattle.scripts.specs.Verb.{word_of};
+ghost use Rattle.scripts.specs.declared.line.LineError.TheVariants.{NotAnEvent};
 
 use crate::number::number;
 use crate::source::{LoadError, Source};
@@ -96,14 +97,16 @@ impl<T: Drop> From<AllocFailed<T>> for ScriptError {
 
 /// A number that has to be one.
 fn wanted(word: &[u8]) -> Result<u32, LineError>
-    ensures { Reads (λ n. number word.now ≡ Some n) result }
+    ensures read { Reads (λ n. number word.now ≡ Some n) result }
+    ensures told { IfErr result (λ error. error ≡ NotAnEvent) }
 {
     number(word).ok_or(LineError::NotAnEvent)
 }
 
 /// The number that a line has alone behind its first word.
 fn only_number(rest: &[&[u8]]) -> Result<u32, LineError>
-    ensures { Reads (IsOnlyNumber (texts rest.now)) result }
+    ensures read { Reads (IsOnlyNumber (texts rest.now)) result }
+    ensures told { IfErr result (λ error. error ≡ NotAnEvent) }
 {
     match rest {
         [word] => wanted(word),
@@ -140,7 +143,8 @@ fn new_client(alloc: Global, rest: &[&[u8]]) -> Result<Event, LineError>
 
 /// The level that `level N` or `columns C` picks.
 fn pick_of(kind: &[u8], word: &[u8]) -> Result<Pick, LineError>
-    ensures { Reads (IsPick kind.now word.now) result }
+    ensures read { Reads (IsPick kind.now word.now) result }
+    ensures told { IfErr result (λ error. error ≡ NotAnEvent) }
 {
     match kind {
         b"level" => Ok(Pick::Level(wanted(word)?)),
@@ -151,7 +155,8 @@ fn pick_of(kind: &[u8], word: &[u8]) -> Result<Pick, LineError>
 
 /// A window by its sides, of the level that is picked.
 fn window(pick: Pick, sides: &[&[u8]; 4]) -> Result<Query, LineError>
-    ensures { Reads (IsWindow pick (texts sides.now)) result }
+    ensures read { Reads (IsWindow pick (texts sides.now)) result }
+    ensures told { IfErr result (λ error. error ≡ NotAnEvent) }
 {
     let [x, y, w, h] = sides;
     Ok(Query::Window {
@@ -165,7 +170,8 @@ fn window(pick: Pick, sides: &[&[u8]; 4]) -> Result<Query, LineError>
 
 /// A query: a window of the level that is picked, or `info`.
 fn query_of(words: &[&[u8]]) -> Result<Query, LineError>
-    ensures { Reads (IsQuery (texts words.now)) result }
+    ensures read { Reads (IsQuery (texts words.now)) result }
+    ensures told { IfErr result (λ error. error ≡ NotAnEvent) }
 {
     match words {
         [b"info"] => Ok(Query::Info),
@@ -176,7 +182,8 @@ fn query_of(words: &[&[u8]]) -> Result<Query, LineError>
 
 /// What `open` has behind it: a client and its query.
 fn opening(rest: &[&[u8]]) -> Result<Event, LineError>
-    ensures { Reads (IsEvent NoFile (codes "open" ∷ texts rest.now)) result }
+    ensures read { Reads (IsEvent NoFile (codes "open" ∷ texts rest.now)) result }
+    ensures told { IfErr result (λ error. error ≡ NotAnEvent) }
 {
     let [client, query @ ..] = rest else {
         return Err(LineError::NotAnEvent);
@@ -210,7 +217,8 @@ fn message(alloc: Global, rest: &[&[u8]]) -> Result<Event, LineError>
 
 /// How many bytes of an answer are delivered: `-` stands for all.
 fn cut_of(word: &[u8]) -> Result<Option<u32>, LineError>
-    ensures { Reads (λ n. cut word.now ≡ Some n) result }
+    ensures read { Reads (λ n. cut word.now ≡ Some n) result }
+    ensures told { IfErr result (λ error. error ≡ NotAnEvent) }
 {
     match word {
         b"-" => Ok(None),
@@ -220,7 +228,8 @@ fn cut_of(word: &[u8]) -> Result<Option<u32>, LineError>
 
 /// What `deliver` has behind it: a client, an answer, and how much of it comes.
 fn delivery(rest: &[&[u8]]) -> Result<Event, LineError>
-    ensures { Reads (IsEvent NoFile (codes "deliver" ∷ texts rest.now)) result }
+    ensures read { Reads (IsEvent NoFile (codes "deliver" ∷ texts rest.now)) result }
+    ensures told { IfErr result (λ error. error ≡ NotAnEvent) }
 {
     let [client, answer, cut] = rest else {
         return Err(LineError::NotAnEvent);

@@ -1,16 +1,17 @@
 -- Publications one behind another.
-use Rattle.std.proofs.Common.{◌≡◌, ◌≢◌, ◌<◌, ◌+◌, ℕ, ◌≤◌, true, false, List, [], ◌∷◌, ◌++◌, length, take, refl, nat_eq, slice_index_or, slice_set, sym, ap, subst, ◌∙◌, inl, inr, arith}
-use Rattle.std.specs.Prelude.{IsSome}
+use Rattle.std.proofs.Common.{◌≡◌, ◌≢◌, ◌<◌, ◌≤◌, ◌+◌, ◌-◌, ℕ, true, false, List, [], ◌∷◌, ◌++◌, length, take, drop, refl, nat_eq, slice_index_or, slice_set, sym, ap, subst, ◌∙◌, inl, inr, arith}
+use Rattle.std.specs.Prelude.{Contains, IsSome}
+use Rattle.std.proofs.Math.ListN.{drop_of_length-le}
 use Rattle.std.proofs.Math.Seq.{map-set_same}
-use Rattle.std.proofs.lemmas.Bool.{cases_Bool}
+use Rattle.std.proofs.lemmas.Bool.{cases_Bool, false≢true}
 use Rattle.std.proofs.lemmas.Bool.Decides.{nat_tests, not_from_Decides}
-use Rattle.std.proofs.lemmas.List.{get_or-map, length-map, take_all, take_more}
+use Rattle.std.proofs.lemmas.List.{drop_more, drop-map, get_or-map, length-drop, length-map, take_all, take_more}
 use Rattle.std.proofs.lemmas.Slice.Eq.{bytes_eq-Decides}
 use Rattle.std.specs.Str.{bytes_eq}
 use Rattle.cog_server.specs.Server.{ServerState}
 use Rattle.disk_files.specs.declared.watched.Watched.{Watched}
 use Rattle.disk_files.specs.Published.{IsPublished}
-use Rattle.served_files.specs.Publishing.{ArePublished, IsServed, KeepsOthers, KeepsOthersThan, names}
+use Rattle.served_files.specs.Publishing.{ArePublished, ArePublishedAnew, IsServed, KeepsOthers, KeepsOthersThan, MayBePublished, names}
 
 -- a file that keeps its name leaves the names
 pub names_set : (files : List Watched) (k : ℕ) (w d : Watched) → w.name ≡ (slice_index_or files k d).name
@@ -35,6 +36,11 @@ others_then files k d ns s t u bound same first then =
     (λ is. none k other (name_below files k bound) (is ∙ sym (name_there files k d other bound)))
     ∙ first other none)
     first
+
+-- what leaves every other name, and leaves it again
+pub others_on : (ns ms : List (List ℕ)) (s t u : ServerState) → ms ≡ ns → KeepsOthersThan ns s t → KeepsOthersThan ms t u → KeepsOthersThan ns s u
+others_on ns ms s t u same first then other none =
+    subst (λ ns. KeepsOthersThan ns t u) same then other none ∙ first other none
 
 -- what the server has stays, where one more name has something
 kept : (name : List ℕ) (t u : ServerState) → KeepsOthers name t u → IsServed u name → (other : List ℕ) → IsServed t other → IsServed u other
@@ -78,6 +84,49 @@ each_then files k d ns s t u bound same first is =
     (one_more (take k (names files)) (slice_index_or (names files) k d.name.now) s t u before
     (subst (λ n. (tag : List ℕ) × IsPublished n t u tag) (sym (name_there files k d d.name.now bound)) is)))
     first
+
+-- the names from this one on begin with it
+rest_at : (files : List Watched) (k : ℕ) (d : Watched) (ns : List (List ℕ)) → k < length files → names files ≡ ns
+    → drop k ns ≡ (slice_index_or files k d).name.now ∷ drop (k + 1) ns
+rest_at files k d ns bound same =
+    let P : List (List ℕ) → Type 0 = λ xs. drop k xs ≡ (slice_index_or files k d).name.now ∷ drop (k + 1) xs in
+    subst P same
+    (drop_more (names files) k d.name.now (name_below files k bound)
+    ∙ ap (λ n. n ∷ drop (k + 1) (names files)) (name_there files k d d.name.now bound))
+
+-- the names behind it are those of the files behind
+pub names_behind : (files : List Watched) (k : ℕ) (ns : List (List ℕ)) → names files ≡ ns
+    → names (take (length files - (k + 1)) (drop (k + 1) files)) ≡ drop (k + 1) ns
+names_behind files k ns same =
+    ap names (take_all (length files - (k + 1)) (drop (k + 1) files) (subst (λ n. n ≤ length files - (k + 1)) (sym (length-drop (k + 1) files)) (omega arith)))
+    ∙ sym (drop-map (λ f. f.name.now) (k + 1) files) ∙ ap (drop (k + 1)) same
+
+-- one more may be published anew, whose name none behind it has
+pub anew_then : (files : List Watched) (k : ℕ) (d : Watched) (ns : List (List ℕ)) (s t u : ServerState) → k < length files → names files ≡ ns
+    → MayBePublished (slice_index_or files k d).name.now t u
+    → (Contains (names (take (length files - (k + 1)) (drop (k + 1) files))) (slice_index_or files k d).name.now → false ≡ true)
+    → ((v : ServerState) → ArePublishedAnew (drop k ns) t v → ArePublishedAnew ns s v)
+    → (v : ServerState) → ArePublishedAnew (drop (k + 1) ns) u v → ArePublishedAnew ns s v
+anew_then files k d ns s t u bound same may last before v rest =
+    let n : List ℕ = (slice_index_or files k d).name.now in
+    let alone : Contains (drop (k + 1) ns) n → u ≡ t =
+        λ behind. absurd (false≢true (last (subst (λ xs. Contains xs n) (sym (names_behind files k ns same)) behind))) in
+    before v (subst (λ xs. ArePublishedAnew xs t v) (sym (rest_at files k d ns bound same)) (u, may, alone, rest))
+
+-- one is passed over
+pub passed_then : (files : List Watched) (k : ℕ) (ns : List (List ℕ)) (s t : ServerState) → k < length files → names files ≡ ns
+    → ((v : ServerState) → ArePublishedAnew (drop k ns) t v → ArePublishedAnew ns s v)
+    → (v : ServerState) → ArePublishedAnew (drop (k + 1) ns) t v → ArePublishedAnew ns s v
+passed_then files k ns s t bound same before v rest =
+    before v (subst (λ xs. ArePublishedAnew xs t v) (sym (drop_more ns k [] (subst (λ ns. k < length ns) same (name_below files k bound))))
+    (t, inl refl, (λ _. refl), rest))
+
+-- where all are passed nothing is left
+pub none_left : (files : List Watched) (k : ℕ) (ns : List (List ℕ)) (s t : ServerState) → names files ≡ ns → length files ≤ k
+    → ((v : ServerState) → ArePublishedAnew (drop k ns) t v → ArePublishedAnew ns s v) → ArePublishedAnew ns s t
+none_left files k ns s t same all before =
+    let long : length ns ≤ k = subst (λ n. n ≤ k) (sym (length-map files (λ f. f.name.now)) ∙ ap length same) all in
+    before t (subst (λ xs. ArePublishedAnew xs t t) (sym (drop_of_length-le ns long)) refl)
 
 -- the name is none of those up to this one
 pub none_then : (files : List Watched) (k : ℕ) (d : Watched) (name : List ℕ) → k < length files

@@ -1,7 +1,7 @@
 //! The files that are published, and those that are published anew.
 ghost use Rattle.std.specs.Prelude.{◌≡◌, ◌↔◌, ℕ, List, All, Contains, IsTrue, OnOk};
 ghost use Rattle.disk_files.specs.Published.{IsPublished};
-ghost use Rattle.served_files.specs.Publishing.{ArePublished, IsServed, KeepsOthers, KeepsOthersThan, names};
+ghost use Rattle.served_files.specs.Publishing.{ArePublished, ArePublishedAnew, IsServed, KeepsOthers, KeepsOthersThan, MayBePublished, names};
 
 use crate::error::{NotPublished, ServeError};
 use crate::log::Log;
@@ -70,6 +70,7 @@ fn look_at<R: Files + Clock + Print + Eprint + AllocGlobal>(
     server: &mut Server,
     file: &mut Watched<'_>,
 )
+    ensures anew { MayBePublished file.old.name.now server.old server.new }
     ensures others { KeepsOthers file.old.name.now server.old server.new }
     ensures name { file.new.name ≡ file.old.name }
 {
@@ -89,6 +90,7 @@ pub fn look_again<R: Files + Clock + Print + Eprint + AllocGlobal>(
     server: &mut Server,
     files: &mut [Watched<'_>],
 )
+    ensures anew { ArePublishedAnew (names files.old) server.old server.new }
     ensures others { KeepsOthersThan (names files.old) server.old server.new }
     ensures names { names files.new ≡ names files.old }
 {

@@ -1,5 +1,6 @@
 //! Serving: round by round, as connections come and are ready.
 ghost use Rattle.std.specs.Prelude.{◌≡◌, max};
+ghost use Rattle.served_files.specs.Publishing.{KeepsOthersThan, names};
 
 use crate::error::ServeError;
 use crate::lines::Listening;
@@ -60,7 +61,10 @@ fn round<R: Files + Clock + Print + Eprint + AllocGlobal>(
     server: &mut Server,
     files: &mut [Watched<'_>],
     serving: &mut Serving,
-) -> Result<(), ServeError<'static>> {
+) -> Result<(), ServeError<'static>>
+    ensures others { KeepsOthersThan (names files.old) server.old server.new }
+    ensures names { names files.new ≡ names files.old }
+{
     let now = moment(log.rt);
     serving.turns(server, now, log);
     if serving.accept(now)? > 0 {
@@ -79,6 +83,8 @@ pub fn serve_connections<R>(
 ) -> Result<(), ServeError<'static>>
 where
     R: Files + Clock + Print + Eprint + AllocGlobal + Net,
+    ensures others { KeepsOthersThan (names files.old) server.old server.new }
+    ensures names { names files.new ≡ names files.old }
 {
     let mut serving = match Serving::new(log.rt, listener, limits) {
         Ok(serving) => serving,

@@ -1,5 +1,5 @@
 //! The answers that were sent, which stand in the entries of the log, and their delivery.
-ghost use Rattle.std.specs.Prelude.{◌≡◌, ◌++◌, ◌∷◌, [], IfOk, OnErr, OnOk, option_and_then, option_copied, slice_get};
+ghost use Rattle.std.specs.Prelude.{◌≡◌, ◌++◌, ◌∷◌, [], IfOk, IsSome, OnErr, OnOk, option_and_then, option_copied, slice_get};
 ghost use Rattle.cog_client.specs.Client.{name_of};
 ghost use Rattle.world.specs.World.{answer_in, is_for};
 ghost use Rattle.world.specs.Run.{cut_at};
@@ -55,6 +55,7 @@ pub fn deliver_at(
 ) -> Result<Entry, Memory>
     ensures ok { IfOk result (λ n. IsDeliveryKeeping (option_copied answer.entry) (slice_get clients.old.items i) cut i n clients.old.items clients.new.items) }
     ensures err { OnErr result (StopsDelivering (option_copied answer.entry) (slice_get clients.old.items i) cut i clients.old.items clients.new.items) }
+    ensures there { OnErr result (IsSome (slice_get clients.old.items i)) }
 {
     let Some(answer) = answer else {
         return Ok(quiet(Effect::Skipped));

@@ -1,5 +1,5 @@
 //! What happens at a client.
-ghost use Rattle.std.specs.Prelude.{◌≡◌, IfOk, None, OnErr, if◌then◌else◌, is_some, slice_get};
+ghost use Rattle.std.specs.Prelude.{◌≡◌, IfOk, IsSome, None, OnErr, if◌then◌else◌, is_some, slice_get};
 ghost use Rattle.std.specs.Option.{option_map};
 ghost use Rattle.cog_client.specs.Report.{told};
 ghost use Rattle.cog_client.specs.Client.{client_refusal, report_of};
@@ -61,6 +61,7 @@ pub fn make_client(
 ) -> Result<Entry, Memory>
     ensures ok { IfOk result (λ n. MakesBy (client_refusal host name.now blocks) name.now blocks n clients.old.items clients.new.items) }
     ensures err { OnErr result (clients.new.items ≡ clients.old.items) }
+    ensures refused { OnErr result (client_refusal host name.now blocks ≡ None) }
 {
     let number = clients.len();
     match Client::new(alloc, b"cog.test", name, blocks) {
@@ -124,6 +125,7 @@ pub fn call_at(
 ) -> Result<Entry, Memory>
     ensures ok { IfOk result (λ n. AtClient (slice_get clients.old.items i) (Keeping (CallsWith server.now.catalogue number i what.entry n.effect)) i n clients.old.items clients.new.items) }
     ensures err { OnErr result (StopsAt (slice_get clients.old.items i) (IsGiven server.now.catalogue number i what.entry) i clients.old.items clients.new.items) }
+    ensures there { OnErr result (IsSome (slice_get clients.old.items i)) }
 {
     let Some(client) = clients.get_mut(i as usize) else {
         return Ok(quiet(Effect::Skipped));

@@ -1,5 +1,5 @@
 //! What happens between a client and the server.
-ghost use Rattle.std.specs.Prelude.{◌≡◌, ℕ, List, Option, Some, IfOk, IsSomeAnd, OnErr, slice_get};
+ghost use Rattle.std.specs.Prelude.{◌≡◌, ℕ, List, Option, Some, IfOk, IsSome, IsSomeAnd, OnErr, slice_get};
 ghost use Rattle.http_range.specs.Ask.{CanCheck};
 ghost use Rattle.http_range.specs.Honest.{IsFront};
 ghost use Rattle.cog_client.specs.Client.{asked_of, host_of, name_of, tag_of};
@@ -128,7 +128,8 @@ fn check_one(server: &Server, number: usize, client: &Client, i: u32) -> Result<
 
 /// The server answers the check of client i, if it has one.
 pub fn check_at(server: &Server, number: usize, clients: &[Client], i: u32) -> Result<Entry, Memory>
-    ensures { IfOk result (λ n. IsCheckBy (slice_get clients.now i) server.now.catalogue number i n clients.now clients.now) }
+    ensures ok { IfOk result (λ n. IsCheckBy (slice_get clients.now i) server.now.catalogue number i n clients.now clients.now) }
+    ensures there { OnErr result (IsSome (slice_get clients.now i)) }
 {
     let Some(client) = clients.get(i as usize) else {
         return Ok(quiet(Effect::Skipped));

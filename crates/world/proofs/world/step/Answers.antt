@@ -39,7 +39,7 @@ returns-in-Check-clause-ok c =
     let P : List ClientState → Type 0 = λ cs. IfOk c.check_at.result (λ n. IsCheckBy (slice_get cs c.in-Check.client) c.args.server.now.catalogue (length c.args.places.now) c.in-Check.client n cs cs) in
     ok_call (λ i. Check i) (λ catalogue sent i n old new. IsCheckBy (slice_get old i) catalogue sent i n old new) (λ w i n old new h. (h, refl))
     c.check_at.result c.args.server.now c.args.entries.now c.args.places.now (length c.args.places.now) c.args.clients.now.items c.args.clients.now.items c.args.event.now c.in-Check.client c.in-Check.client
-    c.in-Check.is refl refl (subst P c.deref-in-Check.ensures.value c.check_at.ensures)
+    c.in-Check.is refl refl (subst P c.deref-in-Check.ensures.value c.check_at.ensures.ok)
 
 pub returns-in-Deliver-clause-err : goal.returns-in-Deliver-clause-err
 returns-in-Deliver-clause-err c =
