@@ -67,13 +67,17 @@ fn left<P: Pieces>(noted: &Noted<P>, requests: u32) -> u32
 }
 
 impl<R: Eprint + Clock + AllocGlobal> Exchanges<'_, '_, R> {
-    /// Sends what the client asks, until a report stands or no exchange is left.
+    /// Sends what the client asks, until a report stands or no exchange is left. What is all there needs none.
     fn fetch<P: Pieces>(&self, client: &mut Client, noted: &mut Noted<P>) -> Result<(), FetchError>
         ensures keeps { KeepsReading (P.speaks_for (source_of noted.old)) (P.speaks_for (source_of noted.new)) client.old client.new }
         ensures few { StaysWithin self.now.requests (P.count (source_of noted.old)) (P.count (source_of noted.new)) }
         ensures ends { OnOk result ((self.now.requests ≤ P.count (source_of noted.new)) ⊎ IsIdle client.new) }
     {
         let left = left(noted, self.requests);
+        if left == 0 {
+            client.request()?;
+            return Ok(());
+        }
         match self.telling {
             Telling::Nothing => {
                 fetch_pieces(client, noted, left)?;

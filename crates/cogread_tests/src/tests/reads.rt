@@ -17,13 +17,14 @@ use transports::{InMemory, InPieces, Replaced, server_of_one};
 /// The sizes of the pieces in which answers come.
 const SIZES: [usize; 3] = [1, 170, 4096];
 
-/// What is read of a source, in four exchanges at most, over a runtime, and whether it is written.
+/// What is read of a source, in so many exchanges at most, over a runtime, and whether it is written.
 fn read<R: AllocGlobal + Clock, P: Pieces + Drop>(
     capture: &Capture<'_, R>,
     pieces: P,
+    requests: u32,
     asked: Asked,
 ) -> Result<(), Fault>
-    requires { P.count pieces + 4 < 2 ^ 64 }
+    requires { P.count pieces + requests < 2 ^ 64 }
 {
     let alloc = capture.alloc();
     let Ok(mut client) = Client::new(alloc, b"cog.test", b"a", 66) else {
@@ -33,22 +34,23 @@ fn read<R: AllocGlobal + Clock, P: Pieces + Drop>(
     let exchanges = Exchanges {
         rt: capture,
         net: &NotedNet::new(capture),
-        requests: 4,
+        requests,
         telling: Telling::Nothing,
     };
     let text = exchanges.text(&mut client, &mut noted, asked)?;
     Ok(text.write_to(&mut io::writer(capture))?)
 }
 
-/// What is printed of what is asked of a source, told and ended with.
+/// What is printed of what is asked of a source in so many exchanges at most, told and ended with.
 fn told_over<R: AllocGlobal + Clock, P: Pieces + Drop>(
     capture: Capture<'_, R>,
     pieces: P,
+    requests: u32,
     asked: Asked,
 ) -> Told
-    requires { P.count pieces + 4 < 2 ^ 64 }
+    requires { P.count pieces + requests < 2 ^ 64 }
 {
-    let status = match read(&capture, pieces, asked) {
+    let status = match read(&capture, pieces, requests, asked) {
         Ok(()) => 0,
         Err(fault) => fault.tell(&capture, "cogread"),
     };
@@ -64,7 +66,7 @@ pub fn told_of<R: AllocGlobal + Clock>(
 ) -> Told {
     let memory = InMemory::new(server, b"a");
     let pieces = InPieces::new(capture.alloc(), memory, &SIZES);
-    told_over(capture, pieces, asked)
+    told_over(capture, pieces, 4, asked)
 }
 
 /// Two rows of three columns, from row 1 on.
@@ -118,23 +120,38 @@ fn picture_of_f2b(alloc: Global) -> Result<Vec<u8>, AllocError> {
     Ok(picture)
 }
 
-/// Of the old file an answer tells the sides of its level, and then the new one is there, whose sides are read before the whole of it.
-#[test]
-fn reads_the_whole_of_a_file_that_is_replaced(rt: HostRuntime) -> Result<(), Fail> {
+/// What is printed of the whole of f2, where f2b is in its place behind the first exchange.
+fn told_of_replaced(rt: &HostRuntime, requests: u32) -> Result<Told, Fail> {
     let old = server_of_one(rt.alloc(), 1, b"a", f2(rt.alloc())?)?;
     let new = server_of_one(rt.alloc(), 2, b"a", f2b(rt.alloc())?)?;
     let replaced = Replaced::new(&old, &new, b"a", 1);
     let pieces = InPieces::new(rt.alloc(), replaced, &SIZES);
-    let told = told_over(Capture::new(&rt), pieces, Asked::Whole { level: 0 });
+    Ok(told_over(
+        Capture::new(rt),
+        pieces,
+        requests,
+        Asked::Whole { level: 0 },
+    ))
+}
+
+/// Of the old file an answer tells the sides of its level, and then the new one is there: two answers bring all of it. Its sides are
+/// read before the whole of it, and neither takes an exchange more.
+#[test]
+fn reads_the_whole_of_a_file_that_is_replaced(rt: HostRuntime) -> Result<(), Fail> {
     let want = picture_of_f2b(rt.alloc())?;
-    assert!(rt;
-        told.out == want,
-        "{} bytes, {:?}, {}",
-        told.out.len(),
-        told.err,
-        told.status
-    );
-    assert_eq!(rt; told.status, 0);
+    for requests in [3, 4] {
+        let told = told_of_replaced(&rt, requests)?;
+        assert!(rt;
+            told.out == want,
+            "{} bytes, {:?}, {}",
+            told.out.len(),
+            told.err,
+            told.status
+        );
+        assert_eq!(rt; told.status, 0);
+    }
+    let told = told_of_replaced(&rt, 2)?;
+    assert!(rt; told.is("", "cogread: no report\n", 4), "{told:?}");
     Ok(())
 }
 
