@@ -110,7 +110,7 @@ pub anew_then : (files : List Watched) (k : ℕ) (d : Watched) (ns : List (List 
 anew_then files k d ns s t u bound same may last before v rest =
     let n : List ℕ = (slice_index_or files k d).name.now in
     let alone : Contains (drop (k + 1) ns) n → u ≡ t =
-        λ behind. absurd (false≢true (last (subst (λ xs. Contains xs n) (sym (names_behind files k ns same)) behind))) in
+    λ behind. absurd (false≢true (last (subst (λ xs. Contains xs n) (sym (names_behind files k ns same)) behind))) in
     before v (subst (λ xs. ArePublishedAnew xs t v) (sym (rest_at files k d ns bound same)) (u, may, alone, rest))
 
 -- one is passed over
