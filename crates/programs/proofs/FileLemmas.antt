@@ -1,9 +1,11 @@
 -- The files of words.
-use Rattle.std.proofs.Common.{◌≡◌, ℕ, ◌+◌, ◌<◌, List, [], ◌∷◌, ◌++◌, length, get_or, take, subst, sym}
+use Rattle.std.proofs.Common.{◌≡◌, ℕ, zero, suc, ◌+◌, ◌<◌, List, [], ◌∷◌, ◌++◌, length, get_or, take, refl, subst, sym, inl, inr, arith}
 use Rattle.std.specs.Borrow.{Bor}
 use Rattle.std.proofs.lemmas.List.{take_more}
 use Rattle.disk_files.specs.declared.watched.Watched.{Watched}
-use Rattle.programs.specs.Files.{AreFiles, IsFile}
+use Rattle.programs.specs.declared.fault.Fault.{Fault}
+use Rattle.programs.specs.declared.fault.Fault.TheVariants.{Memory}
+use Rattle.programs.specs.Files.{AreFiles, IsFile, IsNoFile, NamesFile, NamesOneOf}
 
 -- one more word has its file behind those
 pub one_more : (words : List (Bor (List ℕ))) (files : List Watched) (word : Bor (List ℕ)) (file : Watched) → AreFiles words files → IsFile word.now file
@@ -20,3 +22,15 @@ next_file words k d files more file are within is longer =
     let P : List Watched → Type 0 = λ m. AreFiles (take (k + 1) words) m in
     let Q : List (Bor (List ℕ)) → Type 0 = λ ws. AreFiles ws (files ++ file ∷ []) in
     subst P (sym longer) (subst Q (sym (take_more words k d within)) (one_more (take k words) files (get_or words k d) file are is))
+
+-- a fault that names the word at this place names one of the words
+pub one_of : (words : List (Bor (List ℕ))) (k : ℕ) (d : Bor (List ℕ)) (fault : Fault) → k < length words → IsNoFile (get_or words k d).now
+    → NamesFile (get_or words k d).now fault → NamesOneOf words fault
+one_of [] k d fault within none names = absurd (omega (arith, within))
+one_of (w ∷ ws) zero d fault within none names = inl (none, names)
+one_of (w ∷ ws) (suc k) d fault within none names = inr (one_of ws k d fault (omega arith) none names)
+
+-- memory may be wanting for each
+pub memory_of : (words : List (Bor (List ℕ))) → NamesOneOf words Memory
+memory_of [] = refl
+memory_of (w ∷ ws) = inr (memory_of ws)

@@ -1,3 +1,4 @@
 mod FileLemmas
 pub mod OpenLemmas
 pub mod WholeLemmas
+mod WordLemmas

@@ -1,5 +1,5 @@
 -- The files that the words of `cogserve` name.
-use Rattle.std.specs.Prelude.{◌≡◌, ◌<◌, ◌≤◌, ◌==◌, ℕ, List, [], ◌∷◌, length, string_bytes, ⊤}
+use Rattle.std.specs.Prelude.{◌≡◌, ◌⊎◌, ◌<◌, ◌≤◌, ◌==◌, ℕ, List, [], ◌∷◌, length, string_bytes, ⊤}
 use Rattle.std.specs.Borrow.{Bor}
 use Rattle.std.specs.List.{after_first, before_first, position_or_len}
 use Rattle.disk_files.specs.declared.watched.Watched.{Watched}
@@ -20,6 +20,11 @@ abbrev pub NamesFile : List ℕ → Fault → Type 0
 NamesFile word (NotAFile told) = string_bytes told ≡ word
 NamesFile word Memory = ⊤
 NamesFile word fault = ⊥
+
+-- one of the words names no file, and the fault names it, or memory is wanting
+abbrev pub NamesOneOf : List (Bor (List ℕ)) → Fault → Type 0
+NamesOneOf [] fault = fault ≡ Memory
+NamesOneOf (word ∷ words) fault = (IsNoFile word.now × NamesFile word.now fault) ⊎ NamesOneOf words fault
 
 -- these are the files of the words, one for each, in their order
 abbrev pub AreFiles : List (Bor (List ℕ)) → List Watched → Type 0

@@ -1,6 +1,8 @@
 -- What the words of `cogread` ask for, and the numbers of its options and of `cogserve`'s.
-use Rattle.std.specs.Prelude.{◌≡◌, ◌⊎◌, ℕ, ◌^◌, ◌-◌, true, false, List, Option, Some, None, option_and_then}
+use Rattle.std.specs.Prelude.{◌≡◌, ◌⊎◌, ℕ, ◌^◌, ◌-◌, true, false, if◌then◌else◌, List, [], ◌∷◌, ◌++◌, Option, Some, None, option_and_then}
+use Rattle.std.specs.Borrow.{Bor}
 use Rattle.std.specs.Option.{option_copied}
+use Rattle.std.specs.Str.{bytes_eq}
 use Rattle.tiff_dir.specs.declared.query.Query.{Query}
 use Rattle.tiff_dir.specs.declared.query.Query.TheVariants.{Window, Info}
 use Rattle.tiff_dir.specs.declared.query.Pick.{Pick}
@@ -12,6 +14,9 @@ use Rattle.command_lines.specs.declared.read.AskedWords.TheVariants as words
 use Rattle.command_lines.specs.declared.read.ReadLine.{ReadLine}
 use Rattle.command_lines.specs.declared.read.WindowWords.{WindowWords}
 use Rattle.command_lines.specs.declared.serve.ServeLine.{ServeLine}
+use Rattle.cog_client.specs.declared.error.ClientError.{ClientError}
+use Rattle.programs.specs.declared.fault.Fault.{Fault}
+use Rattle.programs.specs.declared.fault.Fault.TheVariants.{Memory, RefusedClient}
 use Rattle.programs.specs.declared.reading.Asked.{Asked}
 use Rattle.programs.specs.declared.reading.Asked.TheVariants as asked
 use Rattle.programs.specs.Number.{number_or}
@@ -92,3 +97,15 @@ patience_number word = number_or 1 3600 60 word
 abbrev pub HasNoLimit : ServeLine → Type 0
 HasNoLimit line = (connections_number line.connections.now ≡ None) ⊎ (at_once_number (option_copied line.at_once) ≡ None)
     ⊎ (patience_number (option_copied line.patience) ≡ None)
+
+-- No client is made of a server and a name: they are refused for this, or memory is wanting where nothing stands against them.
+abbrev pub IsNoClient : Option ClientError → Fault → Type 0
+IsNoClient refusal (RefusedClient error) = refusal ≡ Some error
+IsNoClient refusal Memory = refusal ≡ None
+IsNoClient refusal fault = ⊥
+
+-- the words, with a server and a name in the place of each that is this URL
+abbrev pub named_by : (url server name : List ℕ) → List (Bor (List ℕ)) → List (List ℕ)
+named_by url server name [] = []
+named_by url server name (word ∷ words) =
+    (if bytes_eq word.now url then server ∷ name ∷ [] else word.now ∷ []) ++ named_by url server name words

@@ -1,8 +1,10 @@
 //! `cogread`: reads a window, the info or a description of a file over sockets.
-ghost use Rattle.std.specs.Prelude.{◌≡◌, IfErr, IfOk, OnErr, Some};
+ghost use Rattle.std.specs.Prelude.{◌≡◌, IfErr, IfOk, OnErr, Some, map, string_bytes};
 ghost use Rattle.std.specs.Option.{option_copied};
+ghost use Rattle.cog_client.specs.Calls.{Starts};
+ghost use Rattle.cog_client.specs.Client.{client_refusal};
 ghost use Rattle.programs.specs.Number.{IsOfNumber};
-ghost use Rattle.programs.specs.Words.{AsksNothing, HasNoNumber, IsAsked, IsNoPick, IsNoWindow, IsPick, IsWindow, ahead_number, blocks_number, requests_number};
+ghost use Rattle.programs.specs.Words.{AsksNothing, HasNoNumber, IsAsked, IsNoClient, IsNoPick, IsNoWindow, IsPick, IsWindow, ahead_number, blocks_number, named_by, requests_number};
 
 use crate::fault::Fault;
 use crate::number::{number, number_or};
@@ -108,7 +110,10 @@ fn client_of<R: Eprint + AllocGlobal>(
     rt: &R,
     line: &ReadLine<'_>,
     blocks: u32,
-) -> Result<Client, Fault> {
+) -> Result<Client, Fault>
+    ensures starts { IfOk result (Starts line.now.server.now line.now.name.now blocks) }
+    ensures err { IfErr result (IsNoClient (client_refusal line.now.server.now line.now.name.now blocks)) }
+{
     let server = line.server.as_bytes();
     match Client::new(rt.alloc(), server, line.name.as_bytes(), blocks) {
         Ok(client) => Ok(client),
@@ -186,7 +191,9 @@ fn named_words(
     words: &[&str],
     url: &str,
     place: &Place<'_>,
-) -> Result<Vec<String>, AllocError> {
+) -> Result<Vec<String>, AllocError>
+    ensures { IfOk result (λ named. map string_bytes named.items ≡ named_by url.now (string_bytes place.now.server) place.now.name.now words.now) }
+{
     let mut named = Vec::new(alloc);
     for word in words {
         if *word == url {

@@ -2,7 +2,7 @@
 ghost use Rattle.std.specs.Prelude.{◌≡◌, ◌*◌, ◌++◌, ◌∷◌, [], IfErr, IfOk, OnErr, OnOk, Some, option_map};
 ghost use Rattle.std.specs.Int.NonZero.{non_zero_usize_get};
 ghost use Rattle.std.specs.Option.{option_copied};
-ghost use Rattle.programs.specs.Files.{AreFiles, IsFile, IsNoFile, IsOfFiles, NamesFile};
+ghost use Rattle.programs.specs.Files.{AreFiles, IsFile, IsNoFile, IsOfFiles, NamesFile, NamesOneOf};
 ghost use Rattle.programs.specs.Number.{IsOfNumber};
 ghost use Rattle.programs.specs.Words.{HasNoLimit, at_once_number, connections_number, patience_number};
 
@@ -105,6 +105,7 @@ fn file_of<'a, R: AllocGlobal>(rt: &R, word: &'a str) -> Result<Watched<'a>, Fau
 /// The files that the words name.
 fn files_of<'a, R: AllocGlobal>(rt: &R, words: &[&'a str]) -> Result<Vec<Watched<'a>>, Fault>
     ensures ok { IfOk result (λ files. AreFiles words.now files.items) }
+    ensures told { IfErr result (NamesOneOf words.now) }
     ensures kinds { IfErr result IsOfFiles }
 {
     let mut files = Vec::new(rt.alloc());

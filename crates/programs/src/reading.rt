@@ -1,10 +1,10 @@
 //! How `cogread` reads: its exchanges, which are told with `--verbose` and drawn with `--progress`, and what is asked of the file.
-ghost use Rattle.std.specs.Prelude.{◌≡◌, ◌≢◌, ℕ, ◌+◌, ◌<◌, ◌≤◌, ◌^◌, ◌⊎◌, false, true, Err, IfErr, IfSome, IsSomeAnd, None, OnOk, Some, slice_get};
+ghost use Rattle.std.specs.Prelude.{◌≡◌, ◌≢◌, ℕ, ◌+◌, ◌<◌, ◌≤◌, ◌^◌, ◌⊎◌, false, true, Err, IfErr, IfSome, IsSomeAnd, List, None, OnOk, Option, Some, slice_get};
 ghost use Rattle.http_range.specs.Book.{Book, HasDistinctTags};
 ghost use Rattle.cog_client.specs.Calls.{IsIdle};
 ghost use Rattle.cog_client.specs.declared.report.Report.{Report};
 ghost use Rattle.cog_client.specs.Client.{name_of, report_of, ClientAgrees};
-ghost use Rattle.cog_client.specs.Keeps.{Stands};
+ghost use Rattle.cog_client.specs.Keeps.{RequestsKeeping, Stands};
 ghost use Rattle.cog_client.specs.Transport.{KeepsReading, ReadsBook};
 ghost use Rattle.exchange_notes.specs.Noted.{source_of};
 ghost use Rattle.programs.specs.declared.fault.Fault.TheVariants.{NoReport};
@@ -72,6 +72,8 @@ impl<R: Eprint + Clock + AllocGlobal> Exchanges<'_, '_, R> {
         ensures keeps { KeepsReading (P.speaks_for (source_of noted.old)) (P.speaks_for (source_of noted.new)) client.old client.new }
         ensures few { StaysWithin self.now.requests (P.count (source_of noted.old)) (P.count (source_of noted.new)) }
         ensures ends { OnOk result ((self.now.requests ≤ P.count (source_of noted.new)) ⊎ IsIdle client.new) }
+        ensures last { P.count (source_of noted.old) ≡ self.now.requests
+            → OnOk result ((request : Option (List ℕ)) × RequestsKeeping client.old request client.new) }
     {
         let left = left(noted, self.requests);
         if left == 0 {
@@ -175,6 +177,7 @@ impl<R: Eprint + Clock + AllocGlobal> Exchanges<'_, '_, R> {
         ensures written { IsOfFile result
             → (r : Report) × Stands client.now (Some r) × IsWritten asked r.tag r.outcome result }
         ensures left { result ≡ Err NoReport → HasNothing asked (report_of client.now) }
+        ensures says { IfSome (report_of client.now) (λ r. IsWritten asked r.tag r.outcome result) }
         ensures silent { report_of client.now ≡ None → result ≡ Err NoReport }
         ensures kinds { IfErr result IsOfReading }
     {
