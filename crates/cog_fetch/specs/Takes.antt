@@ -40,3 +40,7 @@ pub record TakesAnswer (speaks : Book → Type 0) (rest : List ℕ) (old new : C
   pub next : IsNextOf speaks rest bytes
   pub same : SameClient old new
   pub agrees : (book : Book) → HasDistinctTags book → ClientAgrees old book → IsReadAs (IsPieceOfBook (name_of old) book) bytes → ClientAgrees new book
+
+-- Memory was wanting behind a beginning of what came of the answer to a request.
+abbrev pub StopsWithin : (List ℕ → List ℕ → Type 0) → List ℕ → ClientState → ClientState → Type 0
+StopsWithin answers request old new = (text : List ℕ) × answers request text × StopsDelivery old text new

@@ -1,7 +1,7 @@
 //! Where an answer ends on a connection that may go on behind it.
-ghost use Rattle.std.specs.Prelude.{◌≡◌, ◌++◌, ◌||◌, ℕ, [], List, OnErr, OnOk, false, true};
+ghost use Rattle.std.specs.Prelude.{◌≡◌, ◌++◌, ◌||◌, ℕ, [], List, IsOk, OnErr, OnOk, false, true};
 ghost use Rattle.http_range.specs.Announced.{head_reading_seen};
-ghost use Rattle.cog_fetch.specs.declared.answer_end.Lacks.TheVariants.{Body, End};
+ghost use Rattle.cog_fetch.specs.declared.answer_end.Lacks.TheVariants.{Body, End, Head};
 ghost use Rattle.cog_fetch.specs.AnswerEnd.{is_some_of, lacks_behind, lacks_by, lacks_of, has_begun, kept_of, may_change, Came, IsLast, MayGoOn};
 
 use http_parts::limits::HEAD_LIMIT;
@@ -110,6 +110,7 @@ impl AnswerEnd {
         ensures ok { OnOk result ((front : List ℕ) → Came self.old front → Came self.new (front ++ bytes.now)) }
         ensures err { OnErr result (lacks_of self.new ≡ End) }
         ensures lost { lacks_of self.old ≡ End → lacks_of self.new ≡ End }
+        ensures sure { (lacks_of self.old ≡ Head → ⊥) → IsOk result }
         ensures begun { has_begun self.new ≡ (has_begun self.old || is_some_of bytes.now) }
     {
         heads_grow();

@@ -1,7 +1,8 @@
 //! One exchange: a request is sent, and what comes of its answer is taken.
 ghost use Rattle.std.specs.Prelude.{◌≡◌, ◌+◌, ◌<◌, ◌^◌, ℕ, List, OnErr, OnOk};
 ghost use Rattle.http_range.specs.Book.{Book};
-ghost use Rattle.cog_client.specs.Transport.{AnswersOn, AnyText, KeepsReading, SpeaksOn, StopsTaking, TakesOrLoses};
+ghost use Rattle.cog_client.specs.Transport.{AnswersOn, AnyText, KeepsReading, SpeaksOn, TakesOrLoses};
+ghost use Rattle.cog_fetch.specs.Takes.{StopsWithin};
 
 use crate::taking::take_answer;
 use cog_client::{Client, FetchError, Lost, Memory, Pieces, Transport};
@@ -27,7 +28,7 @@ pub(crate) trait Exchange<S> {
         requires { count source.old + 1 < 2 ^ 64 }
         ensures keeps { KeepsReading (speaks_for source.old) (speaks_for source.new) client.old client.new }
         ensures takes { OnOk result (TakesOrLoses (answers source.old) request.now client.old client.new) }
-        ensures stops { OnErr result (StopsTaking (answers source.old) request.now client.old client.new) }
+        ensures stops { OnErr result (StopsWithin (answers source.old) request.now client.old client.new) }
         ensures goes_on { AnswersOn (answers source.old) (answers source.new) }
         ensures counted { count source.new ≡ count source.old + 1 };
 }
@@ -61,7 +62,7 @@ impl<T: Transport> Exchange<T> for Whole {
 /// The most requests that a source is told of at once.
 const MOST_EARLY: u32 = 8;
 
-/// Tells a source what the client is likely to ask next, in so many requests at most.
+/// Tells a source what the client is likely to ask next, in so many requests at most. Without memory it isn't told.
 fn foresee<P: Pieces>(client: &Client, source: &mut P, later: u32) -> Result<(), Memory>
     ensures rest { P.rest source.new ≡ P.rest source.old }
     ensures speaks { SpeaksOn (P.speaks_for source.old) (P.speaks_for source.new) }
@@ -90,7 +91,7 @@ impl<P: Pieces> Exchange<P> for InPieces {
     ) -> Result<(), FetchError> {
         match source.start(request) {
             Ok(()) => {
-                foresee(client, source, later)?;
+                let _ = foresee(client, source, later);
                 Ok(take_answer(client, source)?)
             }
             Err(Lost) => Ok(()),

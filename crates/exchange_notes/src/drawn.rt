@@ -1,7 +1,7 @@
 //! Exchanges whose progress is drawn on standard error, as one line over itself.
 ghost use Rattle.std.specs.Prelude.{◌≡◌, ◌+◌, ◌<◌, ◌≤◌, ◌^◌, ◌⊎◌, OnOk};
 ghost use Rattle.cog_client.specs.Calls.{IsIdle};
-ghost use Rattle.cog_client.specs.Transport.{KeepsReading};
+ghost use Rattle.cog_client.specs.Transport.{AnyText, FetchesSome, KeepsReading};
 ghost use Rattle.exchange_notes.specs.Noted.{source_of};
 
 use crate::noted::{Noted, Progress};
@@ -31,6 +31,9 @@ pub fn exchanges_drawn<R: Eprint, P: Pieces>(
     ensures keeps { KeepsReading (P.speaks_for (source_of noted.old)) (P.speaks_for (source_of noted.new)) client.old client.new }
     ensures ends { OnOk result ((P.count (source_of noted.new) ≡ P.count (source_of noted.old) + requests) ⊎ IsIdle client.new) }
     ensures few { P.count (source_of noted.new) ≤ P.count (source_of noted.old) + requests }
+
+    // Its requests are asked for, and what comes of the answers is taken, in turn, and nothing else is done to it.
+    ensures fetches { OnOk result (FetchesSome AnyText client.old client.new) }
 {
     for done in 0..requests {
         if !exchange_pieces(client, noted, requests - done - 1)? {

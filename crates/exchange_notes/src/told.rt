@@ -1,7 +1,7 @@
 //! Exchanges that are told on standard error, each when it is over.
 ghost use Rattle.std.specs.Prelude.{◌≡◌, ◌+◌, ◌<◌, ◌≤◌, ◌^◌, ◌⊎◌, IfOk, OnOk, false, if◌then◌else◌};
 ghost use Rattle.cog_client.specs.Calls.{IsIdle};
-ghost use Rattle.cog_client.specs.Transport.{KeepsReading};
+ghost use Rattle.cog_client.specs.Transport.{AnyText, FetchesOnce, FetchesSome, KeepsReading};
 ghost use Rattle.exchange_notes.specs.Noted.{source_of};
 
 use crate::clock::moment;
@@ -33,6 +33,7 @@ fn exchange_told<R: Eprint + Clock, P: Pieces>(
     ensures counted { IfOk result (λ asked. P.count (source_of noted.new)
         ≡ (if asked then P.count (source_of noted.old) + 1 else P.count (source_of noted.old))) }
     ensures few { P.count (source_of noted.new) ≤ P.count (source_of noted.old) + 1 }
+    ensures fetches { OnOk result (FetchesOnce AnyText client.old client.new) }
     ensures silent { IfOk result (λ asked. asked ≡ false → IsIdle client.new) }
 {
     let before = tag_of(client);
@@ -77,6 +78,9 @@ pub fn exchanges_told<R: Eprint + Clock, P: Pieces>(
     ensures keeps { KeepsReading (P.speaks_for (source_of noted.old)) (P.speaks_for (source_of noted.new)) client.old client.new }
     ensures ends { OnOk result ((P.count (source_of noted.new) ≡ P.count (source_of noted.old) + requests) ⊎ IsIdle client.new) }
     ensures few { P.count (source_of noted.new) ≤ P.count (source_of noted.old) + requests }
+
+    // Its requests are asked for, and what comes of the answers is taken, in turn, and nothing else is done to it.
+    ensures fetches { OnOk result (FetchesSome AnyText client.old client.new) }
 {
     for done in 0..requests {
         if !exchange_told(rt, net, client, noted, later_of(requests, done))? {

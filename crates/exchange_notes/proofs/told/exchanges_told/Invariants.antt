@@ -1,5 +1,5 @@
 use Rattle.std.proofs.Common.{◌≡◌, ◌+◌}
-use Rattle.cog_client.specs.Transport.{KeepsReading}
+use Rattle.cog_client.specs.Transport.{AnyText, FetchesSome, KeepsReading}
 use Rattle.exchange_notes.specs.Noted.{source_of}
 use Rattle.exchange_notes.proofs.told.exchanges_told.Given as goal
 
@@ -7,4 +7,5 @@ abbrev pub invariant-loop-done : goal.invariant-loop-done
 invariant-loop-done g l = record {
   keeps : KeepsReading (g.P.Pieces.speaks_for (source_of l.fn.noted)) (g.P.Pieces.speaks_for (source_of l.noted)) l.fn.client l.client;
   counted : g.P.Pieces.count (source_of l.noted) ≡ g.P.Pieces.count (source_of l.fn.noted) + l.done;
+  fetches : FetchesSome AnyText l.fn.client l.client;
 }

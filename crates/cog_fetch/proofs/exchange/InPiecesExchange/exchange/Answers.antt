@@ -6,7 +6,7 @@ use Rattle.cog_fetch.proofs.exchange.InPiecesExchange.exchange.Goals as goal
 pub returns-in_err-take_answer-in-Ok-clause-keeps : goal.returns-in_err-take_answer-in-Ok-clause-keeps
 returns-in_err-take_answer-in-Ok-clause-keeps g c =
     let speaks = g.P.Pieces.speaks_for c.args.source.now in
-    let told = c.in_ok-foresee-in-Ok.ensures in
+    let told = c.foresee.ensures in
     keeps_taking speaks (g.P.Pieces.speaks_for c.foresee.new.source) (g.P.Pieces.speaks_for c.take_answer.new.pieces) (g.P.Pieces.rest c.foresee.new.source)
     c.args.client.now c.take_answer.new.client (λ p spoken. told.speaks p (c.in-Ok.ensures.speaks p spoken)) c.take_answer.ensures.speaks
     (subst (IsTrueToAll speaks) (sym told.rest) c.in-Ok.ensures.shows) c.take_answer.ensures.takes
@@ -14,7 +14,7 @@ returns-in_err-take_answer-in-Ok-clause-keeps g c =
 pub returns-in_ok-take_answer-in-Ok-clause-keeps : goal.returns-in_ok-take_answer-in-Ok-clause-keeps
 returns-in_ok-take_answer-in-Ok-clause-keeps g c =
     let speaks = g.P.Pieces.speaks_for c.args.source.now in
-    let told = c.in_ok-foresee-in-Ok.ensures in
+    let told = c.foresee.ensures in
     keeps_taking speaks (g.P.Pieces.speaks_for c.foresee.new.source) (g.P.Pieces.speaks_for c.take_answer.new.pieces) (g.P.Pieces.rest c.foresee.new.source)
     c.args.client.now c.take_answer.new.client (λ p spoken. told.speaks p (c.in-Ok.ensures.speaks p spoken)) c.take_answer.ensures.speaks
     (subst (IsTrueToAll speaks) (sym told.rest) c.in-Ok.ensures.shows) c.take_answer.ensures.takes
