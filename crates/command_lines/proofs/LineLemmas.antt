@@ -1,11 +1,12 @@
 -- What a parse of a command gives: each word that has to stand is there.
-use Rattle.std.proofs.Common.{◌≡◌, ◌∙◌, ◌<◌, ◌≤◌, ◌&&◌, ◌⊎◌, ℕ, zero, suc, Bool, true, false, not, List, [], ◌∷◌, length, map, Option, Some, None, Result, Ok, Err, is_some, IfErr, IsErrAnd, codes, option_map, refl, sym, ap, ap₂, subst, inl, inr, arith, true≢false}
+use Rattle.std.proofs.Common.{◌≡◌, ◌≢◌, ◌∙◌, ◌<◌, ◌≤◌, ◌&&◌, ◌⊎◌, ℕ, zero, suc, Bool, true, false, not, List, [], ◌∷◌, length, map, nat_eq, Option, Some, None, Result, Ok, Err, is_some, IfErr, IsErrAnd, codes, option_map, unwrap_or, refl, sym, ap, ap₂, subst, Box, inl, inr, arith, true≢false}
 use Rattle.std.specs.Borrow.{Bor}
+use Rattle.std.specs.Box.{box_value}
 use Rattle.std.specs.List.{slice_index_or}
 use Rattle.std.specs.Str.{bytes_eq}
 use Rattle.std.proofs.lemmas.List.{get_or-map, length-map}
 use Rattle.clap.specs.Facts.{unwrap_or_range}
-use Rattle.clap.specs.Words.{App, FailsBy, HasKind, IsParsedFrom, IsPlain, IsPlainArg, Kinds, Row, Rule, all_of, app_of, args_of, first_of, first_value, found_of, is_simple, is_simple_and_free, matched_of, one_of, one_text, raw_values, rows_of, rule_of}
+use Rattle.clap.specs.Words.{App, FailsBy, HasKind, IsParsedFrom, IsPlain, IsPlainArg, Kinds, Row, Rule, all_of, app_of, args_of, first_of, first_value, found_of, is_simple, is_simple_and_free, matched_of, one_of, one_text, raw_values, rows_of, rule_of, subcommand_rows}
 use Rattle.clap.specs.Walk.{is_empty, is_free_arg, is_simple_arg}
 use Rattle.clap.specs.declared.builder.arg.Arg.{Arg}
 use Rattle.clap.specs.declared.builder.command.Command.{Command}
@@ -13,13 +14,19 @@ use Rattle.clap.specs.declared.builder.command.Command.TheViews.{out-Command}
 use Rattle.clap.specs.declared.builder.range.ValueRange.{ValueRange}
 use Rattle.clap.specs.declared.error.Error.{Error}
 use Rattle.clap.specs.declared.parser.matches.ArgMatches.{ArgMatches}
+use Rattle.clap.specs.declared.parser.matches.ArgMatches.TheViews.{out-SubCommand}
+use Rattle.clap.specs.declared.parser.matches.SubCommand.{SubCommand}
 use Rattle.clap.specs.declared.parser.matches.Found.{Found}
 use Rattle.clap.proofs.SimpleLemmas.{is_false, is_nil}
 use Rattle.clap.proofs.OnLiterals.{clap_on_literals}
 use Rattle.clap.proofs.WalkLemmas.{both, first_value-rows, one_text-rows, raw_values-rows}
 use Rattle.clap.proofs.CallerLemmas.{present_has_entry, required_has_value, required_present}
 use Rattle.clap.specs.declared.builder.action.ArgAction.TheVariants.{Set}
-use Rattle.command_lines.specs.ServeLine.{choice, flag, option, serve_app, words}
+use Rattle.command_lines.specs.ReadLine.{Asks, AsksDescription, AsksWindow, HasFound, HasLine, word_of}
+use Rattle.command_lines.specs.ServeLine.{Tells, choice, flag, option, serve_app, words}
+use Rattle.command_lines.specs.declared.read.AskedWords.{AskedWords}
+use Rattle.command_lines.specs.declared.read.AskedWords.TheVariants.{Info}
+use Rattle.command_lines.specs.declared.read.ReadLine.{ReadLine}
 use Rattle.command_lines.specs.WorldLine.{word, world_app}
 
 no_some : {X : Type 0} (o : Option X) → not (is_some o) ≡ true → o ≡ None
@@ -279,3 +286,72 @@ passed_on (Err e) error P is good = subst P (sym is) good
 pub refused_as : {A : Type 0} (result : Result A Error) (error : Error) (kinds : Kinds) → IsErrAnd result (λ e. e ≡ error) → HasKind kinds error → FailsBy kinds result
 refused_as (Ok a) error kinds bad has = absurd bad
 refused_as (Err e) error kinds is has = subst (HasKind kinds) (sym is) has
+
+-- the value of a word, or nothing where it has none
+pub word_value : (f : Found) (name : List ℕ) (o : Option (Bor (List ℕ))) (d w : Bor (List ℕ)) → option_map (λ s. s.now) o ≡ first_value f name
+    → d.now ≡ [] → w ≡ unwrap_or o d → w.now ≡ word_of name (rows_of f)
+word_value f name None d w found empty is =
+    ap (λ (b : Bor (List ℕ)). b.now) is ∙ empty ∙ ap (λ (t : Option (List ℕ)). unwrap_or t []) (found ∙ first_value-rows f name)
+word_value f name (Some v) d w found empty is =
+    ap (λ (b : Bor (List ℕ)). b.now) is ∙ ap (λ (t : Option (List ℕ)). unwrap_or t []) (found ∙ first_value-rows f name)
+
+-- an option's value is that by the rows
+pub option_row : (f : Found) (name : List ℕ) (o : Option (Bor (List ℕ))) → option_map (λ s. s.now) o ≡ first_value f name
+    → first_of name (rows_of f) ≡ option_map (λ s. s.now) o
+option_row f name o found = choice_value f (rows_of f) name o refl found
+
+-- and a flag tells what is there
+pub flag_tells : (f : Found) (name : List ℕ) (here : Bool) → (one_text f name ≡ None → here ≡ false) → (one_text f name ≡ Some (codes "true") → here ≡ true)
+    → (one_text f name ≡ Some (codes "false") → here ≡ false) → Tells (one_of name (rows_of f)) here
+flag_tells f name here missing shown hidden =
+    let text = flag_text f (rows_of f) name refl in
+    record { none = λ e. missing (text ∙ e); yes = λ e. shown (text ∙ e); no = λ e. hidden (text ∙ e) }
+
+-- a flag of which the value is known
+pub flag_is : (text : Option (List ℕ)) (here value : Bool) → here ≡ value → Tells text here → Tells text value
+flag_is text here value is tells = subst (Tells text) is tells
+
+-- the rows of a subcommand that was found, by its name and its rows
+pub entered_rows : {Z : Type 0} (b : Option (Box SubCommand Z)) (name : List ℕ) (rows : List Row)
+    → Some name ≡ option_map (λ s. (out-SubCommand (box_value s)).name.now) b → Some rows ≡ option_map (λ p. p.1) (subcommand_rows b) → subcommand_rows b ≡ Some (name, rows)
+entered_rows None name rows named rowed = absurd (true≢false (ap is_some named))
+entered_rows (Some b) name rows named rowed =
+    ap (λ (n : Option (List ℕ)). Some (unwrap_or n [], unwrap_or (option_map (λ (p : List ℕ × List Row). p.1) (subcommand_rows (Some b))) [])) (sym named)
+    ∙ ap (λ (r : Option (List Row)). Some (name, unwrap_or r [])) (sym rowed)
+
+-- what is true of it is true of the line
+pub found_as : {Z : Type 0} (b : Option (Box SubCommand Z)) (name : List ℕ) (matches own : List Row) (line : ReadLine)
+    → Some name ≡ option_map (λ s. (out-SubCommand (box_value s)).name.now) b → Some matches ≡ option_map (λ p. p.1) (subcommand_rows b)
+    → HasLine matches line → Asks name matches line.asked → HasFound (subcommand_rows b) own line
+found_as b name matches own line named rowed values asks =
+    subst (λ (s : Option (List ℕ × List Row)). HasFound s own line) (sym (entered_rows b name matches named rowed)) (values, asks)
+
+window≢describe : codes "window" ≢ codes "describe"
+window≢describe e = true≢false (ap (λ (name : List ℕ). nat_eq (length name) 6) e)
+
+-- a window's words, as what its name says
+pub window_asks : (name : List ℕ) (matches : List Row) (words asked : AskedWords) → name ≡ codes "window" → asked ≡ words → AsksWindow matches words
+    → Asks name matches asked
+window_asks name matches words asked is same right = record {
+  window = λ e. subst (AsksWindow matches) (sym same) right;
+  description = λ e. absurd (window≢describe (sym is ∙ e));
+  info = λ no other. absurd (no is);
+}
+
+-- and a description's
+pub description_asks : (name : List ℕ) (matches : List Row) (words asked : AskedWords) → name ≡ codes "describe" → asked ≡ words
+    → AsksDescription matches words → Asks name matches asked
+description_asks name matches words asked is same right = record {
+  window = λ e. absurd (window≢describe (sym e ∙ is));
+  description = λ e. subst (AsksDescription matches) (sym same) right;
+  info = λ no other. absurd (other is);
+}
+
+-- and those of any other
+pub other_asks : (name : List ℕ) (matches : List Row) (asked : AskedWords) → name ≢ codes "window" → name ≢ codes "describe" → asked ≡ Info
+    → Asks name matches asked
+other_asks name matches asked window describe is = record {
+  window = λ e. absurd (window e);
+  description = λ e. absurd (describe e);
+  info = λ no other. is;
+}

@@ -1,4 +1,5 @@
 pub mod Number
 pub mod Place
+pub mod ReadLine
 pub mod ServeLine
 pub mod WorldLine

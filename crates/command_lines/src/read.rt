@@ -1,4 +1,8 @@
 //! The command line of `cogread`.
+ghost use Rattle.std.specs.Prelude.{◌≡◌};
+ghost use Rattle.clap.specs.Words.{found_of, rows_of, subcommand_rows_of};
+ghost use Rattle.command_lines.specs.ReadLine.{AsksDescription, AsksWindow, HasFound, HasLine, HasWindow, word_of};
+
 use crate::arguments::{choice, flag};
 use crate::help::{READ_NOTES, VERSION};
 use clap::{Arg, ArgMatches, Command, Error};
@@ -221,33 +225,50 @@ fn read_command<'a>(alloc: Global) -> Result<Command<'a>, AllocError> {
 }
 
 /// The value of a word that has to stand.
-fn value<'a>(matches: &ArgMatches<'a>, name: &str) -> &'a str {
+fn value<'a>(matches: &ArgMatches<'a>, name: &str) -> &'a str
+    ensures { result.now ≡ word_of name.now (rows_of (found_of matches.now)) }
+{
     matches.get_str(name).unwrap_or("")
 }
 
-fn window_words<'a>(matches: &ArgMatches<'a>) -> AskedWords<'a> {
-    let level = matches.get_str("level");
-    if matches.get_flag("whole") {
-        return AskedWords::Whole { level };
-    }
-    AskedWords::Window(WindowWords {
+/// The words of a window.
+fn words_of_window<'a>(matches: &ArgMatches<'a>) -> WindowWords<'a>
+    ensures { HasWindow (rows_of (found_of matches.now)) result }
+{
+    WindowWords {
         x: value(matches, "X"),
         y: value(matches, "Y"),
         w: value(matches, "W"),
         h: value(matches, "H"),
-        level,
+        level: matches.get_str("level"),
         columns: matches.get_str("columns"),
-    })
+    }
 }
 
-fn description_words(matches: &ArgMatches<'_>) -> AskedWords<'static> {
+fn window_words<'a>(matches: &ArgMatches<'a>) -> AskedWords<'a>
+    ensures { AsksWindow (rows_of (found_of matches.now)) result }
+{
+    if matches.get_flag("whole") {
+        return AskedWords::Whole {
+            level: matches.get_str("level"),
+        };
+    }
+    AskedWords::Window(words_of_window(matches))
+}
+
+fn description_words(matches: &ArgMatches<'_>) -> AskedWords<'static>
+    ensures { AsksDescription (rows_of (found_of matches.now)) result }
+{
     AskedWords::Description {
         is_json: matches.get_flag("json"),
     }
 }
 
 /// The line of a subcommand's words.
-fn line_of<'a>(matches: &ArgMatches<'a>, asked: AskedWords<'a>) -> ReadLine<'a> {
+fn line_of<'a>(matches: &ArgMatches<'a>, asked: AskedWords<'a>) -> ReadLine<'a>
+    ensures words { HasLine (rows_of (found_of matches.now)) result }
+    ensures asked { result.asked ≡ asked.entry }
+{
     ReadLine {
         server: value(matches, "SERVER"),
         name: value(matches, "NAME"),
@@ -264,7 +285,9 @@ fn line_of<'a>(matches: &ArgMatches<'a>, asked: AskedWords<'a>) -> ReadLine<'a> 
 }
 
 /// The line of the subcommand that was found.
-fn found_line<'a>(matches: &ArgMatches<'a>) -> ReadLine<'a> {
+fn found_line<'a>(matches: &ArgMatches<'a>) -> ReadLine<'a>
+    ensures { HasFound (subcommand_rows_of matches.now) (rows_of (found_of matches.now)) result }
+{
     match matches.subcommand() {
         Some(("window", window)) => line_of(window, window_words(window)),
         Some(("describe", file)) => line_of(file, description_words(file)),
