@@ -1,9 +1,9 @@
 //! What is known of a connection that is kept from answer to answer.
-ghost use Rattle.std.specs.Prelude.{◌≡◌, ◌<◌, ◌≤◌, ◌++◌, ◌∷◌, ◌⊎◌, ℕ, [], List, IfSome, IsSome, IsTrue, None, Some, true};
+ghost use Rattle.std.specs.Prelude.{◌≡◌, ◌<◌, ◌≤◌, ◌++◌, ◌∷◌, ◌⊎◌, ◌↔◌, ℕ, [], List, IfSome, IsSome, IsTrue, None, Some, false, true};
 ghost use Rattle.cog_fetch.specs.declared.answer_end.Lacks.TheVariants.{Body, End};
 ghost use Rattle.cog_fetch.specs.AnswerEnd.{lacks_of, Came, IsWholeAnswer, MayGoOn};
-ghost use Rattle.sockets.specs.declared.kept.Turn.TheVariants.{Anew};
-ghost use Rattle.sockets.specs.Early.{again_of, early_of, IsTurn};
+ghost use Rattle.sockets.specs.declared.kept.Turn.TheVariants.{Anew, Sent};
+ghost use Rattle.sockets.specs.Early.{again_of, early_of, texts, was_early, IsTurn};
 ghost use Rattle.sockets.specs.Sockets.{is_over};
 
 use cog_fetch::{AnswerEnd, Lacks};
@@ -56,6 +56,7 @@ impl Kept {
         ensures came { Came self.new.end [] }
         ensures early { early_of self.new ≡ [] }
         ensures again { again_of self.new ≡ None }
+        ensures late { was_early self.new ≡ false }
     {
         self.end.begin();
         self.again = None;
@@ -71,6 +72,7 @@ impl Kept {
         ensures begun { Came self.new.end [] }
         ensures turn { IsTurn result (early_of self.old) request.now (early_of self.new) }
         ensures again { ¬ (result ≡ Anew) → again_of self.new ≡ Some request.now }
+        ensures noted { ¬ (result ≡ Anew) → (was_early self.new ≡ true ↔ result ≡ Sent) }
     {
         let may_go_on = self.end.may_go_on();
         self.end.begin();
@@ -108,22 +110,29 @@ impl Kept {
     /// Those of the requests that come next which weren't sent early so far. There are none before the connection went on behind an
     /// answer, since a server that ends each connection may drop the rest of an answer with what it didn't read; nor where others were
     /// sent.
-    pub(crate) fn unsent<'a>(&self, requests: &'a [Vec<u8>]) -> &'a [Vec<u8>] {
+    pub(crate) fn unsent<'a>(&self, requests: &'a [Vec<u8>]) -> &'a [Vec<u8>]
+        ensures none { again_of self.now ≡ None → result.now ≡ [] }
+        ensures behind { (result.now ≡ []) ⊎ (texts requests.now ≡ early_of self.now ++ texts result.now) }
+    {
         if self.again.is_none() {
             return &[];
         }
-        for (at, sent) in self.early.iter().enumerate() {
-            if requests.get(at) != Some(sent) {
-                return &[];
+        let mut left = requests;
+        for sent in &self.early {
+            match left.split_first() {
+                Some((first, rest)) if first.as_slice() == sent.as_slice() => left = rest,
+                _ => return &[],
             }
         }
-        requests.get(self.early.len()..).unwrap_or(&[])
+        left
     }
 
     /// A request is sent early. Says whether there is memory to note it.
     pub(crate) fn sends_early(&mut self, alloc: Global, request: &[u8]) -> bool
         ensures noted { result ≡ true → early_of self.new ≡ early_of self.old ++ request.now ∷ [] }
         ensures end { self.new.end ≡ self.old.end }
+        ensures again { again_of self.new ≡ again_of self.old }
+        ensures stays { was_early self.new ≡ was_early self.old }
     {
         match Vec::from_slice(alloc, request) {
             Ok(text) => self.early.push_back(text).is_ok(),
@@ -171,8 +180,11 @@ impl Kept {
 
     /// The next bytes of the answer came. Without memory for its head it isn't known where it ends.
     pub(crate) fn came(&mut self, bytes: &[u8])
-        ensures { (front : List ℕ) → Came self.old.end front
+        ensures came { (front : List ℕ) → Came self.old.end front
             → Came self.new.end (front ++ bytes.now) ⊎ (lacks_of self.new.end ≡ End) }
+        ensures again { again_of self.new ≡ again_of self.old }
+        ensures early { early_of self.new ≡ early_of self.old }
+        ensures stays { was_early self.new ≡ was_early self.old }
     {
         let _ = self.end.came(bytes);
     }
@@ -184,6 +196,8 @@ impl Kept {
         ensures kept { result ≡ None → self.new ≡ self.old }
         ensures none { IsSome result → (bytes : List ℕ) → Came self.old.end bytes → bytes ≡ [] }
         ensures end { self.new.end ≡ self.old.end }
+        ensures early { early_of self.new ≡ early_of self.old }
+        ensures stays { was_early self.new ≡ was_early self.old }
     {
         if self.end.has_begun() {
             return None;

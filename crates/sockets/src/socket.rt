@@ -2,7 +2,7 @@
 ghost use Rattle.std.specs.Prelude.{◌≡◌, ◌≤◌, ◌⊎◌, ◌++◌, ◌<◌, ℕ, List, [], ◌↔◌, IfOk, IfSome, IsErr, IsSome, IsTrue, None, OnOk, Some, false, length, take, true};
 ghost use Rattle.cog_fetch.specs.AnswerEnd.{IsWholeAnswer, MayGoOn};
 ghost use Rattle.sockets.specs.declared.kept.Turn.TheVariants.{Anew};
-ghost use Rattle.sockets.specs.Early.{IsOwnPiece, again_of};
+ghost use Rattle.sockets.specs.Early.{again_of, early_of, IsOwnPiece, IsTurn, SendsAlike};
 ghost use Rattle.sockets.specs.Sockets.{exchanges_of, keeps, server_of, HasCome, IsConnected, IsFresh, IsOver, IsUntold, Notes};
 
 use crate::kept::{Kept, Turn};
@@ -75,6 +75,7 @@ impl<'r, R> Socket<'r, R> {
     /// How many bytes of those that there is room for are read at once.
     fn piece(&self, room: usize) -> usize
         ensures few { result ≤ room }
+        ensures some { 0 < room → 0 < result }
         ensures own { IsOwnPiece self.now result }
     {
         match &self.kept {
@@ -92,6 +93,7 @@ impl<'r, R> Socket<'r, R> {
         ensures alone { keeps self.old ≡ false → self.new.stream ≡ self.old.stream }
         ensures goes_on { IfSome self.old.kept (λ kept. kept.was_early ≡ false → self.new.stream ≡ self.old.stream) }
         ensures stays { keeps self.new ≡ keeps self.old }
+        ensures sent { SendsAlike self.old self.new }
     {
         let Some(kept) = &mut self.kept else {
             return;
@@ -111,6 +113,7 @@ impl<'r, R> Socket<'r, R> {
         ensures noted { IfOk result (λ n. (front : List ℕ) → HasCome self.old front
             → HasCome self.new (front ++ take n out.new) ⊎ IsUntold self.new) }
         ensures stays { keeps self.new ≡ keeps self.old }
+        ensures sent { SendsAlike self.old self.new }
     {
         let most = self.piece(out.len());
         let count = self.receive(&mut out[..most])?;
@@ -203,6 +206,8 @@ impl<'r, R: Net<Stream = TcpStream> + AllocGlobal> Socket<'r, R> {
         ensures whole { ¬ (result ≡ Anew) → (bytes : List ℕ) → HasCome self.old bytes → IsWholeAnswer bytes }
         ensures goes { ¬ (result ≡ Anew) → (bytes : List ℕ) → HasCome self.old bytes → MayGoOn bytes }
         ensures begun { ¬ (result ≡ Anew) → HasCome self.new [] }
+        ensures turn { IfSome self.old.kept (λ old. IfSome self.new.kept (λ new. IsTurn result (early_of old) request.now (early_of new))) }
+        ensures again { ¬ (result ≡ Anew) → IfSome self.new.kept (λ k. again_of k ≡ Some request.now) }
         ensures stays { keeps self.new ≡ keeps self.old }
     {
         match &mut self.kept {
