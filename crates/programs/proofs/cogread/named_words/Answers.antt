@@ -1,4 +1,4 @@
-use Rattle.std.proofs.Common.{◌≡◌, ◌∙◌, ap, map, rules, subst, sym}
+use Rattle.std.proofs.Common.{◌∙◌, ap, map, sym}
 use Rattle.std.specs.Prelude.{string_bytes}
 use Rattle.programs.proofs.WordLemmas.{all_passed, pushed, url_passed, word_passed}
 use Rattle.programs.proofs.cogread.named_words.Goals as goal
