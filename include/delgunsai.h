@@ -168,6 +168,10 @@ int64_t cog_client_report(struct cog_client *client, struct cog_report *report, 
  * byte, or of two, the most significant one first. Gives their bytes' count, COG_NO_REPORT, COG_OTHER_REPORT or COG_NO_CLIENT. */
 int64_t cog_client_pixels(struct cog_client *client, uint8_t *room, size_t length);
 
+/* cog_swap_pairs: exchanges the bytes of each pair in the room, bytes 0 and 1, 2 and 3 and so on: samples of two bytes in the order of a
+ * computer that has the least significant one first. A last byte without a pair stays. It is of no client. */
+void cog_swap_pairs(uint8_t *room, size_t length);
+
 /* cog_client_info: the text of what Info tells that is reported, into the room: the lines of `cogread info`. Gives its length,
  * COG_NO_REPORT, COG_OTHER_REPORT, COG_MEMORY or COG_NO_CLIENT. */
 int64_t cog_client_info(struct cog_client *client, uint8_t *room, size_t length);

@@ -73,6 +73,8 @@ def _load() -> ctypes.CDLL:
         call.restype = result
         call.argtypes = arguments
         setattr(library, 'cog_client_' + name, call)
+    library.cog_swap_pairs.restype = None
+    library.cog_swap_pairs.argtypes = [room, ctypes.c_size_t]
     return library
 
 
@@ -165,9 +167,12 @@ class Core:
         wide = report.bits == 16
         shape = (report.height, report.width) if report.samples == 1 else (report.height, report.width, report.samples)
         array: NDArray[Any] = numpy.empty(shape, WIDE if wide else NARROW)
-        if _checked(_library.cog_client_pixels(self._at, Front.from_buffer(array.data), array.nbytes)) != array.nbytes:
+        place = Front.from_buffer(array.data)
+        if _checked(_library.cog_client_pixels(self._at, place, array.nbytes)) != array.nbytes:
             raise RuntimeError('the core reports another number of samples')
-        return array.byteswap(True) if wide and sys.byteorder == 'little' else array
+        if wide and sys.byteorder == 'little':
+            _library.cog_swap_pairs(place, array.nbytes)
+        return array
 
     def info(self) -> str:
         """The text of what Info tells."""

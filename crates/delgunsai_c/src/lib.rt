@@ -6,6 +6,7 @@ mod failure;
 mod handle;
 mod laying;
 mod making;
+mod pairs;
 mod parts;
 mod place;
 mod queries;
