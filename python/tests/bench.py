@@ -12,14 +12,23 @@ from unittest import mock
 import delgunsai
 import numpy
 from delgunsai import _sources
-from files import PLAIN, TRANSLATE
+from files import PACKED, PLAIN, TRANSLATE, WIDE, base
 from floor import Compiled, Floor
 from servers import Cogserve, Nginx
 from support import EXAMPLE, FOLDER, RASTERIO, TLS, free_port
 
 WIDTH, HEIGHT, SIDE = 7168, 6144, 256
+FORMS = {
+    'grey in tiles of 512': (1, 1, [*PLAIN, '-co', 'BLOCKSIZE=512']),
+    'RGB': (3, 4, [*PLAIN, '-co', f'BLOCKSIZE={SIDE}']),
+    'grey of 16 bits': (1, 2, [*PLAIN, *WIDE, '-co', f'BLOCKSIZE={SIDE}']),
+    'packed grey': (1, 1, [*PACKED, '-co', f'BLOCKXSIZE={SIDE}', '-co', f'BLOCKYSIZE={SIDE}']),
+    'packed RGB': (3, 4, [*PACKED, '-co', f'BLOCKXSIZE={SIDE}', '-co', f'BLOCKYSIZE={SIDE}']),
+}
+"""Bands, by what the width is divided, and how gdal_translate writes it."""
 ROUND_TRIP = 40
 ROUNDS = 5
+SERIES = 3
 SHARES = 10
 
 
@@ -46,6 +55,7 @@ def timed(readers, windows, row):
             one = (number + turn) % len(readers)
             more, arrays[one] = seconds(readers[one], number, window)
             row[one] += more
+        arrays[1] = numpy.moveaxis(arrays[1], 0, -1) if arrays[1].ndim == 3 else arrays[1]
         if not all(numpy.array_equal(arrays[0], array) for array in arrays[1:]):
             sys.exit(f'python: the window {window} differs')
 
@@ -67,7 +77,7 @@ def both(url, windows, passes, floors=(), way=timed):
     opened = [seconds(delgunsai.open, url, blocks=4096), seconds(rasterio.open, '/vsicurl/' + url)]
     with opened[0][1] as file, opened[1][1] as other:
         readers = [lambda _, window: file.read(x=window[0], y=window[1], width=window[2], height=window[3]),
-                   lambda _, window: other.read(1, window=Window(*window))]
+                   lambda _, window: other.read(1 if other.count == 1 else None, window=Window(*window))]
         readers += [lambda number, _, floor=floor: floor.read(number) for floor in floors]
         took = [[0.0] * len(readers) for _ in range(passes)]
         took[0][:2] = [second for second, _ in opened]
@@ -143,6 +153,25 @@ def beside_nginx(path, windows):
         compare(['loopback, from nginx as Debian sets it up'], [server.url(name) for name in names], windows)
 
 
+def forms(count):
+    """Reads so many windows by both from files of other forms, in turn, and by the one and then by the other."""
+    import rasterio
+    with rasterio.open(EXAMPLE) as source:
+        samples, profile = source.read(1), source.profile
+    for form, (bands, part, words) in FORMS.items():
+        width, path = WIDTH // part, os.path.join(FOLDER, 'form.tif')
+        subprocess.run([*TRANSLATE, *words, '-outsize', str(width), str(HEIGHT), base(bands, samples, profile), path], check=True,
+                       stderr=subprocess.DEVNULL)
+        os.utime(path, (time.time() - 3600,) * 2)
+        source = random.Random(1)
+        windows = [(source.randint(0, width - SIDE), source.randint(0, HEIGHT - SIDE), SIDE, SIDE) for _ in range(count)]
+        names = [f'{k}.tif' for k in range(2 * SERIES)]
+        with Cogserve({name: path for name in names}) as server:
+            urls = [server.url(name) for name in names]
+            compare([f'loopback, {form}, in turn', 'the same again'], urls[:SERIES], windows)
+            compare([f'loopback, {form}, one after another', 'the same again'], urls[SERIES:], windows, way=apart)
+
+
 def main(near=1000, far=200):
     if not RASTERIO:
         sys.exit('python: bench needs rasterio with GDAL')
@@ -157,6 +186,7 @@ def main(near=1000, far=200):
         floors = [(Floor(server.port, plan), Compiled(library, server.port, plan)) for plan in plans]
         compare(['loopback, in turn', 'the same again'], urls[:ROUNDS], windows[:near], floors[:ROUNDS])
         compare(['loopback, one after another', 'the same again'], urls[ROUNDS:], windows[:near], floors[ROUNDS:], apart)
+        forms(near)
         if TLS:
             beside_nginx(path, windows[:near])
         spread(f'loopback, {SHARES} files', [server.url(name) for name in names[2 * ROUNDS:-1]], windows[:near])
