@@ -294,7 +294,7 @@ empty_none : (r : Result Announced Why) → ReadsHead [] r → HasNone r
 empty_none r reads = subst HasNone (sym reads.2) (nothing_found reads.0 reads.1)
 
 -- a head that ends in the front stands there
-shorter : (front more : List ℕ) (h : ResponseHead) → IsHeadOf (front ++ more) h → length (print_response h) < length front → IsHeadOf front h
+shorter : (front more : List ℕ) (h : ResponseHead) → IsHeadOf (front ++ more) h → length (print_response h) ≤ length front → IsHeadOf front h
 shorter front more h is inside =
     let print = print_response h in
     let n = length print in
@@ -314,16 +314,16 @@ shorter front more h is inside =
 
 -- a head that comes with more bytes ends in them
 behind_none : (front more : List ℕ) (head : Announced) → ((r : Result Announced Why) → ReadsHead front r → HasNone r)
-    → ReadsHead (front ++ more) (Ok head) → length front ≤ head.size
+    → ReadsHead (front ++ more) (Ok head) → length front < head.size
 behind_none front more head none reads =
     let whole = whole_of (front ++ more) head reads in
     let h = whole.response in
     let size = size_of (front ++ more) head whole in
-    elim (cases_lt (length (print_response h)) (length front)) [
-      | inl inside ↦
+    elim (cases_lt (length front) (length (print_response h))) [
+      | inl beyond ↦ omega (arith, size, beyond)
+      | inr inside ↦
           let there : ReadsHead front (Ok head) = (Ok (seen_head h), (h, shorter front more h whole.is inside, refl), sym whole.told) in
           absurd (let wrong : false ≡ true = headless_is (Ok head) (none (Ok head) there) in cc)
-      | inr beyond ↦ omega (arith, size)
     ]
 
 pub heads_grow : HeadsGrow

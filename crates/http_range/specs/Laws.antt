@@ -180,7 +180,7 @@ pub record HeadsGrow : Type 0 where
   pub empty : (r : Result Announced Why) → ReadsHead [] r → HasNone r
   -- a head that is read only when bytes follow ends in those
   pub behind : (front more : List ℕ) (head : Announced) → ((r : Result Announced Why) → ReadsHead front r → HasNone r)
-      → ReadsHead (front ++ more) (Ok head) → length front ≤ head.size
+      → ReadsHead (front ++ more) (Ok head) → length front < head.size
 
 -- what is read of an answer, or of a front of it
 pub record FrontsAreRead : Type 0 where

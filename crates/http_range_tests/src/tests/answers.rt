@@ -312,6 +312,7 @@ fn is_request_of_many(alloc: Global, fields: u32) -> Result<bool, Memory> {
 fn takes_32_fields_and_no_more(rt: HostRuntime) -> Result<(), Fail> {
     for (fields, back, want) in [
         (30, b"".as_slice(), 1),
+        (30, b"A", 1),
         (30, b"\r\n", 0),
         (31, b"", 2),
         (31, b"\r\n", 2),
