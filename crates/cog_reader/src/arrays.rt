@@ -30,4 +30,13 @@ impl Arrays {
         let (_, len) = tile_of(self.order, &self.level, tile, &self.offsets, &self.counts);
         len as usize
     }
+
+    /// Where a tile begins in the file.
+    pub fn first_of(&self, tile: u32) -> u32
+        requires { tile < tile_total (grid_of self.now.level) }
+        ensures { result ≡ (tile_extent self.now tile).first }
+    {
+        let (first, _) = tile_of(self.order, &self.level, tile, &self.offsets, &self.counts);
+        first
+    }
 }

@@ -13,6 +13,7 @@ mod paint;
 mod reader;
 mod samples;
 mod state;
+mod unpacked;
 
 pub use file::read_file;
 pub use laws::{end_is_wanted, lengths_are_known, nothing_comes};

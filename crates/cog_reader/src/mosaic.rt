@@ -11,6 +11,7 @@ use crate::Window;
 use crate::arrays::Arrays;
 use crate::paint::paint_packed;
 use crate::samples::big_first;
+use crate::unpacked::Unpacked;
 use std::alloc::Global;
 use std::marker::Model;
 use tiff_dir::{Compression, FileFault, Span};
@@ -23,6 +24,7 @@ fn unpack_tiles(
     tiles: &[u32],
     bytes: &[u8],
     plain: &mut [u8],
+    unpacked: &mut Unpacked,
 ) -> Result<(), FileFault>
     requires level { canvas.old.level ≡ arrays.now.level }
     requires packed { arrays.now.level.compression ≡ PackBits }
@@ -41,7 +43,16 @@ fn unpack_tiles(
     let mut at = 0;
     for tile in tiles {
         let end = at + arrays.len_of(*tile);
-        paint_packed(canvas, &arrays.level, *tile, &bytes[at..end], plain)?;
+        let first = arrays.first_of(*tile);
+        paint_packed(
+            canvas,
+            &arrays.level,
+            *tile,
+            first,
+            &bytes[at..end],
+            plain,
+            unpacked,
+        )?;
         at = end;
     }
     Ok(())
@@ -171,7 +182,12 @@ impl Mosaic {
     }
 
     /// Takes the bytes of the next group. After a fault the work is of no use.
-    pub fn give(&mut self, arrays: &Arrays, bytes: &[u8]) -> Result<(), FileFault>
+    pub fn give(
+        &mut self,
+        arrays: &Arrays,
+        unpacked: &mut Unpacked,
+        bytes: &[u8],
+    ) -> Result<(), FileFault>
         requires plan { HasPlan arrays.now self.old }
         requires wanted { IsGroupLen self.old (length bytes.now) }
         ensures plan { (complete : ℕ) → IsPlan complete arrays.now self.old → IsPlan complete arrays.now self.new }
@@ -186,12 +202,17 @@ impl Mosaic {
                 self.paint(arrays, &Slice(bytes));
                 Ok(())
             }
-            Compression::PackBits => self.unpack(arrays, bytes),
+            Compression::PackBits => self.unpack(arrays, unpacked, bytes),
         }
     }
 
     /// Takes the bytes of the next group, whose tiles are packed.
-    fn unpack(&mut self, arrays: &Arrays, bytes: &[u8]) -> Result<(), FileFault>
+    fn unpack(
+        &mut self,
+        arrays: &Arrays,
+        unpacked: &mut Unpacked,
+        bytes: &[u8],
+    ) -> Result<(), FileFault>
         requires plan { HasPlan arrays.now self.old }
         requires packed { arrays.now.level.compression ≡ PackBits }
         requires wanted { IsGroupLen self.old (length bytes.now) }
@@ -211,6 +232,7 @@ impl Mosaic {
             &group.tiles,
             bytes,
             &mut self.plain,
+            unpacked,
         )?;
         self.given += 1;
         Ok(())

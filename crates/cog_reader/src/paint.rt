@@ -5,17 +5,21 @@ ghost use Rattle.tiff_dir.specs.Described.{grid_of, layout_of};
 ghost use Rattle.tiff_dir.specs.Level.{plain_size, tile_total};
 ghost use Rattle.cog_reader.specs.Paint.{IsPaint, IsBad};
 
+use crate::unpacked::Unpacked;
 use packbits::unpack;
 use tiff_dir::{FileFault, Level};
 use tile_plan::{Canvas, Slice};
 
-/// Copies the tile that the packed bytes of a file stand for onto the canvas. `plain` is room for the tile.
+/// Copies the tile that the packed bytes of a file stand for, which begin at `first`, onto the canvas, and keeps it. `plain` is room for
+/// the tile.
 pub fn paint_packed(
     canvas: &mut Canvas,
     level: &Level,
     tile: u32,
+    first: u32,
     bytes: &[u8],
     plain: &mut [u8],
+    unpacked: &mut Unpacked,
 ) -> Result<(), FileFault>
     requires level { canvas.old.level ≡ level.now }
     requires packed { level.now.compression ≡ PackBits }
@@ -27,7 +31,14 @@ pub fn paint_packed(
     ensures rectangle { canvas.new.rectangle ≡ canvas.old.rectangle }
     ensures size { length canvas.new.bytes ≡ length canvas.old.bytes }
 {
-    unpack(bytes, level.plain_row(), plain)?;
+    let row = level.plain_row();
+    unpacked.promote(first);
+    if let Some(kept) = unpacked.find(first, bytes, row, plain.len()) {
+        canvas.blit(tile, &Slice(kept));
+        return Ok(());
+    }
+    unpack(bytes, row, plain)?;
     canvas.blit(tile, &Slice(plain));
+    unpacked.keep(first, bytes, row, plain);
     Ok(())
 }

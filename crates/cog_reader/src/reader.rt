@@ -2,6 +2,7 @@
 use crate::Outcome;
 use crate::kept::Kept;
 use crate::state::{PendingQuery, State};
+use crate::unpacked::Unpacked;
 use std::alloc::Global;
 use std::marker::Model;
 use tiff_dir::{Level, Memory, Query, Span, Walk};
@@ -16,6 +17,7 @@ pub struct Reader {
     complete: u64,
     walk: Walk,
     kept: Kept,
+    unpacked: Unpacked,
     pending: Option<PendingQuery>,
 }
 
@@ -59,8 +61,17 @@ impl Reader {
             complete,
             walk: Walk::new(alloc),
             kept: Kept::Nothing,
+            unpacked: Unpacked::new(alloc, 0),
             pending: None,
         }
+    }
+
+    /// Keeps tiles unpacked from one window to the next, the last used ones, of at most so many bytes in all, and their packed bytes
+    /// beside them: none where nothing is said. It takes no memory; where there is none for a tile, that is unpacked again.
+    pub fn keep_unpacked(&mut self, bytes: usize)
+        ensures { self.new ≡ self.old }
+    {
+        self.unpacked = Unpacked::new(self.alloc, bytes);
     }
 
     /// Asks a query, in the place of the one before, whose state goes. It takes no memory.
@@ -124,7 +135,13 @@ impl Reader {
         let Some(pending) = &mut self.pending else {
             unreachable!()
         };
-        pending.give(self.alloc, &mut self.walk, &mut self.kept, bytes)?;
+        pending.give(
+            self.alloc,
+            &mut self.walk,
+            &mut self.kept,
+            &mut self.unpacked,
+            bytes,
+        )?;
         Ok(())
     }
 

@@ -17,6 +17,7 @@ use crate::Outcome;
 use crate::fields::Fields;
 use crate::kept::Kept;
 use crate::mosaic::Mosaic;
+use crate::unpacked::Unpacked;
 use std::alloc::Global;
 use std::mem;
 use tiff_dir::{Compression, FileFault, Memory, Place, Query, Span, Walk};
@@ -84,6 +85,7 @@ fn accept(
     walk: &mut Walk,
     kept: &mut Kept,
     state: &mut State,
+    unpacked: &mut Unpacked,
     bytes: &[u8],
 ) -> Result<Option<FileFault>, Memory>
     requires kept { IsKeptOf walk.old kept.old }
@@ -100,7 +102,7 @@ fn accept(
             arrays::accept(alloc, walk, kept, *rect, bytes)?;
             Ok(None)
         }
-        State::Tiles(mosaic) => Ok(tiles::accept(kept, mosaic, bytes)),
+        State::Tiles(mosaic) => Ok(tiles::accept(kept, mosaic, unpacked, bytes)),
         State::Fields(fields) => {
             fields.give(bytes)?;
             Ok(None)
@@ -170,6 +172,7 @@ impl PendingQuery {
         alloc: Global,
         walk: &mut Walk,
         kept: &mut Kept,
+        unpacked: &mut Unpacked,
         bytes: &[u8],
     ) -> Result<(), Memory>
         requires kept { IsKeptOf walk.old kept.old }
@@ -181,7 +184,7 @@ impl PendingQuery {
             (record { walk = walk.new; kept = kept.new; state = self.new.state })) }
         ensures err { OnErr result ((walk.new ≡ walk.old) × (kept.new ≡ kept.old) × (self.new ≡ self.old)) }
     {
-        match accept(alloc, walk, kept, &mut self.state, bytes)? {
+        match accept(alloc, walk, kept, &mut self.state, unpacked, bytes)? {
             Some(fault) => self.state = State::Answered(Outcome::Fault(fault)),
             None => {}
         }

@@ -17,6 +17,7 @@ use crate::arrays::Arrays;
 use crate::kept::Kept;
 use crate::mosaic::Mosaic;
 use crate::state::{State, Step};
+use crate::unpacked::Unpacked;
 use tiff_dir::{FileFault, Span};
 use tile_plan::Bytes;
 
@@ -40,14 +41,19 @@ pub fn upcoming(mosaic: &Mosaic, index: u32) -> Option<Span>
 }
 
 /// Gives the window a group, or tells the fault that it has.
-pub fn accept(kept: &Kept, mosaic: &mut Mosaic, bytes: &[u8]) -> Option<FileFault>
+pub fn accept(
+    kept: &Kept,
+    mosaic: &mut Mosaic,
+    unpacked: &mut Unpacked,
+    bytes: &[u8],
+) -> Option<FileFault>
     requires plan { HasBoth kept.now (λ a. HasPlan a mosaic.old) }
     requires wanted { IsGroupLen mosaic.old (length bytes.now) }
     ensures { (complete : ℕ) (w : WalkState) → HasEnded w → HasBoth kept.now (λ a. IsPlan complete a mosaic.old) → IsKeptOf w kept.now
         → AcceptsRange complete bytes.now (record { walk = w; kept = kept.now; state = state.Tiles mosaic.old })
         (record { walk = w; kept = kept.now; state = state.Tiles mosaic.new }) result }
 {
-    match mosaic.give(kept.both(), bytes) {
+    match mosaic.give(kept.both(), unpacked, bytes) {
         Ok(()) => None,
         Err(fault) => Some(fault),
     }

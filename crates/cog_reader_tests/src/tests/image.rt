@@ -6,6 +6,9 @@ use cog_reader::{Outcome, Reader, Slice};
 use std::alloc::Global;
 use tiff_dir::{Memory, Query, Span};
 
+/// The bytes of four tiles of 16 by 16 samples of 8 bits.
+const UNPACKED: usize = 1024;
+
 /// A file and its reader.
 #[derive(Drop)]
 pub struct Image {
@@ -46,13 +49,14 @@ fn read(alloc: Global, reader: &mut Reader, file: &[u8]) -> Result<Vec<Span>, Me
 }
 
 impl Image {
-    /// A file of which nothing is read.
+    /// A file of which nothing is read. Its reader keeps a few tiles unpacked.
     pub fn new(alloc: Global, file: Vec<u8>) -> Image {
-        let reader = Reader::new(alloc, file.len() as u64);
+        let mut reader = Reader::new(alloc, file.len() as u64);
+        reader.keep_unpacked(UNPACKED);
         Image { file, reader }
     }
 
-    /// Puts a new reader in the place of the one before.
+    /// Puts a new reader in the place of the one before, which keeps no tile unpacked.
     pub fn renew(&mut self, alloc: Global) {
         self.reader = Reader::new(alloc, self.file.len() as u64);
     }
