@@ -90,10 +90,14 @@ impl Unpacked {
     }
 
     /// Keeps what the packed bytes of the tile at this place stand for, in the place of the tile that was used longest ago where there is
-    /// no room. Where no memory is left it isn't kept.
+    /// no room. It isn't kept where no memory is left, nor where it has more than twice as many packed bytes, so that both together take
+    /// about three times the room at most.
     pub fn keep(&mut self, first: u32, packed: &[u8], row: usize, plain: &[u8])
         requires { Packs row packed.now plain.now }
     {
+        if packed.len() / 2 > plain.len() {
+            return;
+        }
         self.fit(plain.len());
         if let Some(tiles) = &mut self.tiles {
             if let Ok(tile) = Tile::new(self.alloc, packed, row, plain) {
