@@ -20,6 +20,7 @@ use http_range::{
 use range_cache::{Cache, CacheError};
 use std::alloc::Global;
 use std::marker::Model;
+use tiff_dir::limits::BLOCK_SIZE;
 use tiff_dir::{Level, Memory, Query};
 
 /// What a client asks for that has no revision: the first 65,536 bytes.
@@ -245,6 +246,8 @@ impl Client {
     pub fn request(&mut self) -> Result<Option<Vec<u8>>, Memory>
         ensures ok { IfOk result (λ o. RequestsKeeping self.old (option_map (λ v. v.items) o) self.new) }
         ensures err { OnErr result (StopsAsking self.old self.new) }
+        // It comes only where something may be asked.
+        ensures asks { OnErr result (IsSome (query_of self.old) × (report_of self.old ≡ None)) }
     {
         self.arrival.clear();
         self.asked = None;
@@ -354,7 +357,8 @@ impl Client {
     {
         self.asked = asked;
         self.cache.clear();
-        self.source = Some(Source::new(self.alloc, head, self.query));
+        let room = self.cache.capacity() as usize * BLOCK_SIZE as usize;
+        self.source = Some(Source::new(self.alloc, head, self.query, room));
     }
 
     /// The check whether the file still has the revision's tag: a HEAD request with If-None-Match (RFC 9110, section 13.1.2).
@@ -362,6 +366,7 @@ impl Client {
     pub fn check(&self) -> Result<Option<Vec<u8>>, Memory>
         ensures text { IfOk result (λ o. option_map (λ v. v.items) o ≡ check_of self.now) }
         ensures lawful { IfSome (tag_of self.now) (CanCheck (host_of self.now) (name_of self.now)) }
+        ensures err { OnErr result (IsSome (tag_of self.now)) }
     {
         match self.tag() {
             None => Ok(None),

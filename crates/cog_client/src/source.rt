@@ -19,8 +19,9 @@ impl Source {
     ghost use Rattle.cog_reader.specs.Reader.{complete_of, query_of, ReaderAgrees};
     ghost use Rattle.cog_client.specs.Steps.{Concludes};
 
-    /// The head's revision, of which nothing is known yet. It is asked the query, if there is one.
-    pub fn new(alloc: Global, head: &Head, query: Option<Query>) -> Source
+    /// The head's revision, of which nothing is known yet. It is asked the query, if there is one, and keeps so many bytes of unpacked
+    /// tiles.
+    pub fn new(alloc: Global, head: &Head, query: Option<Query>, unpacked: usize) -> Source
         ensures tag { result.tag ≡ head.now.tag }
         ensures complete { result.complete ≡ head.now.complete }
         ensures agrees { (f : List ℕ) → length f ≡ head.now.complete → ReaderAgrees result.reader f }
@@ -28,6 +29,7 @@ impl Source {
         ensures query { query_of result.reader ≡ query }
     {
         let mut reader = Reader::new(alloc, head.complete);
+        reader.keep_unpacked(unpacked);
         match query {
             None => {}
             Some(query) => reader.open(query),

@@ -1,5 +1,5 @@
 //! The requests that a client makes next, as far as they are known before the answer to the present one came.
-ghost use Rattle.std.specs.Prelude.{◌≡◌, ◌≤◌, [], IfOk, length, map};
+ghost use Rattle.std.specs.Prelude.{◌≡◌, ◌≤◌, [], IfOk, IsOk, length, map};
 ghost use Rattle.std.specs.List.{All};
 ghost use Rattle.cached_reader.specs.Early.{AreApart};
 ghost use Rattle.cog_client.specs.Early.{AreEarlyRequests, AsksNothingEarly, IsEarly};
@@ -18,6 +18,7 @@ impl Client {
         ensures requests { IfOk result (λ texts. AreEarlyRequests self.now (map (λ text. text.items) texts.items)) }
         ensures none { AsksNothingEarly self.now → IfOk result (λ texts. texts.items ≡ []) }
         ensures few { IfOk result (λ texts. length texts.items ≤ most) }
+        ensures sure { AsksNothingEarly self.now → IsOk result }
     {
         let spans = self.spans_early(most)?;
         let mut texts = Vec::new(self.alloc);
@@ -33,6 +34,7 @@ impl Client {
         ensures apart { IfOk result (λ spans. AreApart spans.items) }
         ensures none { AsksNothingEarly self.now → IfOk result (λ spans. spans.items ≡ []) }
         ensures few { IfOk result (λ spans. length spans.items ≤ most) }
+        ensures sure { AsksNothingEarly self.now → IsOk result }
     {
         let (Some(asked), Some(source)) = (self.asked, &self.source) else {
             return Ok(Vec::new(self.alloc));

@@ -30,3 +30,10 @@ returns-clause-none c = λ nothing.
     let some = c.if-ahead-eq0.false in
     absurd (asks_early i.arrival i.how i.host.items i.name.items i.query i.asked i.source i.cache i.report c.if-self.false (λ near. omega (arith, near, some))
     (subst AsksNothingEarly (sym c.self.view_is) nothing))
+
+pub returns-clause-sure : goal.returns-clause-sure
+returns-clause-sure c = λ nothing.
+    let i = c.self.inside in
+    let some = c.if-ahead-eq0.false in
+    absurd (asks_early i.arrival i.how i.host.items i.name.items i.query i.asked i.source i.cache i.report c.if-self.false (λ near. omega (arith, near, some))
+    (subst AsksNothingEarly (sym c.self.view_is) nothing))
