@@ -25,7 +25,7 @@ returns-then-closes-2-clause-ok c =
     (subst (λ (bytes : List ℕ). IsOutgoing (map publication c.files.result.now) (take c.in-Some.n bytes) c.answer.new.self) c.deref.ensures.value c.in_ok-answer.ensures.ok) in
     goes_last c.args.server.now.catalogue held (waiting_of s.outgoing) s.closed s.over s.answers s.dropped c.in-Some.n c.args.self.now c.answer.new.self c.closes.result
     view c.closes.ensures c.if-closes.false (nothing_waits (waiting_of s.outgoing) c.is_waiting.result c.is_waiting.ensures c.if-is_waiting.false) c.in-Some.ensures.found.0 c.in-Some.ensures.found.1 out
-    c.closes-2.result c.closes-2.ensures c.if-closes-2.true c.skip.new.self.bytes.items c.skip-then-closes-2.new.self.bytes.items c.len-self-inside.result c.skip.ensures (omega (arith, c.len-self-inside.ensures, c.skip.new.self.bytes.ok.0)) c.skip-then-closes-2.ensures
+    c.closes-2.result c.closes-2.ensures c.if-closes-2.true c.skip.new.self.bytes.items c.skip-then-closes-2.new.self.bytes.items c.len-self-inside.result c.skip.ensures.left (omega (arith, c.len-self-inside.ensures, c.skip.new.self.bytes.ok.0)) c.skip-then-closes-2.ensures.left
 
 pub returns-else-closes-2-clause-ok : goal.returns-else-closes-2-clause-ok
 returns-else-closes-2-clause-ok c =
@@ -36,4 +36,4 @@ returns-else-closes-2-clause-ok c =
     (subst (λ (bytes : List ℕ). IsOutgoing (map publication c.files.result.now) (take c.in-Some.n bytes) c.answer.new.self) c.deref.ensures.value c.in_ok-answer.ensures.ok) in
     goes_open c.args.server.now.catalogue held (waiting_of s.outgoing) s.closed s.over s.answers s.dropped c.in-Some.n c.args.self.now c.answer.new.self c.closes.result
     view c.closes.ensures c.if-closes.false (nothing_waits (waiting_of s.outgoing) c.is_waiting.result c.is_waiting.ensures c.if-is_waiting.false) c.in-Some.ensures.found.0 c.in-Some.ensures.found.1 out
-    c.closes-2.result c.closes-2.ensures c.if-closes-2.false c.skip.new.self.bytes.items c.skip.ensures
+    c.closes-2.result c.closes-2.ensures c.if-closes-2.false c.skip.new.self.bytes.items c.skip.ensures.left
