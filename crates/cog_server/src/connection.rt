@@ -31,7 +31,7 @@ pub struct Connection {
 }
 
 impl Model for Connection {
-    ghost use Rattle.std.specs.Prelude.{◌≤◌};
+    ghost use Rattle.std.specs.Prelude.{◌≡◌, ◌≤◌, [], None};
     ghost use Rattle.http_parts.specs.declared.limits.TheConstants.{ANSWERS_LIMIT};
     ghost use Rattle.cog_server.specs.declared.limits.TheConstants.{DROP_LIMIT};
     ghost use Rattle.cog_server.specs.Status.{Status};
@@ -48,7 +48,9 @@ impl Model for Connection {
       dropped = c.dropped;
     } };
 
-    ghost invariant = { λ c. (c.answers ≤ ANSWERS_LIMIT) × (c.dropped ≤ DROP_LIMIT) };
+    // Where no answer waits, no file's bytes are held.
+    ghost invariant = { λ c. (c.answers ≤ ANSWERS_LIMIT) × (c.dropped ≤ DROP_LIMIT)
+        × (waiting_of c.outgoing ≡ [] → c.outgoing.file ≡ None) };
 }
 
 impl Connection {

@@ -9,12 +9,12 @@ pub invariant_of-self-then-closes-2 : goal.invariant_of-self-then-closes-2
 invariant_of-self-then-closes-2 c =
     let s = c.self.inside in
     let small = c.skip.new.self.small in
-    (one_more_answer s.closed s.answers c.closes.result c.closes.ensures c.if-closes.false c.self.invariant.0, omega (arith, c.len-self-inside.ensures, small))
+    (one_more_answer s.closed s.answers c.closes.result c.closes.ensures c.if-closes.false c.self.invariant.0, omega (arith, c.len-self-inside.ensures, small), c.answer.ensures.freed)
 
 pub invariant_of-self-else-closes-2 : goal.invariant_of-self-else-closes-2
 invariant_of-self-else-closes-2 c =
     let s = c.self.inside in
-    (one_more_answer s.closed s.answers c.closes.result c.closes.ensures c.if-closes.false c.self.invariant.0, c.self.invariant.1)
+    (one_more_answer s.closed s.answers c.closes.result c.closes.ensures c.if-closes.false c.self.invariant.0, c.self.invariant.1, c.answer.ensures.freed)
 
 pub returns-then-closes-2-clause-ok : goal.returns-then-closes-2-clause-ok
 returns-then-closes-2-clause-ok c =
