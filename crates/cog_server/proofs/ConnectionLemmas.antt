@@ -1,5 +1,5 @@
 -- What a connection may still do.
-use Rattle.std.proofs.Common.{◌≡◌, ◌==◌, ◌||◌, ℕ, ◌+◌, ◌≤◌, Bool, true, false, if◌then◌else◌, List, [], length, take, drop, not, sym, ap, subst, ◌∙◌, arith}
+use Rattle.std.proofs.Common.{◌≡◌, ◌==◌, ◌||◌, ℕ, ◌+◌, ◌≤◌, Bool, true, false, if◌then◌else◌, List, [], length, take, drop, not, sym, ap, subst, ◌∙◌, arith, inl, inr}
 use Rattle.std.proofs.Math.Seq.{drop-length}
 use Rattle.std.proofs.lemmas.Bool.Decides.{nat_tests}
 use Rattle.std.proofs.lemmas.List.{length-take-le, nil_from_length}
@@ -9,7 +9,7 @@ use Rattle.http_range.specs.Response.{text_of}
 use Rattle.http_range.specs.Stream.{IsFirstMessage}
 use Rattle.cog_server.specs.declared.outgoing.Outgoing.{Outgoing}
 use Rattle.cog_server.specs.Outgoing.{IsOutgoing, waiting_of}
-use Rattle.cog_server.specs.Status.{Status, GoesOn, let_go}
+use Rattle.cog_server.specs.Status.{Status, GoesOn, Rests, let_go}
 
 one_fewer : (n : ℕ) → n ≤ 100 → (n == 100) ≡ false → n + 1 ≤ 100
 one_fewer n few other = grind (arith, nat_tests)
@@ -26,6 +26,19 @@ none_left n none = grind (arith, nat_tests)
 -- nothing is written where nothing waits
 pub nothing_waits : (waiting : List ℕ) (some : Bool) → some ≡ not (length waiting == 0) → some ≡ false → waiting ≡ []
 nothing_waits waiting some is none = nil_from_length waiting (none_left (length waiting) (sym is ∙ none))
+
+-- where no answer closes, nothing waits and a message is whole, it is answered
+pub answers_now : (held waiting : List ℕ) (closed over : Bool) (answers dropped n : ℕ) (s : Status) (shut : Bool)
+    → record { held = held; waiting = waiting; is_closed = closed; answers = answers; is_over = over; dropped = dropped } ≡ s
+    → shut ≡ (closed || answers == ANSWERS_LIMIT) → shut ≡ false → waiting ≡ [] → n ≤ length held → IsFirstMessage held (take n held) → ¬ (Rests s)
+answers_now held waiting closed over answers dropped n s shut view is_shut shut_not written few first =
+    subst (λ (t : Status). ¬ (Rests t)) view (λ rests. elim rests [
+      | inl shuts ↦ (let clash : true ≡ false = sym shuts ∙ sym is_shut ∙ shut_not in cc)
+      | inr other ↦ elim other [
+        | inl waits ↦ waits written
+        | inr unfinished ↦ unfinished n few first.is_one
+      ]
+    ])
 
 -- ---- the next answer
 

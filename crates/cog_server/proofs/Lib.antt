@@ -9,3 +9,4 @@ pub mod RunLemmas
 pub mod OutgoingLemmas
 pub mod HeldLemmas
 pub mod ConnectionLemmas
+pub mod ScriptedLemmas

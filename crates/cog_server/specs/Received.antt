@@ -1,7 +1,7 @@
 -- Reading what comes next on a connection, where failures of the inlet and want of memory may end it.
-use Rattle.std.specs.Prelude.{◌≡◌, ◌≤◌, Bool, true, false, ℕ, List, [], ◌∷◌, length, Option, Result, Ok, Err}
+use Rattle.std.specs.Prelude.{◌≡◌, ◌≢◌, ◌≤◌, Bool, true, false, ℕ, List, [], ◌∷◌, length, Option, Result, Ok, Err}
 use Rattle.std.specs.Io.KnownBytes.{append_known}
-use Rattle.cog_server.specs.Status.{Status, room_of, after_bytes, after_end}
+use Rattle.cog_server.specs.Status.{Status, room_of, after_bytes, after_end, is_closing}
 use Rattle.cog_server.specs.declared.served.ServeError.{ServeError}
 use Rattle.cog_server.specs.declared.served.ServeError.TheVariants.{Read, Write, Memory}
 
@@ -23,9 +23,11 @@ pub record IsReceived (s s' : Status) (given given' : Option (List ℕ)) (is_ove
   pub status : s' ≡ after_read bytes s
   pub ends : bytes ≡ [] → is_over
 
--- there was no memory for what came
+-- there was no memory for the bytes that came, which were to be kept
 pub record IsLost (s : Status) (given given' : Option (List ℕ)) (has_failed : Bool) : Type 0 where
   pub bytes : List ℕ
+  pub some : bytes ≢ []
+  pub kept : is_closing s ≡ false
   pub gives : Gives s given given' has_failed bytes
 
 -- the inlet failed, and gave nothing

@@ -1,5 +1,5 @@
 -- What others know of the readers and writers here.
-use Rattle.std.specs.Prelude.{ℕ, Bool, List, take}
+use Rattle.std.specs.Prelude.{ℕ, max, Bool, List, [], ◌∷◌, take, drop}
 use Rattle.cog_server.specs.declared.stream.Stream.{Stream}
 use Rattle.cog_server.specs.declared.scripted.AfterBytes.{AfterBytes}
 use Rattle.cog_server.specs.declared.scripted.AfterPieces.{AfterPieces}
@@ -29,9 +29,21 @@ inlet_pieces s = s.pieces.items
 abbrev pub after_bytes : ScriptedInlet → AfterBytes
 after_bytes s = s.after
 
--- those that were given
+-- those that were given, and those that are left
 abbrev pub script_given : ScriptedInlet → List ℕ
 script_given s = take s.position s.bytes.items
+
+abbrev pub script_left : ScriptedInlet → List ℕ
+script_left s = drop s.position s.bytes.items
+
+-- the sizes of the pieces that are left
+abbrev pub pieces_left : ScriptedInlet → List ℕ
+pieces_left s = drop s.reads s.pieces.items
+
+-- which of the bytes that are left come next: as many as the next size says, and one at least; where no size is left, all
+abbrev pub next_piece : (sizes left : List ℕ) → List ℕ
+next_piece [] left = left
+next_piece (size ∷ sizes) left = take (max size 1) left
 
 abbrev pub inlet_failed : ScriptedInlet → Bool
 inlet_failed s = s.failed

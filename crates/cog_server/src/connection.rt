@@ -1,5 +1,5 @@
 //! The server's end of one connection, without a socket: bytes in, answers out.
-ghost use Rattle.std.specs.Prelude.{◌≡◌, ◌≤◌, ◌<◌, ◌==◌, ◌||◌, ◌++◌, IfOk, OnOk, OnErr, length};
+ghost use Rattle.std.specs.Prelude.{◌≡◌, ◌≤◌, ◌<◌, ◌==◌, ◌||◌, ◌++◌, true, IfOk, IsOk, OnOk, OnErr, length};
 ghost use Rattle.http_parts.specs.declared.limits.TheConstants.{ANSWERS_LIMIT, MESSAGE_LIMIT};
 
 use crate::held::Held;
@@ -31,7 +31,7 @@ pub struct Connection {
 }
 
 impl Model for Connection {
-    ghost use Rattle.std.specs.Prelude.{◌≤◌};
+    ghost use Rattle.std.specs.Prelude.{◌≡◌, ◌≤◌, [], None};
     ghost use Rattle.http_parts.specs.declared.limits.TheConstants.{ANSWERS_LIMIT};
     ghost use Rattle.cog_server.specs.declared.limits.TheConstants.{DROP_LIMIT};
     ghost use Rattle.cog_server.specs.Status.{Status};
@@ -48,11 +48,13 @@ impl Model for Connection {
       dropped = c.dropped;
     } };
 
-    ghost invariant = { λ c. (c.answers ≤ ANSWERS_LIMIT) × (c.dropped ≤ DROP_LIMIT) };
+    // Where no answer waits, no file's bytes are held.
+    ghost invariant = { λ c. (c.answers ≤ ANSWERS_LIMIT) × (c.dropped ≤ DROP_LIMIT)
+        × (waiting_of c.outgoing ≡ [] → c.outgoing.file ≡ None) };
 }
 
 impl Connection {
-    ghost use Rattle.cog_server.specs.Status.{start, room_of, GoesOn, EndsBy, after_bytes, after_end, after_write, is_drained, is_draining, is_idle};
+    ghost use Rattle.cog_server.specs.Status.{start, room_of, GoesOn, Rests, EndsBy, is_closing, after_bytes, after_end, after_write, is_drained, is_draining, is_idle};
 
     /// A connection on which nothing came.
     ///
@@ -89,11 +91,12 @@ impl Connection {
         }
     }
 
-    /// Takes bytes that came.
+    /// Takes bytes that came. Behind the last message they need no memory.
     pub fn came(&mut self, bytes: &[u8]) -> Result<(), Memory>
         requires { length bytes.now ≤ room_of self.old }
         ensures ok { OnOk result (self.new ≡ after_bytes bytes.now self.old) }
         ensures err { OnErr result (self.new ≡ self.old) }
+        ensures behind { is_closing self.old ≡ true → IsOk result }
     {
         if closes(self.closed, self.answers) {
             self.dropped += bytes.len();
@@ -111,10 +114,11 @@ impl Connection {
     }
 
     /// Answers the next message from the server as it stands now, where the message is whole and nothing waits to be written, and
-    /// says whether it did. An error changes nothing.
+    /// says whether it did. An error changes nothing, and comes only where there is such a message.
     pub fn go_on(&mut self, server: &Server) -> Result<bool, Memory>
         ensures ok { IfOk result (GoesOn server.now.catalogue self.old self.new) }
         ensures err { OnErr result (self.new ≡ self.old) }
+        ensures rests { Rests self.old → IsOk result }
     {
         if closes(self.closed, self.answers) || self.outgoing.is_waiting() {
             return Ok(false);

@@ -1,5 +1,5 @@
 //! What came on a connection and isn't answered yet.
-ghost use Rattle.std.specs.Prelude.{◌≡◌, ◌+◌, ◌≤◌, ◌++◌, [], true, false, ℕ, List, IfNone, IfSome, OnOk, OnErr, length, take, drop};
+ghost use Rattle.std.specs.Prelude.{◌≡◌, ◌+◌, ◌≤◌, ◌++◌, [], true, false, ℕ, List, IfNone, IfSome, OnOk, OnErr, OnSome, length, take, drop};
 ghost use Rattle.http_parts.specs.declared.limits.TheConstants.{MESSAGE_LIMIT};
 ghost use Rattle.http_range.specs.Stream.{HasNoMessage, IsFirstMessage, IsUnfinished};
 
@@ -35,6 +35,7 @@ impl Held {
             × IsFirstMessage self.new.bytes.items (take n self.new.bytes.items)) }
         ensures none { IfNone result (IsUnfinished self.new.bytes.items) }
         ensures searched { IfNone result (self.new.scanned ≡ length self.new.bytes.items) }
+        ensures kept { OnSome result (self.new.scanned ≡ self.old.scanned) }
     {
         let found = message_length(&self.bytes, self.scanned);
         if found.is_none() {
@@ -56,6 +57,7 @@ impl Held {
         requires { length self.old.bytes.items + length bytes.now ≤ MESSAGE_LIMIT }
         ensures ok { OnOk result (self.new.bytes.items ≡ self.old.bytes.items ++ bytes.now) }
         ensures err { OnErr result (self.new.bytes.items ≡ self.old.bytes.items) }
+        ensures searched { self.new.scanned ≡ self.old.scanned }
     {
         messages_stay();
         self.bytes.extend_from_slice(bytes)?;
@@ -65,7 +67,8 @@ impl Held {
     /// Lets the first bytes go.
     pub fn skip(&mut self, n: usize)
         requires { n ≤ length self.old.bytes.items }
-        ensures { self.new.bytes.items ≡ drop n self.old.bytes.items }
+        ensures left { self.new.bytes.items ≡ drop n self.old.bytes.items }
+        ensures searched { self.new.scanned ≡ 0 }
     {
         messages_stay();
         self.scanned = 0;

@@ -27,7 +27,8 @@ pub struct Outgoing {
 impl Outgoing {
     /// Nothing.
     pub fn new(alloc: Global) -> Self
-        ensures { waiting_of result ≡ [] }
+        ensures waiting { waiting_of result ≡ [] }
+        ensures file { result.file ≡ None }
     {
         Outgoing {
             head: Vec::new(alloc),
@@ -54,10 +55,11 @@ impl Outgoing {
     }
 
     /// Puts the answer to the head at the front of a message in the place of what is there. Its body stays where it is, its head is
-    /// put together where the one before was. After an error nothing waits.
+    /// put together where the one before was. After an error nothing waits. Where nothing waits, no file's bytes are held.
     pub fn answer(&mut self, files: &[Published], message: &[u8]) -> Result<(), Memory>
         ensures ok { OnOk result (IsOutgoing (map publication files.now) message.now self.new) }
         ensures err { OnErr result (waiting_of self.new ≡ []) }
+        ensures freed { waiting_of self.new ≡ [] → self.new.file ≡ None }
     {
         self.clear();
         self.head.reserve(HEAD_ROOM)?;

@@ -1,5 +1,6 @@
 //! A connection by a script, for tests: which pieces its bytes come and go in, and what follows them.
-ghost use Rattle.std.specs.Prelude.{◌≡◌, ◌≤◌, Some, IsErr, true, false, length, take, []};
+ghost use Rattle.std.specs.Prelude.{◌≡◌, ◌≢◌, ◌≤◌, ◌<◌, ◌↔◌, ◌||◌, ◌++◌, Some, IfOk, IsErr, true, false, is_err, length, take, drop, []};
+ghost use Rattle.cog_server.specs.Moved.{moved};
 
 use crate::inlet::{Failed, Inlet, Outlet};
 use std::alloc::Global;
@@ -34,14 +35,16 @@ pub struct ScriptedInlet {
 }
 
 impl ScriptedInlet {
-    ghost use Rattle.cog_server.specs.Scripted.{after_bytes, inlet_failed, inlet_pieces, script_bytes, script_given};
+    ghost use Rattle.cog_server.specs.Scripted.{after_bytes, inlet_failed, inlet_pieces, next_piece, pieces_left, script_bytes, script_given, script_left};
 
     /// One that hasn't given anything.
     pub fn new(bytes: Vec<u8>, pieces: Vec<usize>, after: AfterBytes) -> Self
         ensures bytes { script_bytes result ≡ bytes.items }
         ensures pieces { inlet_pieces result ≡ pieces.items }
+        ensures turn { pieces_left result ≡ pieces.items }
         ensures after { after_bytes result ≡ after }
         ensures given { script_given result ≡ [] }
+        ensures left { script_left result ≡ bytes.items }
         ensures unfailed { inlet_failed result ≡ false }
     {
         ScriptedInlet {
@@ -56,7 +59,8 @@ impl ScriptedInlet {
 
     /// The size of the next piece.
     fn size(&self) -> usize
-        ensures { 1 ≤ result }
+        ensures some { 1 ≤ result }
+        ensures piece { take result (script_left self.now) ≡ next_piece (pieces_left self.now) (script_left self.now) }
     {
         self.pieces
             .get(self.reads)
@@ -67,7 +71,8 @@ impl ScriptedInlet {
 }
 
 impl Inlet for ScriptedInlet {
-    ghost use Rattle.cog_server.specs.Scripted.{inlet_failed, script_bytes, script_given};
+    ghost use Rattle.cog_server.specs.Scripted.{after_bytes, inlet_failed, inlet_pieces, next_piece, pieces_left, script_bytes, script_given, script_left};
+    ghost use Rattle.cog_server.specs.declared.scripted.AfterBytes.TheVariants.{Failure};
 
     ghost given = { λ s. Some (script_given s) };
 
@@ -75,7 +80,19 @@ impl Inlet for ScriptedInlet {
 
     ghost has_failed = { inlet_failed };
 
-    fn read(&mut self, room: &mut [u8]) -> Result<usize, Failed> {
+    /// Gives the next piece, or as much of it as there is room for. Nothing fails before the bytes are all given.
+    fn read(&mut self, room: &mut [u8]) -> Result<usize, Failed>
+        ensures bound { IfOk result (λ n. n ≤ length room.new) }
+        ensures bytes { script_given self.new ≡ script_given self.old ++ moved result room.new }
+        ensures end { IfOk result (λ n. n ≡ 0 → 0 < length room.new → script_given self.new ≡ script_bytes self.new) }
+        ensures failed { inlet_failed self.new ≡ (inlet_failed self.old || is_err result) }
+        ensures piece { IfOk result (λ n. take n room.new ≡ take (length room.old) (next_piece (pieces_left self.old) (script_left self.old))) }
+        ensures turn { script_left self.old ≢ [] → pieces_left self.new ≡ drop 1 (pieces_left self.old) }
+        ensures fails { IsErr result ↔ (script_left self.old ≡ []) × (after_bytes self.old ≡ Failure) }
+        ensures script { script_bytes self.new ≡ script_bytes self.old }
+        ensures pieces { inlet_pieces self.new ≡ inlet_pieces self.old }
+        ensures after { after_bytes self.new ≡ after_bytes self.old }
+    {
         let left = self.bytes.len() - self.position;
         if left == 0 {
             return match self.after {

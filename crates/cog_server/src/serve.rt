@@ -60,6 +60,7 @@ fn first_write<'f>(text: &mut Vec<u8>, head: &[u8], body: &'f [u8]) -> Result<&'
     ensures whole { IfOk result (λ rest. text.new.items ++ rest.now ≡ head.now ++ body.now) }
     ensures few { OnOk result (length text.new.items ≤ max FIRST_WRITE (length head.now)) }
     ensures full { IfOk result (λ rest. 0 < length rest.now → FIRST_WRITE ≤ length text.new.items) }
+    ensures size { FIRST_WRITE ≡ 16384 }
 {
     text.clear();
     text.extend_from_slice(head)?;
