@@ -1,6 +1,6 @@
 -- The table of connections.
 use Rattle.std.proofs.Common.{◌≡◌, ◌≢◌, ℕ, ◌+◌, ◌-◌, ◌<◌, ◌≤◌, Bool, true, false, cond, nat_eq, [], ◌∷◌, length, take, Option, Some, None, Result, Ok, Err, refl, sym, ap, ◌∙◌, subst, arith, inl, inr}
-use Rattle.std.specs.Prelude.{Contains, if◌then◌else◌, OnErr, option_map, is_some, is_none}
+use Rattle.std.specs.Prelude.{Contains, if◌then◌else◌, OnErr, option_map, is_some}
 use Rattle.std.specs.Map.{lookup_entry, remove_entry, set_value}
 use Rattle.std.proofs.lemmas.Bool.{cases_Bool}
 use Rattle.std.proofs.lemmas.Bool.Decides.{nat_tests}

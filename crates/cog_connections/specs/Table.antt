@@ -1,5 +1,5 @@
 -- A table of connections by number.
-use Rattle.std.specs.Prelude.{◌≡◌, ◌≢◌, ◌<◌, ◌==◌, ℕ, Bool, true, false, if◌then◌else◌, nat_eq, List, [], ◌∷◌, Option, Some, None, option_map, ⊤}
+use Rattle.std.specs.Prelude.{◌≡◌, ◌≢◌, ◌<◌, ◌==◌, ℕ, Bool, false, if◌then◌else◌, nat_eq, List, [], ◌∷◌, Option, Some, None, option_map, ⊤}
 use Rattle.std.specs.Coded.{le_prop}
 use Rattle.std.specs.Map.{lookup}
 use Rattle.http_range.specs.Book.{Catalogue}

@@ -2,7 +2,7 @@
 ghost use Rattle.std.specs.Prelude.{◌≡◌, ◌≢◌, ◌+◌, ◌<◌, ◌≤◌, [], true, false, Some, None, IfOk, IfSome, IsSomeAnd, OnOk, OnErr, is_some, length, nat_eq, option_copied};
 ghost use Rattle.std.specs.Map.{remove_entry};
 ghost use Rattle.std.specs.NonZero.{non_zero_usize_get};
-ghost use Rattle.cog_server.specs.Status.{start, room_of, after_bytes, after_end};
+ghost use Rattle.cog_server.specs.Status.{Rests, start, room_of, after_bytes, after_end, is_closing};
 ghost use Rattle.cog_connections.specs.Table.{AreFalling, Becomes, Changes, GoesOnAt, OthersStay, falling_once, timed_after_write, timed_at};
 ghost use Rattle.cog_connections.specs.Yielding.{MayYield, WakesAt, Yields};
 
@@ -71,6 +71,8 @@ impl Connections {
         ensures ok { OnOk result (Changes number (λ p. record p { connection = after_bytes bytes.now p.connection })
             self.old.table.entries self.new.table.entries) }
         ensures err { OnErr result (Changes number (λ p. p) self.old.table.entries self.new.table.entries) }
+        // It comes only on a connection that is there and keeps the bytes.
+        ensures wants { OnErr result (IsSomeAnd (timed_at number self.old.table.entries) (λ p. is_closing p.connection ≡ false)) }
         ensures cap { self.new.table.cap ≡ self.old.table.cap }
         ensures next { self.new.next ≡ self.old.next }
     {
@@ -112,6 +114,8 @@ impl Connections {
         ensures ok { IfOk result (GoesOnAt server.now.catalogue number now (timed_at number self.old.table.entries)
             self.old.table.entries self.new.table.entries) }
         ensures err { OnErr result (Changes number (λ p. p) self.old.table.entries self.new.table.entries) }
+        // It comes only on a connection that is there and has a message to be answered.
+        ensures wants { OnErr result (IsSomeAnd (timed_at number self.old.table.entries) (λ p. ¬ Rests p.connection)) }
         ensures cap { self.new.table.cap ≡ self.old.table.cap }
         ensures next { self.new.next ≡ self.old.next }
     {

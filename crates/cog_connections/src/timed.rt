@@ -1,6 +1,6 @@
 //! A connection, and when it made progress.
-ghost use Rattle.std.specs.Prelude.{◌≡◌, ◌≤◌, ◌==◌, if◌then◌else◌, IfOk, OnOk, OnErr, length};
-ghost use Rattle.cog_server.specs.Status.{GoesOn, after_bytes, after_end, after_write, room_of};
+ghost use Rattle.std.specs.Prelude.{◌≡◌, ◌≤◌, ◌==◌, false, if◌then◌else◌, IfOk, OnOk, OnErr, length};
+ghost use Rattle.cog_server.specs.Status.{GoesOn, Rests, after_bytes, after_end, after_write, is_closing, room_of};
 
 use cog_server::{Connection, Server};
 use http_range::Memory;
@@ -17,6 +17,7 @@ impl Timed {
         requires { length bytes.now ≤ room_of self.old.connection }
         ensures ok { OnOk result (self.new ≡ record self.old { connection = after_bytes bytes.now self.old.connection }) }
         ensures err { OnErr result (self.new ≡ self.old) }
+        ensures wants { OnErr result (is_closing self.old.connection ≡ false) }
     {
         self.connection.came(bytes)
     }
@@ -32,6 +33,7 @@ impl Timed {
         ensures ok { IfOk result (λ went. GoesOn server.now.catalogue self.old.connection self.new.connection went) }
         ensures progress { IfOk result (λ went. self.new.progress ≡ (if went then now else self.old.progress)) }
         ensures err { OnErr result (self.new ≡ self.old) }
+        ensures wants { OnErr result (¬ Rests self.old.connection) }
     {
         let went = self.connection.go_on(server)?;
         if went {

@@ -1,5 +1,6 @@
-use Rattle.std.proofs.Common.{sym}
-use Rattle.cog_server.specs.Status.{after_bytes}
+use Rattle.std.proofs.Common.{◌≡◌, false, subst, sym}
+use Rattle.std.specs.Prelude.{IsSomeAnd}
+use Rattle.cog_server.specs.Status.{after_bytes, is_closing}
 use Rattle.cog_connections.specs.declared.timed.Timed.{Timed}
 use Rattle.cog_connections.proofs.TableLemmas.{anyway, changes, falling_set}
 use Rattle.cog_connections.proofs.table.Connections.came.Goals as goal
@@ -12,6 +13,11 @@ pub returns-in_err-came-clause-err : goal.returns-in_err-came-clause-err
 returns-in_err-came-clause-err c =
     anyway c.from_residual.result
     (changes c.args.number (λ p. p) c.args.self.now.table.entries c.in-Some.timed.now c.came.new.self (sym c.in-Some.ensures.value) c.in_err-came.ensures.err)
+
+pub returns-in_err-came-clause-wants : goal.returns-in_err-came-clause-wants
+returns-in_err-came-clause-wants c =
+    anyway c.from_residual.result
+    (subst (λ o. IsSomeAnd o (λ (p : Timed). is_closing p.connection ≡ false)) c.in-Some.ensures.value c.in_err-came.ensures.wants)
 
 pub returns-clause-ok : goal.returns-clause-ok
 returns-clause-ok c =

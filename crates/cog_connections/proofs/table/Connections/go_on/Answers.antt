@@ -1,4 +1,7 @@
-use Rattle.std.proofs.Common.{sym}
+use Rattle.std.proofs.Common.{subst, sym}
+use Rattle.std.specs.Prelude.{IsSomeAnd}
+use Rattle.cog_server.specs.Status.{Rests}
+use Rattle.cog_connections.specs.declared.timed.Timed.{Timed}
 use Rattle.cog_connections.proofs.TableLemmas.{anyway, changes, falling_set, goes_on_at}
 use Rattle.cog_connections.proofs.table.Connections.go_on.Goals as goal
 
@@ -10,6 +13,11 @@ pub returns-in_err-went-clause-err : goal.returns-in_err-went-clause-err
 returns-in_err-went-clause-err c =
     anyway c.from_residual.result
     (changes c.args.number (λ p. p) c.args.self.now.table.entries c.in-Some.timed.now c.go_on.new.self (sym c.in-Some.ensures.value) c.in_err-went.ensures.err)
+
+pub returns-in_err-went-clause-wants : goal.returns-in_err-went-clause-wants
+returns-in_err-went-clause-wants c =
+    anyway c.from_residual.result
+    (subst (λ o. IsSomeAnd o (λ (p : Timed). ¬ Rests p.connection)) c.in-Some.ensures.value c.in_err-went.ensures.wants)
 
 pub returns-clause-ok : goal.returns-clause-ok
 returns-clause-ok c =
