@@ -1,8 +1,9 @@
 -- What others know of the readers and writers here.
-use Rattle.std.specs.Prelude.{ℕ, max, Bool, List, [], ◌∷◌, take, drop}
+use Rattle.std.specs.Prelude.{ℕ, min, max, Bool, List, [], ◌∷◌, take, drop, Option, Some, None}
 use Rattle.cog_server.specs.declared.stream.Stream.{Stream}
 use Rattle.cog_server.specs.declared.scripted.AfterBytes.{AfterBytes}
 use Rattle.cog_server.specs.declared.scripted.AfterPieces.{AfterPieces}
+use Rattle.cog_server.specs.declared.scripted.AfterPieces.TheVariants.{All, Zero, Failure}
 use Rattle.cog_server.specs.declared.scripted.ScriptedInlet.{ScriptedInlet}
 use Rattle.cog_server.specs.declared.scripted.ScriptedOutlet.{ScriptedOutlet}
 
@@ -54,6 +55,17 @@ outlet_pieces s = s.pieces.items
 
 abbrev pub after_pieces : ScriptedOutlet → AfterPieces
 after_pieces s = s.after
+
+-- the sizes that are left
+abbrev pub sizes_left : ScriptedOutlet → List ℕ
+sizes_left s = drop s.writes s.pieces.items
+
+-- how many of so many bytes come next: no more than the next size; where no size is left, what follows the pieces says it
+abbrev pub next_taken : (sizes : List ℕ) → AfterPieces → (many : ℕ) → Option ℕ
+next_taken (size ∷ sizes) after many = Some (min size many)
+next_taken [] All many = Some many
+next_taken [] Zero many = Some 0
+next_taken [] Failure many = None
 
 -- the bytes that were taken
 abbrev pub script_taken : ScriptedOutlet → List ℕ

@@ -1,6 +1,6 @@
 //! A connection by a script, for tests: which pieces its bytes come and go in, and what follows them.
-ghost use Rattle.std.specs.Prelude.{◌≡◌, ◌≢◌, ◌≤◌, ◌<◌, ◌↔◌, ◌||◌, ◌++◌, Some, IfOk, IsErr, true, false, is_err, length, take, drop, []};
-ghost use Rattle.cog_server.specs.Moved.{moved};
+ghost use Rattle.std.specs.Prelude.{◌≡◌, ◌≢◌, ◌≤◌, ◌<◌, ◌^◌, ◌↔◌, ◌||◌, ◌++◌, Some, ℕ, min, option_map, IfOk, IsErr, OnOk, true, false, is_err, length, take, drop, []};
+ghost use Rattle.cog_server.specs.Moved.{is_stopped, moved};
 
 use crate::inlet::{Failed, Inlet, Outlet};
 use std::alloc::Global;
@@ -127,11 +127,12 @@ pub struct ScriptedOutlet {
 }
 
 impl ScriptedOutlet {
-    ghost use Rattle.cog_server.specs.Scripted.{after_pieces, outlet_failed, outlet_pieces, script_taken};
+    ghost use Rattle.cog_server.specs.Scripted.{after_pieces, next_taken, outlet_failed, outlet_pieces, script_taken, sizes_left};
 
     /// One that hasn't taken anything.
     pub fn new(alloc: Global, pieces: Vec<usize>, after: AfterPieces) -> Self
         ensures pieces { outlet_pieces result ≡ pieces.items }
+        ensures turn { sizes_left result ≡ pieces.items }
         ensures after { after_pieces result ≡ after }
         ensures taken { script_taken result ≡ [] }
         ensures unfailed { outlet_failed result ≡ false }
@@ -153,7 +154,9 @@ impl ScriptedOutlet {
     }
 
     /// The most bytes that it takes next. None where it fails.
-    fn size(&self) -> Option<usize> {
+    fn size(&self) -> Option<usize>
+        ensures { (many : ℕ) → many < 2 ^ 64 → option_map (min many) result ≡ next_taken (sizes_left self.now) (after_pieces self.now) many }
+    {
         match self.pieces.get(self.writes) {
             Some(size) => Some(*size),
             None => match self.after {
@@ -165,6 +168,8 @@ impl ScriptedOutlet {
     }
 
     fn fail(&mut self) -> Result<usize, Failed>
+        ensures pieces { outlet_pieces self.new ≡ outlet_pieces self.old }
+        ensures after { after_pieces self.new ≡ after_pieces self.old }
         ensures taken { script_taken self.new ≡ script_taken self.old }
         ensures failed { outlet_failed self.new ≡ true }
         ensures err { IsErr result }
@@ -175,13 +180,22 @@ impl ScriptedOutlet {
 }
 
 impl Outlet for ScriptedOutlet {
-    ghost use Rattle.cog_server.specs.Scripted.{outlet_failed, script_taken};
+    ghost use Rattle.cog_server.specs.Scripted.{after_pieces, next_taken, outlet_failed, outlet_pieces, script_taken, sizes_left};
 
     ghost taken = { λ s. Some (script_taken s) };
 
     ghost has_failed = { outlet_failed };
 
-    fn write(&mut self, bytes: &[u8]) -> Result<usize, Failed> {
+    /// Takes as many bytes as the next piece says, or fails.
+    fn write(&mut self, bytes: &[u8]) -> Result<usize, Failed>
+        ensures bound { IfOk result (λ n. n ≤ length bytes.now) }
+        ensures bytes { script_taken self.new ≡ script_taken self.old ++ moved result bytes.now }
+        ensures failed { outlet_failed self.new ≡ (outlet_failed self.old || is_stopped result bytes.now) }
+        ensures piece { IfOk result (λ n. next_taken (sizes_left self.old) (after_pieces self.old) (length bytes.now) ≡ Some n) }
+        ensures turn { OnOk result (sizes_left self.new ≡ drop 1 (sizes_left self.old)) }
+        ensures pieces { outlet_pieces self.new ≡ outlet_pieces self.old }
+        ensures after { after_pieces self.new ≡ after_pieces self.old }
+    {
         let Some(size) = self.size() else {
             return self.fail();
         };
