@@ -1,14 +1,14 @@
 -- What a call from C does to the client of its handle, and to the caller's room.
-use Rattle.std.specs.Prelude.{◌≡◌, ◌⊎◌, ℕ, ℤ, pos, List, ◌++◌, Option, Some, None, slice_get}
+use Rattle.std.specs.Prelude.{◌≡◌, ◌⊎◌, ℕ, ℤ, pos, List, ◌++◌, Option, Some, None, IsSome, slice_get}
 use Rattle.cog_client.specs.declared.error.ClientError.{ClientError}
 use Rattle.cog_client.specs.Calls.{Starts}
 use Rattle.cog_client.specs.Check.{check_of}
 use Rattle.cog_client.specs.Arrival.{IsBounded}
-use Rattle.cog_client.specs.Client.{ClientState, IsClientRefusal, client_refusal, feed_of}
+use Rattle.cog_client.specs.Client.{ClientState, IsClientRefusal, client_refusal, feed_of, query_of, report_of, tag_of}
 use Rattle.cog_client.specs.FedClient.{Fed}
 use Rattle.cog_client.specs.Feeding.{rest_dropped}
 use Rattle.cog_client.specs.Keeps.{RequestsKeeping, StopsAsking, StopsDelivery}
-use Rattle.cog_client.specs.Early.{AreEarlyRequests}
+use Rattle.cog_client.specs.Early.{AreEarlyRequests, AsksNothingEarly}
 use Rattle.delgunsai_c.specs.declared.failure.Failure.{Failure}
 use Rattle.delgunsai_c.specs.declared.failure.Failure.TheVariants.{Memory, NoClient}
 use Rattle.delgunsai_c.specs.Failure.{code_of, failure_in}
@@ -75,7 +75,7 @@ News host name blocks old new told = Made host name blocks new told ⊎ Refused 
 
 -- ---- request
 
--- a request, if there is one: there is none where the number is 0
+-- a request, if there is one: there is none where the number is 0. Want of memory is told only where there may be one.
 abbrev pub Gives : Option (List ℕ) → List ℕ → List ℕ → ℤ → Type 0
 Gives None old new told = (new ≡ old) × (told ≡ pos 0)
 Gives (Some text) old new told = Lays text old new told
@@ -86,21 +86,24 @@ pub record Asks (room left : List ℕ) (told : ℤ) (old new : ClientState) : Ty
   pub gives : Gives request room left told
 
 abbrev pub AsksOr : List ℕ → List ℕ → ℤ → ClientState → ClientState → Type 0
-AsksOr room left told old new = Asks room left told old new ⊎ Stopped (StopsAsking old new × (left ≡ room)) told
+AsksOr room left told old new = Asks room left told old new
+    ⊎ Stopped (StopsAsking old new × (left ≡ room) × IsSome (query_of old) × (report_of old ≡ None)) told
 
 -- ---- check
 
--- The client stays, and its check is given, if it has a revision.
+-- The client stays, and its check is given, if it has a revision. Want of memory is told only where it has one.
 pub record Checks (room left : List ℕ) (told : ℤ) (old new : ClientState) : Type 0 where
   pub gives : Gives (check_of old) room left told
   pub stays : new ≡ old
 
 abbrev pub ChecksOr : List ℕ → List ℕ → ℤ → ClientState → ClientState → Type 0
-ChecksOr room left told old new = Checks room left told old new ⊎ Stopped ((new ≡ old) × (left ≡ room)) told
+ChecksOr room left told old new =
+    Checks room left told old new ⊎ Stopped ((new ≡ old) × (left ≡ room) × IsSome (tag_of old)) told
 
 -- ---- a later request
 
--- The client stays, and the request is given that stands at this place among those that it makes early, if so many are known.
+-- The client stays, and the request is given that stands at this place among those that it makes early, if so many are known. Want of
+-- memory is told only where it may make some.
 pub record Foretells (index : ℕ) (room left : List ℕ) (told : ℤ) (old new : ClientState) : Type 0 where
   pub texts : List (List ℕ)
   pub early : AreEarlyRequests old texts
@@ -108,7 +111,8 @@ pub record Foretells (index : ℕ) (room left : List ℕ) (told : ℤ) (old new 
   pub stays : new ≡ old
 
 abbrev pub ForetellsOr : ℕ → List ℕ → List ℕ → ℤ → ClientState → ClientState → Type 0
-ForetellsOr index room left told old new = Foretells index room left told old new ⊎ Stopped ((new ≡ old) × (left ≡ room)) told
+ForetellsOr index room left told old new =
+    Foretells index room left told old new ⊎ Stopped ((new ≡ old) × (left ≡ room) × ¬ AsksNothingEarly old) told
 
 -- ---- an answer
 
