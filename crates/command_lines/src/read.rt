@@ -3,7 +3,7 @@ ghost use Rattle.std.specs.Prelude.{◌≡◌};
 ghost use Rattle.clap.specs.Words.{found_of, rows_of, subcommand_rows_of};
 ghost use Rattle.command_lines.specs.ReadLine.{AsksDescription, AsksWindow, HasFound, HasLine, HasWindow, word_of};
 
-use crate::arguments::{choice, flag};
+use crate::arguments::{add, add_choice, add_flag, choice, flag};
 use crate::help::{READ_NOTES, VERSION};
 use clap::{Arg, ArgMatches, Command, Error};
 use std::alloc::{AllocError, Global};
@@ -74,136 +74,165 @@ Example:
 
 http://HOST[:PORT]/NAME stands for SERVER NAME, and its connection is kept.";
 
-/// A word that has to stand.
-fn word<'a>(alloc: Global, name: &'a str, help: &'a str) -> Arg<'a> {
-    Arg::new(alloc, name).help(help).required(true)
+/// Adds an argument, if there is one.
+fn try_add<'a>(
+    arguments: &mut Vec<Arg<'a>>,
+    argument: Result<Arg<'a>, AllocError>,
+) -> Result<(), AllocError> {
+    add(arguments, argument?)
 }
 
-/// A word that has to stand where the whole of a level isn't asked for.
-fn side<'a>(alloc: Global, name: &'a str, help: &'a str) -> Result<Arg<'a>, AllocError> {
-    let side = Arg::new(alloc, name).help(help);
-    side.required_unless_present("whole")?
-        .conflicts_with("whole")
-}
-
-/// An option without a value, which doesn't stand beside another option.
-fn flag_without<'a>(
+/// Adds a word that has to stand.
+fn add_word<'a>(
     alloc: Global,
+    arguments: &mut Vec<Arg<'a>>,
+    name: &'a str,
+    help: &'a str,
+) -> Result<(), AllocError> {
+    add(arguments, Arg::new(alloc, name).help(help).required(true))
+}
+
+/// Adds a word that has to stand where the whole of a level isn't asked for.
+fn add_side<'a>(
+    alloc: Global,
+    arguments: &mut Vec<Arg<'a>>,
+    name: &'a str,
+    help: &'a str,
+) -> Result<(), AllocError> {
+    let side = Arg::new(alloc, name).help(help);
+    let side = side.required_unless_present("whole")?;
+    try_add(arguments, side.conflicts_with("whole"))
+}
+
+/// Adds an option without a value, which doesn't stand beside another option.
+fn add_flag_without<'a>(
+    alloc: Global,
+    arguments: &mut Vec<Arg<'a>>,
     name: &'a str,
     other: &'a str,
     help: &'a str,
-) -> Result<Arg<'a>, AllocError> {
-    flag(alloc, name, help).conflicts_with(other)
-}
-
-/// Adds an argument, if there is one.
-fn add<'a>(
-    command: Command<'a>,
-    argument: Result<Arg<'a>, AllocError>,
-) -> Result<Command<'a>, AllocError> {
-    command.arg(argument?)
+) -> Result<(), AllocError> {
+    try_add(arguments, flag(alloc, name, help).conflicts_with(other))
 }
 
 /// Adds the options of how much is asked for.
-fn add_amounts<'a>(alloc: Global, command: Command<'a>) -> Result<Command<'a>, AllocError> {
+fn add_amounts<'a>(alloc: Global, arguments: &mut Vec<Arg<'a>>) -> Result<(), AllocError> {
     let help = "At most so many requests, 1 to 65536 (default 64)";
-    let command = command.arg(choice(alloc, "requests", "N", help))?;
+    add_choice(alloc, arguments, "requests", "N", help)?;
     let help = "Blocks of 16384 bytes that are kept, 66 to 4096 (default 256)";
-    let command = command.arg(choice(alloc, "blocks", "N", help))?;
+    add_choice(alloc, arguments, "blocks", "N", help)?;
     let help =
         "Blocks that a request may ask for early, behind those that are needed next, 0 to 64 (default 0; with a URL 64)";
-    command.arg(choice(alloc, "ahead", "N", help))
+    add_choice(alloc, arguments, "ahead", "N", help)
 }
 
 /// Adds the options of whether a connection is kept.
-fn add_connections<'a>(alloc: Global, command: Command<'a>) -> Result<Command<'a>, AllocError> {
+fn add_connections<'a>(alloc: Global, arguments: &mut Vec<Arg<'a>>) -> Result<(), AllocError> {
     let help = "Keeps one connection for all requests, as long as the server does";
-    let command = add(command, flag_without(alloc, "keep", "close", help))?;
+    add_flag_without(alloc, arguments, "keep", "close", help)?;
     let help =
         "Connects anew for each request (the default for SERVER NAME; a URL's connection is kept)";
-    command.arg(flag(alloc, "close", help))
+    add_flag(alloc, arguments, "close", help)
 }
 
 /// Adds the options of what is written.
-fn add_telling<'a>(alloc: Global, command: Command<'a>) -> Result<Command<'a>, AllocError> {
+fn add_telling<'a>(alloc: Global, arguments: &mut Vec<Arg<'a>>) -> Result<(), AllocError> {
     let help =
         "Writes to this file, which is replaced once all is there (default: standard output)";
-    let command = command.arg(choice(alloc, "output", "FILE", help))?;
+    add_choice(alloc, arguments, "output", "FILE", help)?;
     let help = "Tells each exchange, and why there is no report, on standard error";
-    let command = command.arg(flag(alloc, "verbose", help))?;
+    add_flag(alloc, arguments, "verbose", help)?;
     let help = "Draws on standard error, as one line over itself, how many ranges and bytes came";
-    add(command, flag_without(alloc, "progress", "verbose", help))
+    add_flag_without(alloc, arguments, "progress", "verbose", help)
 }
 
-/// Adds the options that each command has.
-fn add_common<'a>(alloc: Global, command: Command<'a>) -> Result<Command<'a>, AllocError> {
-    let command = add_amounts(alloc, command)?;
-    let command = add_connections(alloc, command)?;
-    add_telling(alloc, command)
-}
-
-/// A command with the words and options that each has: the server and the name first, the options last.
-fn command<'a>(
-    alloc: Global,
-    name: &'a str,
-    about: &'a str,
-    example: &'a str,
-) -> Result<Command<'a>, AllocError> {
-    let command = Command::new(alloc, name).about(about).after_help(example);
-    let command = command.arg(word(alloc, "SERVER", "The server, as HOST:PORT"))?;
-    let command = command.arg(word(alloc, "NAME", "The name of the file at the server"))?;
-    add_common(alloc, command)
+/// Adds the words and options that each command has: the server and the name first, the options last.
+fn add_common<'a>(alloc: Global, arguments: &mut Vec<Arg<'a>>) -> Result<(), AllocError> {
+    add_word(alloc, arguments, "SERVER", "The server, as HOST:PORT")?;
+    add_word(
+        alloc,
+        arguments,
+        "NAME",
+        "The name of the file at the server",
+    )?;
+    add_amounts(alloc, arguments)?;
+    add_connections(alloc, arguments)?;
+    add_telling(alloc, arguments)
 }
 
 /// Adds the sides of a window.
-fn add_sides<'a>(alloc: Global, command: Command<'a>) -> Result<Command<'a>, AllocError> {
-    let command = add(
-        command,
-        side(alloc, "X", "The left column, in pixels from 0"),
-    )?;
-    let command = add(command, side(alloc, "Y", "The top row, in pixels from 0"))?;
-    let command = add(command, side(alloc, "W", "The width, in pixels"))?;
-    add(command, side(alloc, "H", "The height, in pixels"))
+fn add_sides<'a>(alloc: Global, arguments: &mut Vec<Arg<'a>>) -> Result<(), AllocError> {
+    add_side(alloc, arguments, "X", "The left column, in pixels from 0")?;
+    add_side(alloc, arguments, "Y", "The top row, in pixels from 0")?;
+    add_side(alloc, arguments, "W", "The width, in pixels")?;
+    add_side(alloc, arguments, "H", "The height, in pixels")
 }
 
 /// Adds the options of which level is read, and how much of it.
-fn add_levels<'a>(alloc: Global, command: Command<'a>) -> Result<Command<'a>, AllocError> {
+fn add_levels<'a>(alloc: Global, arguments: &mut Vec<Arg<'a>>) -> Result<(), AllocError> {
     let help = "The level, 0 for the largest (default 0)";
     let level = choice(alloc, "level", "N", help).conflicts_with("columns");
-    let command = add(command, level)?;
+    try_add(arguments, level)?;
     let help =
         "The smallest level in which the window is at least C columns wide; X Y W H are then of level 0 (no default)";
-    let command = command.arg(choice(alloc, "columns", "C", help))?;
+    add_choice(alloc, arguments, "columns", "C", help)?;
     let help = "The whole of the level, in the place of X Y W H";
-    add(command, flag_without(alloc, "whole", "columns", help))
+    add_flag_without(alloc, arguments, "whole", "columns", help)
 }
 
-fn info_command<'a>(alloc: Global) -> Result<Command<'a>, AllocError> {
+/// Adds a command with these words and options.
+fn add_command<'a>(
+    alloc: Global,
+    commands: &mut Vec<Command<'a>>,
+    name: &'a str,
+    about: &'a str,
+    example: &'a str,
+    arguments: Vec<Arg<'a>>,
+) -> Result<(), AllocError> {
+    let command = Command::new(alloc, name).about(about).after_help(example);
+    commands.push(command.args(arguments)?)?;
+    Ok(())
+}
+
+fn add_info<'a>(alloc: Global, commands: &mut Vec<Command<'a>>) -> Result<(), AllocError> {
+    let mut arguments = Vec::new(alloc);
+    add_common(alloc, &mut arguments)?;
     let about = "Prints the levels, keys and model fields of a file";
-    command(alloc, "info", about, INFO_EXAMPLE)
+    add_command(alloc, commands, "info", about, INFO_EXAMPLE, arguments)
 }
 
-fn window_command<'a>(alloc: Global) -> Result<Command<'a>, AllocError> {
+fn add_window<'a>(alloc: Global, commands: &mut Vec<Command<'a>>) -> Result<(), AllocError> {
+    let mut arguments = Vec::new(alloc);
+    add_common(alloc, &mut arguments)?;
+    add_sides(alloc, &mut arguments)?;
+    add_levels(alloc, &mut arguments)?;
     let about = "Writes a window of a file to standard output, as P5 or P6 (PGM, PPM)";
-    let command = command(alloc, "window", about, WINDOW_EXAMPLE)?;
-    let command = add_sides(alloc, command)?;
-    add_levels(alloc, command)
+    add_command(alloc, commands, "window", about, WINDOW_EXAMPLE, arguments)
 }
 
-fn describe_command<'a>(alloc: Global) -> Result<Command<'a>, AllocError> {
+fn add_describe<'a>(alloc: Global, commands: &mut Vec<Command<'a>>) -> Result<(), AllocError> {
+    let mut arguments = Vec::new(alloc);
+    add_common(alloc, &mut arguments)?;
+    let help = "Tells it in JSON, with gdalinfo's keys where they mean the same";
+    add_flag(alloc, &mut arguments, "json", help)?;
     let about =
         "Tells what a file is: its levels, coordinate system, origin, size of a pixel and corners";
-    let command = command(alloc, "describe", about, DESCRIBE_EXAMPLE)?;
-    let help = "Tells it in JSON, with gdalinfo's keys where they mean the same";
-    command.arg(flag(alloc, "json", help))
+    add_command(
+        alloc,
+        commands,
+        "describe",
+        about,
+        DESCRIBE_EXAMPLE,
+        arguments,
+    )
 }
 
-/// Adds a command, if there is one.
-fn add_command<'a>(
-    command: Command<'a>,
-    added: Result<Command<'a>, AllocError>,
-) -> Result<Command<'a>, AllocError> {
-    command.subcommand(added?)
+fn subcommands<'a>(alloc: Global) -> Result<Vec<Command<'a>>, AllocError> {
+    let mut commands = Vec::new(alloc);
+    add_window(alloc, &mut commands)?;
+    add_info(alloc, &mut commands)?;
+    add_describe(alloc, &mut commands)?;
+    Ok(commands)
 }
 
 /// The command without its subcommands.
@@ -219,9 +248,8 @@ fn bare_command<'a>(alloc: Global) -> Command<'a> {
 }
 
 fn read_command<'a>(alloc: Global) -> Result<Command<'a>, AllocError> {
-    let command = add_command(bare_command(alloc), window_command(alloc))?;
-    let command = add_command(command, info_command(alloc))?;
-    add_command(command, describe_command(alloc))
+    let commands = subcommands(alloc)?;
+    bare_command(alloc).subcommands(commands)
 }
 
 /// The value of a word that has to stand.

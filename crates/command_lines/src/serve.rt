@@ -1,9 +1,10 @@
 //! The command line of `cogserve`.
-ghost use Rattle.std.specs.Prelude.{◌≡◌, true, false, IfOk, IfErr, codes, map};
+ghost use Rattle.std.specs.Prelude.{◌≡◌, [], true, false, IfOk, IfErr, OnOk, codes, map};
 ghost use Rattle.clap.specs.Words.{FailsBy, app_of, fault_of, kind_of, matches_of, rule_of, takes};
+ghost use Rattle.command_lines.specs.Rules.{AddsRule, HaveRules};
 ghost use Rattle.command_lines.specs.ServeLine.{HasValues, option, serve_app, words as some_words};
 
-use crate::arguments::{choice, flag};
+use crate::arguments::{add, add_choice, add_flag, choice};
 use crate::help::{SERVE_NOTES, VERSION};
 use clap::error::ErrorKind;
 use clap::{Arg, ArgAction, Command, Error};
@@ -45,28 +46,55 @@ fn files<'a>(alloc: Global) -> Arg<'a>
         .action(ArgAction::Append)
 }
 
+/// Adds an option that has to stand.
+fn add_option<'a>(
+    alloc: Global,
+    arguments: &mut Vec<Arg<'a>>,
+    name: &'a str,
+    value: &'a str,
+    help: &'a str,
+) -> Result<(), AllocError>
+    ensures { OnOk result (AddsRule arguments.old.items arguments.new.items (option name.entry.now)) }
+{
+    add(arguments, option(alloc, name, value, help))
+}
+
+fn add_files<'a>(alloc: Global, arguments: &mut Vec<Arg<'a>>) -> Result<(), AllocError>
+    ensures { OnOk result (AddsRule arguments.old.items arguments.new.items (some_words (codes "files"))) }
+{
+    add(arguments, files(alloc))
+}
+
+fn add_arguments<'a>(alloc: Global, arguments: &mut Vec<Arg<'a>>) -> Result<(), AllocError>
+    ensures { OnOk result (arguments.old.items ≡ [] → HaveRules arguments.new.items serve_app.top.rules) }
+{
+    let help = "Where to listen (no default)";
+    add_option(alloc, arguments, "listen", "HOST:PORT", help)?;
+    let help = "A number greater than at each earlier start, 0 to 4294967295 (no default)";
+    add_option(alloc, arguments, "epoch", "N", help)?;
+    let help = "How many connections to serve in all, 1 to 4294967295 (no default)";
+    add_option(alloc, arguments, "connections", "N", help)?;
+    add_files(alloc, arguments)?;
+    let help = "How many connections at once, 1 to 10000 (default 256)";
+    add_choice(alloc, arguments, "at-once", "N", help)?;
+    let help =
+        "How long a connection without progress keeps its place while another waits, 1 to 3600 (default 60)";
+    add_choice(alloc, arguments, "patience", "SECONDS", help)?;
+    let help =
+        "Tells each answer on standard error, why a file isn't taken anew, and where it listens";
+    add_flag(alloc, arguments, "log", help)
+}
+
 fn serve_command<'a>(alloc: Global) -> Result<Command<'a>, AllocError>
     ensures { IfOk result (λ command. app_of command ≡ serve_app) }
 {
-    let command = Command::new(alloc, "cogserve")
+    let mut arguments = Vec::new(alloc);
+    add_arguments(alloc, &mut arguments)?;
+    Command::new(alloc, "cogserve")
         .about("Serves files over HTTP by single byte ranges")
         .version(VERSION)
-        .after_help(SERVE_NOTES);
-    let help = "Where to listen (no default)";
-    let command = command.arg(option(alloc, "listen", "HOST:PORT", help))?;
-    let help = "A number greater than at each earlier start, 0 to 4294967295 (no default)";
-    let command = command.arg(option(alloc, "epoch", "N", help))?;
-    let help = "How many connections to serve in all, 1 to 4294967295 (no default)";
-    let command = command.arg(option(alloc, "connections", "N", help))?;
-    let command = command.arg(files(alloc))?;
-    let help = "How many connections at once, 1 to 10000 (default 256)";
-    let command = command.arg(choice(alloc, "at-once", "N", help))?;
-    let help =
-        "How long a connection without progress keeps its place while another waits, 1 to 3600 (default 60)";
-    let command = command.arg(choice(alloc, "patience", "SECONDS", help))?;
-    let help =
-        "Tells each answer on standard error, why a file isn't taken anew, and where it listens";
-    command.arg(flag(alloc, "log", help))
+        .after_help(SERVE_NOTES)
+        .args(arguments)
 }
 
 /// Reads `cogserve`'s words, of which the first is its own name.

@@ -1,0 +1,14 @@
+-- The rules of arguments.
+use Rattle.std.specs.Prelude.{◌≡◌, false, List, [], ◌∷◌, ◌++◌, ⊤}
+use Rattle.clap.specs.Words.{Rule, rule_of}
+use Rattle.clap.specs.declared.builder.arg.Arg.{Arg}
+
+-- These arguments have these rules, and none is global.
+abbrev pub HaveRules : List Arg → List Rule → Type 0
+HaveRules [] [] = ⊤
+HaveRules (argument ∷ arguments) (rule ∷ rules) = (rule_of argument ≡ rule) × (argument.global ≡ false) × HaveRules arguments rules
+HaveRules arguments rules = ⊥
+
+-- the new arguments are the old ones, and behind them one of this rule
+abbrev pub AddsRule : (old new : List Arg) → Rule → Type 0
+AddsRule old new rule = (rules : List Rule) → HaveRules old rules → HaveRules new (rules ++ rule ∷ [])
