@@ -9,6 +9,6 @@ HaveRules [] [] = ⊤
 HaveRules (argument ∷ arguments) (rule ∷ rules) = (rule_of argument ≡ rule) × (argument.global ≡ false) × HaveRules arguments rules
 HaveRules arguments rules = ⊥
 
--- the new arguments are the old ones, and behind them one of this rule
+-- The new arguments have the rules of the old ones, whatever these are, and behind them this one.
 abbrev pub AddsRule : (old new : List Arg) → Rule → Type 0
 AddsRule old new rule = (rules : List Rule) → HaveRules old rules → HaveRules new (rules ++ rule ∷ [])
