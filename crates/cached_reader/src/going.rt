@@ -10,7 +10,7 @@ use crate::ahead::extend;
 use crate::held::HeldRange;
 use cog_reader::{Reader, lengths_are_known, nothing_comes};
 use range_cache::{Cache, Missing, missing_is_exact};
-use tiff_dir::{Memory, Span};
+use tiff_dir::{Compression, Memory, Span};
 
 fn span_of(missing: Missing) -> Span
     ensures first { result.first ≡ missing.first }
@@ -33,8 +33,8 @@ fn give_copy(reader: &mut Reader, cache: &Cache, first: u64, out: &mut [u8]) -> 
     reader.give(out)
 }
 
-/// Gives the reader the range that it wants, of so many bytes, all of which the cache has. Of tiles that aren't packed what the window
-/// has is copied alone, and else all of it by a buffer that is kept from one range to the next.
+/// Gives the reader the range that it wants, of so many bytes, all of which the cache has. Tiles are copied out of the blocks, and packed
+/// ones compared there with those that are kept; a buffer, which is kept from one range to the next, is for all else.
 fn give_held(
     reader: &mut Reader,
     cache: &Cache,
@@ -48,14 +48,20 @@ fn give_held(
     ensures err { OnErr result (reader.new ≡ reader.old) }
     ensures room { length buffer.new.items ≤ max (length buffer.old.items) len }
 {
-    if reader.wants_plain_tiles() {
+    let tiles = reader.wants_tiles();
+    if tiles == Some(Compression::Plain) {
         reader.paint(&HeldRange::new(cache, first, len));
         return Ok(());
     }
     if buffer.len() < len {
         buffer.resize(len, 0)?;
     }
-    give_copy(reader, cache, first, &mut buffer[..len])
+    let room = &mut buffer[..len];
+    if tiles == Some(Compression::PackBits) {
+        reader.unpack(&HeldRange::new(cache, first, len), room);
+        return Ok(());
+    }
+    give_copy(reader, cache, first, room)
 }
 
 /// Gives the reader the range that it wants, where the cache has it, and else says what is missing of it.

@@ -28,6 +28,8 @@ impl<'a> HeldRange<'a> {
 impl Bytes for HeldRange<'_> {
     ghost bytes = { λ r. bytes_at r.cache.now r.first r.len };
 
+    ghost room_needed = { λ r. r.len };
+
     fn len(&self) -> usize {
         self.len
     }
@@ -38,5 +40,15 @@ impl Bytes for HeldRange<'_> {
 
     fn piece_at(&self, at: usize) -> &[u8] {
         self.cache.piece_at(self.first + at as u64, self.len - at)
+    }
+
+    fn part_at<'a>(&'a self, at: usize, len: usize, room: &'a mut [u8]) -> &'a [u8] {
+        let piece = self.piece_at(at);
+        if piece.len() >= len {
+            return &piece[..len];
+        }
+        let out = &mut room[..len];
+        self.copy_to(at, out);
+        out
     }
 }

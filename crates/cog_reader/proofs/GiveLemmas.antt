@@ -157,6 +157,13 @@ wanted_group w k m P some = at (slice_get m.groups m.given) refl some where
   at None is bad = absurd bad
   at (Some g) is good = (g, is, ap (option_map (λ (g : Group). extent_of_span g.span)) is, good)
 
+-- and one of so many bytes
+the_group : (m : Mosaic) {len : ℕ} → IsSomeAnd (slice_get m.groups m.given) (λ g. len ≡ (extent_of_span g.span).len) → (g : Group) × (slice_get m.groups m.given ≡ Some g) × (len ≡ (extent_of_span g.span).len)
+the_group m {len} some = at (slice_get m.groups m.given) refl some where
+  at : (o : Option Group) → slice_get m.groups m.given ≡ o → IsSomeAnd o (λ g. len ≡ (extent_of_span g.span).len) → (g : Group) × (slice_get m.groups m.given ≡ Some g) × (len ≡ (extent_of_span g.span).len)
+  at None is bad = absurd bad
+  at (Some g) is good = (g, is, good)
+
 -- a group is among what the query needs
 pub group_at : (f : List ℕ) (q : Query) (a : Arrays) (m : Mosaic) (g : Group) (n : ℕ) → IsUnderway f q a m → slice_get m.groups n ≡ Some g → slice_get (needs_of_query f q) (2 + n) ≡ Some (extent_of_span g.span)
 group_at f q a m g n u is =
@@ -191,22 +198,19 @@ accepts_group complete bytes w k n a m v ended keeps is plan same more some unde
   );
   come = λ f q base here. (
       let u = both_at k n a (λ b. IsUnderway f q b m) is here.0 in
-      let (g, there, len) = the_group (slice_get m.groups m.given) refl some in
+      let (g, there, len) = the_group m some in
       from_some (wanted_by w k (Tiles m)) (extent_of_span g.span) _ (ap (option_map (λ (g : Group). extent_of_span g.span)) there)
       (next_of (needs_of_query f q) (2 + m.given) (extent_of_span g.span) (group_needed f q a m g u there)
       ∙ (let e : 2 + m.given + 1 ≡ 2 + v.given = omega (arith, more) in ap (λ i. extent_of_span g.span ∷ drop i (needs_of_query f q)) e))
       );
   held = λ f q base here p one. same_end (unread_by f w k p);
   steps = (
-      let (g, there, len) = the_group (slice_get m.groups m.given) refl some in
+      let (g, there, len) = the_group m some in
       let less = slice_get_within m.groups m.given g there in
       let size = ap length same in
       omega (arith, less, more, size)
       );
-} where
-  the_group : (o : Option Group) → slice_get m.groups m.given ≡ o → IsSomeAnd o (λ g. length bytes ≡ (extent_of_span g.span).len) → (g : Group) × (slice_get m.groups m.given ≡ Some g) × (length bytes ≡ (extent_of_span g.span).len)
-  the_group None is bad = absurd bad
-  the_group (Some g) is good = (g, is, good)
+}
 
 pub tells_group : (complete : ℕ) (bytes : List ℕ) (w : WalkState) (k : Kept) (n : ℕ) (a : Arrays) (m v : Mosaic) (fault : FileFault) → k ≡ kept.Both n a
     → ((f : List ℕ) (q : Query) → IsUnderway f q a m → IsWantedGroup f m bytes → IsFaultOfWindow f q fault) → TellsFault complete bytes (at_state w k (Tiles m)) (at_state w k (Tiles v)) fault
@@ -222,6 +226,11 @@ tells_group complete bytes w k n a m v fault is damaged = record {
 
 pub wanted_len : (w : WalkState) (k : Kept) (m : Mosaic) (len : ℕ) → IsSomeAnd (wanted_by w k (Tiles m)) (λ r. len ≡ r.len) → IsSomeAnd (slice_get m.groups m.given) (λ g. len ≡ (extent_of_span g.span).len)
 wanted_len w k m len some = (let (g, there, wants, good) = wanted_group w k m (λ r. len ≡ r.len) some in from_some (slice_get m.groups m.given) g (λ g. len ≡ (extent_of_span g.span).len) there good)
+
+pub len_wanted : (w : WalkState) (k : Kept) (m : Mosaic) (len : ℕ) → IsSomeAnd (slice_get m.groups m.given) (λ g. len ≡ (extent_of_span g.span).len) → IsSomeAnd (wanted_by w k (Tiles m)) (λ r. len ≡ r.len)
+len_wanted w k m len some =
+    let (g, there, is) = the_group m some in
+    from_some (wanted_by w k (Tiles m)) (extent_of_span g.span) (λ r. len ≡ r.len) (ap (option_map (λ (g : Group). extent_of_span g.span)) there) is
 
 -- ---- a geo field
 

@@ -12,4 +12,5 @@ pub mod ReaderLemmas
 pub mod InfoLemmas
 pub mod EndLemmas
 pub mod FirstLemmas
+pub mod UnpackedLemmas
 pub mod UpcomingLemmas

@@ -136,13 +136,12 @@ part_size a at t len bytes l within same size is =
     let n : at + len - at ≡ (tile_extent a t).len = omega (arith, same) in
     length-take-le (at + len - at) (drop at bytes) (omega (arith, within, n, length-drop at bytes)) ∙ n ∙ size ∙ ap (λ (k : Level). plain_size (layout_of k)) is
 
--- what is copied out of the bytes of a group is copied out of those of the tile
-pub blit_part : (t at len first count : ℕ) (bytes of : List ℕ) (old new : Picture) → of ≡ bytes → first ≡ at → count ≡ len → IsBlit t (slice_range of first (first + count)) old new
-    → IsBlit t (take (at + len - at) (drop at bytes)) old new
-blit_part t at len first count bytes of old new same place size blit =
-    subst (λ l. IsBlit t (take (at + len - at) (drop at l)) old new) same
-    (subst (λ n. IsBlit t (take (at + n - at) (drop at of)) old new) size
-    (subst (λ k. IsBlit t (take (k + count - k) (drop k of)) old new) place blit))
+-- what is true of the part of a group's bytes that a tile has is true of the tile's bytes
+pub of_part : (P : List ℕ → Type 0) (at len first count : ℕ) (bytes of : List ℕ) → of ≡ bytes → first ≡ at → count ≡ len → P (slice_range of first (first + count)) → P (take (at + len - at) (drop at bytes))
+of_part P at len first count bytes of same place size is =
+    subst (λ l. P (take (at + len - at) (drop at l))) same
+    (subst (λ n. P (take (at + n - at) (drop at of))) size
+    (subst (λ k. P (take (k + count - k) (drop k of))) place is))
 
 pub size_of_part : (at len first count : ℕ) (bytes of : List ℕ) (size : ℕ) → of ≡ bytes → first ≡ at → count ≡ len → length (take (at + len - at) (drop at bytes)) ≡ size
     → length (slice_range of first (first + count)) ≡ size

@@ -1,7 +1,7 @@
 -- What is known of a reader, which answers one query of one file, given range by range.
 use Rattle.std.specs.Prelude.{◌≡◌, ℕ, ◌+◌, ◌-◌, ◌<◌, ◌≤◌, ⊤, ◌⊎◌, false, ◌==◌, if◌then◌else◌, List, [], ◌∷◌, ◌++◌, length, drop, slice_get, Option, Some, None, IfSome, IsSome, IsSomeAnd}
 use Rattle.std.specs.Option.{option_map, option_map_or}
-use Rattle.tiff_dir.specs.declared.level.Compression.TheVariants.{Plain}
+use Rattle.tiff_dir.specs.declared.level.Compression.{Compression}
 use Rattle.tiff_dir.specs.declared.query.Query.{Query}
 use Rattle.tiff_dir.specs.declared.query.Query.TheVariants as query
 use Rattle.tiff_dir.specs.declared.span.Span.{Span}
@@ -17,6 +17,7 @@ use Rattle.tiff_dir.specs.Walk.{HasEnded, bytes_in, given_of, levels_of, extent_
 use Rattle.tile_plan.specs.declared.plan.Group.{Group}
 use Rattle.tile_plan.specs.Levels.{IsSmall, rectangle_of}
 use Rattle.cog_reader.specs.declared.kept.Kept.{Kept}
+use Rattle.cog_reader.specs.declared.kept.Kept.TheVariants.{Both}
 use Rattle.cog_reader.specs.declared.outcome.Outcome.{Outcome}
 use Rattle.cog_reader.specs.declared.state.PendingQuery.{PendingQuery}
 use Rattle.cog_reader.specs.declared.state.State.{State}
@@ -43,19 +44,19 @@ wanted_by w k (Tiles m) = option_map (λ (g : Group). extent_of_span g.span) (sl
 wanted_by w k (Fields x) = option_map extent_of_place (slice_get (present_in x.places) x.given)
 wanted_by w k (Answered o) = None
 
--- a state wants tiles that aren't packed
-abbrev pub ArePlainTiles : Kept → State → Type 0
-ArePlainTiles k (Tiles m) = HasBoth k (λ a. a.level.compression ≡ Plain)
-ArePlainTiles k _ = ⊥
+-- how the tiles are stored that a state wants, none where it wants no tiles
+abbrev pub tiles_wanted_by : Kept → State → Option Compression
+tiles_wanted_by (Both n a) (Tiles m) = Some a.level.compression
+tiles_wanted_by _ _ = None
 
--- What the reader wants next are tiles that aren't packed.
-unfoldable pub WantsPlainTiles : ReaderState → Type 0
-WantsPlainTiles r = IsSomeAnd r.pending (λ a. ArePlainTiles r.kept a.state)
+-- How the tiles are stored that the reader wants next, none where it wants no tiles.
+unfoldable pub tiles_wanted : ReaderState → Option Compression
+tiles_wanted r = r.pending >>= λ a. tiles_wanted_by r.kept a.state
 
--- they have so many bytes
-abbrev pub ArePaintable : Kept → State → ℕ → Type 0
-ArePaintable k (Tiles m) len = HasBoth k (λ a. (a.level.compression ≡ Plain) × HasPlan a m) × IsGroupLen m len
-ArePaintable k _ len = ⊥
+-- a state wants tiles that are stored so, of so many bytes
+abbrev pub AreTiles : Compression → Kept → State → ℕ → Type 0
+AreTiles c k (Tiles m) len = HasBoth k (λ a. (a.level.compression ≡ c) × HasPlan a m) × IsGroupLen m len
+AreTiles c k _ len = ⊥
 
 -- The range that the reader wants next, none without a query or with an outcome.
 unfoldable pub wanted : ReaderState → Option Extent

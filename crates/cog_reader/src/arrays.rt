@@ -21,22 +21,14 @@ impl Arrays {
     ghost use Rattle.tile_plan.specs.Plan.{IsRangeOf};
     ghost use Rattle.cog_reader.specs.Mosaic.{tile_extent, AreArraysOf};
 
-    /// How many bytes a tile has.
-    pub fn len_of(&self, tile: u32) -> usize
+    /// Where a tile begins in the file, and how many bytes it has.
+    pub fn place_of(&self, tile: u32) -> (u32, usize)
         requires { tile < tile_total (grid_of self.now.level) }
-        ensures len { result ≡ (tile_extent self.now tile).len }
+        ensures first { result.0 ≡ (tile_extent self.now tile).first }
+        ensures len { result.1 ≡ (tile_extent self.now tile).len }
         ensures values { (f : List ℕ) (n : ℕ) → AreArraysOf f n self.now → IsRangeOf f n tile (tile_extent self.now tile) }
     {
-        let (_, len) = tile_of(self.order, &self.level, tile, &self.offsets, &self.counts);
-        len as usize
-    }
-
-    /// Where a tile begins in the file.
-    pub fn first_of(&self, tile: u32) -> u32
-        requires { tile < tile_total (grid_of self.now.level) }
-        ensures { result ≡ (tile_extent self.now tile).first }
-    {
-        let (first, _) = tile_of(self.order, &self.level, tile, &self.offsets, &self.counts);
-        first
+        let (first, len) = tile_of(self.order, &self.level, tile, &self.offsets, &self.counts);
+        (first, len as usize)
     }
 }

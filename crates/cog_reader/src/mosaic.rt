@@ -1,5 +1,5 @@
 //! A window, put together from its tiles as their groups come.
-ghost use Rattle.std.specs.Prelude.{◌≡◌, ◌+◌, ◌++◌, ℕ, List, IfErr, OnOk, length};
+ghost use Rattle.std.specs.Prelude.{◌≡◌, ◌+◌, ◌≤◌, ◌++◌, ℕ, List, IfErr, OnOk, length};
 ghost use Rattle.std.specs.List.{All};
 ghost use Rattle.tiff_dir.specs.declared.level.Compression.TheVariants.{PackBits, Plain};
 ghost use Rattle.tiff_dir.specs.Described.{layout_of};
@@ -17,43 +17,48 @@ use std::marker::Model;
 use tiff_dir::{Compression, FileFault, Span};
 use tile_plan::{Bytes, Canvas, Group, Part, PlanError, Rectangle, Slice, groups, tiles_cover};
 
-/// Copies packed tiles that stand one after the other onto the canvas, by their bytes. `plain` is room for a tile.
-fn unpack_tiles(
+/// Copies packed tiles that stand one after the other onto the canvas, by their bytes. `plain` is room for a tile, and `room` for its
+/// packed bytes.
+fn unpack_parts<B: Bytes>(
     canvas: &mut Canvas,
     arrays: &Arrays,
     tiles: &[u32],
-    bytes: &[u8],
+    bytes: &B,
+    room: &mut [u8],
     plain: &mut [u8],
     unpacked: &mut Unpacked,
 ) -> Result<(), FileFault>
     requires level { canvas.old.level ≡ arrays.now.level }
     requires packed { arrays.now.level.compression ≡ PackBits }
-    requires whole { IsWhole arrays.now tiles.now (length bytes.now) }
-    requires room { length plain.old ≡ plain_size (layout_of arrays.now.level) }
+    requires whole { IsWhole arrays.now tiles.now (length (B.bytes bytes.now)) }
+    requires room { B.room_needed bytes.now ≤ length room.old }
+    requires plain { length plain.old ≡ plain_size (layout_of arrays.now.level) }
     ensures level { canvas.new.level ≡ canvas.old.level }
     ensures rectangle { canvas.new.rectangle ≡ canvas.old.rectangle }
     ensures size { length canvas.new.bytes ≡ length canvas.old.bytes }
-    ensures painted { (f : List ℕ) (n first : ℕ) (done : List ℕ) → AreArraysOf f n arrays.now → AreBytesOf f first bytes.now
-        → Adjoin (tile_extent arrays.now) first tiles.now (first + length bytes.now) → All (IsPainted f n canvas.old) done
+    ensures painted { (f : List ℕ) (n first : ℕ) (done : List ℕ) → AreArraysOf f n arrays.now → AreBytesOf f first (B.bytes bytes.now)
+        → Adjoin (tile_extent arrays.now) first tiles.now (first + length (B.bytes bytes.now)) → All (IsPainted f n canvas.old) done
         → OnOk result (All (IsPainted f n canvas.new) (done ++ tiles.now)) }
-    ensures damaged { (f : List ℕ) (n first : ℕ) → AreArraysOf f n arrays.now → AreBytesOf f first bytes.now
-        → Adjoin (tile_extent arrays.now) first tiles.now (first + length bytes.now)
+    ensures damaged { (f : List ℕ) (n first : ℕ) → AreArraysOf f n arrays.now → AreBytesOf f first (B.bytes bytes.now)
+        → Adjoin (tile_extent arrays.now) first tiles.now (first + length (B.bytes bytes.now))
         → IfErr result (HasDamage f n arrays.now.level tiles.now) }
 {
+    // The length is read for its bound alone.
+    let _len = bytes.len();
     let mut at = 0;
     for tile in tiles {
-        let end = at + arrays.len_of(*tile);
-        let first = arrays.first_of(*tile);
+        let (first, len) = arrays.place_of(*tile);
         paint_packed(
             canvas,
             &arrays.level,
             *tile,
             first,
-            &bytes[at..end],
+            &Part::new(bytes, at, len),
+            room,
             plain,
             unpacked,
         )?;
-        at = end;
+        at += len;
     }
     Ok(())
 }
@@ -74,7 +79,7 @@ fn paint_parts<B: Bytes>(canvas: &mut Canvas, arrays: &Arrays, tiles: &[u32], by
     let _len = bytes.len();
     let mut at = 0;
     for tile in tiles {
-        let len = arrays.len_of(*tile);
+        let (_, len) = arrays.place_of(*tile);
         canvas.blit(*tile, &Part::new(bytes, at, len));
         at += len;
     }
@@ -106,7 +111,7 @@ impl Model for Mosaic {
 }
 
 impl Mosaic {
-    ghost use Rattle.std.specs.Prelude.{◌≡◌, ◌+◌, ℕ, List, IfOk, IfErr, OnOk, MatchOption, None, Some, slice_get, IsSomeAnd, length};
+    ghost use Rattle.std.specs.Prelude.{◌≡◌, ◌+◌, ◌≤◌, ℕ, List, IfOk, IfErr, OnOk, MatchOption, None, Some, slice_get, IsSomeAnd, length};
     ghost use Rattle.tiff_dir.specs.declared.level.Compression.TheVariants.{PackBits, Plain};
     ghost use Rattle.tiff_dir.specs.declared.query.Query.{Query};
     ghost use Rattle.tiff_dir.specs.Faulty.{IsFaultOfWindow, IsWindow};
@@ -202,35 +207,38 @@ impl Mosaic {
                 self.paint(arrays, &Slice(bytes));
                 Ok(())
             }
-            Compression::PackBits => self.unpack(arrays, unpacked, bytes),
+            Compression::PackBits => self.unpack(arrays, unpacked, &Slice(bytes), &mut []),
         }
     }
 
-    /// Takes the bytes of the next group, whose tiles are packed.
-    fn unpack(
+    /// Takes the next group of packed tiles, out of its bytes. `room` is room for those of a tile. After a fault the work is of no use.
+    pub fn unpack<B: Bytes>(
         &mut self,
         arrays: &Arrays,
         unpacked: &mut Unpacked,
-        bytes: &[u8],
+        bytes: &B,
+        room: &mut [u8],
     ) -> Result<(), FileFault>
         requires plan { HasPlan arrays.now self.old }
         requires packed { arrays.now.level.compression ≡ PackBits }
-        requires wanted { IsGroupLen self.old (length bytes.now) }
+        requires wanted { IsGroupLen self.old (length (B.bytes bytes.now)) }
+        requires room { B.room_needed bytes.now ≤ length room.old }
         ensures plan { (complete : ℕ) → IsPlan complete arrays.now self.old → IsPlan complete arrays.now self.new }
         ensures given { OnOk result ((self.new.groups ≡ self.old.groups) × (self.new.given ≡ self.old.given + 1)) }
-        ensures underway { (f : List ℕ) (q : Query) → IsUnderway f q arrays.now self.old → IsWantedGroup f self.old bytes.now
+        ensures underway { (f : List ℕ) (q : Query) → IsUnderway f q arrays.now self.old → IsWantedGroup f self.old (B.bytes bytes.now)
             → OnOk result (IsUnderway f q arrays.now self.new) }
-        ensures damaged { (f : List ℕ) (q : Query) → IsUnderway f q arrays.now self.old → IsWantedGroup f self.old bytes.now
+        ensures damaged { (f : List ℕ) (q : Query) → IsUnderway f q arrays.now self.old → IsWantedGroup f self.old (B.bytes bytes.now)
             → IfErr result (IsFaultOfWindow f q) }
     {
         let Some(group) = self.groups.get(self.given) else {
             unreachable!()
         };
-        unpack_tiles(
+        unpack_parts(
             &mut self.canvas,
             arrays,
             &group.tiles,
             bytes,
+            room,
             &mut self.plain,
             unpacked,
         )?;

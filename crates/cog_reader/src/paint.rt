@@ -1,5 +1,5 @@
 //! A packed tile, unpacked and copied onto a canvas.
-ghost use Rattle.std.specs.Prelude.{◌≡◌, ◌<◌, IfErr, OnOk, length};
+ghost use Rattle.std.specs.Prelude.{◌≡◌, ◌<◌, ◌≤◌, IfErr, OnOk, length};
 ghost use Rattle.tiff_dir.specs.declared.level.Compression.TheVariants.{PackBits};
 ghost use Rattle.tiff_dir.specs.Described.{grid_of, layout_of};
 ghost use Rattle.tiff_dir.specs.Level.{plain_size, tile_total};
@@ -8,25 +8,27 @@ ghost use Rattle.cog_reader.specs.Paint.{IsPaint, IsBad};
 use crate::unpacked::Unpacked;
 use packbits::unpack;
 use tiff_dir::{FileFault, Level};
-use tile_plan::{Canvas, Slice};
+use tile_plan::{Bytes, Canvas, Slice};
 
-/// Copies the tile that the packed bytes of a file stand for, which begin at `first`, onto the canvas, and keeps it. `plain` is room for
-/// the tile.
-pub fn paint_packed(
+/// Copies the tile that the packed bytes of a file stand for, which begin at `first`, onto the canvas. Where it isn't kept, its bytes are
+/// put in one piece, in `room` at need, and unpacked to `plain`, and it is kept.
+pub fn paint_packed<B: Bytes>(
     canvas: &mut Canvas,
     level: &Level,
     tile: u32,
     first: u32,
-    bytes: &[u8],
+    bytes: &B,
+    room: &mut [u8],
     plain: &mut [u8],
     unpacked: &mut Unpacked,
 ) -> Result<(), FileFault>
     requires level { canvas.old.level ≡ level.now }
     requires packed { level.now.compression ≡ PackBits }
     requires tile { tile < tile_total (grid_of level.now) }
-    requires room { length plain.old ≡ plain_size (layout_of level.now) }
-    ensures paint { OnOk result (IsPaint tile bytes.now canvas.old canvas.new) }
-    ensures bad { IfErr result (IsBad bytes.now canvas.old) }
+    requires room { B.room_needed bytes.now ≤ length room.old }
+    requires plain { length plain.old ≡ plain_size (layout_of level.now) }
+    ensures paint { OnOk result (IsPaint tile (B.bytes bytes.now) canvas.old canvas.new) }
+    ensures bad { IfErr result (IsBad (B.bytes bytes.now) canvas.old) }
     ensures level { canvas.new.level ≡ level.now }
     ensures rectangle { canvas.new.rectangle ≡ canvas.old.rectangle }
     ensures size { length canvas.new.bytes ≡ length canvas.old.bytes }
@@ -37,8 +39,9 @@ pub fn paint_packed(
         canvas.blit(tile, &Slice(kept));
         return Ok(());
     }
-    unpack(bytes, row, plain)?;
+    let packed = bytes.part_at(0, bytes.len(), room);
+    unpack(packed, row, plain)?;
     canvas.blit(tile, &Slice(plain));
-    unpacked.keep(first, bytes, row, plain);
+    unpacked.keep(first, packed, row, plain);
     Ok(())
 }

@@ -5,7 +5,7 @@ use crate::state::{PendingQuery, State};
 use crate::unpacked::Unpacked;
 use std::alloc::Global;
 use std::marker::Model;
-use tiff_dir::{Level, Memory, Query, Span, Walk};
+use tiff_dir::{Compression, Level, Memory, Query, Span, Walk};
 use tile_plan::Bytes;
 
 /// A reader of one TIFF file of a known length, which answers one query after another. It says which bytes it needs next, and is
@@ -31,14 +31,15 @@ impl Model for Reader {
     ghost invariant = { λ r. IsReader r.complete r.walk r.kept r.pending };
 }
 
-#[tactic(auto, unfolding(crate::specs::Reader::wanted, crate::specs::Reader::WantsPlainTiles, crate::specs::Reader::outcome_of, crate::specs::Reader::query_of, crate::specs::Reader::complete_of, crate::specs::Reader::to_come, crate::specs::Reader::unread, crate::specs::Reader::upcoming, crate::specs::Reader::steps_of, crate::specs::Reader::AreDirectoriesRead, crate::specs::Reader::ReaderAgrees))]
+#[tactic(auto, unfolding(crate::specs::Reader::wanted, crate::specs::Reader::tiles_wanted, crate::specs::Reader::outcome_of, crate::specs::Reader::query_of, crate::specs::Reader::complete_of, crate::specs::Reader::to_come, crate::specs::Reader::unread, crate::specs::Reader::upcoming, crate::specs::Reader::steps_of, crate::specs::Reader::AreDirectoriesRead, crate::specs::Reader::ReaderAgrees))]
 impl Reader {
     ghost use Rattle.std.specs.Prelude.{◌≡◌, ◌+◌, ◌<◌, ◌≤◌, ◌↔◌, ℕ, List, [], ◌∷◌, None, Some, IfOk, IfSome, IsSome, IsSomeAnd, IsTrue, MatchOption, OnErr, OnOk, length, slice_get};
+    ghost use Rattle.tiff_dir.specs.declared.level.Compression.TheVariants.{PackBits, Plain};
     ghost use Rattle.tiff_dir.specs.Described.{AreLevels};
     ghost use Rattle.tiff_dir.specs.Walk.{extent_of_span};
     ghost use Rattle.tiff_dir.specs.declared.query.Query.{Query};
     ghost use Rattle.cog_reader.specs.Outcome.{IsTrueOf};
-    ghost use Rattle.cog_reader.specs.Reader.{complete_of, outcome_of, query_of, steps_of, to_come, unread, wanted, AreDirectoriesRead, ReaderAgrees, IsUpcoming, IsWanted, Takes, Wants, WantsPlainTiles};
+    ghost use Rattle.cog_reader.specs.Reader.{complete_of, outcome_of, query_of, steps_of, tiles_wanted, to_come, unread, wanted, AreDirectoriesRead, ReaderAgrees, IsUpcoming, IsWanted, Takes, Wants};
 
     /// A reader of a file of `complete` bytes, of which nothing is known yet, and nothing asked. It takes no memory.
     ///
@@ -145,20 +146,19 @@ impl Reader {
         Ok(())
     }
 
-    /// Whether tiles are wanted next that aren't packed, which `paint` can take. It takes no memory.
-    pub fn wants_plain_tiles(&self) -> bool
-        ensures { IsTrue result ↔ WantsPlainTiles self.now }
+    /// How the tiles are stored that are wanted next: plain ones `paint` can take, and packed ones `unpack`. There is none where no tiles
+    /// are wanted. It takes no memory.
+    pub fn wants_tiles(&self) -> Option<Compression>
+        ensures { result ≡ tiles_wanted self.now }
     {
-        match &self.pending {
-            Some(pending) => pending.wants_plain_tiles(&self.kept),
-            None => false,
-        }
+        let pending = self.pending.as_ref()?;
+        pending.wants_tiles(&self.kept)
     }
 
-    /// Takes the range that is wanted, of tiles that aren't packed: as `give` does, and copies no more of its bytes than the window
-    /// has. It takes no memory.
+    /// Takes the range that is wanted, of plain tiles: as `give` does, and copies no more of its bytes than the window has. It takes no
+    /// memory.
     pub fn paint<B: Bytes>(&mut self, bytes: &B)
-        requires plain { WantsPlainTiles self.old }
+        requires plain { tiles_wanted self.old ≡ Some Plain }
         requires wanted { IsWanted self.old (length (B.bytes bytes.now)) }
         ensures { Takes (B.bytes bytes.now) self.old self.new }
     {
@@ -166,6 +166,20 @@ impl Reader {
             unreachable!()
         };
         pending.paint(&self.kept, bytes);
+    }
+
+    /// Takes the range that is wanted, of packed tiles: as `give` does. Tiles that are kept unpacked are copied out of what is kept; the
+    /// bytes of another one are put in one piece, in `room` where they stand in several. It is never refused.
+    pub fn unpack<B: Bytes>(&mut self, bytes: &B, room: &mut [u8])
+        requires packed { tiles_wanted self.old ≡ Some PackBits }
+        requires wanted { IsWanted self.old (length (B.bytes bytes.now)) }
+        requires room { B.room_needed bytes.now ≤ length room.old }
+        ensures { Takes (B.bytes bytes.now) self.old self.new }
+    {
+        let Some(pending) = &mut self.pending else {
+            unreachable!()
+        };
+        pending.unpack(&self.kept, &mut self.unpacked, bytes, room);
     }
 
     /// What answers the query, where it is answered: a window, what Info says, or a fault.

@@ -4,7 +4,7 @@ ghost use Rattle.std.specs.Prelude.{◌≡◌, ◌+◌, ◌<◌, ◌≤◌, ℕ,
 ghost use Rattle.tiff_dir.specs.Needs.{extent_of_place};
 ghost use Rattle.tiff_dir.specs.Walk.{extent_of_span};
 ghost use Rattle.cog_reader.specs.Kept.{IsKeptOf};
-ghost use Rattle.cog_reader.specs.Reader.{outcome_in, wanted_by, ArePaintable, ArePlainTiles, IsState};
+ghost use Rattle.cog_reader.specs.Reader.{outcome_in, wanted_by, tiles_wanted_by, AreTiles, IsState};
 ghost use Rattle.cog_reader.specs.Give.{AcceptsRange, Gives};
 ghost use Rattle.cog_reader.specs.Step.{Becomes, ComesLater, IsStep, IsWantedBy};
 
@@ -193,24 +193,22 @@ impl PendingQuery {
 }
 
 impl PendingQuery {
-    ghost use Rattle.std.specs.Prelude.{◌↔◌, IsTrue};
+    ghost use Rattle.tiff_dir.specs.declared.level.Compression.TheVariants.{PackBits, Plain};
     ghost use Rattle.tiff_dir.specs.WalkState.{WalkState};
 
-    /// Whether tiles are wanted that aren't packed.
-    pub fn wants_plain_tiles(&self, kept: &Kept) -> bool
-        ensures { IsTrue result ↔ ArePlainTiles kept.now self.now.state }
+    /// How the tiles are stored that are wanted, none where no tiles are.
+    pub fn wants_tiles(&self, kept: &Kept) -> Option<Compression>
+        ensures { result ≡ tiles_wanted_by kept.now self.now.state }
     {
         match (&self.state, kept) {
-            (State::Tiles(_), Kept::Both(_, arrays)) => {
-                matches!(arrays.level.compression, Compression::Plain)
-            }
-            _ => false,
+            (State::Tiles(_), Kept::Both(_, arrays)) => Some(arrays.level.compression),
+            _ => None,
         }
     }
 
     /// Takes the bytes of tiles that are wanted and aren't packed.
     pub fn paint<B: Bytes>(&mut self, kept: &Kept, bytes: &B)
-        requires { ArePaintable kept.now self.old.state (length (B.bytes bytes.now)) }
+        requires { AreTiles Plain kept.now self.old.state (length (B.bytes bytes.now)) }
         ensures query { self.new.query ≡ self.old.query }
         ensures gives { (complete : ℕ) (w : WalkState) → IsKeptOf w kept.now → IsState complete w kept.now self.old.state
             → Gives complete (B.bytes bytes.now) self.old.query (record { walk = w; kept = kept.now; state = self.old.state })
@@ -220,6 +218,30 @@ impl PendingQuery {
             unreachable!()
         };
         tiles::paint(kept, mosaic, bytes);
+    }
+
+    /// Takes the bytes of packed tiles that are wanted. Where they tell a fault, it answers the query.
+    pub fn unpack<B: Bytes>(
+        &mut self,
+        kept: &Kept,
+        unpacked: &mut Unpacked,
+        bytes: &B,
+        room: &mut [u8],
+    )
+        requires tiles { AreTiles PackBits kept.now self.old.state (length (B.bytes bytes.now)) }
+        requires room { B.room_needed bytes.now ≤ length room.old }
+        ensures query { self.new.query ≡ self.old.query }
+        ensures gives { (complete : ℕ) (w : WalkState) → IsKeptOf w kept.now → IsState complete w kept.now self.old.state
+            → Gives complete (B.bytes bytes.now) self.old.query (record { walk = w; kept = kept.now; state = self.old.state })
+            (record { walk = w; kept = kept.now; state = self.new.state }) }
+    {
+        let State::Tiles(mosaic) = &mut self.state else {
+            unreachable!()
+        };
+        match tiles::unpack(kept, mosaic, unpacked, bytes, room) {
+            Some(fault) => self.state = State::Answered(Outcome::Fault(fault)),
+            None => {}
+        }
     }
 }
 

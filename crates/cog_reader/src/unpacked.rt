@@ -1,5 +1,5 @@
 //! Tiles that were unpacked, kept from one window to the next.
-ghost use Rattle.std.specs.Prelude.{◌≡◌, IfOk, IfSome, length};
+ghost use Rattle.std.specs.Prelude.{◌≡◌, IfSome, IsTrue, length};
 ghost use Rattle.tiff_dir.specs.Packets.{Packs};
 
 use lru::LruCache;
@@ -7,6 +7,26 @@ use std::alloc::Global;
 use std::marker::Model;
 use std::num::NonZeroUsize;
 use tiff_dir::Memory;
+use tile_plan::Bytes;
+
+/// Whether bytes, piece by piece, are these.
+fn are<B: Bytes>(bytes: &B, these: &[u8]) -> bool
+    ensures { IsTrue result → B.bytes bytes.now ≡ these.now }
+{
+    if bytes.len() != these.len() {
+        return false;
+    }
+    let mut at = 0;
+    while at < these.len() {
+        let piece = bytes.piece_at(at);
+        let end = at + piece.len();
+        if piece.is_empty() || &these[at..end] != piece {
+            return false;
+        }
+        at = end;
+    }
+    true
+}
 
 /// The packed bytes of a tile, and what they stand for in rows of `row` bytes each.
 #[derive(Drop)]
@@ -40,11 +60,11 @@ impl Tile {
     }
 
     /// What packed bytes stand for, `size` bytes in rows of `row`, where they are those of the tile.
-    fn text_of(&self, packed: &[u8], row: usize, size: usize) -> Option<&[u8]>
+    fn text_of<B: Bytes>(&self, packed: &B, row: usize, size: usize) -> Option<&[u8]>
         ensures size { IfSome result (λ plain. length plain.now ≡ size) }
-        ensures stands { IfSome result (λ plain. Packs row packed.now plain.now) }
+        ensures stands { IfSome result (λ plain. Packs row (B.bytes packed.now) plain.now) }
     {
-        if self.row != row || self.plain.len() != size || self.packed.as_slice() != packed {
+        if self.row != row || self.plain.len() != size || !are(packed, &self.packed) {
             return None;
         }
         Some(&self.plain)
@@ -80,9 +100,9 @@ impl Unpacked {
     }
 
     /// What the packed bytes of the tile at this place stand for, `size` bytes in rows of `row`, where it is kept.
-    pub fn find(&self, first: u32, packed: &[u8], row: usize, size: usize) -> Option<&[u8]>
+    pub fn find<B: Bytes>(&self, first: u32, packed: &B, row: usize, size: usize) -> Option<&[u8]>
         ensures size { IfSome result (λ plain. length plain.now ≡ size) }
-        ensures stands { IfSome result (λ plain. Packs row packed.now plain.now) }
+        ensures stands { IfSome result (λ plain. Packs row (B.bytes packed.now) plain.now) }
     {
         let tiles = self.tiles.as_ref()?;
         let tile = tiles.peek(&first)?;

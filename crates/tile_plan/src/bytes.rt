@@ -7,6 +7,9 @@ pub trait Bytes {
     /// The bytes.
     ghost bytes: { Self → List ℕ };
 
+    /// How much room is needed where a part of them is put in one piece.
+    ghost room_needed: { Self → ℕ };
+
     /// How many there are.
     fn len(&self) -> usize
         ensures { result ≡ length (bytes self.now) };
@@ -21,6 +24,12 @@ pub trait Bytes {
         requires { at ≤ length (bytes self.now) }
         ensures within { at + length result.now ≤ length (bytes self.now) }
         ensures piece { result.now ≡ slice_range (bytes self.now) at (at + length result.now) };
+
+    /// So many from a place on, in one piece. Those that stand in several are copied to `room`.
+    fn part_at<'a>(&'a self, at: usize, len: usize, room: &'a mut [u8]) -> &'a [u8]
+        requires within { at + len ≤ length (bytes self.now) }
+        requires room { room_needed self.now ≤ length room.old }
+        ensures { result.now ≡ slice_range (bytes self.now) at (at + len) };
 }
 
 /// Bytes in one piece.
@@ -29,6 +38,8 @@ pub struct Slice<'a>(pub &'a [u8]);
 
 impl Bytes for Slice<'_> {
     ghost bytes = { λ s. s.0.now };
+
+    ghost room_needed = { λ s. 0 };
 
     fn len(&self) -> usize {
         self.0.len()
@@ -40,6 +51,10 @@ impl Bytes for Slice<'_> {
 
     fn piece_at(&self, at: usize) -> &[u8] {
         &self.0[at..]
+    }
+
+    fn part_at<'a>(&'a self, at: usize, len: usize, _room: &'a mut [u8]) -> &'a [u8] {
+        &self.0[at..at + len]
     }
 }
 
@@ -66,6 +81,8 @@ impl<'a, B: Bytes> Part<'a, B> {
 impl<B: Bytes> Bytes for Part<'_, B> {
     ghost bytes = { λ s. slice_range (B.bytes s.of.now) s.first (s.first + s.len) };
 
+    ghost room_needed = { λ s. B.room_needed s.of.now };
+
     fn len(&self) -> usize {
         self.len
     }
@@ -81,5 +98,11 @@ impl<B: Bytes> Bytes for Part<'_, B> {
         let _len = self.of.len();
         let piece = self.of.piece_at(self.first + at);
         &piece[..piece.len().min(self.len - at)]
+    }
+
+    fn part_at<'a>(&'a self, at: usize, len: usize, room: &'a mut [u8]) -> &'a [u8] {
+        // The length is read for its bound alone.
+        let _len = self.of.len();
+        self.of.part_at(self.first + at, len, room)
     }
 }

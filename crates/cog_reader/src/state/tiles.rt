@@ -1,6 +1,6 @@
 //! The groups of a window's tiles are read.
-ghost use Rattle.std.specs.Prelude.{◌≡◌, ℕ, length};
-ghost use Rattle.tiff_dir.specs.declared.level.Compression.TheVariants.{Plain};
+ghost use Rattle.std.specs.Prelude.{◌≡◌, ◌≤◌, ℕ, length};
+ghost use Rattle.tiff_dir.specs.declared.level.Compression.TheVariants.{PackBits, Plain};
 ghost use Rattle.tiff_dir.specs.declared.query.Query.{Query as Asks};
 ghost use Rattle.tiff_dir.specs.Walk.{HasEnded};
 ghost use Rattle.tiff_dir.specs.WalkState.{WalkState};
@@ -68,4 +68,25 @@ pub fn paint<B: Bytes>(kept: &Kept, mosaic: &mut Mosaic, bytes: &B)
         (record { walk = w; kept = kept.now; state = state.Tiles mosaic.new }) }
 {
     mosaic.paint(kept.both(), bytes);
+}
+
+/// Gives the window a group of packed tiles, or tells the fault that it has.
+pub fn unpack<B: Bytes>(
+    kept: &Kept,
+    mosaic: &mut Mosaic,
+    unpacked: &mut Unpacked,
+    bytes: &B,
+    room: &mut [u8],
+) -> Option<FileFault>
+    requires plan { HasBoth kept.now (λ a. (a.level.compression ≡ PackBits) × HasPlan a mosaic.old) }
+    requires wanted { IsGroupLen mosaic.old (length (B.bytes bytes.now)) }
+    requires room { B.room_needed bytes.now ≤ length room.old }
+    ensures { (complete : ℕ) (w : WalkState) → HasEnded w → HasBoth kept.now (λ a. IsPlan complete a mosaic.old) → IsKeptOf w kept.now
+        → AcceptsRange complete (B.bytes bytes.now) (record { walk = w; kept = kept.now; state = state.Tiles mosaic.old })
+        (record { walk = w; kept = kept.now; state = state.Tiles mosaic.new }) result }
+{
+    match mosaic.unpack(kept.both(), unpacked, bytes, room) {
+        Ok(()) => None,
+        Err(fault) => Some(fault),
+    }
 }

@@ -4,7 +4,7 @@ ghost use Rattle.tiff_dir.specs.Walk.{extent_of_span};
 
 use cog_reader::{Outcome, Reader, Slice};
 use std::alloc::Global;
-use tiff_dir::{Memory, Query, Span};
+use tiff_dir::{Compression, Memory, Query, Span};
 
 /// The bytes of four tiles of 16 by 16 samples of 8 bits.
 const UNPACKED: usize = 1024;
@@ -31,7 +31,7 @@ pub fn part(file: &[u8], span: Span) -> Option<&[u8]>
     file.get(span.first as usize..end as usize)
 }
 
-/// Gives the reader what it wants until there is an outcome, and lists it. Plain tiles are painted.
+/// Gives the reader what it wants until there is an outcome, and lists it. Plain tiles are painted, and packed ones unpacked.
 fn read(alloc: Global, reader: &mut Reader, file: &[u8]) -> Result<Vec<Span>, Memory> {
     let mut wanted = Vec::new(alloc);
     while let Some(span) = reader.need()? {
@@ -39,10 +39,10 @@ fn read(alloc: Global, reader: &mut Reader, file: &[u8]) -> Result<Vec<Span>, Me
         let Some(bytes) = part(file, span) else {
             return Ok(wanted);
         };
-        if reader.wants_plain_tiles() {
-            reader.paint(&Slice(bytes));
-        } else {
-            reader.give(bytes)?;
+        match reader.wants_tiles() {
+            Some(Compression::Plain) => reader.paint(&Slice(bytes)),
+            Some(Compression::PackBits) => reader.unpack(&Slice(bytes), &mut []),
+            None => reader.give(bytes)?,
         }
     }
     Ok(wanted)

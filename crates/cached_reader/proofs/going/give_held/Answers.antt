@@ -7,3 +7,8 @@ pub paint-requires-clause-wanted : goal.paint-requires-clause-wanted
 paint-requires-clause-wanted c =
     let r = c.new.result in
     subst (IsWanted c.args.reader.now) (sym (length_of r.cache.now r.first r.len ∙ c.new.ensures.place.1)) c.requires.wanted
+
+pub unpack-requires-clause-wanted : goal.unpack-requires-clause-wanted
+unpack-requires-clause-wanted c =
+    let r = c.new-then-eq-2.result in
+    subst (IsWanted c.args.reader.now) (sym (length_of r.cache.now r.first r.len ∙ c.new-then-eq-2.ensures.place.1)) c.requires.wanted

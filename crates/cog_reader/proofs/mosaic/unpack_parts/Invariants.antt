@@ -4,15 +4,16 @@ use Rattle.tiff_dir.specs.Level.{plain_size}
 use Rattle.tiff_dir.specs.Described.{layout_of}
 use Rattle.tile_plan.specs.Plan.{Adjoin}
 use Rattle.cog_reader.specs.Mosaic.{tile_extent, IsPainted, AreArraysOf, AreBytesOf}
-use Rattle.cog_reader.proofs.mosaic.unpack_tiles.Given as goal
+use Rattle.cog_reader.proofs.mosaic.unpack_parts.Given as goal
 
 abbrev pub invariant-loop-tile : goal.invariant-loop-tile
-invariant-loop-tile l = record {
-  rest : (first : ℕ) → Adjoin (tile_extent l.arrays) first l.tiles (first + length l.bytes) → Adjoin (tile_extent l.arrays) (first + l.at) (drop l.tile-index l.tiles) (first + length l.bytes);
+invariant-loop-tile g l = record {
+  rest : (first : ℕ) → Adjoin (tile_extent l.arrays) first l.tiles (first + length (g.B.Bytes.bytes l.bytes)) → Adjoin (tile_extent l.arrays) (first + l.at) (drop l.tile-index l.tiles) (first + length (g.B.Bytes.bytes l.bytes));
   level : l.canvas.level ≡ l.fn.canvas.level;
   rectangle : l.canvas.rectangle ≡ l.fn.canvas.rectangle;
   size : length l.canvas.bytes ≡ length l.fn.canvas.bytes;
-  room : length l.plain ≡ plain_size (layout_of l.arrays.level);
-  painted : (f : List ℕ) (n first : ℕ) (done : List ℕ) → AreArraysOf f n l.arrays → AreBytesOf f first l.bytes → Adjoin (tile_extent l.arrays) first l.tiles (first + length l.bytes)
+  room : length l.room ≡ length l.fn.room;
+  plain : length l.plain ≡ plain_size (layout_of l.arrays.level);
+  painted : (f : List ℕ) (n first : ℕ) (done : List ℕ) → AreArraysOf f n l.arrays → AreBytesOf f first (g.B.Bytes.bytes l.bytes) → Adjoin (tile_extent l.arrays) first l.tiles (first + length (g.B.Bytes.bytes l.bytes))
       → All (IsPainted f n l.fn.canvas) done → All (IsPainted f n l.canvas) (done ++ take l.tile-index l.tiles);
 }

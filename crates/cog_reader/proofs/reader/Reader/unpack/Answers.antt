@@ -1,0 +1,22 @@
+use Rattle.std.proofs.Common.{◌≡◌, Option, ap, sym, subst, ◌∙◌}
+use Rattle.std.specs.Prelude.{IfSome}
+use Rattle.cog_reader.specs.declared.state.PendingQuery.{PendingQuery}
+use Rattle.cog_reader.specs.Reader.{ReaderState, IsState, Takes}
+use Rattle.cog_reader.proofs.ReaderLemmas.{given_sound, given_takes, holding}
+use Rattle.cog_reader.proofs.reader.Reader.unpack.Goals as goal
+
+pub invariant_of-self : goal.invariant_of-self
+invariant_of-self g c =
+    let i = c.self.inside in
+    let bytes = g.B.Bytes.bytes c.args.bytes.now in
+    let state = subst (λ (o : Option PendingQuery). IfSome o (λ a. IsState i.complete i.walk i.kept a.state)) c.in-Some.is c.self.invariant.state in
+    given_sound i.complete bytes i.walk i.walk i.kept i.kept c.in-Some.pending c.unpack.new.self (c.unpack.ensures.gives i.complete i.walk c.self.invariant.kept state)
+
+pub returns : goal.returns
+returns g c =
+    let i = c.self.inside in
+    let bytes = g.B.Bytes.bytes c.args.bytes.now in
+    let state = subst (λ (o : Option PendingQuery). IfSome o (λ a. IsState i.complete i.walk i.kept a.state)) c.in-Some.is c.self.invariant.state in
+    let old : c.args.self.now ≡ holding i.complete i.walk i.kept c.in-Some.pending = sym c.self.view_is ∙ ap (λ (o : Option PendingQuery). record { complete = i.complete; walk = i.walk; kept = i.kept; pending = o }) c.in-Some.is in
+    subst (λ (r : ReaderState). Takes bytes r (holding i.complete i.walk i.kept c.unpack.new.self)) (sym old)
+    (given_takes i.complete bytes i.walk i.walk i.kept i.kept c.in-Some.pending c.unpack.new.self c.unpack.ensures.query (c.unpack.ensures.gives i.complete i.walk c.self.invariant.kept state))

@@ -1,0 +1,24 @@
+use Rattle.std.proofs.Common.{◌≡◌}
+use Rattle.tiff_dir.specs.declared.level.Compression.TheVariants.{PackBits}
+use Rattle.cog_reader.specs.Mosaic.{HasPlan, IsPlan}
+use Rattle.cog_reader.proofs.StepLemmas.{both_at}
+use Rattle.cog_reader.proofs.GiveLemmas.{accepts_group, tells_group}
+use Rattle.cog_reader.proofs.state.tiles.unpack.Goals as goal
+
+pub unpack-requires-clause-plan : goal.unpack-requires-clause-plan
+unpack-requires-clause-plan g c =
+    (both_at c.args.kept.now c.both.ensures.0 c.both.result.now (λ a. (a.level.compression ≡ PackBits) × HasPlan a c.args.mosaic.now) c.both.ensures.1 c.requires.plan).1
+
+pub unpack-requires-clause-packed : goal.unpack-requires-clause-packed
+unpack-requires-clause-packed g c =
+    (both_at c.args.kept.now c.both.ensures.0 c.both.result.now (λ a. (a.level.compression ≡ PackBits) × HasPlan a c.args.mosaic.now) c.both.ensures.1 c.requires.plan).0
+
+pub returns-in-Ok : goal.returns-in-Ok
+returns-in-Ok g c complete w ended plan keeps =
+    let old = both_at c.args.kept.now c.both.ensures.0 c.both.result.now (λ a. IsPlan complete a c.args.mosaic.now) c.both.ensures.1 plan in
+    accepts_group complete (g.B.Bytes.bytes c.args.bytes.now) w c.args.kept.now c.both.ensures.0 c.both.result.now c.args.mosaic.now c.unpack.new.self ended keeps c.both.ensures.1 (c.in-Ok.ensures.plan complete old) c.in-Ok.ensures.given.0 c.in-Ok.ensures.given.1
+    c.requires.wanted (λ f q u next. c.in-Ok.ensures.underway f q u next)
+
+pub returns-in-Err : goal.returns-in-Err
+returns-in-Err g c complete w ended plan keeps =
+    tells_group complete (g.B.Bytes.bytes c.args.bytes.now) w c.args.kept.now c.both.ensures.0 c.both.result.now c.args.mosaic.now c.unpack.new.self c.in-Err.fault c.both.ensures.1 (λ f q u next. c.in-Err.ensures.damaged f q u next)
