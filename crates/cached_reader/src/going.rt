@@ -33,8 +33,20 @@ fn give_copy(reader: &mut Reader, cache: &Cache, first: u64, out: &mut [u8]) -> 
     reader.give(out)
 }
 
-/// Gives the reader the range that it wants, of so many bytes, all of which the cache has. Tiles are copied out of the blocks, and packed
-/// ones compared there with those that are kept; a buffer, which is kept from one range to the next, is for all else.
+/// Has so many bytes in a buffer, at least.
+fn grow(buffer: &mut Vec<u8>, len: usize) -> Result<(), Memory>
+    ensures long { OnOk result (len ≤ length buffer.new.items) }
+    ensures room { length buffer.new.items ≤ max (length buffer.old.items) len }
+{
+    if buffer.len() < len {
+        buffer.resize(len, 0)?;
+    }
+    Ok(())
+}
+
+/// Gives the reader the range that it wants, of so many bytes, all of which the cache has. Plain tiles are painted out of the blocks, and
+/// packed ones are compared there with those that are kept; what has to be in one piece is copied to a buffer, which is kept from one range
+/// to the next.
 fn give_held(
     reader: &mut Reader,
     cache: &Cache,
@@ -48,20 +60,18 @@ fn give_held(
     ensures err { OnErr result (reader.new ≡ reader.old) }
     ensures room { length buffer.new.items ≤ max (length buffer.old.items) len }
 {
-    let tiles = reader.wants_tiles();
-    if tiles == Some(Compression::Plain) {
-        reader.paint(&HeldRange::new(cache, first, len));
-        return Ok(());
+    match reader.tiles_wanted() {
+        Some(Compression::Plain) => reader.paint(&HeldRange::new(cache, first, len)),
+        Some(Compression::PackBits) => {
+            grow(buffer, len)?;
+            reader.unpack(&HeldRange::new(cache, first, len), &mut buffer[..len]);
+        }
+        None => {
+            grow(buffer, len)?;
+            give_copy(reader, cache, first, &mut buffer[..len])?;
+        }
     }
-    if buffer.len() < len {
-        buffer.resize(len, 0)?;
-    }
-    let room = &mut buffer[..len];
-    if tiles == Some(Compression::PackBits) {
-        reader.unpack(&HeldRange::new(cache, first, len), room);
-        return Ok(());
-    }
-    give_copy(reader, cache, first, room)
+    Ok(())
 }
 
 /// Gives the reader the range that it wants, where the cache has it, and else says what is missing of it.

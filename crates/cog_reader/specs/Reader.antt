@@ -46,7 +46,7 @@ wanted_by w k (Answered o) = None
 
 -- how the tiles are stored that a state wants, none where it wants no tiles
 abbrev pub tiles_wanted_by : Kept → State → Option Compression
-tiles_wanted_by (Both n a) (Tiles m) = Some a.level.compression
+tiles_wanted_by (Both n a) (Tiles m) = option_map (λ (g : Group). a.level.compression) (slice_get m.groups m.given)
 tiles_wanted_by _ _ = None
 
 -- How the tiles are stored that the reader wants next, none where it wants no tiles.

@@ -17,8 +17,8 @@ use std::marker::Model;
 use tiff_dir::{Compression, FileFault, Span};
 use tile_plan::{Bytes, Canvas, Group, Part, PlanError, Rectangle, Slice, groups, tiles_cover};
 
-/// Copies packed tiles that stand one after the other onto the canvas, by their bytes. `plain` is room for a tile, and `room` for its
-/// packed bytes.
+/// Copies packed tiles that stand one after the other onto the canvas, by their bytes. `plain` is room for a tile, and `room` for what
+/// stands in several pieces.
 fn unpack_parts<B: Bytes>(
     canvas: &mut Canvas,
     arrays: &Arrays,
@@ -50,7 +50,6 @@ fn unpack_parts<B: Bytes>(
         let (first, len) = arrays.place_of(*tile);
         paint_packed(
             canvas,
-            &arrays.level,
             *tile,
             first,
             &Part::new(bytes, at, len),
@@ -211,7 +210,8 @@ impl Mosaic {
         }
     }
 
-    /// Takes the next group of packed tiles, out of its bytes. `room` is room for those of a tile. After a fault the work is of no use.
+    /// Takes the next group of packed tiles, out of its bytes. `room` is for what stands in several pieces. After a fault the work is of
+    /// no use.
     pub fn unpack<B: Bytes>(
         &mut self,
         arrays: &Arrays,

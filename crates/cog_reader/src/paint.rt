@@ -7,14 +7,13 @@ ghost use Rattle.cog_reader.specs.Paint.{IsPaint, IsBad};
 
 use crate::unpacked::Unpacked;
 use packbits::unpack;
-use tiff_dir::{FileFault, Level};
+use tiff_dir::FileFault;
 use tile_plan::{Bytes, Canvas, Slice};
 
 /// Copies the tile that the packed bytes of a file stand for, which begin at `first`, onto the canvas. Where it isn't kept, its bytes are
 /// put in one piece, in `room` at need, and unpacked to `plain`, and it is kept.
 pub fn paint_packed<B: Bytes>(
     canvas: &mut Canvas,
-    level: &Level,
     tile: u32,
     first: u32,
     bytes: &B,
@@ -22,18 +21,17 @@ pub fn paint_packed<B: Bytes>(
     plain: &mut [u8],
     unpacked: &mut Unpacked,
 ) -> Result<(), FileFault>
-    requires level { canvas.old.level ≡ level.now }
-    requires packed { level.now.compression ≡ PackBits }
-    requires tile { tile < tile_total (grid_of level.now) }
+    requires packed { canvas.old.level.compression ≡ PackBits }
+    requires tile { tile < tile_total (grid_of canvas.old.level) }
     requires room { B.room_needed bytes.now ≤ length room.old }
-    requires plain { length plain.old ≡ plain_size (layout_of level.now) }
+    requires plain { length plain.old ≡ plain_size (layout_of canvas.old.level) }
     ensures paint { OnOk result (IsPaint tile (B.bytes bytes.now) canvas.old canvas.new) }
     ensures bad { IfErr result (IsBad (B.bytes bytes.now) canvas.old) }
-    ensures level { canvas.new.level ≡ level.now }
+    ensures level { canvas.new.level ≡ canvas.old.level }
     ensures rectangle { canvas.new.rectangle ≡ canvas.old.rectangle }
     ensures size { length canvas.new.bytes ≡ length canvas.old.bytes }
 {
-    let row = level.plain_row();
+    let row = canvas.level().plain_row();
     unpacked.promote(first);
     if let Some(kept) = unpacked.find(first, bytes, row, plain.len()) {
         canvas.blit(tile, &Slice(kept));

@@ -146,13 +146,13 @@ impl Reader {
         Ok(())
     }
 
-    /// How the tiles are stored that are wanted next: plain ones `paint` can take, and packed ones `unpack`. There is none where no tiles
+    /// How the tiles are stored that are wanted next: plain ones `paint` can take, and packed ones `unpack`. It is None where no tiles
     /// are wanted. It takes no memory.
-    pub fn wants_tiles(&self) -> Option<Compression>
+    pub fn tiles_wanted(&self) -> Option<Compression>
         ensures { result ≡ tiles_wanted self.now }
     {
         let pending = self.pending.as_ref()?;
-        pending.wants_tiles(&self.kept)
+        pending.tiles_wanted(&self.kept)
     }
 
     /// Takes the range that is wanted, of plain tiles: as `give` does, and copies no more of its bytes than the window has. It takes no
@@ -169,7 +169,8 @@ impl Reader {
     }
 
     /// Takes the range that is wanted, of packed tiles: as `give` does. Tiles that are kept unpacked are copied out of what is kept; the
-    /// bytes of another one are put in one piece, in `room` where they stand in several. It is never refused.
+    /// bytes of another one are put in one piece, in `room` where they stand in several, which is as long as `Bytes` says: the whole range
+    /// is enough. It is never refused.
     pub fn unpack<B: Bytes>(&mut self, bytes: &B, room: &mut [u8])
         requires packed { tiles_wanted self.old ≡ Some PackBits }
         requires wanted { IsWanted self.old (length (B.bytes bytes.now)) }

@@ -197,16 +197,19 @@ impl PendingQuery {
     ghost use Rattle.tiff_dir.specs.WalkState.{WalkState};
 
     /// How the tiles are stored that are wanted, none where no tiles are.
-    pub fn wants_tiles(&self, kept: &Kept) -> Option<Compression>
+    pub fn tiles_wanted(&self, kept: &Kept) -> Option<Compression>
         ensures { result ≡ tiles_wanted_by kept.now self.now.state }
     {
         match (&self.state, kept) {
-            (State::Tiles(_), Kept::Both(_, arrays)) => Some(arrays.level.compression),
+            (State::Tiles(mosaic), Kept::Both(_, arrays)) => {
+                mosaic.need()?;
+                Some(arrays.level.compression)
+            }
             _ => None,
         }
     }
 
-    /// Takes the bytes of tiles that are wanted and aren't packed.
+    /// Takes the bytes of plain tiles that are wanted.
     pub fn paint<B: Bytes>(&mut self, kept: &Kept, bytes: &B)
         requires { AreTiles Plain kept.now self.old.state (length (B.bytes bytes.now)) }
         ensures query { self.new.query ≡ self.old.query }

@@ -9,8 +9,8 @@ use std::num::NonZeroUsize;
 use tiff_dir::Memory;
 use tile_plan::Bytes;
 
-/// Whether bytes, piece by piece, are these.
-fn are<B: Bytes>(bytes: &B, these: &[u8]) -> bool
+/// Whether bytes are these, which is told piece by piece.
+fn are_same<B: Bytes>(bytes: &B, these: &[u8]) -> bool
     ensures { IsTrue result → B.bytes bytes.now ≡ these.now }
 {
     if bytes.len() != these.len() {
@@ -64,7 +64,7 @@ impl Tile {
         ensures size { IfSome result (λ plain. length plain.now ≡ size) }
         ensures stands { IfSome result (λ plain. Packs row (B.bytes packed.now) plain.now) }
     {
-        if self.row != row || self.plain.len() != size || !are(packed, &self.packed) {
+        if self.row != row || self.plain.len() != size || !are_same(packed, &self.packed) {
             return None;
         }
         Some(&self.plain)

@@ -8,6 +8,7 @@ mod image;
 mod in_turn;
 mod info;
 mod memory;
+mod pieces;
 mod ranges;
 mod short_files;
 mod windows;

@@ -7,7 +7,7 @@ pub trait Bytes {
     /// The bytes.
     ghost bytes: { Self → List ℕ };
 
-    /// How much room is needed where a part of them is put in one piece.
+    /// How much room has to be there for `part_at`, however much of it is used.
     ghost room_needed: { Self → ℕ };
 
     /// How many there are.

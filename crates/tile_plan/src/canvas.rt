@@ -102,6 +102,13 @@ impl Canvas {
         );
     }
 
+    /// The level whose tiles it takes.
+    pub fn level(&self) -> &Level
+        ensures { result.now ≡ self.now.level }
+    {
+        &self.level
+    }
+
     /// The bytes as they stand.
     pub fn into_data(self) -> Vec<u8>
         ensures { result.items ≡ self.bytes }

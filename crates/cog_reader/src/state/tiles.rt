@@ -59,7 +59,7 @@ pub fn accept(
     }
 }
 
-/// Gives the window a group of tiles that aren't packed.
+/// Gives the window a group of plain tiles.
 pub fn paint<B: Bytes>(kept: &Kept, mosaic: &mut Mosaic, bytes: &B)
     requires plan { HasBoth kept.now (λ a. (a.level.compression ≡ Plain) × HasPlan a mosaic.old) }
     requires wanted { IsGroupLen mosaic.old (length (B.bytes bytes.now)) }

@@ -2,7 +2,8 @@
 ghost use Rattle.std.specs.Prelude.{◌≡◌, IfSome, length};
 ghost use Rattle.tiff_dir.specs.Walk.{extent_of_span};
 
-use cog_reader::{Outcome, Reader, Slice};
+use super::pieces::Pieces;
+use cog_reader::{Outcome, Reader};
 use std::alloc::Global;
 use tiff_dir::{Compression, Memory, Query, Span};
 
@@ -31,7 +32,7 @@ pub fn part(file: &[u8], span: Span) -> Option<&[u8]>
     file.get(span.first as usize..end as usize)
 }
 
-/// Gives the reader what it wants until there is an outcome, and lists it. Plain tiles are painted, and packed ones unpacked.
+/// Gives the reader what it wants until there is an outcome, and lists it: tiles in small pieces, and all else in one.
 fn read(alloc: Global, reader: &mut Reader, file: &[u8]) -> Result<Vec<Span>, Memory> {
     let mut wanted = Vec::new(alloc);
     while let Some(span) = reader.need()? {
@@ -39,9 +40,12 @@ fn read(alloc: Global, reader: &mut Reader, file: &[u8]) -> Result<Vec<Span>, Me
         let Some(bytes) = part(file, span) else {
             return Ok(wanted);
         };
-        match reader.wants_tiles() {
-            Some(Compression::Plain) => reader.paint(&Slice(bytes)),
-            Some(Compression::PackBits) => reader.unpack(&Slice(bytes), &mut []),
+        match reader.tiles_wanted() {
+            Some(Compression::Plain) => reader.paint(&Pieces(bytes)),
+            Some(Compression::PackBits) => {
+                let mut room = vec![in alloc; 0u8; bytes.len()]?;
+                reader.unpack(&Pieces(bytes), &mut room);
+            }
             None => reader.give(bytes)?,
         }
     }

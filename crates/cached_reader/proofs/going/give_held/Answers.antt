@@ -10,5 +10,5 @@ paint-requires-clause-wanted c =
 
 pub unpack-requires-clause-wanted : goal.unpack-requires-clause-wanted
 unpack-requires-clause-wanted c =
-    let r = c.new-then-eq-2.result in
-    subst (IsWanted c.args.reader.now) (sym (length_of r.cache.now r.first r.len ∙ c.new-then-eq-2.ensures.place.1)) c.requires.wanted
+    let r = c.new-in-Some-PackBits.result in
+    subst (IsWanted c.args.reader.now) (sym (length_of r.cache.now r.first r.len ∙ c.new-in-Some-PackBits.ensures.place.1)) c.requires.wanted

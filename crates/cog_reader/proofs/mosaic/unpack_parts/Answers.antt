@@ -36,7 +36,7 @@ loop-tile-preserved g c =
           let place : first + at + (tile_extent a t).len ≡ first + (at + len) = omega (arith, c.place_of-first.ensures.len) in
           subst (λ k. Adjoin (tile_extent a) k (drop (i + 1) ts) (first + size)) place step.1
           );
-      level = c.paint_packed.ensures.level ∙ sym c.requires.level;
+      level = c.paint_packed.ensures.level ∙ c.loop-tile.invariant.level;
       rectangle = c.paint_packed.ensures.rectangle ∙ c.loop-tile.invariant.rectangle;
       size = c.paint_packed.ensures.size ∙ c.loop-tile.invariant.size;
       room = c.paint_packed.auto.room ∙ c.loop-tile.invariant.room;

@@ -1,4 +1,4 @@
-use Rattle.std.proofs.Common.{length, arith, ◌∙◌, sym}
+use Rattle.std.proofs.Common.{arith, ◌∙◌, sym}
 use Rattle.tile_plan.proofs.PartLemmas.{part_of, length_of}
 use Rattle.tile_plan.proofs.bytes.PartBytes.part_at.Goals as goal
 

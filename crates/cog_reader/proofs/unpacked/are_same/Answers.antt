@@ -1,7 +1,7 @@
 use Rattle.std.proofs.Common.{arith}
 use Rattle.std.specs.Cmp.Lexicographic.{same_text}
 use Rattle.cog_reader.proofs.UnpackedLemmas.{not_other, one_piece_more}
-use Rattle.cog_reader.proofs.unpacked.are.Goals as goal
+use Rattle.cog_reader.proofs.unpacked.are_same.Goals as goal
 
 pub loop-at-preserved : goal.loop-at-preserved
 loop-at-preserved g c = (
