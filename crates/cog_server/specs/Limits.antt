@@ -1,4 +1,4 @@
--- The limits that the definitions of a server name and `LimitsAre` of `http_parts` doesn't say.
+-- Limits that the definitions of a server name.
 use Rattle.std.specs.Prelude.{◌≡◌}
 use Rattle.http_parts.specs.declared.limits.TheConstants.{NAME_LIMIT, HOST_LIMIT}
 use Rattle.http_range.specs.declared.publication.TheConstants.{FILE_LIMIT, NAMES_LIMIT}

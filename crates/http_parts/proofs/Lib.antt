@@ -8,3 +8,4 @@ pub mod TagLemmas
 pub mod MatchLemmas
 pub mod LineLemmas
 pub mod ListLemmas
+pub mod CommaLemmas

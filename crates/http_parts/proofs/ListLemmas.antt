@@ -209,7 +209,7 @@ join_first : (parts : List (List ℕ)) → 0 < length parts → join_with_byte 4
 join_first [] some = absurd (omega arith)
 join_first (part ∷ parts) some = refl
 
-joined_parts : (quotes open_before : Bool) (xs : List ℕ) → join_with_byte 44 (parts_from quotes open_before xs) ≡ xs
+pub joined_parts : (quotes open_before : Bool) (xs : List ℕ) → join_with_byte 44 (parts_from quotes open_before xs) ≡ xs
 joined_parts quotes open_before [] = refl
 joined_parts quotes open_before (b ∷ bytes) =
     by_test (eqb b 44) (not open_before) refl (joined_parts quotes false bytes) (joined_parts quotes (is_open quotes open_before b) bytes)

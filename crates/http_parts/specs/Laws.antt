@@ -1,11 +1,14 @@
 -- Laws of these definitions, each in the contract of a function of `laws`.
-use Rattle.std.specs.Prelude.{◌≡◌, ◌<◌, ◌^◌, ◌+◌, ◌↔◌, ℕ, ◌⊎◌, Bool, false, IsTrue, List, [], ◌∷◌, ◌++◌, length, reverse, codes, decimal, Some}
+use Rattle.std.specs.Prelude.{◌≡◌, ◌<◌, ◌^◌, ◌+◌, ◌↔◌, ℕ, ◌⊎◌, Bool, false, IsTrue, List, [], ◌∷◌, ◌++◌, length, reverse, codes, decimal, Some, map, All}
+use Rattle.std.specs.List.{join_with_byte}
 use Rattle.std.specs.Str.{all_ascii_digits, bytes_eq}
+use Rattle.std.specs.Str.Iter.{LacksByte}
 use Rattle.httparse.specs.Grammar.{AllPass, is_uri_byte, is_value_byte, skip_ows, trim_ows, IsField, print_field}
 use Rattle.httparse.specs.Spans.{name_and_value}
-use Rattle.http_parts.specs.declared.limits.TheConstants.{FIELD_LIMIT, TAG_LIMIT, HEAD_LIMIT, MESSAGE_LIMIT, ANSWERS_LIMIT}
+use Rattle.http_parts.specs.declared.limits.TheConstants.{NAME_LIMIT, HOST_LIMIT, FIELD_LIMIT, TAG_LIMIT, HEAD_LIMIT, MESSAGE_LIMIT, ANSWERS_LIMIT}
 use Rattle.http_parts.specs.Tag.{is_tag_byte, is_opaque_tag, is_weak_tag, is_kept_tag}
 use Rattle.http_parts.specs.Digits.{number, number_64}
+use Rattle.http_parts.specs.Members.{members}
 use Rattle.http_parts.specs.Conditional.{any_match}
 use Rattle.http_parts.specs.Lists.{Element, HasMatch, IsTagList}
 use Rattle.http_parts.specs.Text.{FieldLine, line}
@@ -13,6 +16,8 @@ use Rattle.http_parts.specs.Plain.{field_of, IsPlain}
 
 -- the limits, in numbers
 pub record LimitsAre : Type 0 where
+  pub name : NAME_LIMIT ≡ 200
+  pub host : HOST_LIMIT ≡ 64
   pub fields : FIELD_LIMIT ≡ 32
   pub tag : TAG_LIMIT ≡ 64
   pub head : HEAD_LIMIT ≡ 4096
@@ -44,6 +49,13 @@ ListsAreMatched =
     (value tag : List ℕ) (strong : Bool) → IsTrue (any_match value tag strong)
     ↔ ((trim_ows value ≡ codes "*") ⊎ ((elements : List Element) × IsTagList value elements × HasMatch strong tag elements))
 
+-- where no quote counts, a list's members are what stands between its commas, without the white space round it (RFC 9110,
+-- section 5.6.1)
+abbrev pub MembersStandBetweenCommas : Type 0
+MembersStandBetweenCommas =
+    (value : List ℕ)
+    → (parts : List (List ℕ)) × (value ≡ join_with_byte 44 parts) × All (LacksByte 44) parts × (members false value ≡ map trim_ows parts)
+
 -- a number of 64 bits in decimal is digits, which are visible, and is read as itself
 pub record DecimalsAreRead : Type 0 where
   pub digits : (n : ℕ) → n < 2 ^ 64 → IsTrue (all_ascii_digits (decimal n))
@@ -70,6 +82,7 @@ pub record PartsAreRead : Type 0 where
   pub tags : TagsAreVisible
   pub alone : TagsMatchThemselves
   pub lists : ListsAreMatched
+  pub members : MembersStandBetweenCommas
   pub decimals : DecimalsAreRead
   pub lines : LinesAreFields
   pub values : VisibleValues

@@ -1,5 +1,5 @@
--- Lists in the value of a field (RFC 9110, sections 5.6.1 and 5.6.4), as they are computed. Which lists of entity tags these
--- are is a law, by the grammar (`ListsAreMatched`).
+-- Lists in the value of a field (RFC 9110, sections 5.6.1 and 5.6.4), as they are computed. Laws tie them to the standard: which
+-- lists of entity tags these are (`ListsAreMatched`), and what the members are where no quote counts (`MembersStandBetweenCommas`).
 use Rattle.std.specs.Prelude.{ℕ, Bool, false, ◌&&◌, ◌==◌, not, if◌then◌else◌, List, [], ◌∷◌, map}
 use Rattle.std.specs.List.{list_any, onto_first}
 use Rattle.std.specs.Str.{str_eq_ignore_ascii_case}

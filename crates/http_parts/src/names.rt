@@ -11,8 +11,8 @@ fn is_name_byte(b: u8) -> bool
     b.is_ascii_alphanumeric() || b == b'.' || b == b'_' || b == b'-' || b == b'/'
 }
 
-/// Whether a file may have this name: 1 to 200 letters, digits and `._-/`, all of which stand for themselves in the path of a target
-/// (RFC 9110, section 4.2.1; RFC 3986, section 3.3).
+/// Whether a file may have this name: 1 to 200 letters, digits and `._-/`. Each of these bytes stands for itself in the path of a target
+/// (RFC 9110, section 4.2.1; RFC 3986, section 3.3), but not each whole name: the segments `.` and `..` are taken too.
 pub fn is_name(name: &[u8]) -> bool
     ensures { result ≡ is_name name.now }
 {

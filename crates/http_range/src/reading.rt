@@ -19,7 +19,7 @@ pub enum Why {
     Cut,
     /// No head, more than 32 fields, or none whole in 4,096 bytes.
     Head,
-    /// Another status than 200 and 206.
+    /// Another status than 200 and 206; of an answer to a check, another than 200, 206 and 304.
     Status(u16),
     NoTag,
     WeakTag,

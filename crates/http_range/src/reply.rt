@@ -36,7 +36,7 @@ pub fn write_head(alloc: Global, reply: &Reply, close: bool) -> Result<Vec<u8>, 
     Ok(text)
 }
 
-/// Adds the head of an answer to a text, with the empty line at its end. Where memory is refused, a part of it may be there.
+/// Adds the head of an answer to a text, with the empty line at its end. What the text holds where memory is refused isn't said.
 pub fn append_head(text: &mut Vec<u8>, reply: &Reply, close: bool) -> Result<(), Memory>
     ensures { OnOk result (text.new.items ≡ text.old.items ++ head_text reply.now close) }
 {

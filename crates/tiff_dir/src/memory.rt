@@ -1,7 +1,7 @@
 //! The refusal for want of memory.
 use std::alloc::{AllocError, AllocFailed};
 
-/// The refusal for want of memory. It is answered only where a growth was really refused.
+/// The refusal for want of memory. No contract says when it comes; what it leaves as it was, the contract of each call says.
 #[derive(Clone, Copy, Debug, PartialEq, Eq)]
 pub struct Memory;
 

@@ -1,6 +1,7 @@
 use Rattle.http_parts.proofs.TagLemmas.{tags_are_quoted, tags_are_visible}
 use Rattle.http_parts.proofs.MatchLemmas.{matches_itself}
 use Rattle.http_parts.proofs.ListLemmas.{lists_are_matched}
+use Rattle.http_parts.proofs.CommaLemmas.{members_stand_between_commas}
 use Rattle.http_parts.proofs.DecimalLemmas.{decimals_are_read}
 use Rattle.http_parts.proofs.LineLemmas.{lines_are_fields}
 use Rattle.http_parts.proofs.VisibleLemmas.{visible_values}
@@ -12,6 +13,7 @@ returns c = record {
   tags = tags_are_visible;
   alone = matches_itself;
   lists = lists_are_matched;
+  members = members_stand_between_commas;
   decimals = decimals_are_read;
   lines = lines_are_fields;
   values = visible_values;
