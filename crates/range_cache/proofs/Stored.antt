@@ -46,6 +46,11 @@ unfolding stores
 stores-none capacity complete first bytes n to bs past =
     let none : to - n ≡ 0 = omega arith in ap (λ k. stores capacity (map (block_in complete first bytes) (range_with_len n k)) bs) none
 
+-- a block that isn't stored is there
+pub there_of_none : (t : Bool) → cond t 0 1 ≤ 0 → t ≡ true
+there_of_none true few = refl
+there_of_none false few = absurd (omega (arith, few))
+
 -- what holds of each block holds of each that is stored
 
 pub All-stored : (P : Block → Type 0) (capacity : ℕ) (new bs : List Block) → All P new → All P bs → All P (stored capacity new bs)

@@ -1,5 +1,5 @@
 //! Work on the blocks of a cache, by their numbers.
-ghost use Rattle.std.specs.Prelude.{◌≡◌, false, ℕ, List, ◌+◌, ◌-◌, ◌*◌, ◌/◌, ◌%◌, ◌<◌, ◌≤◌, ◌^◌, ◌==◌, EachIndex, IfOk, OnErr, MatchOption, length, map, slice_index, if◌then◌else◌};
+ghost use Rattle.std.specs.Prelude.{◌≡◌, true, false, ℕ, List, ◌+◌, ◌-◌, ◌*◌, ◌/◌, ◌%◌, ◌<◌, ◌≤◌, ◌^◌, ◌==◌, EachIndex, IfOk, IsOk, OnErr, MatchOption, length, map, slice_index, if◌then◌else◌};
 ghost use Rattle.std.specs.List.{IsDistinct, filter, range_with_len};
 ghost use Rattle.tiff_dir.specs.declared.limits.TheConstants.{BLOCK_SIZE};
 ghost use Rattle.tiff_dir.specs.Block.{block_count, end_of};
@@ -137,6 +137,8 @@ fn store_one(blocks: &mut LruCache<u64, Vec<u8>>, number: u64, bytes: &[u8]) -> 
         (blocks_in blocks.new.entries ≡ put_one blocks.old.cap (blocks_in blocks.old.entries) (number, bytes.now))
         × (count ≡ (if has number (numbers (blocks_in blocks.old.entries)) then 0 else 1))) }
     ensures err { OnErr result (blocks_in blocks.new.entries ≡ blocks_in blocks.old.entries) }
+    // Where it is there no memory is wanted.
+    ensures sure { has number (numbers (blocks_in blocks.old.entries)) ≡ true → IsOk result }
 {
     if blocks.contains(&number) {
         return Ok(0);
@@ -186,6 +188,8 @@ pub fn store(
     ensures err { OnErr result ((k : ℕ) × (k < to - from)
         × (blocks_in blocks.new.entries ≡ stored blocks.old.cap (map (block_in complete first bytes.now) (range_with_len from k))
         (blocks_in blocks.old.entries))) }
+    ensures sure { stores blocks.old.cap (map (block_in complete first bytes.now) (range_with_len from (to - from)))
+        (blocks_in blocks.old.entries) ≡ 0 → IsOk result }
 {
     let mut count = 0;
     for number in from..to {

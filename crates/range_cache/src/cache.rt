@@ -1,5 +1,5 @@
 //! The cache and its calls.
-ghost use Rattle.std.specs.Prelude.{◌≡◌, ◌+◌, ◌-◌, ◌*◌, ◌/◌, ◌%◌, ◌<◌, ◌≤◌, ◌^◌, ℕ, List, [], IfOk, OnOk, OnErr, IsErrOf, MatchResult, length, take};
+ghost use Rattle.std.specs.Prelude.{◌≡◌, ◌+◌, ◌-◌, ◌*◌, ◌/◌, ◌%◌, ◌<◌, ◌≤◌, ◌^◌, ℕ, List, [], IfOk, IsOk, OnOk, OnErr, IsErrOf, MatchResult, length, take};
 ghost use Rattle.std.specs.List.{range_with_len, slice_range};
 ghost use Rattle.tiff_dir.specs.declared.limits.TheConstants.{BLOCK_SIZE};
 ghost use Rattle.tiff_dir.specs.Block.{first_block, blocks};
@@ -142,7 +142,7 @@ impl Cache {
 
     /// Stores the blocks that lie wholly in a piece of the file and wholly in what is wanted and that aren't there, in
     /// ascending order, and says how many; where the cache is full the least recently used one leaves for each. After a refusal
-    /// (Memory) a beginning of them is stored.
+    /// (Memory) a beginning of them is stored. A piece that brings no block that isn't there is never refused: it wants no memory.
     ///
     /// `complete` is the length of the file, and the piece, which begins at `first`, lies in it and may be empty.
     pub fn put(
@@ -163,6 +163,7 @@ impl Cache {
         ensures err { OnErr result (let new = whole_blocks complete first bytes.now wanted in
             (k : ℕ) × (k < length new)
             × (self.new ≡ record self.old { entries = stored self.old.capacity (take k new) self.old.entries })) }
+        ensures sure { stores self.old.capacity (whole_blocks complete first bytes.now wanted) self.old.entries ≡ 0 → IsOk result }
 
         // What follows of the entries: each is still the file's; and where none of the blocks is there, and they have room
         // beside those of a range that are there and lead, no block of the range leaves, and they are there.

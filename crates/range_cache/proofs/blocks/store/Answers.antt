@@ -1,9 +1,10 @@
-use Rattle.std.proofs.Common.{◌≡◌, ◌+◌, ◌-◌, ◌*◌, arith, sym, ap, ◌∙◌, refl, map}
+use Rattle.std.proofs.Common.{◌≡◌, true, false, ◌+◌, ◌-◌, ◌*◌, arith, sym, ap, ◌∙◌, refl, map}
 use Rattle.std.specs.List.{range_with_len, slice_range}
 use Rattle.tiff_dir.specs.Block.{end_of}
-use Rattle.range_cache.specs.Cache.{Block, blocks_in, stored, stores, put_one}
+use Rattle.range_cache.specs.Numbers.{has}
+use Rattle.range_cache.specs.Cache.{Block, blocks_in, numbers, stored, stores, put_one}
 use Rattle.range_cache.specs.Piece.{block_in}
-use Rattle.range_cache.proofs.Stored.{stored-more, stored-none, stores-next, stores-none}
+use Rattle.range_cache.proofs.Stored.{stored-more, stored-none, stores-next, stores-none, there_of_none}
 use Rattle.range_cache.proofs.blocks.store.Goals as goal
 
 pub loop-number-init : goal.loop-number-init
@@ -51,3 +52,12 @@ returns-clause-ok c =
       c.loop-number.invariant.entries ∙ ap (λ k. stored c.args.blocks.now.cap (map (block_in c.args.complete c.args.first c.args.bytes.now) (range_with_len c.args.from k)) (blocks_in c.args.blocks.now.entries)) all,
       omega (arith, none, c.loop-number.invariant.count),
     )
+
+-- what is left to store is nothing either, so the block is there
+pub returns-in_err-count-clause-sure : goal.returns-in_err-count-clause-sure
+returns-in_err-count-clause-sure c = λ none.
+    let n = c.loop-number.number in
+    let bs = blocks_in c.loop-number.blocks.entries in
+    let next = stores-next c.args.blocks.now.cap c.args.complete c.args.first c.args.bytes.now n c.args.to bs c.loop-number-test.true in
+    let there : has n (numbers bs) ≡ true = there_of_none (has n (numbers bs)) (omega (arith, next, none, c.loop-number.invariant.count)) in
+    absurd (let refused : false ≡ true = c.in_err-count.ensures.sure there in cc)

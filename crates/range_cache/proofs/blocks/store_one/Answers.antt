@@ -1,4 +1,4 @@
-use Rattle.std.proofs.Common.{cond, refl, sym, ap, ◌∙◌, ℕ}
+use Rattle.std.proofs.Common.{◌≡◌, true, false, cond, refl, sym, ap, ◌∙◌, ℕ}
 use Rattle.range_cache.specs.Cache.{blocks_in, put_one}
 use Rattle.range_cache.proofs.Entries.{told, blocks_in-put}
 use Rattle.range_cache.proofs.blocks.store_one.Goals as goal
@@ -17,3 +17,13 @@ returns-clause-ok c =
           ∙ ap (λ bytes. put_one c.args.blocks.now.cap (blocks_in c.args.blocks.now.entries) (n, bytes)) c.in_ok-block.ensures.items,
       sym one,
     )
+
+pub returns-in_err-block-clause-sure : goal.returns-in_err-block-clause-sure
+returns-in_err-block-clause-sure c = λ there.
+    let gone = told c.args.number c.args.blocks.now.entries c.contains.result c.contains.ensures ∙ c.if-contains.false in
+    absurd (let both : true ≡ false = sym there ∙ gone in cc)
+
+pub returns-in_err-put-clause-sure : goal.returns-in_err-put-clause-sure
+returns-in_err-put-clause-sure c = λ there.
+    let gone = told c.args.number c.args.blocks.now.entries c.contains.result c.contains.ensures ∙ c.if-contains.false in
+    absurd (let both : true ≡ false = sym there ∙ gone in cc)

@@ -1,4 +1,4 @@
-use Rattle.std.proofs.Common.{◌-◌, ◌<◌, ◌^◌, map, ap, arith, subst}
+use Rattle.std.proofs.Common.{◌-◌, ◌<◌, ◌^◌, map, ap, sym, ◌∙◌, arith, subst}
 use Rattle.range_cache.specs.Cache.{Blocks, kept_blocks, stores, Holds}
 use Rattle.range_cache.specs.Piece.{block_in, whole_blocks}
 use Rattle.range_cache.proofs.Whole.{all_whole}
@@ -29,6 +29,13 @@ returns-clause-ok c = (puts c).ok
 
 pub returns-clause-err : goal.returns-clause-err
 returns-clause-err c = (puts c).err
+
+pub returns-clause-sure : goal.returns-clause-sure
+unfolding whole_blocks
+returns-clause-sure c = λ none.
+    let same = ap (λ (v : Blocks). stores v.capacity (whole_blocks c.args.complete c.args.first c.args.bytes.now c.args.wanted) v.entries) c.self.view_is in
+    let run = ap (λ ns. stores c.self.inside.blocks.cap (map (block_in c.args.complete c.args.first c.args.bytes.now) ns) (kept_blocks c.self.inside.blocks).entries) c.whole_run-from.ensures.run in
+    c.store.ensures.sure (sym run ∙ same ∙ none)
 
 pub returns-clause-holds : goal.returns-clause-holds
 unfolding Holds
