@@ -8,7 +8,7 @@ use Rattle.std.proofs.lemmas.Bool.{eqb-false}
 use Rattle.std.proofs.lemmas.List.Elements.{All-cons, All-tail, All-get_or}
 use Rattle.http_parts.specs.Members.{parts_from, members}
 use Rattle.http_parts.specs.Laws.{MembersStandBetweenCommas}
-use Rattle.http_parts.proofs.ListLemmas.{joined_parts}
+use Rattle.http_parts.proofs.ListLemmas.{joined_parts, some_parts}
 
 lacks_more : (b : ℕ) (part : List ℕ) → eqb b 44 ≡ false → LacksByte 44 part → LacksByte 44 (b ∷ part)
 lacks_more b part other later zero inside = eqb-false b 44 other
@@ -35,4 +35,4 @@ lacks_parts (b ∷ bytes) = by_test (eqb b 44) refl (lacks_parts bytes)
 pub members_stand_between_commas : MembersStandBetweenCommas
 unfolding members
 members_stand_between_commas value =
-    (parts_from false false value, sym (joined_parts false false value), lacks_parts value, refl)
+    (parts_from false false value, some_parts false false value, lacks_parts value, sym (joined_parts false false value), refl)

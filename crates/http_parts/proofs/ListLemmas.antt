@@ -197,7 +197,7 @@ some_before : (b : ℕ) (parts : List (List ℕ)) → 0 < length (onto_first b p
 some_before b [] = omega arith
 some_before b (part ∷ parts) = omega arith
 
-some_parts : (quotes open_before : Bool) (xs : List ℕ) → 0 < length (parts_from quotes open_before xs)
+pub some_parts : (quotes open_before : Bool) (xs : List ℕ) → 0 < length (parts_from quotes open_before xs)
 some_parts quotes open_before [] = omega arith
 some_parts quotes open_before (b ∷ bytes) = by_test (eqb b 44 && not open_before)
   where

@@ -54,7 +54,8 @@ ListsAreMatched =
 abbrev pub MembersStandBetweenCommas : Type 0
 MembersStandBetweenCommas =
     (value : List ℕ)
-    → (parts : List (List ℕ)) × (value ≡ join_with_byte 44 parts) × All (LacksByte 44) parts × (members false value ≡ map trim_ows parts)
+    → (parts : List (List ℕ)) × (0 < length parts) × All (LacksByte 44) parts × (value ≡ join_with_byte 44 parts)
+    × (members false value ≡ map trim_ows parts)
 
 -- a number of 64 bits in decimal is digits, which are visible, and is read as itself
 pub record DecimalsAreRead : Type 0 where

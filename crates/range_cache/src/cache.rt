@@ -142,7 +142,7 @@ impl Cache {
 
     /// Stores the blocks that lie wholly in a piece of the file and wholly in what is wanted and that aren't there, in
     /// ascending order, and says how many; where the cache is full the least recently used one leaves for each. After a refusal
-    /// (Memory) a beginning of them is stored. A piece that brings no block that isn't there is never refused: it wants no memory.
+    /// (Memory) a beginning of them is stored. A piece that brings no block that isn't there is never refused.
     ///
     /// `complete` is the length of the file, and the piece, which begins at `first`, lies in it and may be empty.
     pub fn put(
