@@ -7,6 +7,10 @@
  *     struct cog_client client = {0};
  *     struct cog_report report;
  *     uint8_t text[COG_REQUEST_ROOM], tag[COG_TAG_ROOM], piece[65536];
+ *     struct cog_said said;
+ *     int64_t length;
+ *     int32_t fed;
+ *     ssize_t got;
  *     if (cog_client_new(host, host_length, name, name_length, 256, &client) < 0) ..
  *     cog_client_open_window(&client, 3000, 2000, 256, 256, 0);
  *     while ((length = cog_client_request(&client, text, sizeof text)) > 0) {
@@ -93,7 +97,8 @@ int32_t cog_client_forget(struct cog_client *client);
 int32_t cog_client_keep_open(struct cog_client *client);
 
 /* cog_client_look_ahead: looks ahead by so many blocks from here on: a request asks, behind the blocks that are missing of the range that is
- * needed next, for the blocks that follow, where each of them is missing and needed later. Gives 0 or COG_NO_CLIENT. */
+ * needed next, for the blocks that follow, where each of them is missing and needed later, up to 65 in all, as far as the cache has room
+ * for them. What is asked for already stays. Without this call it looks no block ahead. Gives 0 or COG_NO_CLIENT. */
 int32_t cog_client_look_ahead(struct cog_client *client, uint32_t blocks);
 
 /* cog_client_open_window: asks for the samples of w columns from x and h rows from y, in pixels of the level of this number, in the place

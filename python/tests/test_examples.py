@@ -22,6 +22,18 @@ class Examples(unittest.TestCase):
             exec(lines.replace('127.0.0.1:8080', f'127.0.0.1:{server.port}'), {})
         self.assertEqual(printed.getvalue().splitlines(), re.findall(r'print\(.*# (.*)', lines))
 
+    def test_threads_of_docs(self):
+        """The lines of LIBRARY.md that read with several threads give the windows in order."""
+        with open(os.path.join(TOP, 'docs', 'LIBRARY.md'), encoding='utf-8') as file:
+            lines = re.search(r'```python\n(from concurrent.*?)```', file.read(), re.DOTALL)[1]
+        with Cogserve({'a.tif': EXAMPLE}) as server:
+            names = {'delgunsai': delgunsai, 'url': server.url('a.tif')}
+            exec(lines, names)
+        with delgunsai.open_file(EXAMPLE) as file:
+            whole = file.read(x=0, y=0, width=64, height=64)
+        parts = [whole[y:y + 16, x:x + 16].tolist() for y in range(0, 64, 16) for x in range(0, 64, 16)]
+        self.assertEqual([array.tolist() for array in names['arrays']], parts)
+
     def test_docstrings(self):
         for module in delgunsai, _errors, _file, _info, _sources:
             self.assertEqual(doctest.testmod(module).failed, 0)
