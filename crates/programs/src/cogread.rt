@@ -181,7 +181,20 @@ where
 {
     let numbers = numbers_of(rt, line)?;
     let mut client = client_of(rt, line, numbers.blocks)?;
-    let text = text_of_line(rt, line, numbers, &mut client)?;
+    read_with(rt, line, numbers, &mut client)
+}
+
+/// Reads with a client what a line asks for, and writes it.
+fn read_with<R>(
+    rt: &R,
+    line: &ReadLine<'_>,
+    numbers: Numbers,
+    client: &mut Client,
+) -> Result<(), Fault>
+where
+    R: Files + Clock + Print + Eprint + AllocGlobal + Net<Stream = TcpStream>,
+{
+    let text = text_of_line(rt, line, numbers, client)?;
     write_text(rt, line, &text)
 }
 
@@ -216,21 +229,29 @@ fn url_among<'a>(words: &[&'a str]) -> Option<&'a str> {
     None
 }
 
-/// Runs the program on words of which one is a URL, which stands for a server and a name; without one they are missing. Its connection
-/// is kept, and it looks ahead.
-fn run_url<R>(rt: &R, words: &[&str], missing: clap::Error) -> Result<(), Fault>
+/// The URL among words that clap refuses: where some are missing, it may stand for them, a server and a name.
+fn url_for_missing<'a>(refusal: &clap::Error, words: &[&'a str]) -> Option<&'a str> {
+    if refusal.kind() != ErrorKind::MissingRequiredArgument {
+        return None;
+    }
+    url_among(words)
+}
+
+/// The words with the server and the name of a URL in its place.
+fn words_of_url<R: AllocGlobal>(rt: &R, words: &[&str], url: &str) -> Result<Vec<String>, Fault> {
+    match place_of(rt.alloc(), url) {
+        Ok(place) => Ok(named_words(rt.alloc(), words, url, &place)?),
+        Err(PlaceError::Memory) => Err(Fault::Memory),
+        Err(error) => Err(Fault::NotAPlace(String::from_str(rt.alloc(), url)?, error)),
+    }
+}
+
+/// Runs the program on words of which one is this URL, which stands for a server and a name. Its connection is kept, and it looks ahead.
+fn run_url<R>(rt: &R, words: &[&str], url: &str) -> Result<(), Fault>
 where
     R: Files + Clock + Print + Eprint + AllocGlobal + Net<Stream = TcpStream>,
 {
-    let Some(url) = url_among(words) else {
-        return Err(Fault::from(missing));
-    };
-    let place = match place_of(rt.alloc(), url) {
-        Ok(place) => place,
-        Err(PlaceError::Memory) => return Err(Fault::Memory),
-        Err(error) => return Err(Fault::NotAPlace(String::from_str(rt.alloc(), url)?, error)),
-    };
-    let named = named_words(rt.alloc(), words, url, &place)?;
+    let named = words_of_url(rt, words, url)?;
     let mut line = read_line(rt.alloc(), &named)?;
     line.keep = !line.close;
     line.ahead = line.ahead.or(Some(AHEAD_OF_A_URL));
@@ -244,9 +265,9 @@ where
 {
     match read_line(rt.alloc(), words) {
         Ok(line) => run_read(rt, &line),
-        Err(error) if error.kind() == ErrorKind::MissingRequiredArgument => {
-            run_url(rt, words, error)
-        }
-        Err(error) => Err(Fault::from(error)),
+        Err(refusal) => match url_for_missing(&refusal, words) {
+            Some(url) => run_url(rt, words, url),
+            None => Err(Fault::from(refusal)),
+        },
     }
 }
