@@ -7,6 +7,7 @@ use cog_reader::Bytes;
 const PIECE: usize = 7;
 
 /// Bytes that are lent seven at a time.
+#[derive(Clone, Copy)]
 pub struct Pieces<'a>(pub &'a [u8]);
 
 impl Bytes for Pieces<'_> {
