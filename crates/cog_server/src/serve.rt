@@ -1,5 +1,5 @@
 //! What the loop over a connection does: it reads what comes, and writes what waits.
-ghost use Rattle.std.specs.Prelude.{◌≡◌, ◌≤◌, ◌<◌, ◌++◌, false, true, ℕ, List, [], IfOk, IfErr, OnOk, length, max, take};
+ghost use Rattle.std.specs.Prelude.{◌≡◌, ◌≤◌, ◌<◌, ◌++◌, false, true, [], IfOk, IfErr, OnOk, length, max, take};
 ghost use Rattle.std.specs.Io.KnownBytes.{append_known};
 ghost use Rattle.http_parts.specs.declared.limits.TheConstants.{MESSAGE_LIMIT};
 ghost use Rattle.cog_server.specs.Received.{Receives};

@@ -1,5 +1,5 @@
 //! What the levels and the keys of a file say, by what they mean.
-ghost use Rattle.std.specs.Prelude.{◌≡◌, ◌==◌, IfOk, find, option_copied, option_map};
+ghost use Rattle.std.specs.Prelude.{◌≡◌, ◌==◌, IfOk, find, option_copied};
 ghost use Rattle.std.specs.Cow.{cow_str_bytes};
 ghost use Rattle.std.specs.Str.Lossy.{utf8_lossy};
 ghost use Rattle.describing.specs.Facts.{citation, compression_name, number_of, numbered, raster_type_by, raster_type_of, system_number, text_of, type_name, value_of, without_end, IsFactsOf, IsSystemBy};

@@ -1,5 +1,5 @@
 //! Lines of a head (RFC 9112, sections 2.1 and 5).
-ghost use Rattle.std.specs.Prelude.{◌≡◌, ◌++◌, OnOk, codes, decimal};
+ghost use Rattle.std.specs.Prelude.{◌≡◌, ◌++◌, OnOk, decimal};
 ghost use Rattle.std.specs.List.{flat_map};
 ghost use Rattle.http_parts.specs.Text.{line, closing};
 

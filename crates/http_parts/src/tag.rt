@@ -1,5 +1,5 @@
 //! Entity tags (RFC 9110, section 8.8.3).
-ghost use Rattle.std.specs.Prelude.{◌≡◌, ◌==◌, ℕ, List, IsTrue, IfSome, IfNone, false, ◌↔◌};
+ghost use Rattle.std.specs.Prelude.{◌≡◌, ◌==◌, ℕ, List, IsTrue, IfSome, IfNone, false};
 ghost use Rattle.std.specs.List.{list_all};
 ghost use Rattle.http_parts.specs.Tag.{is_tag_byte, is_opaque_tag, is_weak_tag, is_kept_tag};
 

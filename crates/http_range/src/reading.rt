@@ -1,5 +1,5 @@
 //! A client's reading of answers.
-ghost use Rattle.std.specs.Prelude.{◌≡◌, true, false, None, IfOk, option_copied};
+ghost use Rattle.std.specs.Prelude.{◌≡◌, true, false, None, IfOk};
 ghost use Rattle.http_range.specs.AnswerHead.{head_seen};
 ghost use Rattle.http_range.specs.Announced.{announced, announced_seen, head_reading_seen, piece_behind, FitsFile, FitsFront};
 ghost use Rattle.http_range.specs.Piece.{piece_seen, reading_seen, number_of_why, IsInside};

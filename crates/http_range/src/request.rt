@@ -1,5 +1,5 @@
 //! The head of a request that came (RFC 9112, section 3).
-ghost use Rattle.std.specs.Prelude.{◌≡◌, ℕ, Bool, List, Option, ◌++◌, slice_get, option_copied, IsSomeAnd, Some};
+ghost use Rattle.std.specs.Prelude.{◌≡◌, ℕ, Bool, List, Option, ◌++◌, slice_get, option_copied, Some};
 ghost use Rattle.std.specs.List.{list_any};
 ghost use Rattle.http_parts.specs.Fields.{values_of, only, is_there};
 ghost use Rattle.http_parts.specs.Members.{has_member};

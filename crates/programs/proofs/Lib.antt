@@ -1,4 +1,2 @@
 mod FileLemmas
-pub mod OpenLemmas
-pub mod WholeLemmas
 mod WordLemmas

@@ -1,7 +1,5 @@
-pub mod Exchanges
 pub mod Files
 pub mod Number
 pub mod Printed
 pub mod Status
-pub mod Text
 pub mod Words

@@ -4,6 +4,8 @@ use Rattle.clap.specs.Words.{kind_of}
 use Rattle.clap.specs.declared.error.kind.ErrorKind.{ErrorKind}
 use Rattle.clap.specs.declared.error.kind.ErrorKind.TheVariants as kind
 use Rattle.scripts.specs.declared.line.ScriptError.TheVariants as script
+use Rattle.reading.specs.declared.error.ReadError.{ReadError}
+use Rattle.reading.specs.declared.error.ReadError.TheVariants as reading
 use Rattle.programs.specs.declared.fault.Fault.{Fault}
 use Rattle.programs.specs.declared.fault.Fault.TheVariants.{NotText, NotAProgram, CommandLine, NotANumber, NotAFile, Script}
 use Rattle.programs.specs.declared.fault.Fault.TheVariants.{RefusedClient, NotAPlace, OfFile, NoReport, CantRead, Refused, CantListen, CantAccept, CantWrite, CantWriteFile, Memory}
@@ -45,3 +47,9 @@ EndsWith fault n = HasStatus fault n ⊎ (HasStatus fault 0 × (n ≡ 1))
 abbrev pub EndsBy : Bool → Fault → ℕ → Type 0
 EndsBy true fault n = HasStatus fault n
 EndsBy false fault n = (HasStatus fault n × (n ≢ 0)) ⊎ (HasStatus fault 0 × (n ≡ 1))
+
+-- the fault that tells why there is no text of a file
+abbrev pub fault_of_reading : ReadError → Fault
+fault_of_reading (reading.OfFile fault) = OfFile fault
+fault_of_reading reading.NoReport = NoReport
+fault_of_reading reading.Memory = Memory

@@ -17,8 +17,8 @@ use Rattle.command_lines.specs.declared.serve.ServeLine.{ServeLine}
 use Rattle.cog_client.specs.declared.error.ClientError.{ClientError}
 use Rattle.programs.specs.declared.fault.Fault.{Fault}
 use Rattle.programs.specs.declared.fault.Fault.TheVariants.{Memory, RefusedClient}
-use Rattle.programs.specs.declared.reading.Asked.{Asked}
-use Rattle.programs.specs.declared.reading.Asked.TheVariants as asked
+use Rattle.reading.specs.declared.reading.Asked.{Asked}
+use Rattle.reading.specs.declared.reading.Asked.TheVariants as asked
 use Rattle.programs.specs.Number.{number_or}
 
 -- a number of 32 bits

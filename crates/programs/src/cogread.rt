@@ -8,8 +8,6 @@ ghost use Rattle.programs.specs.Words.{AsksNothing, HasNoNumber, IsAsked, IsNoCl
 
 use crate::fault::Fault;
 use crate::number::{number, number_or};
-use crate::reading::{Asked, Exchanges, Telling};
-use crate::text::Text;
 use clap::error::ErrorKind;
 use cog_client::{Client, ClientError, Query};
 use command_lines::{
@@ -19,6 +17,7 @@ use describing::Form;
 use disk_files::replace_file;
 use exchange_notes::{Noted, NotedNet};
 use range_cache::{MAX_CAPACITY, MIN_CAPACITY};
+use reading::{Asked, Exchanges, ReadError, Telling, Text};
 use report_text::RefusalSentence;
 use sockets::Socket;
 use std::alloc::{AllocError, Global};
@@ -133,7 +132,7 @@ fn text_of_line<'c, R>(
     line: &ReadLine<'_>,
     numbers: Numbers,
     client: &'c mut Client,
-) -> Result<Text<'c>, Fault>
+) -> Result<Text<'c>, ReadError>
 where
     R: Clock + Eprint + AllocGlobal + Net<Stream = TcpStream>,
 {

@@ -1,9 +1,10 @@
 //! Why a program ends early.
 use clap::error::ErrorKind;
-use cog_client::{ClientError, FetchError};
+use cog_client::ClientError;
 use cog_server::PublishError;
 use command_lines::PlaceError;
 use http_range::Memory;
+use reading::ReadError;
 use scripts::ScriptError;
 use std::alloc::AllocError;
 use std::{fmt, io};
@@ -173,15 +174,17 @@ impl From<Memory> for Fault {
     }
 }
 
-impl From<FetchError> for Fault {
+impl From<ReadError> for Fault {
     ghost use Rattle.std.specs.Prelude.{◌≡◌};
-    ghost use Rattle.programs.specs.declared.fault.Fault.TheVariants.{Memory};
+    ghost use Rattle.programs.specs.Status.{fault_of_reading};
 
-    ghost from_gives = { λ _ fault. fault ≡ Memory };
+    ghost from_gives = { λ error fault. fault ≡ fault_of_reading error };
 
-    fn from(error: FetchError) -> Fault {
+    fn from(error: ReadError) -> Fault {
         match error {
-            FetchError::Memory => Fault::Memory,
+            ReadError::OfFile(fault) => Fault::OfFile(fault),
+            ReadError::NoReport => Fault::NoReport,
+            ReadError::Memory => Fault::Memory,
         }
     }
 }

@@ -8,12 +8,8 @@ mod command;
 mod disk;
 mod fault;
 mod number;
-mod reading;
 mod stored;
-mod text;
 
 pub use command::run;
 pub use disk::Disk;
 pub use fault::Fault;
-pub use reading::{Asked, Exchanges, Telling};
-pub use text::Text;

@@ -1,5 +1,5 @@
 //! Work on the blocks of a cache, by their numbers.
-ghost use Rattle.std.specs.Prelude.{◌≡◌, true, false, ℕ, List, ◌+◌, ◌-◌, ◌*◌, ◌/◌, ◌%◌, ◌<◌, ◌≤◌, ◌^◌, ◌==◌, EachIndex, IfOk, IsOk, OnErr, MatchOption, length, map, slice_index, if◌then◌else◌};
+ghost use Rattle.std.specs.Prelude.{◌≡◌, true, false, ℕ, ◌+◌, ◌-◌, ◌*◌, ◌/◌, ◌%◌, ◌<◌, ◌≤◌, ◌^◌, ◌==◌, EachIndex, IfOk, IsOk, OnErr, MatchOption, length, map, slice_index, if◌then◌else◌};
 ghost use Rattle.std.specs.List.{IsDistinct, filter, range_with_len};
 ghost use Rattle.tiff_dir.specs.declared.limits.TheConstants.{BLOCK_SIZE};
 ghost use Rattle.tiff_dir.specs.Block.{block_count, end_of};

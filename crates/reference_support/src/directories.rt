@@ -1,5 +1,5 @@
 //! The directories of a file and their fields.
-ghost use Rattle.std.specs.Prelude.{◌≡◌, ◌<◌, ◌≤◌, ◌+◌, ◌*◌, length};
+ghost use Rattle.std.specs.Prelude.{◌≡◌, ◌<◌, ◌+◌, ◌*◌};
 ghost use Rattle.tiff_dir.specs.File.{directory, has_directory, entry_count};
 
 use crate::numbers::{long, order_of, short};

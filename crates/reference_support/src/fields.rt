@@ -1,5 +1,5 @@
 //! The fields of a directory and their values.
-ghost use Rattle.std.specs.Prelude.{◌≡◌, ◌<◌, ◌≤◌, ◌^◌, ◌+◌, ◌*◌, ℕ, List, IfSome, false, ◌==◌, length, Option};
+ghost use Rattle.std.specs.Prelude.{◌≡◌, ◌<◌, ◌^◌, ◌+◌, ◌*◌, IfSome, false, ◌==◌, length, Option};
 ghost use Rattle.std.specs.Option.{option_map, option_map_or};
 ghost use Rattle.tiff_dir.specs.Level.{place_of};
 ghost use Rattle.tiff_dir.specs.File.{default_of, field, field_at, field_value, fields_from, has_all_tags, kind_of, value, values_at};

@@ -1,5 +1,5 @@
 //! The levels of a file and the bytes of their tiles.
-ghost use Rattle.std.specs.Prelude.{◌≡◌, ◌<◌, ◌≤◌, ◌^◌, ◌+◌, ◌*◌, ◌/◌, ℕ, ◌&&◌, nat_lt, IfOk, IfSome, IsTrue, option_copied, length, Some, None, List};
+ghost use Rattle.std.specs.Prelude.{◌≡◌, ◌<◌, ◌^◌, ◌*◌, ◌&&◌, nat_lt, IfOk, IfSome, IsTrue, option_copied, length, Some, None};
 ghost use Rattle.tiff_dir.specs.Level.{compression_of, depth_at, is_level, level_directories, level_directory, level_value};
 ghost use Rattle.tiff_dir.specs.Query.{segment};
 ghost use Rattle.std.specs.Option.{option_map};

@@ -1,5 +1,5 @@
 //! Packed bytes (TIFF 6.0, section 9).
-ghost use Rattle.std.specs.Prelude.{◌≡◌, ◌<◌, ◌≤◌, ◌+◌, ◌%◌, ◌-◌, ◌↔◌, IfOk, IfSome, IfNone, IsSomeAnd, IsTrue, Some, length, slice_get, drop, slice_range};
+ghost use Rattle.std.specs.Prelude.{◌≡◌, ◌<◌, ◌≤◌, ◌+◌, ◌%◌, ◌-◌, ◌↔◌, IfOk, IfSome, IfNone, IsTrue, Some, slice_get};
 ghost use Rattle.tiff_dir.specs.Packets.{Packs};
 ghost use Rattle.reference_support.specs.Unpacking.{IsNotPacked, PushesNext};
 

@@ -1,8 +1,7 @@
 //! What a query asks for, and the tiles that a window needs.
-ghost use Rattle.std.specs.Prelude.{◌≡◌, ◌<◌, ◌≤◌, ◌^◌, ◌+◌, ◌-◌, ◌*◌, ◌/◌, ℕ, Bool, true, false, IsTrue, nat_lt, IfOk, IfSome, IfNone, None, Some, length, List, map};
-ghost use Rattle.std.specs.Option.{option_map, option_map_or};
+ghost use Rattle.std.specs.Prelude.{◌≡◌, ◌<◌, ◌^◌, ◌+◌, ◌-◌, ◌*◌, ◌/◌, true, false, IsTrue, nat_lt, IfOk, IfSome, IfNone, None, Some, length};
 ghost use Rattle.tiff_dir.specs.Profile.{tiles_along};
-ghost use Rattle.tiff_dir.specs.Level.{across as across_of, tile_total};
+ghost use Rattle.tiff_dir.specs.Level.{across as across_of};
 ghost use Rattle.tiff_dir.specs.declared.limits.TheConstants.{MAX_WINDOW_SAMPLES};
 ghost use Rattle.tiff_dir.specs.Query.{is_outside, is_outside_level, is_refused, is_too_large, meets, overlap, passes, tiles_in, window_tiles};
 ghost use Rattle.reference_support.specs.Modest.{grid_of, is_modest_grid};

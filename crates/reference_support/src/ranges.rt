@@ -1,14 +1,14 @@
 //! The ranges of a file that a query needs.
-ghost use Rattle.std.specs.Prelude.{◌≡◌, true, false, ◌++◌, ◌+◌, ◌<◌, ◌≤◌, ◌^◌, ◌⊎◌, ℕ, IfOk, IfSome, IfNone, MatchOption, OnOk, Option, Some, None, List, ◌∷◌, if◌then◌else◌, map, not};
+ghost use Rattle.std.specs.Prelude.{◌≡◌, true, false, ◌++◌, ◌+◌, ◌<◌, ◌≤◌, ◌^◌, ◌⊎◌, IfOk, IfSome, IfNone, MatchOption, OnOk, Option, Some, None, List, ◌∷◌, if◌then◌else◌, map};
 ghost use Rattle.std.specs.List.{flat_map, filter, sum_by};
 ghost use Rattle.std.specs.Option.{option_map, option_to_list};
 ghost use Rattle.tiff_dir.specs.File.{directories};
 ghost use Rattle.tiff_dir.specs.Level.{level_directory};
 ghost use Rattle.tiff_dir.specs.Needs.{Extent as Range};
-ghost use Rattle.tiff_dir.specs.Needs.{count_range, ends_past, field_range, needs_of_directories, outside_range, extent_of_place, ranges_of_directory, table_range};
+ghost use Rattle.tiff_dir.specs.Needs.{count_range, field_range, needs_of_directories, outside_range, extent_of_place, ranges_of_directory, table_range};
 ghost use Rattle.tiff_dir.specs.Geo.{geo_ranges};
-ghost use Rattle.tiff_dir.specs.Query.{array_range, array_ranges, blocks_of_extent, cost, joined_after, joins, needs, tile_range, tile_ranges};
-ghost use Rattle.reference_support.specs.Asked.{rectangle_of, HasNoModestLevel};
+ghost use Rattle.tiff_dir.specs.Query.{array_range, array_ranges, cost, joined_after, joins, needs, tile_range, tile_ranges};
+ghost use Rattle.reference_support.specs.Asked.{HasNoModestLevel};
 ghost use Rattle.reference_support.specs.Ranges.{blocks_inside, extent_of, extents_of};
 
 use crate::asked::asked_rectangle;

@@ -1,5 +1,5 @@
 //! The bytes of unpacked tiles, and the samples in them.
-ghost use Rattle.std.specs.Prelude.{◌≡◌, ◌<◌, ◌≤◌, ◌^◌, ◌+◌, ◌*◌, ◌%◌, ℕ, IfOk, IfSome, IfNone, IsSome, IsTrue, Some, length};
+ghost use Rattle.std.specs.Prelude.{◌≡◌, ◌<◌, ◌≤◌, ◌^◌, ◌+◌, ◌*◌, ◌%◌, IfOk, IfSome, IfNone, IsTrue, Some, length};
 ghost use Rattle.tiff_dir.specs.Level.{plain_row, plain_size};
 ghost use Rattle.tiff_dir.specs.Window.{place_in_tile, sample_in, tile_at, IsUnpacked};
 ghost use Rattle.reference_support.specs.Missing.{IsNotUnpacked};

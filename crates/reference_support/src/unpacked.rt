@@ -1,6 +1,5 @@
 //! The samples of a file, one by one or a whole level with each tile unpacked once.
-ghost use Rattle.std.specs.Prelude.{◌≡◌, ◌<◌, ◌^◌, IfOk, IfSome, IfNone, IsSome, IsTrue, MatchOption, None, Some, length};
-ghost use Rattle.std.specs.List.{slice_get};
+ghost use Rattle.std.specs.Prelude.{◌≡◌, ◌<◌, IfOk, IfSome, IfNone, IsSome, IsTrue, MatchOption, None, Some, length};
 ghost use Rattle.tiff_dir.specs.File.{order_of};
 ghost use Rattle.tiff_dir.specs.Level.{tile_total};
 ghost use Rattle.tiff_dir.specs.Window.{IsSample};

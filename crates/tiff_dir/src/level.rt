@@ -1,5 +1,5 @@
 //! One image of a file, and the types of its fields (TIFF 6.0, sections 2 and 15).
-ghost use Rattle.std.specs.Prelude.{◌≡◌, ◌≢◌, ◌*◌, ◌<◌, ◌≤◌, ◌^◌, ◌&&◌, IsTrue};
+ghost use Rattle.std.specs.Prelude.{◌≡◌, ◌≢◌, ◌*◌, ◌<◌, ◌≤◌, ◌^◌, IsTrue};
 ghost use Rattle.tiff_dir.specs.declared.level.Kind.TheVariants as kind;
 ghost use Rattle.tiff_dir.specs.declared.tags.TheConstants.{SAMPLES_PER_PIXEL};
 ghost use Rattle.tiff_dir.specs.declared.limits.TheConstants.{MAX_TILES, MAX_TILE_BYTES};

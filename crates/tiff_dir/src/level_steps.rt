@@ -1,5 +1,5 @@
 //! The steps of the walk over a level: its table, its values outside the entries, and its end.
-ghost use Rattle.std.specs.Prelude.{◌≡◌, ℕ, ◌+◌, ◌*◌, ◌<◌, ◌≤◌, ◌%◌, ◌&&◌, ◌||◌, ◌==◌, List, true, false, Some, IfOk, length, MatchResult};
+ghost use Rattle.std.specs.Prelude.{◌≡◌, ℕ, ◌+◌, ◌*◌, ◌<◌, ◌%◌, ◌&&◌, ◌||◌, ◌==◌, List, true, false, Some, IfOk, length, MatchResult};
 ghost use Rattle.std.specs.Option.{ForSome};
 ghost use Rattle.tiff_dir.specs.Number.{number_in};
 ghost use Rattle.tiff_dir.specs.declared.limits.TheConstants.{MAX_DIRECTORIES};

@@ -1,5 +1,5 @@
 //! Whether the sides of a level, its tiles and their arrays are those of the profile.
-ghost use Rattle.std.specs.Prelude.{◌≡◌, ◌*◌, ◌<◌, ◌≤◌, true, false, nat_le, MatchOption, MatchResult};
+ghost use Rattle.std.specs.Prelude.{◌≡◌, ◌*◌, ◌<◌, ◌≤◌, true, nat_le, MatchResult};
 ghost use Rattle.tiff_dir.specs.declared.limits.TheConstants.{MAX_TILES, MAX_TILE_BYTES};
 ghost use Rattle.tiff_dir.specs.Profile.{is_tile_side, tile_bytes};
 ghost use Rattle.tiff_dir.specs.Shape.{fits_under, has_arrays, has_sides, has_tiles, IsShaped, IsShapeFault};

@@ -1,5 +1,5 @@
 //! The samples of a window, put together from tiles.
-ghost use Rattle.std.specs.Prelude.{◌≡◌, ◌+◌, ◌*◌, ◌<◌, ◌≤◌, ◌^◌, IfOk, length, max, min, replicate};
+ghost use Rattle.std.specs.Prelude.{◌≡◌, ◌+◌, ◌*◌, ◌<◌, ◌^◌, IfOk, length, max, min, replicate};
 ghost use Rattle.tiff_dir.specs.Described.{grid_of, layout_of};
 ghost use Rattle.tiff_dir.specs.Level.{plain_size, tile_total};
 ghost use Rattle.tile_plan.specs.Levels.{IsSmall};

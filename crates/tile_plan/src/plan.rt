@@ -1,5 +1,5 @@
 //! The groups of a window's tiles: those that stand one after the other in the file are read by one range.
-ghost use Rattle.std.specs.Prelude.{◌≡◌, ℕ, ◌*◌, ◌<◌, ◌≤◌, List, true, false, Some, IfOk, IfErr, OnOk, IsTrue, map, length};
+ghost use Rattle.std.specs.Prelude.{◌≡◌, ℕ, ◌<◌, List, true, false, Some, IfOk, IfErr, OnOk, IsTrue, map, length};
 ghost use Rattle.tiff_dir.specs.declared.query.Query.{Query};
 ghost use Rattle.tiff_dir.specs.declared.fault.FileFault.{FileFault as Fault};
 ghost use Rattle.tiff_dir.specs.Described.{grid_of, layout_of};

@@ -16,7 +16,7 @@ pub struct InPieces<'p, T> {
 }
 
 impl<'p, T> InPieces<'p, T> {
-    ghost use Rattle.std.specs.Prelude.{◌≡◌, ◌<◌, ◌≤◌, [], length};
+    ghost use Rattle.std.specs.Prelude.{◌≡◌, ◌<◌, ◌≤◌, []};
     ghost use Rattle.transports.specs.Transports.{rest_of, source_of};
 
     /// One to which no answer has come.

@@ -1,5 +1,5 @@
 //! The answers that were sent, which stand in the entries of the log, and their delivery.
-ghost use Rattle.std.specs.Prelude.{◌≡◌, ◌++◌, ◌∷◌, [], IfOk, IsSome, OnErr, OnOk, option_and_then, option_copied, slice_get};
+ghost use Rattle.std.specs.Prelude.{◌≡◌, IfOk, IsSome, OnErr, OnOk, option_and_then, option_copied, slice_get};
 ghost use Rattle.cog_client.specs.Client.{name_of};
 ghost use Rattle.world.specs.World.{answer_in, is_for};
 ghost use Rattle.world.specs.Run.{cut_at};

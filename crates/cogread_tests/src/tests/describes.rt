@@ -5,8 +5,8 @@ use fixtures_support::Values::{At, Long, Short};
 use fixtures_support::{
     Field, FieldType, Order, f1, f3, push_directory, push_double, push_header, push_short,
 };
-use programs::Asked;
 use programs_support::Capture;
+use reading::Asked;
 use std::alloc::{AllocError, Global};
 use std::test::Fail;
 use transports::server_of_one;

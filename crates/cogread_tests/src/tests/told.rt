@@ -6,8 +6,9 @@ use cog_client::{Client, Lost, Pieces, Query, Transport};
 use cog_server::Server;
 use exchange_notes::{Noted, NotedNet};
 use fixtures_support::f1;
-use programs::{Asked, Exchanges, Telling};
+use programs::Fault;
 use programs_support::{Capture, tell};
+use reading::{Asked, Exchanges, Telling};
 use std::alloc::{AllocError, Global};
 use std::process::Abort;
 use std::rt::Clock;
@@ -53,8 +54,8 @@ fn ask_and_tell<R: Print + Eprint + AllocGlobal + Clock, P: Pieces + Drop>(
         requests: 3,
         telling,
     };
-    if let Err(fault) = exchanges.text(&mut client, &mut noted, Asked::Query(query)) {
-        fault.tell(rt, "cogread");
+    if let Err(error) = exchanges.text(&mut client, &mut noted, Asked::Query(query)) {
+        Fault::from(error).tell(rt, "cogread");
     }
     Ok(())
 }

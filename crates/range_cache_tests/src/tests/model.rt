@@ -1,5 +1,5 @@
 //! The rules of the cache, as a plain list.
-ghost use Rattle.std.specs.Prelude.{◌<◌, ◌≤◌, ◌+◌, ◌^◌};
+ghost use Rattle.std.specs.Prelude.{◌<◌, ◌+◌, ◌^◌};
 
 use std::alloc::{AllocError, Global};
 use tiff_dir::Span;

@@ -1,5 +1,5 @@
 //! A random run of calls by a fixed generator, beside the rules as a plain list.
-ghost use Rattle.std.specs.Prelude.{◌<◌, ◌≤◌, ◌+◌, ◌^◌};
+ghost use Rattle.std.specs.Prelude.{◌<◌, ◌+◌, ◌^◌};
 
 use super::model::{BLOCK, Model};
 use super::piece::{piece, put, read};

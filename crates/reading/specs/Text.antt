@@ -13,11 +13,11 @@ use Rattle.cog_client.specs.declared.report.Report.{Report}
 use Rattle.cog_client.specs.Report.{IsTrueReport}
 use Rattle.report_text.specs.InfoText.{IsOfTag}
 use Rattle.report_text.specs.Netpbm.{netpbm}
-use Rattle.programs.specs.declared.fault.Fault.{Fault}
-use Rattle.programs.specs.declared.fault.Fault.TheVariants.{NoReport, OfFile, Memory}
-use Rattle.programs.specs.declared.reading.Asked.{Asked}
-use Rattle.programs.specs.declared.reading.Asked.TheVariants as asked
-use Rattle.programs.specs.declared.text.Text.{Text}
+use Rattle.reading.specs.declared.error.ReadError.{ReadError}
+use Rattle.reading.specs.declared.error.ReadError.TheVariants.{NoReport, OfFile, Memory}
+use Rattle.reading.specs.declared.reading.Asked.{Asked}
+use Rattle.reading.specs.declared.reading.Asked.TheVariants as asked
+use Rattle.reading.specs.declared.text.Text.{Text}
 
 -- the width and the length of a level, if the file has it
 unfoldable pub sides_of_level : List ℕ → ℕ → Option (ℕ × ℕ)
@@ -44,7 +44,7 @@ TellsSides a o = ⊥
 -- A text, or a fault of the file, is what an outcome says of the file of this tag: a window is written as a graymap or a pixmap, and of a
 -- whole level nothing else. The text of Info begins with the line of the tag, and it and a description have no samples. That there is no
 -- report is said of a whole level alone, where its sides were told last.
-abbrev pub IsWritten : Asked → (tag : List ℕ) → Outcome → Result Text Fault → Type 0
+abbrev pub IsWritten : Asked → (tag : List ℕ) → Outcome → Result Text ReadError → Type 0
 IsWritten a tag (outcome.Window v) (Ok text) = text.head.items ++ text.samples.now ≡ netpbm v.samples v.bits v.w v.h v.pixels.items
 IsWritten (asked.Query query) tag (outcome.Info i) (Ok text) = IsOfTag tag text.head.items × (text.samples.now ≡ [])
 IsWritten (asked.Whole level) tag (outcome.Info i) (Ok text) = ⊥
@@ -52,7 +52,7 @@ IsWritten (asked.Description form) tag (outcome.Info i) (Ok text) = text.samples
 IsWritten a tag (outcome.Fault fault) written = written ≡ Err (OfFile fault)
 IsWritten a tag o (Err NoReport) = TellsSides a o
 IsWritten a tag o (Err (OfFile fault)) = o ≡ outcome.Fault fault
-IsWritten a tag o (Err fault) = ⊤
+IsWritten a tag o (Err Memory) = ⊤
 
 -- the query is for the whole of the level, in each file of the book that has this tag
 abbrev pub IsOfWholeBy : Book → List ℕ → ℕ → Query → Type 0
@@ -60,27 +60,20 @@ IsOfWholeBy book tag level q = (p : Publication) → In p book → p.tag ≡ tag
 
 -- A report that answers what is asked of one publication of the book, of the one whose tag it tells, is true of that one, and is what is
 -- written.
-pub record IsTrueOfBook (name : List ℕ) (book : Book) (a : Asked) (written : Result Text Fault) : Type 0 where
+pub record IsTrueOfBook (name : List ℕ) (book : Book) (a : Asked) (written : Result Text ReadError) : Type 0 where
   pub report : Report
   pub holds : IsTrueReport report name (Some report.query) book
   pub asked : IsFor holds.source.file a report.query
   pub says : IsWritten a report.tag report.outcome written
 
 -- it is a text, or a fault of the file
-abbrev pub IsOfFile : Result Text Fault → Type 0
+abbrev pub IsOfFile : Result Text ReadError → Type 0
 IsOfFile (Ok text) = ⊤
 IsOfFile (Err (OfFile fault)) = ⊤
-IsOfFile (Err fault) = ⊥
-
--- why there is no text: a fault of the file, no report, or want of memory
-abbrev pub IsOfReading : Fault → Type 0
-IsOfReading (OfFile fault) = ⊤
-IsOfReading NoReport = ⊤
-IsOfReading Memory = ⊤
-IsOfReading fault = ⊥
+IsOfFile (Err error) = ⊥
 
 -- What is written of a file is true of one publication of the book.
-abbrev pub WritesTrue : List ℕ → Book → Asked → Result Text Fault → Type 0
+abbrev pub WritesTrue : List ℕ → Book → Asked → Result Text ReadError → Type 0
 WritesTrue name book a written = IsOfFile written → IsTrueOfBook name book a written
 
 -- Nothing stands that could be written: no report, or of a whole level one that tells its sides.

@@ -1,5 +1,5 @@
 //! How `cogread` reads: its exchanges, which are told with `--verbose` and drawn with `--progress`, and what is asked of the file.
-ghost use Rattle.std.specs.Prelude.{◌≡◌, ◌≢◌, ℕ, ◌+◌, ◌<◌, ◌≤◌, ◌^◌, ◌⊎◌, false, true, Err, IfErr, IfSome, IsSomeAnd, List, None, OnOk, Option, Some, slice_get};
+ghost use Rattle.std.specs.Prelude.{◌≡◌, ◌≢◌, ℕ, ◌+◌, ◌<◌, ◌≤◌, ◌^◌, ◌⊎◌, false, true, Err, IfSome, IsSomeAnd, List, None, OnOk, Option, Some, slice_get};
 ghost use Rattle.http_range.specs.Book.{Book, HasDistinctTags};
 ghost use Rattle.cog_client.specs.Calls.{IsIdle};
 ghost use Rattle.cog_client.specs.declared.report.Report.{Report};
@@ -7,12 +7,12 @@ ghost use Rattle.cog_client.specs.Client.{name_of, report_of, ClientAgrees};
 ghost use Rattle.cog_client.specs.Keeps.{RequestsKeeping, Stands};
 ghost use Rattle.cog_client.specs.Transport.{KeepsReading, ReadsBook};
 ghost use Rattle.exchange_notes.specs.Noted.{source_of};
-ghost use Rattle.programs.specs.declared.fault.Fault.TheVariants.{NoReport};
-ghost use Rattle.programs.specs.declared.reading.Asked.TheVariants.{Whole};
-ghost use Rattle.programs.specs.Exchanges.{AsksOf, Ends, StillReads};
-ghost use Rattle.programs.specs.Text.{HasNothing, IsOfFile, IsOfReading, IsOfWholeBy, IsWritten, StaysWithin, TellsSides, WritesTrue};
+ghost use Rattle.reading.specs.declared.error.ReadError.TheVariants.{NoReport};
+ghost use Rattle.reading.specs.declared.reading.Asked.TheVariants.{Whole};
+ghost use Rattle.reading.specs.Exchanges.{AsksOf, Ends, StillReads};
+ghost use Rattle.reading.specs.Text.{HasNothing, IsOfFile, IsOfWholeBy, IsWritten, StaysWithin, TellsSides, WritesTrue};
 
-use crate::fault::Fault;
+use crate::error::ReadError;
 use crate::text::Text;
 use cog_client::{Client, FetchError, Info, Outcome, Pieces, Query, Report, Tag};
 use cog_fetch::fetch_pieces;
@@ -154,7 +154,7 @@ impl<R: Eprint + Clock + AllocGlobal> Exchanges<'_, '_, R> {
         client: &'c mut Client,
         noted: &mut Noted<P>,
         asked: Asked,
-    ) -> Result<Text<'c>, Fault>
+    ) -> Result<Text<'c>, ReadError>
         // What is written is true of one publication of each book that the client reads and the source speaks for.
         ensures truth { (book : Book)
             → ReadsBook (P.speaks_for (source_of noted.old)) client.old book → WritesTrue (name_of client.old) book asked result }
@@ -163,8 +163,6 @@ impl<R: Eprint + Clock + AllocGlobal> Exchanges<'_, '_, R> {
         ensures few { StaysWithin self.now.requests (P.count (source_of noted.old)) (P.count (source_of noted.new)) }
         ensures none { ((level : ℕ) → asked ≢ Whole level) → result ≡ Err NoReport
             → self.now.requests ≤ P.count (source_of noted.new) }
-        // There is no text only for a fault of the file, for want of a report, or for want of memory.
-        ensures kinds { IfErr result IsOfReading }
     {
         let fetched = self.fetch_asked(client, noted, asked);
         self.end_line();
@@ -173,17 +171,16 @@ impl<R: Eprint + Clock + AllocGlobal> Exchanges<'_, '_, R> {
     }
 
     /// The text of the report that stands. That there is none is told only where none stands, or of a whole level one that tells its sides.
-    fn text_at<'c>(&self, client: &'c Client, asked: Asked) -> Result<Text<'c>, Fault>
+    fn text_at<'c>(&self, client: &'c Client, asked: Asked) -> Result<Text<'c>, ReadError>
         ensures written { IsOfFile result
             → (r : Report) × Stands client.now (Some r) × IsWritten asked r.tag r.outcome result }
         ensures left { result ≡ Err NoReport → HasNothing asked (report_of client.now) }
         ensures says { IfSome (report_of client.now) (λ r. IsWritten asked r.tag r.outcome result) }
         ensures silent { report_of client.now ≡ None → result ≡ Err NoReport }
-        ensures kinds { IfErr result IsOfReading }
     {
         let Some(report) = client.report() else {
             self.tell_no_report();
-            return Err(Fault::NoReport);
+            return Err(ReadError::NoReport);
         };
         self.text_of(client, report, asked)
     }
@@ -204,10 +201,9 @@ impl<R: Eprint + Clock + AllocGlobal> Exchanges<'_, '_, R> {
         client: &Client,
         report: &'c Report,
         asked: Asked,
-    ) -> Result<Text<'c>, Fault>
+    ) -> Result<Text<'c>, ReadError>
         requires { report_of client.now ≡ Some report.now }
         ensures written { IsWritten asked report.now.tag report.now.outcome result }
-        ensures kinds { IfErr result IsOfReading }
     {
         let alloc = self.rt.alloc();
         match &report.outcome {
@@ -221,15 +217,15 @@ impl<R: Eprint + Clock + AllocGlobal> Exchanges<'_, '_, R> {
                     Some(description) => {
                         Ok(Text::from(description.text(alloc, form)?.into_bytes()))
                     }
-                    None => Err(Fault::NoReport),
+                    None => Err(ReadError::NoReport),
                 },
-                Asked::Whole { .. } => Err(Fault::NoReport),
+                Asked::Whole { .. } => Err(ReadError::NoReport),
             },
             Outcome::Fault(fault) => {
                 if self.telling == Telling::Each {
                     let _ = eprintln!(self.rt; "cogread: {}", FaultSentence(*fault));
                 }
-                Err(Fault::OfFile(*fault))
+                Err(ReadError::OfFile(*fault))
             }
         }
     }

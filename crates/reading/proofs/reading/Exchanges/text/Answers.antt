@@ -1,5 +1,5 @@
-use Rattle.programs.proofs.WholeLemmas.{true_of_book}
-use Rattle.programs.proofs.reading.Exchanges.text.Goals as goal
+use Rattle.reading.proofs.WholeLemmas.{true_of_book}
+use Rattle.reading.proofs.reading.Exchanges.text.Goals as goal
 
 pub returns-clause-truth : goal.returns-clause-truth
 returns-clause-truth g c book reads tells =

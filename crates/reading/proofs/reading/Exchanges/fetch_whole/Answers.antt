@@ -1,8 +1,8 @@
 use Rattle.std.proofs.Common.{inl, refl}
 use Rattle.tiff_dir.specs.declared.query.Query.TheVariants.{Info}
-use Rattle.programs.specs.declared.reading.Asked.TheVariants.{Whole}
-use Rattle.programs.proofs.OpenLemmas.{asks_query, asks_same, asks_whole, opened_query, opened_reads}
-use Rattle.programs.proofs.reading.Exchanges.fetch_whole.Goals as goal
+use Rattle.reading.specs.declared.reading.Asked.TheVariants.{Whole}
+use Rattle.reading.proofs.OpenLemmas.{asks_query, asks_same, asks_whole, opened_query, opened_reads}
+use Rattle.reading.proofs.reading.Exchanges.fetch_whole.Goals as goal
 
 pub returns-in_err-fetch-clause-reads : goal.returns-in_err-fetch-clause-reads
 returns-in_err-fetch-clause-reads g c = λ book reads.

@@ -9,10 +9,10 @@ use Rattle.cog_client.specs.Calls.{IsIdle}
 use Rattle.cog_client.specs.Client.{ClientState, name_of, query_of, report_of}
 use Rattle.cog_client.specs.Keeps.{OpensKeeping}
 use Rattle.cog_client.specs.Transport.{KeepsReading, ReadsBook}
-use Rattle.programs.specs.declared.reading.Asked.{Asked}
-use Rattle.programs.specs.declared.reading.Asked.TheVariants as asked
-use Rattle.programs.specs.Exchanges.{AsksOf, Ends}
-use Rattle.programs.specs.Text.{IsFor, IsOfWholeBy}
+use Rattle.reading.specs.declared.reading.Asked.{Asked}
+use Rattle.reading.specs.declared.reading.Asked.TheVariants as asked
+use Rattle.reading.specs.Exchanges.{AsksOf, Ends}
+use Rattle.reading.specs.Text.{IsFor, IsOfWholeBy}
 
 opened_name : (q : Query) (old opened : ClientState) → OpensKeeping q old opened → name_of opened ≡ name_of old
 unfolding name_of

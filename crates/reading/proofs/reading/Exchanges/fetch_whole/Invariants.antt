@@ -1,7 +1,7 @@
 use Rattle.exchange_notes.specs.Noted.{source_of}
-use Rattle.programs.specs.Exchanges.{StillReads}
-use Rattle.programs.specs.Text.{StaysWithin}
-use Rattle.programs.proofs.reading.Exchanges.fetch_whole.Given as goal
+use Rattle.reading.specs.Exchanges.{StillReads}
+use Rattle.reading.specs.Text.{StaysWithin}
+use Rattle.reading.proofs.reading.Exchanges.fetch_whole.Given as goal
 
 abbrev pub invariant-loop : goal.invariant-loop
 invariant-loop g l = record {

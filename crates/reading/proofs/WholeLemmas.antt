@@ -16,11 +16,11 @@ use Rattle.cog_reader.specs.Outcome.{IsInfoOf, IsTrueOf}
 use Rattle.cog_client.specs.declared.report.Report.{Report}
 use Rattle.cog_client.specs.Client.{ClientState, ClientAgrees, query_of}
 use Rattle.cog_client.specs.Keeps.{Stands}
-use Rattle.programs.specs.declared.fault.Fault.{Fault}
-use Rattle.programs.specs.declared.reading.Asked.{Asked}
-use Rattle.programs.specs.declared.text.Text.{Text}
-use Rattle.programs.specs.Exchanges.{AsksOf}
-use Rattle.programs.specs.Text.{sides_of_level, IsFor, IsOfWhole, IsOfWholeBy, IsTrueOfBook, IsWritten}
+use Rattle.reading.specs.declared.error.ReadError.{ReadError}
+use Rattle.reading.specs.declared.reading.Asked.{Asked}
+use Rattle.reading.specs.declared.text.Text.{Text}
+use Rattle.reading.specs.Exchanges.{AsksOf}
+use Rattle.reading.specs.Text.{sides_of_level, IsFor, IsOfWhole, IsOfWholeBy, IsTrueOfBook, IsWritten}
 
 told : {A B : Type 0} (g : A → Option B) (b : Option B) (a : Option A) → option_map Some b ≡ option_map g a → (a >>= g) ≡ b
 told g None None is = refl
@@ -53,7 +53,7 @@ whole_told one book distinct c r i level s stands agrees is same p among tag =
     subst (λ (x : Publication). IsOfWhole x.file level (Window 0 0 s.0 s.1 (Level level))) equal (whole_is true_of.source.file i level s info.1 same)
 
 -- What is written of the report that stands is true of one publication of the book.
-pub true_of_book : (name : List ℕ) (book : Book) (a : Asked) (c : ClientState) (r : Report) (written : Result Text Fault) → ((p : Publication) → In p book → p.name ≡ name) → ClientAgrees c book
+pub true_of_book : (name : List ℕ) (book : Book) (a : Asked) (c : ClientState) (r : Report) (written : Result Text ReadError) → ((p : Publication) → In p book → p.name ≡ name) → ClientAgrees c book
     → Stands c (Some r) → AsksOf book a c → IsWritten a r.tag r.outcome written → IsTrueOfBook name book a written
 true_of_book name book a c r written named agrees stands asks says =
     let true_of = stands.holds book agrees in

@@ -3,9 +3,9 @@ use Rattle.std.specs.Prelude.{◌≡◌, ◌≤◌, ◌⊎◌, ℕ, IfSome, IsSo
 use Rattle.http_range.specs.Book.{Publication, Book, In}
 use Rattle.cog_client.specs.Client.{ClientState, query_of, report_of}
 use Rattle.cog_client.specs.Transport.{ReadsBook}
-use Rattle.programs.specs.declared.reading.Asked.{Asked}
-use Rattle.programs.specs.declared.reading.Asked.TheVariants as asked
-use Rattle.programs.specs.Text.{IsFor}
+use Rattle.reading.specs.declared.reading.Asked.{Asked}
+use Rattle.reading.specs.declared.reading.Asked.TheVariants as asked
+use Rattle.reading.specs.Text.{IsFor}
 
 -- the client still reads each book that it read and that the source spoke for
 abbrev pub StillReads : (Book → Type 0) → (Book → Type 0) → ClientState → ClientState → Type 0

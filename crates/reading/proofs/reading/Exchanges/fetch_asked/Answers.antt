@@ -1,11 +1,11 @@
 use Rattle.std.proofs.Common.{subst, sym}
-use Rattle.programs.specs.declared.reading.Asked.{Asked}
-use Rattle.programs.specs.Text.{IsFor}
-use Rattle.programs.specs.Exchanges.{AsksOf}
-use Rattle.programs.proofs.OpenLemmas.{asks_query, asks_same, ended, on_ok, opened_reads}
+use Rattle.reading.specs.declared.reading.Asked.{Asked}
+use Rattle.reading.specs.Text.{IsFor}
+use Rattle.reading.specs.Exchanges.{AsksOf}
+use Rattle.reading.proofs.OpenLemmas.{asks_query, asks_same, ended, on_ok, opened_reads}
 use Rattle.http_range.specs.Book.{Publication}
-use Rattle.programs.proofs.reading.Exchanges.fetch_asked.Goals.{in-Query, in-Description}
-use Rattle.programs.proofs.reading.Exchanges.fetch_asked.Goals as goal
+use Rattle.reading.proofs.reading.Exchanges.fetch_asked.Goals.{in-Query, in-Description}
+use Rattle.reading.proofs.reading.Exchanges.fetch_asked.Goals as goal
 
 pub returns-clause-reads : goal.returns-clause-reads
 returns-clause-reads g c = λ book reads.
