@@ -1,6 +1,7 @@
 //! The bytes of a range that a cache has.
-ghost use Rattle.std.specs.Prelude.{◌≡◌, ◌+◌, ◌<◌, ◌^◌};
-ghost use Rattle.range_cache.specs.Cache.{bytes_at};
+ghost use Rattle.std.specs.Prelude.{◌≡◌, ◌+◌, ◌-◌, ◌/◌, ◌%◌, ◌<◌, ◌^◌};
+ghost use Rattle.tiff_dir.specs.declared.limits.TheConstants.{BLOCK_SIZE};
+ghost use Rattle.range_cache.specs.Cache.{block_at, bytes_at, left_in};
 
 use cog_reader::Bytes;
 use range_cache::Cache;
@@ -27,6 +28,10 @@ impl<'a> HeldRange<'a> {
 
 impl Bytes for HeldRange<'_> {
     ghost bytes = { λ r. bytes_at r.cache.now r.first r.len };
+
+    // As many as the block has from there on.
+    ghost piece_len = { λ r at.
+        left_in (block_at ((r.first + at) / BLOCK_SIZE) r.cache.now.entries) ((r.first + at) % BLOCK_SIZE) (r.len - at) };
 
     ghost room_needed = { λ r. r.len };
 

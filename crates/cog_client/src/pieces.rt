@@ -1,8 +1,8 @@
 //! What carries a client's requests, and brings the answers in pieces, as they arrive.
-ghost use Rattle.std.specs.Prelude.{◌≡◌, ◌+◌, ◌<◌, ◌≤◌, ◌^◌, ℕ, List, IfOk, OnOk, length};
+ghost use Rattle.std.specs.Prelude.{◌≡◌, ◌+◌, ◌<◌, ◌≤◌, ◌^◌, ℕ, List, [], IfOk, OnErr, OnOk, length};
 ghost use Rattle.http_range.specs.Book.{Book};
 ghost use Rattle.cog_client.specs.Pieces.{BringsOf};
-ghost use Rattle.cog_client.specs.Transport.{IsTrueToAll, SpeaksOn};
+ghost use Rattle.cog_client.specs.Transport.{AnyText, IsTrueToAll, SpeaksOn};
 
 use crate::transport::Lost;
 
@@ -10,6 +10,9 @@ use crate::transport::Lost;
 pub trait Pieces {
     /// It speaks for this book: each piece of a file that is read of what it brings is of a publication of it, by its tag, length and bytes.
     ghost speaks_for: { Self → Book → Type 0 };
+
+    /// This text may come of the answer to this request. One that leaves this out says nothing of it.
+    ghost answers: { Self → List ℕ → List ℕ → Type 0 } = { λ _. AnyText };
 
     /// The requests so far.
     ghost count: { Self → ℕ };
@@ -20,6 +23,8 @@ pub trait Pieces {
     /// Sends a request. What was still to come of the answer before is dropped.
     fn start(&mut self, request: &[u8]) -> Result<(), Lost>
         requires { count self.old + 1 < 2 ^ 64 }
+        ensures answered { OnOk result (answers self.old request.now (rest self.new)) }
+        ensures dropped { OnErr result (rest self.new ≡ []) }
         ensures shows { OnOk result (IsTrueToAll (speaks_for self.old) (rest self.new)) }
         ensures speaks { SpeaksOn (speaks_for self.old) (speaks_for self.new) }
         ensures counted { count self.new ≡ count self.old + 1 };

@@ -28,8 +28,7 @@ impl Source {
         ensures length { complete_of result.reader ≡ head.now.complete }
         ensures query { query_of result.reader ≡ query }
     {
-        let mut reader = Reader::new(alloc, head.complete);
-        reader.keep_unpacked(unpacked);
+        let mut reader = Reader::keeping(alloc, head.complete, unpacked);
         match query {
             None => {}
             Some(query) => reader.open(query),

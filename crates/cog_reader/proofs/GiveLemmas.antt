@@ -36,12 +36,13 @@ use Rattle.cog_reader.specs.Kept.{arrays_held, next_array, KeptAgrees, IsKeptOf}
 use Rattle.cog_reader.specs.Mosaic.{IsWantedGroup, IsPlan, IsUnderway}
 use Rattle.cog_reader.specs.Reader.{own_given, steps_by, unread_by, wanted_by, StateAgrees}
 use Rattle.cog_reader.specs.Give.{Gives, AcceptsDirectoryRange, Snapshot, AcceptsRange, AcceptsDirectories, Advances, TellsFault}
+use Rattle.cog_reader.specs.Unpacked.{KeptTile, AreTilesOf}
 use Rattle.cog_reader.proofs.FieldLemmas.{geo_ranges_are}
 use Rattle.cog_reader.proofs.KeptLemmas.{some_at, from_some}
 use Rattle.cog_reader.proofs.StepLemmas.{both_at, directory_fault, has_both, needs_split, window_fault, IsLevelOf}
 
-abbrev pub at_state : WalkState → Kept → State → Snapshot
-at_state w k t = record { walk = w; kept = k; state = t }
+abbrev pub at_state : WalkState → Kept → List KeptTile → State → Snapshot
+at_state w k ts t = record { walk = w; kept = k; tiles = ts; state = t }
 
 pub some_more : {X : Type 0} (o : Option X) (P Q : X → Type 0) → IsSomeAnd o P → ((x : X) → P x → Q x) → IsSomeAnd o Q
 some_more None P Q h more = h
@@ -81,11 +82,11 @@ nothing_kept w kept.Nothing P keeps some v = tt
 nothing_kept w (kept.Offsets n o) P keeps some v = absurd (subst (λ x. IsSomeAnd x P) keeps.0 some)
 nothing_kept w (kept.Both n a) P keeps some v = absurd (subst (λ x. IsSomeAnd x P) keeps.0 some)
 
-pub accepts_directories : (complete : ℕ) (bytes : List ℕ) (w v : WalkState) (k : Kept) → IsKeptOf w k → IsSomeAnd (walk.wanted w) (λ r. length bytes ≡ r.len) → AcceptsDirectoryRange bytes w v → Advances complete bytes (at_state w k Directories) (at_state v k Directories)
-accepts_directories complete bytes w v k keeps some on = record {
+pub accepts_directories : (complete : ℕ) (bytes : List ℕ) (w v : WalkState) (k : Kept) (ts : List KeptTile) → IsKeptOf w k → IsSomeAnd (walk.wanted w) (λ r. length bytes ≡ r.len) → AcceptsDirectoryRange bytes w v → Advances complete bytes (at_state w k ts Directories) (at_state v k ts Directories)
+accepts_directories complete bytes w v k ts keeps some on = record {
   kept = nothing_kept w k (λ r. length bytes ≡ r.len) keeps some v;
   state = tt;
-  same = λ f q base here next. (record { size = base.size; walked = on.agrees f base.walked next; kept = base.kept }, tt);
+  same = λ f q base here next of. (record { size = base.size; walked = on.agrees f base.walked next; kept = base.kept }, tt, of);
   come = λ f q base here. some_more (walk.wanted w) (λ r. walk.to_come w f ≡ r ∷ walk.to_come v f) _ (on.come f base.walked) (λ r e. ap (λ l. l ++ drop (own_given f q k Directories) (needs_of_query f q)) e);
   held = λ f q base here p one. one_less (walk.wanted w) (walk.to_come w f) (walk.to_come v f) (drop (own_given f p k Directories) (needs_of_query f p)) (on.come f base.walked);
   steps = (let given = on.given in let few = on.few in omega (arith, given, few));
@@ -112,15 +113,15 @@ wanted_place w k r l P there some = at (next_array k r.level l) refl (rw there a
   at None is bad = absurd bad
   at (Some p) is good = (p, is, rw (there, is) refl, good)
 
-pub accepts_array : (complete : ℕ) (bytes : List ℕ) (w : WalkState) (k : Kept) (v : Kept) (r : Rectangle) (l : Level) (o : Order) → HasEnded w → IsSomeAnd (slice_get (levels_of w) r.level) (λ m. IsSmall m r) → IsLevelOf w r.level l
+pub accepts_array : (complete : ℕ) (bytes : List ℕ) (w : WalkState) (k : Kept) (v : Kept) (ts : List KeptTile) (r : Rectangle) (l : Level) (o : Order) → HasEnded w → IsSomeAnd (slice_get (levels_of w) r.level) (λ m. IsSmall m r) → IsLevelOf w r.level l
     → IsSomeAnd (wanted_by w k (Reads r)) (λ x. length bytes ≡ x.len) → IsKeptOf w v → arrays_held v r.level ≡ arrays_held k r.level + 1 → ((f : List ℕ) → walk.WalkAgrees w f → order_of f ≡ Some o)
     → ((f : List ℕ) → order_of f ≡ Some o → level_layout f r.level ≡ Some (layout_of l) → KeptAgrees f k → IsSomeAnd (next_array k r.level l) (λ p. IsArrayOf f p bytes) → KeptAgrees f v)
-    → ((f : List ℕ) → walk.WalkAgrees w f → walk.to_come w f ≡ []) → Advances complete bytes (at_state w k (Reads r)) (at_state w v (Reads r))
-accepts_array complete bytes w k v r l o ended small of_level some keeps more order same over =
+    → ((f : List ℕ) → walk.WalkAgrees w f → walk.to_come w f ≡ []) → Advances complete bytes (at_state w k ts (Reads r)) (at_state w v ts (Reads r))
+accepts_array complete bytes w k v ts r l o ended small of_level some keeps more order same over =
     let (p, next, wants, len) = wanted_place w k r l (λ x. length bytes ≡ x.len) of_level.there some in record {
       kept = keeps;
       state = (ended, small);
-      same = λ f q base here given. (
+      same = λ f q base here given of. (
         record {
           size = base.size;
           walked = base.walked;
@@ -128,6 +129,7 @@ accepts_array complete bytes w k v r l o ended small of_level some keeps more or
               (from_some (next_array k r.level l) p (λ x. IsArrayOf f x bytes) next (some_at (wanted_by w k (Reads r)) (extent_of_place p) (λ x. bytes ≡ bytes_in f x) wants given));
         },
         here,
+        of,
       );
       come = λ f q base here. from_some (wanted_by w k (Reads r)) (extent_of_place p) _ wants (at f q p next here (of_level.layout f base.walked));
       held = λ f q base here p one.
@@ -181,21 +183,18 @@ group_needed f q a m g u is = group_at f q a m g m.given u is
 next_group : (m : Mosaic) (g : Group) (bytes : List ℕ) (P : Extent → Type 0) → slice_get m.groups m.given ≡ Some g → P (extent_of_span g.span) → IsSomeAnd (slice_get m.groups m.given) (λ g. P (extent_of_span g.span))
 next_group m g bytes P is good = from_some (slice_get m.groups m.given) g (λ g. P (extent_of_span g.span)) is good
 
-pub accepts_group : (complete : ℕ) (bytes : List ℕ) (w : WalkState) (k : Kept) (n : ℕ) (a : Arrays) (m v : Mosaic) → HasEnded w → IsKeptOf w k → k ≡ kept.Both n a → IsPlan complete a v → v.groups ≡ m.groups → v.given ≡ m.given + 1
+pub accepts_group : (complete : ℕ) (bytes : List ℕ) (w : WalkState) (k : Kept) (ts us : List KeptTile) (n : ℕ) (a : Arrays) (m v : Mosaic) → HasEnded w → IsKeptOf w k → k ≡ kept.Both n a → IsPlan complete a v → v.groups ≡ m.groups → v.given ≡ m.given + 1
     → IsSomeAnd (slice_get m.groups m.given) (λ g. length bytes ≡ (extent_of_span g.span).len)
-    → ((f : List ℕ) (q : Query) → IsUnderway f q a m → IsWantedGroup f m bytes → IsUnderway f q a v) → Advances complete bytes (at_state w k (Tiles m)) (at_state w k (Tiles v))
-accepts_group complete bytes w k n a m v ended keeps is plan same more some underway = record {
+    → ((f : List ℕ) (q : Query) → IsUnderway f q a m → IsWantedGroup f m bytes → AreTilesOf f ts → IsUnderway f q a v × AreTilesOf f us) → Advances complete bytes (at_state w k ts (Tiles m)) (at_state w k us (Tiles v))
+accepts_group complete bytes w k ts us n a m v ended keeps is plan same more some underway = record {
   kept = keeps;
   state = (ended, has_both k n a (λ b. IsPlan complete b v) is plan);
-  same = λ f q base here next. (
-    base,
-    (
+  same = λ f q base here next of. (
       let u = both_at k n a (λ b. IsUnderway f q b m) is here.0 in
-          let (g, there, wants, given) = wanted_group w k m (λ r. bytes ≡ bytes_in f r) next in
-          has_both k n a (λ b. IsUnderway f q b v) is (underway f q u (next_group m g bytes (λ r. bytes ≡ bytes_in f r) there given)),
-      here.1,
-    ),
-  );
+      let (g, there, wants, given) = wanted_group w k m (λ r. bytes ≡ bytes_in f r) next in
+      let more = underway f q u (next_group m g bytes (λ r. bytes ≡ bytes_in f r) there given) of in
+      (base, (has_both k n a (λ b. IsUnderway f q b v) is more.0, here.1), more.1)
+      );
   come = λ f q base here. (
       let u = both_at k n a (λ b. IsUnderway f q b m) is here.0 in
       let (g, there, len) = the_group m some in
@@ -212,15 +211,20 @@ accepts_group complete bytes w k n a m v ended keeps is plan same more some unde
       );
 }
 
-pub tells_group : (complete : ℕ) (bytes : List ℕ) (w : WalkState) (k : Kept) (n : ℕ) (a : Arrays) (m v : Mosaic) (fault : FileFault) → k ≡ kept.Both n a
-    → ((f : List ℕ) (q : Query) → IsUnderway f q a m → IsWantedGroup f m bytes → IsFaultOfWindow f q fault) → TellsFault complete bytes (at_state w k (Tiles m)) (at_state w k (Tiles v)) fault
-tells_group complete bytes w k n a m v fault is damaged = record {
+pub tells_group : (complete : ℕ) (bytes : List ℕ) (w : WalkState) (k : Kept) (ts us : List KeptTile) (n : ℕ) (a : Arrays) (m v : Mosaic) (fault : FileFault) → k ≡ kept.Both n a
+    → ((f : List ℕ) (q : Query) → IsUnderway f q a m → IsWantedGroup f m bytes → IsFaultOfWindow f q fault)
+    → ((f : List ℕ) (q : Query) → IsUnderway f q a m → IsWantedGroup f m bytes → AreTilesOf f ts → AreTilesOf f us) → TellsFault complete bytes (at_state w k ts (Tiles m)) (at_state w k us (Tiles v)) fault
+tells_group complete bytes w k ts us n a m v fault is damaged tiles = record {
   walk = refl;
   kept = refl;
   stands = λ f q base here next. (
       let u = both_at k n a (λ b. IsUnderway f q b m) is here.0 in
       let (g, there, wants, given) = wanted_group w k m (λ r. bytes ≡ bytes_in f r) next in
       window_fault f q (rectangle_of m.picture.rectangle) fault u.planned.rectangle_is (damaged f q u (next_group m g bytes (λ r. bytes ≡ bytes_in f r) there given))
+      );
+  tiles = λ f q base here next. (
+      let (g, there, wants, given) = wanted_group w k m (λ r. bytes ≡ bytes_in f r) next in
+      tiles f q (both_at k n a (λ b. IsUnderway f q b m) is here.0) (next_group m g bytes (λ r. bytes ≡ bytes_in f r) there given)
       );
 }
 
@@ -245,13 +249,13 @@ wanted_field w k x P some = at (slice_get (present_in x.places) x.given) refl so
 pub field_len : (w : WalkState) (k : Kept) (x : Fields) (len : ℕ) → IsSomeAnd (wanted_by w k (Geo x)) (λ r. len ≡ r.len) → IsSomeAnd (slice_get (present_in x.places) x.given) (λ p. len ≡ p.len)
 field_len w k x len some = (let (p, there, wants, good) = wanted_field w k x (λ r. len ≡ r.len) some in from_some (slice_get (present_in x.places) x.given) p (λ p. len ≡ p.len) there good)
 
-pub accepts_field : (complete : ℕ) (bytes : List ℕ) (w : WalkState) (k : Kept) (x v : Fields) → HasEnded w → IsKeptOf w k → IsSomeAnd (wanted_by w k (Geo x)) (λ r. length bytes ≡ r.len) → v.places ≡ x.places → v.given ≡ x.given + 1
-    → ((f : List ℕ) → IsReadOf f x → IsSomeAnd (slice_get (present_in x.places) x.given) (λ p. IsArrayOf f p bytes) → IsReadOf f v) → Advances complete bytes (at_state w k (Geo x)) (at_state w k (Geo v))
+pub accepts_field : (complete : ℕ) (bytes : List ℕ) (w : WalkState) (k : Kept) (ts : List KeptTile) (x v : Fields) → HasEnded w → IsKeptOf w k → IsSomeAnd (wanted_by w k (Geo x)) (λ r. length bytes ≡ r.len) → v.places ≡ x.places → v.given ≡ x.given + 1
+    → ((f : List ℕ) → IsReadOf f x → IsSomeAnd (slice_get (present_in x.places) x.given) (λ p. IsArrayOf f p bytes) → IsReadOf f v) → Advances complete bytes (at_state w k ts (Geo x)) (at_state w k ts (Geo v))
 unfolding needs_of_query
-accepts_field complete bytes w k x v ended keeps some places more read = record {
+accepts_field complete bytes w k ts x v ended keeps some places more read = record {
   kept = keeps;
   state = ended;
-  same = λ f q base here next. (
+  same = λ f q base here next of. (
     base,
     (
       here.0,
@@ -259,6 +263,7 @@ accepts_field complete bytes w k x v ended keeps some places more read = record 
           let (p, there, wants, given) = wanted_field w k x (λ r. bytes ≡ bytes_in f r) next in
           read f here.1 (from_some (slice_get (present_in x.places) x.given) p (λ p. IsArrayOf f p bytes) there given)),
     ),
+    of,
   );
   come = λ f q base here. (
       let (p, there, wants, len) = wanted_field w k x (λ r. length bytes ≡ r.len) some in
@@ -278,9 +283,14 @@ accepts_field complete bytes w k x v ended keeps some places more read = record 
 
 -- ---- directories, with or without a fault
 
-pub directories_told : (complete : ℕ) (bytes : List ℕ) (w v : WalkState) (k : Kept) (o : Option FileFault) → IsKeptOf w k → IsSomeAnd (walk.wanted w) (λ r. length bytes ≡ r.len) → AcceptsDirectories bytes w v o → AcceptsRange complete bytes (at_state w k Directories) (at_state v k Directories) o
-directories_told complete bytes w v k None keeps some on = accepts_directories complete bytes w v k keeps some on
-directories_told complete bytes w v k (Some fault) keeps some told = record { walk = told.0; kept = refl; stands = λ f q base here next. directory_fault f q fault (told.1 f base.walked next) }
+pub directories_told : (complete : ℕ) (bytes : List ℕ) (w v : WalkState) (k : Kept) (ts : List KeptTile) (o : Option FileFault) → IsKeptOf w k → IsSomeAnd (walk.wanted w) (λ r. length bytes ≡ r.len) → AcceptsDirectories bytes w v o → AcceptsRange complete bytes (at_state w k ts Directories) (at_state v k ts Directories) o
+directories_told complete bytes w v k ts None keeps some on = accepts_directories complete bytes w v k ts keeps some on
+directories_told complete bytes w v k ts (Some fault) keeps some told = record {
+  walk = told.0;
+  kept = refl;
+  stands = λ f q base here next. directory_fault f q fault (told.1 f base.walked next);
+  tiles = λ f q base here next of. of;
+}
 
 -- ---- a fault answers the query
 
@@ -306,24 +316,25 @@ pub gives_on : (complete : ℕ) (bytes : List ℕ) (q : Query) (old new : Snapsh
 gives_on complete bytes q old new on = record {
   kept = on.kept;
   state = on.state;
-  same = λ f base here next. on.same f q base here next;
+  same = λ f base here next of. on.same f q base here next of;
   come = λ f base here. inr (on.come f q base here);
   held = λ f base here. on.held f q base here;
   steps = on.steps;
 }
 
 pub gives_fault : (complete : ℕ) (bytes : List ℕ) (q : Query) (old new : Snapshot) (fault : FileFault) → IsKeptOf old.walk old.kept → IsSomeAnd (wanted_by old.walk old.kept old.state) (λ r. length bytes ≡ r.len)
-    → TellsFault complete bytes old new fault → Gives complete bytes q old (at_state new.walk new.kept (Answered (Fault fault)))
+    → TellsFault complete bytes old new fault → Gives complete bytes q old (at_state new.walk new.kept new.tiles (Answered (Fault fault)))
 gives_fault complete bytes q old new fault keeps some told = record {
   kept = subst (λ x. IsKeptOf x new.kept) (sym told.walk) (subst (IsKeptOf old.walk) (sym told.kept) keeps);
   state = tt;
-  same = λ f base here next. (
+  same = λ f base here next of. (
     record {
       size = base.size;
       walked = subst (λ x. walk.WalkAgrees x f) (sym told.walk) base.walked;
       kept = subst (KeptAgrees f) (sym told.kept) base.kept;
     },
     told.stands f q base here next,
+    told.tiles f q base here next of,
   );
   come = λ f base here. inl (refl, refl);
   held = λ f base here p one.

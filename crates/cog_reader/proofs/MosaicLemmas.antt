@@ -75,7 +75,7 @@ whole_group n a w g ts len plan is same next =
       among_same (x ∷ xs) zero d less = refl
       among_same (x ∷ xs) (suc k) d less = among_same xs k d (omega (arith, less))
 
-pub next_bytes : (f : List ℕ) (q : Query) (a : Arrays) (w : MosaicState) (g : Group) (bytes : List ℕ) → IsUnderway f q a w → slice_get w.groups w.given ≡ Some g → IsGroupLen w (length bytes) → IsWantedGroup f w bytes
+next_bytes : (f : List ℕ) (q : Query) (a : Arrays) (w : MosaicState) (g : Group) (bytes : List ℕ) → IsUnderway f q a w → slice_get w.groups w.given ≡ Some g → IsGroupLen w (length bytes) → IsWantedGroup f w bytes
     → AreBytesOf f g.span.first bytes × Adjoin (tile_extent a) g.span.first g.tiles.items (g.span.first + length bytes)
 next_bytes f q a w g bytes u is next of_file =
     let group = subst (λ h. IsGroup (tile_extent a) a.level (length f) (group_of h)) (get_or_from_slice_get w.groups w.given g g is) (u.are.each w.given g (slice_get_within w.groups w.given g is)) in
@@ -90,6 +90,14 @@ next_bytes f q a w g bytes u is next of_file =
 
 pub arrays_of : (f : List ℕ) (q : Query) (a : Arrays) (w : MosaicState) → IsUnderway f q a w → AreArraysOf f w.picture.rectangle.level a
 arrays_of f q a w u = record { order_is = u.planned.order_is; layout_is = u.planned.layout_is; offsets_are = u.planned.offsets_are; counts_are = u.planned.counts_are }
+
+-- Where the bytes of the next group are given: the work is the query's, they are the file's, and the group's tiles adjoin in them.
+pub given_bytes : (f : List ℕ) (q : Query) (a : Arrays) (w old : MosaicState) (g : Group) (ts bytes : List ℕ) → w ≡ old → slice_get w.groups w.given ≡ Some g → ts ≡ g.tiles.items → IsGroupLen old (length bytes)
+    → IsUnderway f q a old → IsWantedGroup f old bytes → IsUnderway f q a w × AreBytesOf f g.span.first bytes × Adjoin (tile_extent a) g.span.first ts (g.span.first + length bytes)
+given_bytes f q a w old g ts bytes is there same len underway next =
+    let u = subst (IsUnderway f q a) (sym is) underway in
+    let given = next_bytes f q a w g bytes u there (subst (λ w. IsGroupLen w (length bytes)) (sym is) len) (subst (λ w. IsWantedGroup f w bytes) (sym is) next) in
+    (u, given.0, subst (λ l. Adjoin (tile_extent a) g.span.first l (g.span.first + length bytes)) (sym same) given.1)
 
 -- ---- a group more
 

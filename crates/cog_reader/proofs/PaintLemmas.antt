@@ -11,7 +11,7 @@ use Rattle.tiff_dir.specs.declared.level.Compression.TheVariants.{Plain}
 use Rattle.tiff_dir.specs.Described.{layout_of}
 use Rattle.tiff_dir.specs.Level.{level_value, plain_row, plain_size}
 use Rattle.tiff_dir.specs.Query.{segment, tile_range}
-use Rattle.tiff_dir.specs.Needs.{Extent}
+use Rattle.tiff_dir.specs.Needs.{Extent, bytes_in}
 use Rattle.tiff_dir.specs.Window.{IsUnpackedBy}
 use Rattle.tile_plan.specs.declared.asked.Rectangle.{Rectangle}
 use Rattle.tile_plan.specs.Plan.{Adjoin}
@@ -63,6 +63,32 @@ segment_is f n t at first total len m bytes offset count inside fits is same =
     let size : first + at + len - (first + at) ≡ len = omega arith in
     rw (range_there f n t (first + at) len offset count, le-ltb (length f) (first + at + len) room)
     (ap (λ k. Some (take k (drop (first + at) f))) size ∙ ap Some (sym (part_of f first total at len (first + total - first) m fits refl same)) ∙ ap (λ l. Some (take m (drop at l))) (sym is))
+
+-- what is true of the part of a group's bytes that a tile has is true of the tile's bytes
+pub of_part : (P : List ℕ → Type 0) (at len first count : ℕ) (bytes of : List ℕ) → of ≡ bytes → first ≡ at → count ≡ len → P (slice_range of first (first + count)) → P (take (at + len - at) (drop at bytes))
+of_part P at len first count bytes of same place size is =
+    subst (λ l. P (take (at + len - at) (drop at l))) same
+    (subst (λ n. P (take (at + n - at) (drop at of))) size
+    (subst (λ k. P (take (k + count - k) (drop k of))) place is))
+
+-- the bytes of tile i of some tiles, in those of its group, are the file's
+part_in_file : (f : List ℕ) (first at len p : ℕ) (bytes l : List ℕ) → bytes ≡ slice_range f first (first + length bytes) → at + len ≤ length bytes → p ≡ first + at → l ≡ take (at + len - at) (drop at bytes)
+    → l ≡ bytes_in f (record { first = p; len = length l })
+part_in_file f first at len p bytes l are fits place is =
+    let n : at + len - at ≡ len = omega arith in
+    let long : length l ≡ len = ap length is ∙ length-take-le (at + len - at) (drop at bytes) (omega (arith, n, fits, length-drop at bytes)) ∙ n in
+    let size : p + length l - p ≡ len = omega (arith, long) in
+    is ∙ ap (λ b. take (at + len - at) (drop at b)) are ∙ part_of f first (length bytes) at len (first + length bytes - first) (at + len - at) fits refl n
+    ∙ ap (λ k. take len (drop k f)) (sym place) ∙ ap (λ k. take k (drop p f)) (sym size)
+
+pub tile_bytes : (f : List ℕ) (first at p len start count : ℕ) (range : ℕ → Extent) (ts : List ℕ) (i : ℕ) (bytes of : List ℕ) → bytes ≡ slice_range f first (first + length bytes)
+    → Adjoin range (first + at) (drop i ts) (first + length bytes) → i < length ts → p ≡ (range (get_or ts i 0)).first → len ≡ (range (get_or ts i 0)).len → of ≡ bytes → start ≡ at → count ≡ len
+    → slice_range of start (start + count) ≡ bytes_in f (record { first = p; len = length (slice_range of start (start + count)) })
+tile_bytes f first at p len start count range ts i bytes of are adjoin less place size same begins counts =
+    let step = tile_step range (first + at) ts i (first + length bytes) adjoin less in
+    let within = tile_end range first at (length bytes) ts i adjoin less in
+    part_in_file f first at len p bytes (slice_range of start (start + count)) are (omega (arith, within, size)) (place ∙ step.0)
+    (of_part (λ l. slice_range of start (start + count) ≡ l) at len start count bytes of same begins counts refl)
 
 -- a refusal that is handed on
 pub passed_on : {A E : Type 0} (result : Result A E) (error : E) (P : E → Type 0) → IsErrAnd result (λ e. e ≡ error) → P error → IfErr result P
@@ -135,13 +161,6 @@ pub part_size : (a : Arrays) (at t len : ℕ) (bytes : List ℕ) (l : Level) →
 part_size a at t len bytes l within same size is =
     let n : at + len - at ≡ (tile_extent a t).len = omega (arith, same) in
     length-take-le (at + len - at) (drop at bytes) (omega (arith, within, n, length-drop at bytes)) ∙ n ∙ size ∙ ap (λ (k : Level). plain_size (layout_of k)) is
-
--- what is true of the part of a group's bytes that a tile has is true of the tile's bytes
-pub of_part : (P : List ℕ → Type 0) (at len first count : ℕ) (bytes of : List ℕ) → of ≡ bytes → first ≡ at → count ≡ len → P (slice_range of first (first + count)) → P (take (at + len - at) (drop at bytes))
-of_part P at len first count bytes of same place size is =
-    subst (λ l. P (take (at + len - at) (drop at l))) same
-    (subst (λ n. P (take (at + n - at) (drop at of))) size
-    (subst (λ k. P (take (k + count - k) (drop k of))) place is))
 
 pub size_of_part : (at len first count : ℕ) (bytes of : List ℕ) (size : ℕ) → of ≡ bytes → first ≡ at → count ≡ len → length (take (at + len - at) (drop at bytes)) ≡ size
     → length (slice_range of first (first + count)) ≡ size

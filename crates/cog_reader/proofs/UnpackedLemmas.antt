@@ -1,16 +1,55 @@
--- Bytes that are compared piece by piece.
-use Rattle.std.proofs.Common.{◌≡◌, Bool, true, false, not, ℕ, ◌+◌, ◌-◌, ◌++◌, List, length, take, drop, take-add, refl, sym, ap, ◌∙◌, arith}
-use Rattle.std.specs.List.{slice_range}
+-- Tiles that are kept stay the file's.
+use Rattle.std.proofs.Common.{◌≡◌, ◌⊎◌, ℕ, List, Option, Some, None, Contains, inl, inr, sym, subst, get_or, length, nat_eq}
+use Rattle.std.specs.List.{All}
+use Rattle.std.specs.Map.{lookup}
+use Rattle.std.specs.Prelude.{IfSome, OnErr, OnOk, Result, Ok, Err}
+use Rattle.std.specs.Borrow.{Bor}
+use Rattle.std.proofs.lemmas.Bool.{eqb-true}
+use Rattle.std.proofs.lemmas.List.Elements.{All-contains, Contains-get_or}
+use Rattle.std.proofs.lemmas.Map.Views.{IfSome-lookup}
+use Rattle.lru.specs.LruCache.{LruCache, lru_cache, promoted, put_entries}
+use Rattle.lru.proofs.CallerLemmas.{Contains-promoted, Contains-put_entries, IsPut}
+use Rattle.tiff_dir.specs.Needs.{bytes_in}
+use Rattle.tiff_dir.specs.Packets.{Packs}
+use Rattle.cog_reader.specs.declared.unpacked.Tile.{Tile}
+use Rattle.cog_reader.specs.Unpacked.{KeptTile, IsTileOf}
 
--- where the piece behind the same ones is the same, they are the same with it
-pub one_piece_more : (xs ys piece : List ℕ) (at : ℕ) → take at xs ≡ take at ys → piece ≡ slice_range xs at (at + length piece) → take (at + length piece - at) (drop at ys) ≡ piece
-    → take (at + length piece) xs ≡ take (at + length piece) ys
-one_piece_more xs ys piece at same is here =
-    let n : at + length piece - at ≡ length piece = omega arith in
-    let next : take (length piece) (drop at xs) ≡ take (length piece) (drop at ys) = ap (λ k. take k (drop at xs)) (sym n) ∙ sym is ∙ sym here ∙ ap (λ k. take k (drop at ys)) n in
-    take-add at (length piece) xs ∙ ap (λ l. l ++ take (length piece) (drop at xs)) same ∙ ap (λ l. take at ys ++ l) next ∙ sym (take-add at (length piece) ys)
+pub all_promoted : (P : KeptTile → Type 0) (first : ℕ) (es : List KeptTile) → All P es → All P (promoted (nat_eq first) es)
+all_promoted P first es all = λ k d less.
+    All-contains P es _ all (Contains-promoted (nat_eq first) es _ (Contains-get_or (promoted (nat_eq first) es) k d less))
 
--- what isn't said to be other is the same
-pub not_other : (same : Bool) → false ≡ not same → true ≡ same
-not_other true is = refl
-not_other false is = sym is
+-- a key that is there stays, and it is the same number
+pub all_put : (P : KeptTile → Type 0) (c : LruCache ℕ Tile) (first : ℕ) (tile : Tile) → All P c.entries → P (first, tile) → All P (put_entries nat_eq c first tile)
+all_put P c first tile all one = λ k d less. by (get_or (put_entries nat_eq c first tile) k d) (Contains-put_entries nat_eq c first tile _ (Contains-get_or (put_entries nat_eq c first tile) k d less))
+  where
+    by : (e : KeptTile) → Contains c.entries e ⊎ IsPut nat_eq c first tile e → P e
+    by e (inl was) = All-contains P c.entries e all was
+    by (n, v) (inr (same, inl here)) = subst (λ m. P (m, v)) (sym here) (subst (λ w. P (first, w)) (sym same) one)
+    by (n, v) (inr (same, inr key)) = subst (λ m. P (m, v)) (eqb-true first n key.2) (subst (λ w. P (first, w)) (sym same) one)
+
+-- what is looked up is the tile at that place
+pub all_found : (P : KeptTile → Type 0) (first : ℕ) (es : List KeptTile) (tile : Tile) → lookup (nat_eq first) es ≡ Some tile → All P es → P (first, tile)
+all_found P first es tile found all =
+    All-contains P es (first, tile) all (subst (λ o. IfSome o (λ v. Contains es (first, v))) found (IfSome-lookup eqb-true first es))
+
+-- and what it stands for is what bytes stand for that are as many as its own
+pub stands_for : (f : List ℕ) (first len row size : ℕ) (t : Tile) (o : Option (Bor (List ℕ))) → IfSome o (λ plain. (len ≡ t.len) × (row ≡ t.row) × (size ≡ length plain.now) × (plain.now ≡ t.plain.items)) → IsTileOf f (first, t)
+    → IfSome o (λ plain. Packs row (bytes_in f (record { first = first; len = len })) plain.now)
+stands_for f first len row size t None told is = tt
+stands_for f first len row size t (Some plain) told is =
+    subst (λ n. Packs row (bytes_in f (record { first = first; len = n })) plain.now) (sym told.0)
+    (subst (λ r. Packs r (bytes_in f (record { first = first; len = t.len })) plain.now) (sym told.1)
+    (subst (Packs t.row (bytes_in f (record { first = first; len = t.len }))) (sym told.3) is))
+
+-- a tile that is made of a file's bytes is the file's
+pub is_made : (f : List ℕ) (first len row : ℕ) (plain : List ℕ) (t : Tile) → (t.len ≡ len) × (t.row ≡ row) × (t.plain.items ≡ plain) → Packs row (bytes_in f (record { first = first; len = len })) plain → IsTileOf f (first, t)
+is_made f first len row plain t made packs =
+    subst (λ n. Packs t.row (bytes_in f (record { first = first; len = n })) t.plain.items) (sym made.0)
+    (subst (λ r. Packs r (bytes_in f (record { first = first; len = len })) t.plain.items) (sym made.1)
+    (subst (Packs row (bytes_in f (record { first = first; len = len }))) (sym made.2) packs))
+
+-- and so are those among which it is put, if it is
+pub kept_put : {A E : Type 0} (f : List ℕ) (old new : LruCache ℕ Tile) (first : ℕ) (tile : Tile) (r : Result A E) → OnOk r (new ≡ lru_cache (put_entries nat_eq old first tile) old.cap) → OnErr r (new ≡ old)
+    → All (IsTileOf f) old.entries → IsTileOf f (first, tile) → All (IsTileOf f) new.entries
+kept_put f old new first tile (Ok x) put same all one = subst (λ (c : LruCache ℕ Tile). All (IsTileOf f) c.entries) (sym put) (all_put (IsTileOf f) old first tile all one)
+kept_put f old new first tile (Err e) put same all one = subst (λ (c : LruCache ℕ Tile). All (IsTileOf f) c.entries) (sym same) all

@@ -12,6 +12,7 @@ use Rattle.cog_reader.specs.declared.state.State.{State}
 use Rattle.cog_reader.specs.Kept.{IsKeptOf}
 use Rattle.cog_reader.specs.Reader.{come_by, outcome_in, steps_by, unread_by, wanted_by, AreOfOneLevel, IsState, StateAgrees}
 use Rattle.cog_reader.specs.Step.{IsBase}
+use Rattle.cog_reader.specs.Unpacked.{KeptTile, AreTilesOf}
 
 -- the bytes lead a walk on, after which one range less is to come
 pub record AcceptsDirectoryRange (bytes : List ℕ) (old new : WalkState) : Type 0 where
@@ -27,10 +28,11 @@ AcceptsDirectories bytes old new (Some fault) =
     (new ≡ old)
     × ((f : List ℕ) → walk.WalkAgrees old f → walk.IsWantedOf f old bytes → IsFaultOfDirectories f fault)
 
--- a walk, the arrays that are kept, and what is done
+-- a walk, the arrays and the tiles that are kept, and what is done
 pub record Snapshot : Type 0 where
   pub walk : WalkState
   pub kept : Kept
+  pub tiles : List KeptTile
   pub state : State
 
 -- the range that is wanted next, and all that are still to come
@@ -57,7 +59,7 @@ pub record Advances (complete : ℕ) (bytes : List ℕ) (old new : Snapshot) : T
   pub kept : IsKeptOf new.walk new.kept
   pub state : IsState complete new.walk new.kept new.state
   pub same : (f : List ℕ) (q : Query) → IsBase f complete old.walk old.kept → StateAgrees f q old.kept old.state → AreWantedBytes f old bytes
-      → IsBase f complete new.walk new.kept × StateAgrees f q new.kept new.state
+      → AreTilesOf f old.tiles → IsBase f complete new.walk new.kept × StateAgrees f q new.kept new.state × AreTilesOf f new.tiles
   pub come : (f : List ℕ) (q : Query) → IsBase f complete old.walk old.kept → StateAgrees f q old.kept old.state
       → IsSomeAnd (wanted_in old) (λ r. come_in f q old ≡ r ∷ come_in f q new)
   pub held : (f : List ℕ) (q : Query) → IsBase f complete old.walk old.kept → StateAgrees f q old.kept old.state → KeepsHeld f q old new
@@ -69,6 +71,8 @@ pub record TellsFault (complete : ℕ) (bytes : List ℕ) (old new : Snapshot) (
   pub kept : new.kept ≡ old.kept
   pub stands : (f : List ℕ) (q : Query) → IsBase f complete old.walk old.kept → StateAgrees f q old.kept old.state
       → AreWantedBytes f old bytes → IsFaulty f q fault
+  pub tiles : (f : List ℕ) (q : Query) → IsBase f complete old.walk old.kept → StateAgrees f q old.kept old.state
+      → AreWantedBytes f old bytes → AreTilesOf f old.tiles → AreTilesOf f new.tiles
 
 abbrev pub AcceptsRange : ℕ → List ℕ → Snapshot → Snapshot → Option FileFault → Type 0
 AcceptsRange complete bytes old new None = Advances complete bytes old new
@@ -79,7 +83,7 @@ pub record Gives (complete : ℕ) (bytes : List ℕ) (q : Query) (old new : Snap
   pub kept : IsKeptOf new.walk new.kept
   pub state : IsState complete new.walk new.kept new.state
   pub same : (f : List ℕ) → IsBase f complete old.walk old.kept → StateAgrees f q old.kept old.state → AreWantedBytes f old bytes
-      → IsBase f complete new.walk new.kept × StateAgrees f q new.kept new.state
+      → AreTilesOf f old.tiles → IsBase f complete new.walk new.kept × StateAgrees f q new.kept new.state × AreTilesOf f new.tiles
   pub come : (f : List ℕ) → IsBase f complete old.walk old.kept → StateAgrees f q old.kept old.state
       → (IsSome (outcome_in new.state) × (come_in f q new ≡ []))
       ⊎ IsSomeAnd (wanted_in old) (λ r. come_in f q old ≡ r ∷ come_in f q new)

@@ -8,3 +8,4 @@ pub mod Paint
 pub mod Reader
 pub mod Samples
 pub mod Step
+pub mod Unpacked

@@ -26,12 +26,14 @@ use Rattle.cog_reader.specs.Fields.{present_in, IsReadOf}
 use Rattle.cog_reader.specs.Kept.{array_after, arrays_held, next_array, HasBoth, IsKeptOf, KeptAgrees}
 use Rattle.cog_reader.specs.Mosaic.{HasPlan, IsGroupLen, IsPlan, IsUnderway}
 use Rattle.cog_reader.specs.Outcome.{IsTrueOf}
+use Rattle.cog_reader.specs.Unpacked.{KeptTile, AreTilesOf}
 
--- the length of the file, the walk over its directories, the arrays that are kept, and the query with what is done for it
+-- the length of the file, the walk over its directories, the arrays and the tiles that are kept, and the query with what is done for it
 pub record ReaderState : Type 0 where
   pub complete : ℕ
   pub walk : WalkState
   pub kept : Kept
+  pub tiles : List KeptTile
   pub pending : Option PendingQuery
 
 -- ---- what it wants
@@ -167,6 +169,7 @@ pub record IsHeldOf (r : ReaderState) (f : List ℕ) : Type 0 where
   pub size : length f ≡ r.complete
   pub walked : walk.WalkAgrees r.walk f
   pub kept : KeptAgrees f r.kept
+  pub tiles : AreTilesOf f r.tiles
   pub sound : IsReader r.complete r.walk r.kept r.pending
   pub state : IfSome r.pending (λ a. StateAgrees f a.query r.kept a.state)
 

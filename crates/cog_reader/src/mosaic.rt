@@ -6,6 +6,7 @@ ghost use Rattle.tiff_dir.specs.Described.{layout_of};
 ghost use Rattle.tiff_dir.specs.Level.{plain_size};
 ghost use Rattle.tile_plan.specs.Plan.{Adjoin};
 ghost use Rattle.cog_reader.specs.Mosaic.{tile_extent, IsPainted, AreArraysOf, IsWhole, AreBytesOf, HasDamage};
+ghost use Rattle.cog_reader.specs.Unpacked.{AreTilesOf};
 
 use crate::Window;
 use crate::arrays::Arrays;
@@ -37,8 +38,11 @@ fn unpack_parts<B: Bytes>(
     ensures rectangle { canvas.new.rectangle ≡ canvas.old.rectangle }
     ensures size { length canvas.new.bytes ≡ length canvas.old.bytes }
     ensures painted { (f : List ℕ) (n first : ℕ) (done : List ℕ) → AreArraysOf f n arrays.now → AreBytesOf f first (B.bytes bytes.now)
-        → Adjoin (tile_extent arrays.now) first tiles.now (first + length (B.bytes bytes.now)) → All (IsPainted f n canvas.old) done
-        → OnOk result (All (IsPainted f n canvas.new) (done ++ tiles.now)) }
+        → Adjoin (tile_extent arrays.now) first tiles.now (first + length (B.bytes bytes.now)) → AreTilesOf f unpacked.old
+        → All (IsPainted f n canvas.old) done → OnOk result (All (IsPainted f n canvas.new) (done ++ tiles.now)) }
+    ensures kept { (f : List ℕ) (n first : ℕ) → AreArraysOf f n arrays.now → AreBytesOf f first (B.bytes bytes.now)
+        → Adjoin (tile_extent arrays.now) first tiles.now (first + length (B.bytes bytes.now)) → AreTilesOf f unpacked.old
+        → AreTilesOf f unpacked.new }
     ensures damaged { (f : List ℕ) (n first : ℕ) → AreArraysOf f n arrays.now → AreBytesOf f first (B.bytes bytes.now)
         → Adjoin (tile_extent arrays.now) first tiles.now (first + length (B.bytes bytes.now))
         → IfErr result (HasDamage f n arrays.now.level tiles.now) }
@@ -122,6 +126,7 @@ impl Mosaic {
     ghost use Rattle.tile_plan.specs.Plan.{IsPlanned, IsErrorOf};
     ghost use Rattle.cog_reader.specs.Mosaic.{HasPlan, IsPlan, IsUnderway, IsGroupLen, IsWantedGroup};
     ghost use Rattle.cog_reader.specs.Outcome.{IsWindowOf};
+    ghost use Rattle.cog_reader.specs.Unpacked.{AreTilesOf};
 
     /// The window of a rectangle, in a file of `complete` bytes: nothing of it is there yet. The rectangle lies in the arrays'
     /// level and is small. Where a tile of it has a wrong byte count or ends past the file, that fault is told.
@@ -197,7 +202,9 @@ impl Mosaic {
         ensures plan { (complete : ℕ) → IsPlan complete arrays.now self.old → IsPlan complete arrays.now self.new }
         ensures given { OnOk result ((self.new.groups ≡ self.old.groups) × (self.new.given ≡ self.old.given + 1)) }
         ensures underway { (f : List ℕ) (q : Query) → IsUnderway f q arrays.now self.old → IsWantedGroup f self.old bytes.now
-            → OnOk result (IsUnderway f q arrays.now self.new) }
+            → AreTilesOf f unpacked.old → OnOk result (IsUnderway f q arrays.now self.new) }
+        ensures kept { (f : List ℕ) (q : Query) → IsUnderway f q arrays.now self.old → IsWantedGroup f self.old bytes.now
+            → AreTilesOf f unpacked.old → AreTilesOf f unpacked.new }
         ensures damaged { (f : List ℕ) (q : Query) → IsUnderway f q arrays.now self.old → IsWantedGroup f self.old bytes.now
             → IfErr result (IsFaultOfWindow f q) }
     {
@@ -226,7 +233,9 @@ impl Mosaic {
         ensures plan { (complete : ℕ) → IsPlan complete arrays.now self.old → IsPlan complete arrays.now self.new }
         ensures given { OnOk result ((self.new.groups ≡ self.old.groups) × (self.new.given ≡ self.old.given + 1)) }
         ensures underway { (f : List ℕ) (q : Query) → IsUnderway f q arrays.now self.old → IsWantedGroup f self.old (B.bytes bytes.now)
-            → OnOk result (IsUnderway f q arrays.now self.new) }
+            → AreTilesOf f unpacked.old → OnOk result (IsUnderway f q arrays.now self.new) }
+        ensures kept { (f : List ℕ) (q : Query) → IsUnderway f q arrays.now self.old → IsWantedGroup f self.old (B.bytes bytes.now)
+            → AreTilesOf f unpacked.old → AreTilesOf f unpacked.new }
         ensures damaged { (f : List ℕ) (q : Query) → IsUnderway f q arrays.now self.old → IsWantedGroup f self.old (B.bytes bytes.now)
             → IfErr result (IsFaultOfWindow f q) }
     {

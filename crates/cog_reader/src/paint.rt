@@ -1,9 +1,11 @@
 //! A packed tile, unpacked and copied onto a canvas.
-ghost use Rattle.std.specs.Prelude.{◌≡◌, ◌<◌, ◌≤◌, IfErr, OnOk, length};
+ghost use Rattle.std.specs.Prelude.{◌≡◌, ◌<◌, ◌≤◌, ℕ, List, IfErr, OnOk, length};
 ghost use Rattle.tiff_dir.specs.declared.level.Compression.TheVariants.{PackBits};
 ghost use Rattle.tiff_dir.specs.Described.{grid_of, layout_of};
 ghost use Rattle.tiff_dir.specs.Level.{plain_size, tile_total};
+ghost use Rattle.tiff_dir.specs.Needs.{bytes_in};
 ghost use Rattle.cog_reader.specs.Paint.{IsPaint, IsBad};
+ghost use Rattle.cog_reader.specs.Unpacked.{AreTilesOf};
 
 use crate::unpacked::Unpacked;
 use packbits::unpack;
@@ -25,21 +27,26 @@ pub fn paint_packed<B: Bytes>(
     requires tile { tile < tile_total (grid_of canvas.old.level) }
     requires room { B.room_needed bytes.now ≤ length room.old }
     requires plain { length plain.old ≡ plain_size (layout_of canvas.old.level) }
-    ensures paint { OnOk result (IsPaint tile (B.bytes bytes.now) canvas.old canvas.new) }
+    // Of a file that has these bytes there, and whose tiles those are that are kept.
+    ensures paint { (f : List ℕ) → B.bytes bytes.now ≡ bytes_in f (record { first = first; len = length (B.bytes bytes.now) })
+        → AreTilesOf f unpacked.old → OnOk result (IsPaint tile (B.bytes bytes.now) canvas.old canvas.new) }
+    ensures kept { (f : List ℕ) → B.bytes bytes.now ≡ bytes_in f (record { first = first; len = length (B.bytes bytes.now) })
+        → AreTilesOf f unpacked.old → AreTilesOf f unpacked.new }
     ensures bad { IfErr result (IsBad (B.bytes bytes.now) canvas.old) }
     ensures level { canvas.new.level ≡ canvas.old.level }
     ensures rectangle { canvas.new.rectangle ≡ canvas.old.rectangle }
     ensures size { length canvas.new.bytes ≡ length canvas.old.bytes }
 {
     let row = canvas.level().plain_row();
+    let len = bytes.len();
     unpacked.promote(first);
-    if let Some(kept) = unpacked.find(first, bytes, row, plain.len()) {
+    if let Some(kept) = unpacked.find(first, len, row, plain.len()) {
         canvas.blit(tile, &Slice(kept));
         return Ok(());
     }
-    let packed = bytes.part_at(0, bytes.len(), room);
+    let packed = bytes.part_at(0, len, room);
     unpack(packed, row, plain)?;
     canvas.blit(tile, &Slice(plain));
-    unpacked.keep(first, packed, row, plain);
+    unpacked.keep(first, len, row, plain);
     Ok(())
 }

@@ -26,7 +26,7 @@ impl Model for Reader {
 
     ghost Value = { ReaderState };
 
-    ghost view = { λ r. record { complete = r.complete; walk = r.walk; kept = r.kept; pending = r.pending } };
+    ghost view = { λ r. record { complete = r.complete; walk = r.walk; kept = r.kept; tiles = r.unpacked; pending = r.pending } };
 
     ghost invariant = { λ r. IsReader r.complete r.walk r.kept r.pending };
 }
@@ -57,22 +57,25 @@ impl Reader {
         ensures query { query_of result ≡ None }
         ensures outcome { outcome_of result ≡ None }
     {
+        Reader::keeping(alloc, complete, 0)
+    }
+
+    /// The same, and from one window to the next it keeps the tiles unpacked that were used last, of at most so many bytes in all. Where
+    /// there is no memory for a tile, that is unpacked again.
+    pub fn keeping(alloc: Global, complete: u64, bytes: usize) -> Reader
+        ensures agrees { (f : List ℕ) → length f ≡ complete → ReaderAgrees result f }
+        ensures complete { complete_of result ≡ complete }
+        ensures query { query_of result ≡ None }
+        ensures outcome { outcome_of result ≡ None }
+    {
         Reader {
             alloc,
             complete,
             walk: Walk::new(alloc),
             kept: Kept::Nothing,
-            unpacked: Unpacked::new(alloc, 0),
+            unpacked: Unpacked::new(alloc, bytes),
             pending: None,
         }
-    }
-
-    /// Keeps tiles unpacked from one window to the next, the last used ones, of at most so many bytes in all, and their packed bytes
-    /// beside them: none where nothing is said. It takes no memory; where there is none for a tile, that is unpacked again.
-    pub fn keep_unpacked(&mut self, bytes: usize)
-        ensures { self.new ≡ self.old }
-    {
-        self.unpacked = Unpacked::new(self.alloc, bytes);
     }
 
     /// Asks a query, in the place of the one before, whose state goes. It takes no memory.

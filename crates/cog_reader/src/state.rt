@@ -92,9 +92,10 @@ fn accept(
     requires state { (complete : ℕ) × IsState complete walk.old kept.old state.old }
     requires wanted { IsSomeAnd (wanted_by walk.old kept.old state.old) (λ r. length bytes.now ≡ r.len) }
     ensures accepts { IfOk result (λ o. (complete : ℕ) → IsState complete walk.old kept.old state.old
-        → AcceptsRange complete bytes.now (record { walk = walk.old; kept = kept.old; state = state.old })
-        (record { walk = walk.new; kept = kept.new; state = state.new }) o) }
-    ensures err { OnErr result ((walk.new ≡ walk.old) × (kept.new ≡ kept.old) × (state.new ≡ state.old)) }
+        → AcceptsRange complete bytes.now
+        (record { walk = walk.old; kept = kept.old; tiles = unpacked.old; state = state.old })
+        (record { walk = walk.new; kept = kept.new; tiles = unpacked.new; state = state.new }) o) }
+    ensures err { OnErr result ((walk.new ≡ walk.old) × (kept.new ≡ kept.old) × (unpacked.new ≡ unpacked.old) × (state.new ≡ state.old)) }
 {
     match state {
         State::Directories => directories::accept(walk, bytes),
@@ -180,9 +181,10 @@ impl PendingQuery {
         requires wanted { IsSomeAnd (wanted_by walk.old kept.old self.old.state) (λ r. length bytes.now ≡ r.len) }
         ensures query { self.new.query ≡ self.old.query }
         ensures gives { OnOk result ((complete : ℕ) → IsState complete walk.old kept.old self.old.state
-            → Gives complete bytes.now self.old.query (record { walk = walk.old; kept = kept.old; state = self.old.state })
-            (record { walk = walk.new; kept = kept.new; state = self.new.state })) }
-        ensures err { OnErr result ((walk.new ≡ walk.old) × (kept.new ≡ kept.old) × (self.new ≡ self.old)) }
+            → Gives complete bytes.now self.old.query
+            (record { walk = walk.old; kept = kept.old; tiles = unpacked.old; state = self.old.state })
+            (record { walk = walk.new; kept = kept.new; tiles = unpacked.new; state = self.new.state })) }
+        ensures err { OnErr result ((walk.new ≡ walk.old) × (kept.new ≡ kept.old) × (unpacked.new ≡ unpacked.old) × (self.new ≡ self.old)) }
     {
         match accept(alloc, walk, kept, &mut self.state, unpacked, bytes)? {
             Some(fault) => self.state = State::Answered(Outcome::Fault(fault)),
@@ -194,7 +196,9 @@ impl PendingQuery {
 
 impl PendingQuery {
     ghost use Rattle.tiff_dir.specs.declared.level.Compression.TheVariants.{PackBits, Plain};
+    ghost use Rattle.std.specs.Prelude.{List};
     ghost use Rattle.tiff_dir.specs.WalkState.{WalkState};
+    ghost use Rattle.cog_reader.specs.Unpacked.{KeptTile};
 
     /// How the tiles are stored that are wanted, none where no tiles are.
     pub fn tiles_wanted(&self, kept: &Kept) -> Option<Compression>
@@ -213,9 +217,10 @@ impl PendingQuery {
     pub fn paint<B: Bytes>(&mut self, kept: &Kept, bytes: &B)
         requires { AreTiles Plain kept.now self.old.state (length (B.bytes bytes.now)) }
         ensures query { self.new.query ≡ self.old.query }
-        ensures gives { (complete : ℕ) (w : WalkState) → IsKeptOf w kept.now → IsState complete w kept.now self.old.state
-            → Gives complete (B.bytes bytes.now) self.old.query (record { walk = w; kept = kept.now; state = self.old.state })
-            (record { walk = w; kept = kept.now; state = self.new.state }) }
+        ensures gives { (complete : ℕ) (w : WalkState) (tiles : List KeptTile) → IsKeptOf w kept.now
+            → IsState complete w kept.now self.old.state → Gives complete (B.bytes bytes.now) self.old.query
+            (record { walk = w; kept = kept.now; tiles = tiles; state = self.old.state })
+            (record { walk = w; kept = kept.now; tiles = tiles; state = self.new.state }) }
     {
         let State::Tiles(mosaic) = &mut self.state else {
             unreachable!()
@@ -235,8 +240,9 @@ impl PendingQuery {
         requires room { B.room_needed bytes.now ≤ length room.old }
         ensures query { self.new.query ≡ self.old.query }
         ensures gives { (complete : ℕ) (w : WalkState) → IsKeptOf w kept.now → IsState complete w kept.now self.old.state
-            → Gives complete (B.bytes bytes.now) self.old.query (record { walk = w; kept = kept.now; state = self.old.state })
-            (record { walk = w; kept = kept.now; state = self.new.state }) }
+            → Gives complete (B.bytes bytes.now) self.old.query
+            (record { walk = w; kept = kept.now; tiles = unpacked.old; state = self.old.state })
+            (record { walk = w; kept = kept.now; tiles = unpacked.new; state = self.new.state }) }
     {
         let State::Tiles(mosaic) = &mut self.state else {
             unreachable!()

@@ -156,12 +156,14 @@ impl<P> Noted<P> {
 }
 
 impl<P: Pieces> Pieces for Noted<P> {
-    ghost use Rattle.std.specs.Prelude.{◌≡◌, ◌+◌, ◌<◌, ◌≤◌, ◌^◌, IfOk, OnErr, OnOk, is_ok, length, min, take};
+    ghost use Rattle.std.specs.Prelude.{◌≡◌, ◌+◌, ◌<◌, ◌≤◌, ◌^◌, [], IfOk, OnErr, OnOk, is_ok, length, min, take};
     ghost use Rattle.cog_client.specs.Pieces.{BringsOf};
     ghost use Rattle.cog_client.specs.Transport.{IsTrueToAll, SpeaksOn};
     ghost use Rattle.exchange_notes.specs.Noted.{NotesOf, bytes_of, front_of, sent_of, source_of};
 
     ghost speaks_for = { λ s. P.speaks_for (source_of s) };
+
+    ghost answers = { λ s. P.answers (source_of s) };
 
     ghost count = { λ s. P.count (source_of s) };
 
@@ -176,6 +178,8 @@ impl<P: Pieces> Pieces for Noted<P> {
         ensures front { front_of self.new ≡ [] }
 
         // So it keeps the trait's law.
+        ensures answered { OnOk result (P.answers (source_of self.old) request.now (P.rest (source_of self.new))) }
+        ensures dropped { OnErr result (P.rest (source_of self.new) ≡ []) }
         ensures shows { OnOk result (IsTrueToAll (P.speaks_for (source_of self.old)) (P.rest (source_of self.new))) }
         ensures speaks { SpeaksOn (P.speaks_for (source_of self.old)) (P.speaks_for (source_of self.new)) }
         ensures counted { P.count (source_of self.new) ≡ P.count (source_of self.old) + 1 }

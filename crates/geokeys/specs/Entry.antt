@@ -31,7 +31,7 @@ entry_at order directory i = record {
 abbrev pub only_items : List ℕ → List ℕ → KeySource
 only_items doubles ascii = record { value = λ _. None; count = None; items = item_count doubles ascii }
 
--- the key's items are in a field
+-- the key isn't misplaced
 abbrev pub IsPlaced : List ℕ → List ℕ → Entry → Type 0
 IsPlaced doubles ascii e = IsMisplaced (only_items doubles ascii) (Some e.location) (Some e.count) (Some e.first) → ⊥
 

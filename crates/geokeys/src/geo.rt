@@ -33,7 +33,7 @@ pub enum KeyValue {
 }
 
 impl Geo {
-    ghost use Rattle.std.specs.Prelude.{◌%◌, IfOk, IfErr, length};
+    ghost use Rattle.std.specs.Prelude.{◌≡◌, ◌%◌, IfOk, IfErr, IsOk, length};
     ghost use Rattle.tiff_dir.specs.Keys.{IsFaultOfKeys};
     ghost use Rattle.tiff_dir.specs.declared.fault.FileFault.{FileFault as Fault};
     ghost use Rattle.geokeys.specs.Keys.{key_source, AreKeys, IsKeyError};
@@ -63,6 +63,8 @@ impl Geo {
         ensures keys { IfOk result (AreKeys (key_source order directory.now doubles.now ascii.now) order doubles.now ascii.now) }
         ensures sound { IfOk result (λ _. (fault : Fault) → IsFaultOfKeys (key_source order directory.now doubles.now ascii.now) fault → ⊥) }
         ensures refused { IfErr result (IsKeyError (key_source order directory.now doubles.now ascii.now)) }
+        // Where there are no keys no memory is wanted.
+        ensures sure { length directory.now ≡ 0 → IsOk result }
     {
         if directory.is_empty() {
             let keys = Vec::new(alloc);

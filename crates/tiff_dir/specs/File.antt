@@ -113,7 +113,7 @@ field_value f e i = do
   at ← values_at f e (count * size_of kind)
   if nat_lt i count then number f (at + i * size_of kind) (size_of kind) else None
 
--- what each value of an absent field stands for (section 8, of SampleFormat section 19)
+-- what each value of an absent field stands for (section 8, of SampleFormat section 19), of those that the profile doesn't require
 abbrev pub default_of : ℕ → Option ℕ
 default_of tag =
     if tag == NEW_SUBFILE_TYPE then Some 0

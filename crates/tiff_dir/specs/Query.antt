@@ -83,7 +83,7 @@ is_too_large f q = unwrap_or (do
 abbrev pub is_refused : List ℕ → Query → Bool
 is_refused f q = is_outside f q || is_too_large f q
 
--- two stretches have a place in common
+-- two stretches, neither of them empty, have a place in common
 abbrev pub overlap : ℕ → ℕ → ℕ → ℕ → Bool
 overlap a a_len b b_len = nat_lt a (b + b_len) && nat_lt b (a + a_len)
 

@@ -46,7 +46,7 @@ index_of (Bits pending first formats) = pending.index
 index_of (Formats pending first bits) = pending.index
 index_of (Ended order index) = index
 
--- the table of the first directory has been read, or it is what is wanted
+-- the table of the first directory has been read
 abbrev pub is_past_first : Stage → Bool
 is_past_first Header = false
 is_past_first (Count order index at) = nat_lt 0 index
@@ -55,6 +55,7 @@ is_past_first (Bits pending first formats) = true
 is_past_first (Formats pending first bits) = true
 is_past_first (Ended order index) = true
 
+-- it is what is wanted
 abbrev pub is_first_table : Stage → Bool
 is_first_table (Table order index at n) = index == 0
 is_first_table _ = false

@@ -73,7 +73,7 @@ IsEntryFault r es (Missing tag) = (r.tag ≡ tag) × (r.required ≡ true) × (e
 IsEntryFault r es (FieldType tag) = (r.tag ≡ tag) × IsSomeAnd (entry_with_tag r.tag es) (λ e. allows r e ≡ false)
 IsEntryFault r es _ = ⊥
 
--- the field of one of the rules is missing, or has another type
+-- the field of one of the rules is missing, or has another type or count
 abbrev pub IsFaultOfEntries : List Rule → List Entry → FileFault → Type 0
 IsFaultOfEntries rules es fault = (k : ℕ) × (d : Rule) × (k < length rules) × IsEntryFault (get_or rules k d) es fault
 
@@ -96,7 +96,7 @@ counts_samples es tag = option_map_or (λ e. e.count == short_or es SAMPLES_PER_
 abbrev pub long_in : List Entry → ℕ → Option ℕ
 long_in es tag = option_map (λ e. e.long) (entry_with_tag tag es)
 
--- the types that the profile has
+-- the type of a number that a rule allows; of another one, which no rule does, that of DOUBLE
 abbrev pub kind_in : ℕ → Kind
 kind_in number =
     if number == 3 then kind.Short
@@ -145,7 +145,7 @@ IsValueFault es fault =
     ⊎ (((fault ≡ Unsupported PLANAR_CONFIGURATION) × (planes_fit (short_or es PLANAR_CONFIGURATION 1) (short_or es SAMPLES_PER_PIXEL 1) ≡ false))
     ⊎ ((fault ≡ Unsupported COMPRESSION) × (accepts COMPRESSION (short_or es COMPRESSION 0) ≡ false))))
 
--- the fields of BitsPerSample and SampleFormat have a value for each sample, or the first that has not
+-- the fields of BitsPerSample and SampleFormat have a value for each sample
 abbrev pub HasCounts : List Entry → Type 0
 HasCounts es = (counts_samples es BITS_PER_SAMPLE ≡ true) × (counts_samples es SAMPLE_FORMAT ≡ true)
 

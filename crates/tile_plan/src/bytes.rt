@@ -1,11 +1,14 @@
 //! Bytes that are copied out part by part, wherever they stand.
-ghost use Rattle.std.specs.Prelude.{◌≡◌, ◌+◌, ◌≤◌, ℕ, List, length};
+ghost use Rattle.std.specs.Prelude.{◌≡◌, ◌+◌, ◌-◌, ◌≤◌, ℕ, List, length, min};
 ghost use Rattle.std.specs.List.{slice_range};
 
 /// Bytes that stand somewhere, in one piece or in several.
 pub trait Bytes {
     /// The bytes.
     ghost bytes: { Self → List ℕ };
+
+    /// How many stand in one piece from a place on.
+    ghost piece_len: { Self → ℕ → ℕ };
 
     /// How much room has to be there for `part_at`, however much of it is used.
     ghost room_needed: { Self → ℕ };
@@ -22,6 +25,7 @@ pub trait Bytes {
     /// Those from a place on, as many as stand in one piece there. There may be none.
     fn piece_at(&self, at: usize) -> &[u8]
         requires { at ≤ length (bytes self.now) }
+        ensures long { length result.now ≡ piece_len self.now at }
         ensures within { at + length result.now ≤ length (bytes self.now) }
         ensures piece { result.now ≡ slice_range (bytes self.now) at (at + length result.now) };
 
@@ -38,6 +42,8 @@ pub struct Slice<'a>(pub &'a [u8]);
 
 impl Bytes for Slice<'_> {
     ghost bytes = { λ s. s.0.now };
+
+    ghost piece_len = { λ s at. length s.0.now - at };
 
     ghost room_needed = { λ s. 0 };
 
@@ -80,6 +86,8 @@ impl<'a, B: Bytes> Part<'a, B> {
 
 impl<B: Bytes> Bytes for Part<'_, B> {
     ghost bytes = { λ s. slice_range (B.bytes s.of.now) s.first (s.first + s.len) };
+
+    ghost piece_len = { λ s at. min (B.piece_len s.of.now (s.first + at)) (s.len - at) };
 
     ghost room_needed = { λ s. B.room_needed s.of.now };
 

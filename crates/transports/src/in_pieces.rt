@@ -61,30 +61,22 @@ impl<'p, T> InPieces<'p, T> {
 }
 
 impl<T: Transport> Pieces for InPieces<'_, T> {
-    ghost use Rattle.std.specs.Prelude.{◌≡◌, ◌+◌, ◌<◌, ◌^◌, OnOk};
-    ghost use Rattle.cog_client.specs.Transport.{IsTrueToAll, SpeaksOn};
+    ghost use Rattle.std.specs.Prelude.{◌≡◌, ◌+◌, ◌<◌};
     ghost use Rattle.transports.specs.Transports.{rest_of, source_of};
 
     ghost speaks_for = { λ s. T.speaks_for (source_of s) };
+
+    ghost answers = { λ s. T.answers (source_of s) };
 
     ghost count = { λ s. T.count (source_of s) };
 
     ghost rest = { rest_of };
 
-    fn start(&mut self, request: &[u8]) -> Result<(), Lost>
-        requires { T.count (source_of self.old) + 1 < 2 ^ 64 }
-
-        // What is handed over is what may come of the other one's answer.
-        ensures whole { OnOk result (T.answers (source_of self.old) request.now (rest_of self.new)) }
-
-        // So it keeps the trait's law.
-        ensures shows { OnOk result (IsTrueToAll (T.speaks_for (source_of self.old)) (rest_of self.new)) }
-        ensures speaks { SpeaksOn (T.speaks_for (source_of self.old)) (T.speaks_for (source_of self.new)) }
-        ensures counted { T.count (source_of self.new) ≡ T.count (source_of self.old) + 1 }
-    {
+    fn start(&mut self, request: &[u8]) -> Result<(), Lost> {
         self.left = self.sizes;
-        self.answer = self.inner.exchange(request)?;
+        self.answer.clear();
         self.at = 0;
+        self.answer = self.inner.exchange(request)?;
         Ok(())
     }
 

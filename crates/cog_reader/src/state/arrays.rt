@@ -1,5 +1,5 @@
 //! The tile arrays of a window's level are read.
-ghost use Rattle.std.specs.Prelude.{◌≡◌, ℕ, IfOk, IsSomeAnd, OnErr, OnOk, length, slice_get};
+ghost use Rattle.std.specs.Prelude.{◌≡◌, ℕ, List, IfOk, IsSomeAnd, OnErr, OnOk, length, slice_get};
 ghost use Rattle.tiff_dir.specs.declared.query.Query.{Query as Asks};
 ghost use Rattle.tiff_dir.specs.Walk.{levels_of, HasEnded};
 ghost use Rattle.tile_plan.specs.Levels.{IsSmall};
@@ -8,6 +8,7 @@ ghost use Rattle.cog_reader.specs.Give.{Advances};
 ghost use Rattle.cog_reader.specs.Kept.{IsKeptOf};
 ghost use Rattle.cog_reader.specs.Reader.{wanted_by, IsState};
 ghost use Rattle.cog_reader.specs.Step.{ComesLater, IsStep};
+ghost use Rattle.cog_reader.specs.Unpacked.{KeptTile};
 
 use crate::Outcome;
 use crate::kept::{Kept, NextArray};
@@ -70,9 +71,9 @@ pub fn accept(
     requires state { IsState 0 walk.now kept.old (state.Arrays rect) }
     requires kept { IsKeptOf walk.now kept.old }
     requires wanted { IsSomeAnd (wanted_by walk.now kept.old (state.Arrays rect)) (λ r. length bytes.now ≡ r.len) }
-    ensures on { OnOk result ((complete : ℕ) → Advances complete bytes.now
-        (record { walk = walk.now; kept = kept.old; state = state.Arrays rect })
-        (record { walk = walk.now; kept = kept.new; state = state.Arrays rect })) }
+    ensures on { OnOk result ((complete : ℕ) (tiles : List KeptTile) → Advances complete bytes.now
+        (record { walk = walk.now; kept = kept.old; tiles = tiles; state = state.Arrays rect })
+        (record { walk = walk.now; kept = kept.new; tiles = tiles; state = state.Arrays rect })) }
     ensures err { OnErr result (kept.new ≡ kept.old) }
 {
     what_comes();

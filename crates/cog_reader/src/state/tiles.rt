@@ -1,5 +1,5 @@
 //! The groups of a window's tiles are read.
-ghost use Rattle.std.specs.Prelude.{◌≡◌, ◌≤◌, ℕ, length};
+ghost use Rattle.std.specs.Prelude.{◌≡◌, ◌≤◌, ℕ, List, length};
 ghost use Rattle.tiff_dir.specs.declared.level.Compression.TheVariants.{PackBits, Plain};
 ghost use Rattle.tiff_dir.specs.declared.query.Query.{Query as Asks};
 ghost use Rattle.tiff_dir.specs.Walk.{HasEnded};
@@ -11,6 +11,7 @@ ghost use Rattle.cog_reader.specs.Give.{AcceptsRange, Advances};
 ghost use Rattle.cog_reader.specs.Kept.{HasBoth, IsKeptOf};
 ghost use Rattle.cog_reader.specs.Mosaic.{HasPlan, IsGroupLen, IsPlan};
 ghost use Rattle.cog_reader.specs.Step.{ComesLater, IsStep};
+ghost use Rattle.cog_reader.specs.Unpacked.{KeptTile};
 
 use crate::Outcome;
 use crate::arrays::Arrays;
@@ -50,8 +51,8 @@ pub fn accept(
     requires plan { HasBoth kept.now (λ a. HasPlan a mosaic.old) }
     requires wanted { IsGroupLen mosaic.old (length bytes.now) }
     ensures { (complete : ℕ) (w : WalkState) → HasEnded w → HasBoth kept.now (λ a. IsPlan complete a mosaic.old) → IsKeptOf w kept.now
-        → AcceptsRange complete bytes.now (record { walk = w; kept = kept.now; state = state.Tiles mosaic.old })
-        (record { walk = w; kept = kept.now; state = state.Tiles mosaic.new }) result }
+        → AcceptsRange complete bytes.now (record { walk = w; kept = kept.now; tiles = unpacked.old; state = state.Tiles mosaic.old })
+        (record { walk = w; kept = kept.now; tiles = unpacked.new; state = state.Tiles mosaic.new }) result }
 {
     match mosaic.give(kept.both(), unpacked, bytes) {
         Ok(()) => None,
@@ -63,9 +64,10 @@ pub fn accept(
 pub fn paint<B: Bytes>(kept: &Kept, mosaic: &mut Mosaic, bytes: &B)
     requires plan { HasBoth kept.now (λ a. (a.level.compression ≡ Plain) × HasPlan a mosaic.old) }
     requires wanted { IsGroupLen mosaic.old (length (B.bytes bytes.now)) }
-    ensures { (complete : ℕ) (w : WalkState) → HasEnded w → HasBoth kept.now (λ a. IsPlan complete a mosaic.old) → IsKeptOf w kept.now
-        → Advances complete (B.bytes bytes.now) (record { walk = w; kept = kept.now; state = state.Tiles mosaic.old })
-        (record { walk = w; kept = kept.now; state = state.Tiles mosaic.new }) }
+    ensures { (complete : ℕ) (w : WalkState) (tiles : List KeptTile) → HasEnded w → HasBoth kept.now (λ a. IsPlan complete a mosaic.old)
+        → IsKeptOf w kept.now → Advances complete (B.bytes bytes.now)
+        (record { walk = w; kept = kept.now; tiles = tiles; state = state.Tiles mosaic.old })
+        (record { walk = w; kept = kept.now; tiles = tiles; state = state.Tiles mosaic.new }) }
 {
     mosaic.paint(kept.both(), bytes);
 }
@@ -82,8 +84,9 @@ pub fn unpack<B: Bytes>(
     requires wanted { IsGroupLen mosaic.old (length (B.bytes bytes.now)) }
     requires room { B.room_needed bytes.now ≤ length room.old }
     ensures { (complete : ℕ) (w : WalkState) → HasEnded w → HasBoth kept.now (λ a. IsPlan complete a mosaic.old) → IsKeptOf w kept.now
-        → AcceptsRange complete (B.bytes bytes.now) (record { walk = w; kept = kept.now; state = state.Tiles mosaic.old })
-        (record { walk = w; kept = kept.now; state = state.Tiles mosaic.new }) result }
+        → AcceptsRange complete (B.bytes bytes.now)
+        (record { walk = w; kept = kept.now; tiles = unpacked.old; state = state.Tiles mosaic.old })
+        (record { walk = w; kept = kept.now; tiles = unpacked.new; state = state.Tiles mosaic.new }) result }
 {
     match mosaic.unpack(kept.both(), unpacked, bytes, room) {
         Ok(()) => None,

@@ -55,8 +55,7 @@ fn read(alloc: Global, reader: &mut Reader, file: &[u8]) -> Result<Vec<Span>, Me
 impl Image {
     /// A file of which nothing is read. Its reader keeps a few tiles unpacked.
     pub fn new(alloc: Global, file: Vec<u8>) -> Image {
-        let mut reader = Reader::new(alloc, file.len() as u64);
-        reader.keep_unpacked(UNPACKED);
+        let reader = Reader::keeping(alloc, file.len() as u64, UNPACKED);
         Image { file, reader }
     }
 

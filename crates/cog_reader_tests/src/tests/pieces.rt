@@ -1,5 +1,5 @@
 //! Bytes that stand in small pieces.
-ghost use Rattle.std.specs.Prelude.{length};
+ghost use Rattle.std.specs.Prelude.{◌-◌, length, min};
 
 use cog_reader::Bytes;
 
@@ -12,6 +12,8 @@ pub struct Pieces<'a>(pub &'a [u8]);
 
 impl Bytes for Pieces<'_> {
     ghost bytes = { λ p. p.0.now };
+
+    ghost piece_len = { λ p at. min (length p.0.now - at) 7 };
 
     ghost room_needed = { λ p. length p.0.now };
 

@@ -7,7 +7,7 @@ use Rattle.tiff_dir.specs.Described.{layout_of}
 use Rattle.tile_plan.specs.Plan.{Adjoin}
 use Rattle.cog_reader.specs.Mosaic.{tile_extent, IsPainted, HasDamage}
 use Rattle.cog_reader.specs.Paint.{IsBad, IsPaint}
-use Rattle.cog_reader.proofs.PaintLemmas.{tile_step, tile_end, segment_is, of_part, passed_on, painted_more}
+use Rattle.cog_reader.proofs.PaintLemmas.{tile_step, tile_end, segment_is, tile_bytes, of_part, passed_on, painted_more}
 use Rattle.cog_reader.proofs.mosaic.unpack_parts.Goals as goal
 
 pub new-requires : goal.new-requires
@@ -27,9 +27,8 @@ loop-tile-preserved g c =
     let len = c.place_of-first.result.1 in
     let bytes = g.B.Bytes.bytes c.args.bytes.now in
     let size = length bytes in
+    let of = ap g.B.Bytes.bytes c.new.ensures.of in
     let less : i < length ts = c.loop-tile-test.true in
-    let paint = of_part (λ l. IsPaint t l c.loop-tile.canvas c.paint_packed.new.canvas) at len c.new.result.first c.new.result.len bytes (g.B.Bytes.bytes c.new.result.of.now)
-    (ap g.B.Bytes.bytes c.new.ensures.of) c.new.ensures.place.0 c.new.ensures.place.1 c.in_ok-paint_packed.ensures.paint in
     record {
       rest = λ first adjoin. (
           let step = tile_step (tile_extent a) (first + at) ts i (first + size) (c.loop-tile.invariant.rest first adjoin) less in
@@ -41,8 +40,18 @@ loop-tile-preserved g c =
       size = c.paint_packed.ensures.size ∙ c.loop-tile.invariant.size;
       room = c.paint_packed.auto.room ∙ c.loop-tile.invariant.room;
       plain = c.paint_packed.auto.plain ∙ c.loop-tile.invariant.plain;
-      painted = λ f n first done arrays bytes_of adjoin all. (
+      kept = λ f n first arrays bytes_of adjoin tiles.
+          c.paint_packed.ensures.kept f
+          (tile_bytes f first at c.place_of-first.result.0 len c.new.result.first c.new.result.len (tile_extent a) ts i bytes (g.B.Bytes.bytes c.new.result.of.now) bytes_of.are (c.loop-tile.invariant.rest first adjoin) less
+          c.place_of-first.ensures.first c.place_of-first.ensures.len of c.new.ensures.place.0 c.new.ensures.place.1)
+          (c.loop-tile.invariant.kept f n first arrays bytes_of adjoin tiles);
+      painted = λ f n first done arrays bytes_of adjoin tiles all. (
           let rest = c.loop-tile.invariant.rest first adjoin in
+          let paint = of_part (λ l. IsPaint t l c.loop-tile.canvas c.paint_packed.new.canvas) at len c.new.result.first c.new.result.len bytes (g.B.Bytes.bytes c.new.result.of.now) of c.new.ensures.place.0 c.new.ensures.place.1
+          (c.in_ok-paint_packed.ensures.paint f
+          (tile_bytes f first at c.place_of-first.result.0 len c.new.result.first c.new.result.len (tile_extent a) ts i bytes (g.B.Bytes.bytes c.new.result.of.now) bytes_of.are rest less
+          c.place_of-first.ensures.first c.place_of-first.ensures.len of c.new.ensures.place.0 c.new.ensures.place.1)
+          (c.loop-tile.invariant.kept f n first arrays bytes_of adjoin tiles)) in
           let within = tile_end (tile_extent a) first at size ts i rest less in
           let values = c.place_of-first.ensures.values f n arrays in
           let segment = segment_is f n t at first size len (at + len - at) bytes (values.first ∙ ap Some (tile_step (tile_extent a) (first + at) ts i (first + size) rest less).0)
@@ -50,7 +59,7 @@ loop-tile-preserved g c =
           let more : done ++ take (i + 1) ts ≡ (done ++ take i ts) ++ t ∷ [] = ap (λ l. done ++ l) (take_more ts i 0 less) ∙ sym (append_assoc done (take i ts) (t ∷ [])) in
           subst (All (IsPainted f n c.paint_packed.new.canvas)) (sym more)
           (painted_more f n t (take (at + len - at) (drop at bytes)) (done ++ take i ts) c.loop-tile.canvas c.paint_packed.new.canvas paint segment
-          (c.loop-tile.invariant.painted f n first done arrays bytes_of adjoin all))
+          (c.loop-tile.invariant.painted f n first done arrays bytes_of adjoin tiles all))
           );
     }
 
@@ -83,6 +92,14 @@ returns-in_err-paint_packed-clause-damaged g c f n first arrays bytes_of adjoin 
     })
 
 pub returns-clause-painted : goal.returns-clause-painted
-returns-clause-painted g c f n first done arrays bytes_of adjoin all =
+returns-clause-painted g c f n first done arrays bytes_of adjoin tiles all =
     let ts = c.args.tiles.now in
-    subst (λ l. All (IsPainted f n c.loop-tile.canvas) (done ++ l)) (take_all c.loop-tile.tile-index ts (omega (arith, c.loop-tile-test.false))) (c.loop-tile.invariant.painted f n first done arrays bytes_of adjoin all)
+    subst (λ l. All (IsPainted f n c.loop-tile.canvas) (done ++ l)) (take_all c.loop-tile.tile-index ts (omega (arith, c.loop-tile-test.false))) (c.loop-tile.invariant.painted f n first done arrays bytes_of adjoin tiles all)
+
+pub returns-in_err-paint_packed-clause-kept : goal.returns-in_err-paint_packed-clause-kept
+returns-in_err-paint_packed-clause-kept g c f n first arrays bytes_of adjoin tiles =
+    c.paint_packed.ensures.kept f
+    (tile_bytes f first c.loop-tile.at c.place_of-first.result.0 c.place_of-first.result.1 c.new.result.first c.new.result.len (tile_extent c.args.arrays.now) c.args.tiles.now c.loop-tile.tile-index (g.B.Bytes.bytes c.args.bytes.now)
+    (g.B.Bytes.bytes c.new.result.of.now) bytes_of.are (c.loop-tile.invariant.rest first adjoin) c.loop-tile-test.true
+    c.place_of-first.ensures.first c.place_of-first.ensures.len (ap g.B.Bytes.bytes c.new.ensures.of) c.new.ensures.place.0 c.new.ensures.place.1)
+    (c.loop-tile.invariant.kept f n first arrays bytes_of adjoin tiles)

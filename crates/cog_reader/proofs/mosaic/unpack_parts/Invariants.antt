@@ -4,6 +4,7 @@ use Rattle.tiff_dir.specs.Level.{plain_size}
 use Rattle.tiff_dir.specs.Described.{layout_of}
 use Rattle.tile_plan.specs.Plan.{Adjoin}
 use Rattle.cog_reader.specs.Mosaic.{tile_extent, IsPainted, AreArraysOf, AreBytesOf}
+use Rattle.cog_reader.specs.Unpacked.{AreTilesOf}
 use Rattle.cog_reader.proofs.mosaic.unpack_parts.Given as goal
 
 abbrev pub invariant-loop-tile : goal.invariant-loop-tile
@@ -15,5 +16,7 @@ invariant-loop-tile g l = record {
   room : length l.room ≡ length l.fn.room;
   plain : length l.plain ≡ plain_size (layout_of l.arrays.level);
   painted : (f : List ℕ) (n first : ℕ) (done : List ℕ) → AreArraysOf f n l.arrays → AreBytesOf f first (g.B.Bytes.bytes l.bytes) → Adjoin (tile_extent l.arrays) first l.tiles (first + length (g.B.Bytes.bytes l.bytes))
-      → All (IsPainted f n l.fn.canvas) done → All (IsPainted f n l.canvas) (done ++ take l.tile-index l.tiles);
+      → AreTilesOf f l.fn.unpacked → All (IsPainted f n l.fn.canvas) done → All (IsPainted f n l.canvas) (done ++ take l.tile-index l.tiles);
+  kept : (f : List ℕ) (n first : ℕ) → AreArraysOf f n l.arrays → AreBytesOf f first (g.B.Bytes.bytes l.bytes) → Adjoin (tile_extent l.arrays) first l.tiles (first + length (g.B.Bytes.bytes l.bytes))
+      → AreTilesOf f l.fn.unpacked → AreTilesOf f l.unpacked;
 }

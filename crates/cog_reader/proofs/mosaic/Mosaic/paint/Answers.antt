@@ -1,9 +1,8 @@
-use Rattle.std.proofs.Common.{◌+◌, ◌++◌, length, take, sym, subst, ap, ◌∙◌}
+use Rattle.std.proofs.Common.{◌++◌, length, take, sym, subst, ap, ◌∙◌}
 use Rattle.std.specs.List.{All}
 use Rattle.std.specs.Prelude.{slice_get}
-use Rattle.tile_plan.specs.Plan.{Adjoin}
-use Rattle.cog_reader.specs.Mosaic.{MosaicState, tile_extent, tiles_of_groups, IsPainted, IsUnderway, IsGroupLen, IsWantedGroup}
-use Rattle.cog_reader.proofs.MosaicLemmas.{found, whole_group, next_bytes, arrays_of, underway_more}
+use Rattle.cog_reader.specs.Mosaic.{MosaicState, tiles_of_groups, IsPainted}
+use Rattle.cog_reader.proofs.MosaicLemmas.{found, whole_group, given_bytes, arrays_of, underway_more}
 use Rattle.cog_reader.proofs.mosaic.Mosaic.paint.Goals as goal
 
 pub paint_parts-requires-clause-whole : goal.paint_parts-requires-clause-whole
@@ -19,11 +18,8 @@ returns-clause-underway g c f q w next =
     let h = c.in-Some.group.now in
     let ts = c.deref-2.result.now in
     let work : MosaicState = record { groups = c.self.inside.groups.items; given = c.self.inside.given; picture = c.self.inside.canvas } in
-    let u = subst (IsUnderway f q a) (sym c.self.view_is) w in
-    let there = found c.self.inside.groups.items c.deref.result.now c.self.inside.given c.in-Some.group.now c.deref.ensures.value c.in-Some.ensures.lookup.0 c.in-Some.ensures.lookup.1 in
-    let given = next_bytes f q a work h bytes u there (subst (λ w. IsGroupLen w (length bytes)) (sym c.self.view_is) c.requires.wanted)
-    (subst (λ w. IsWantedGroup f w bytes) (sym c.self.view_is) next) in
-    let adjoin = subst (λ l. Adjoin (tile_extent a) h.span.first l (h.span.first + length bytes)) (sym c.deref-2.ensures.value) given.1 in
-    let painted = c.paint_parts.ensures.painted f work.picture.rectangle.level h.span.first (tiles_of_groups (take work.given work.groups)) (arrays_of f q a work u) given.0 adjoin u.painted in
+    let there = found c.self.inside.groups.items c.deref.result.now c.self.inside.given h c.deref.ensures.value c.in-Some.ensures.lookup.0 c.in-Some.ensures.lookup.1 in
+    let (u, of, adjoin) = given_bytes f q a work c.args.self.now h ts bytes c.self.view_is there c.deref-2.ensures.value c.requires.wanted w next in
+    let painted = c.paint_parts.ensures.painted f work.picture.rectangle.level h.span.first (tiles_of_groups (take work.given work.groups)) (arrays_of f q a work u) of adjoin u.painted in
     underway_more f q a work h c.paint_parts.new.canvas u there c.paint_parts.ensures.level c.paint_parts.ensures.rectangle c.paint_parts.ensures.size
     (subst (λ l. All (IsPainted f work.picture.rectangle.level c.paint_parts.new.canvas) (tiles_of_groups (take work.given work.groups) ++ l)) c.deref-2.ensures.value painted)

@@ -15,12 +15,12 @@ pub invariant_of-self-2 : goal.invariant_of-self-2
 invariant_of-self-2 c =
     let i = c.self.inside in
     let state = subst (λ (o : Option PendingQuery). IfSome o (λ a. IsState i.complete i.walk i.kept a.state)) c.in-Some.is c.self.invariant.state in
-    given_sound i.complete c.args.bytes.now i.walk c.give.new.walk i.kept c.give.new.kept c.in-Some.pending c.give.new.self (c.in_ok-give.ensures.gives i.complete state)
+    given_sound i.complete c.args.bytes.now i.walk c.give.new.walk i.kept c.give.new.kept i.unpacked c.give.new.unpacked c.in-Some.pending c.give.new.self (c.in_ok-give.ensures.gives i.complete state)
 
 pub returns-clause-takes : goal.returns-clause-takes
 returns-clause-takes c =
     let i = c.self.inside in
     let state = subst (λ (o : Option PendingQuery). IfSome o (λ a. IsState i.complete i.walk i.kept a.state)) c.in-Some.is c.self.invariant.state in
-    let old : c.args.self.now ≡ holding i.complete i.walk i.kept c.in-Some.pending = sym c.self.view_is ∙ ap (λ (o : Option PendingQuery). record { complete = i.complete; walk = i.walk; kept = i.kept; pending = o }) c.in-Some.is in
-    subst (λ (r : ReaderState). Takes c.args.bytes.now r (holding i.complete c.give.new.walk c.give.new.kept c.give.new.self)) (sym old)
-    (given_takes i.complete c.args.bytes.now i.walk c.give.new.walk i.kept c.give.new.kept c.in-Some.pending c.give.new.self c.in_ok-give.ensures.query (c.in_ok-give.ensures.gives i.complete state))
+    let old : c.args.self.now ≡ holding i.complete i.walk i.kept i.unpacked c.in-Some.pending = sym c.self.view_is ∙ ap (λ (o : Option PendingQuery). record { complete = i.complete; walk = i.walk; kept = i.kept; tiles = i.unpacked; pending = o }) c.in-Some.is in
+    subst (λ (r : ReaderState). Takes c.args.bytes.now r (holding i.complete c.give.new.walk c.give.new.kept c.give.new.unpacked c.give.new.self)) (sym old)
+    (given_takes i.complete c.args.bytes.now i.walk c.give.new.walk i.kept c.give.new.kept i.unpacked c.give.new.unpacked c.in-Some.pending c.give.new.self c.in_ok-give.ensures.query (c.in_ok-give.ensures.gives i.complete state))

@@ -7,13 +7,13 @@ use Rattle.cog_reader.proofs.state.PendingQuery.give.Goals as goal
 
 pub returns-in-Some-clause-gives : goal.returns-in-Some-clause-gives
 returns-in-Some-clause-gives c complete state =
-    let old = at_state c.args.walk.now c.args.kept.now c.args.self.now.state in
-    let new = at_state c.accept.new.walk c.accept.new.kept c.accept.new.state in
+    let old = at_state c.args.walk.now c.args.kept.now c.args.unpacked.now c.args.self.now.state in
+    let new = at_state c.accept.new.walk c.accept.new.kept c.accept.new.unpacked c.accept.new.state in
     gives_fault complete c.args.bytes.now c.args.self.now.query old new c.in-Some.fault c.requires.kept c.requires.wanted
     (subst (λ (o : Option FileFault). AcceptsRange complete c.args.bytes.now old new o) c.in-Some.is (c.in_ok-fault.ensures.accepts complete state))
 
 pub returns-in-None-clause-gives : goal.returns-in-None-clause-gives
 returns-in-None-clause-gives c complete state =
-    let old = at_state c.args.walk.now c.args.kept.now c.args.self.now.state in
-    let new = at_state c.accept.new.walk c.accept.new.kept c.accept.new.state in
+    let old = at_state c.args.walk.now c.args.kept.now c.args.unpacked.now c.args.self.now.state in
+    let new = at_state c.accept.new.walk c.accept.new.kept c.accept.new.unpacked c.accept.new.state in
     gives_on complete c.args.bytes.now c.args.self.now.query old new (subst (λ (o : Option FileFault). AcceptsRange complete c.args.bytes.now old new o) c.in-None.is (c.in_ok-fault.ensures.accepts complete state))

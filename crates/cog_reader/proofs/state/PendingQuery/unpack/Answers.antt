@@ -17,9 +17,9 @@ returns-in-Some-clause-gives g c complete w keeps state =
     let new = c.unpack.new.mosaic in
     let here = subst (IsState complete w k) c.in-Tiles.is state in
     let wanted = len_wanted w k old (length bytes) (subst (λ (t : State). AreTiles PackBits k t (length bytes)) c.in-Tiles.is c.requires.tiles).1 in
-    subst (λ (t : State). Gives complete bytes c.args.self.now.query (at_state w k t) (at_state w k (Answered (Fault c.in-Some.fault)))) (sym c.in-Tiles.is)
-    (gives_fault complete bytes c.args.self.now.query (at_state w k (Tiles old)) (at_state w k (Tiles new)) c.in-Some.fault keeps wanted
-    (subst (λ (o : Option FileFault). AcceptsRange complete bytes (at_state w k (Tiles old)) (at_state w k (Tiles new)) o) c.in-Some.is (c.unpack.ensures complete w here.0 here.1 keeps)))
+    subst (λ (t : State). Gives complete bytes c.args.self.now.query (at_state w k c.args.unpacked.now t) (at_state w k c.unpack.new.unpacked (Answered (Fault c.in-Some.fault)))) (sym c.in-Tiles.is)
+    (gives_fault complete bytes c.args.self.now.query (at_state w k c.args.unpacked.now (Tiles old)) (at_state w k c.unpack.new.unpacked (Tiles new)) c.in-Some.fault keeps wanted
+    (subst (λ (o : Option FileFault). AcceptsRange complete bytes (at_state w k c.args.unpacked.now (Tiles old)) (at_state w k c.unpack.new.unpacked (Tiles new)) o) c.in-Some.is (c.unpack.ensures complete w here.0 here.1 keeps)))
 
 pub returns-in-None-clause-gives : goal.returns-in-None-clause-gives
 returns-in-None-clause-gives g c complete w keeps state =
@@ -28,6 +28,6 @@ returns-in-None-clause-gives g c complete w keeps state =
     let old = c.in-Tiles.mosaic in
     let new = c.unpack.new.mosaic in
     let here = subst (IsState complete w k) c.in-Tiles.is state in
-    subst (λ (t : State). Gives complete bytes c.args.self.now.query (at_state w k t) (at_state w k (Tiles new))) (sym c.in-Tiles.is)
-    (gives_on complete bytes c.args.self.now.query (at_state w k (Tiles old)) (at_state w k (Tiles new))
-    (subst (λ (o : Option FileFault). AcceptsRange complete bytes (at_state w k (Tiles old)) (at_state w k (Tiles new)) o) c.in-None.is (c.unpack.ensures complete w here.0 here.1 keeps)))
+    subst (λ (t : State). Gives complete bytes c.args.self.now.query (at_state w k c.args.unpacked.now t) (at_state w k c.unpack.new.unpacked (Tiles new))) (sym c.in-Tiles.is)
+    (gives_on complete bytes c.args.self.now.query (at_state w k c.args.unpacked.now (Tiles old)) (at_state w k c.unpack.new.unpacked (Tiles new))
+    (subst (λ (o : Option FileFault). AcceptsRange complete bytes (at_state w k c.args.unpacked.now (Tiles old)) (at_state w k c.unpack.new.unpacked (Tiles new)) o) c.in-None.is (c.unpack.ensures complete w here.0 here.1 keeps)))

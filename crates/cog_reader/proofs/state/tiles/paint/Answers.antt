@@ -14,7 +14,7 @@ paint-requires-clause-plain g c =
     (both_at c.args.kept.now c.both.ensures.0 c.both.result.now (λ a. (a.level.compression ≡ Plain) × HasPlan a c.args.mosaic.now) c.both.ensures.1 c.requires.plan).0
 
 pub returns : goal.returns
-returns g c complete w ended plan keeps =
+returns g c complete w tiles ended plan keeps =
     let old = both_at c.args.kept.now c.both.ensures.0 c.both.result.now (λ a. IsPlan complete a c.args.mosaic.now) c.both.ensures.1 plan in
-    accepts_group complete (g.B.Bytes.bytes c.args.bytes.now) w c.args.kept.now c.both.ensures.0 c.both.result.now c.args.mosaic.now c.paint.new.self ended keeps c.both.ensures.1 (c.paint.ensures.plan complete old) c.paint.ensures.given.0 c.paint.ensures.given.1
-    c.requires.wanted (λ f q u next. c.paint.ensures.underway f q u next)
+    accepts_group complete (g.B.Bytes.bytes c.args.bytes.now) w c.args.kept.now tiles tiles c.both.ensures.0 c.both.result.now c.args.mosaic.now c.paint.new.self ended keeps c.both.ensures.1 (c.paint.ensures.plan complete old) c.paint.ensures.given.0 c.paint.ensures.given.1
+    c.requires.wanted (λ f q u next of. (c.paint.ensures.underway f q u next, of))
