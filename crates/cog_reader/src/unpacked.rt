@@ -88,7 +88,8 @@ impl Unpacked {
 
     /// None yet, and room for so many bytes of them. It takes no memory.
     pub fn new(alloc: Global, room: usize) -> Unpacked
-        ensures { result ≡ [] }
+        ensures none { result ≡ [] }
+        ensures of { (f : List ℕ) → AreTilesOf f result }
     {
         Unpacked {
             alloc,
