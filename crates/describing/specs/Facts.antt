@@ -1,5 +1,5 @@
 -- What the levels and the keys of a file say (GeoTIFF 1.1, OGC 19-008, annex A).
-use Rattle.std.specs.Prelude.{◌≡◌, ℕ, ◌-◌, ◌==◌, ◌||◌, Bool, false, if◌then◌else◌, List, [], ◌∷◌, length, take, codes, slice_get, Option, Some, None, find, option_and_then, option_map, ⊤}
+use Rattle.std.specs.Prelude.{◌≡◌, ◌⊎◌, ℕ, ◌-◌, ◌==◌, ◌||◌, Bool, false, if◌then◌else◌, List, [], ◌∷◌, length, take, codes, slice_get, Option, Some, None, find, option_and_then, option_map, IsSome, ⊤}
 use Rattle.std.specs.Option.{option_or}
 use Rattle.std.specs.Cow.{cow_str_bytes}
 use Rattle.std.specs.Str.Lossy.{utf8_lossy}
@@ -97,4 +97,5 @@ citation keys = option_or (text_of 3073 keys) (option_or (text_of 2049 keys) (te
 -- The number and the text of the coordinate system, of which what isn't UTF-8 is U+FFFD; no system where no key has either.
 abbrev pub IsSystemBy : List Key → Option CoordinateSystem → Type 0
 IsSystemBy keys None = (system_number keys ≡ None) × (citation keys ≡ None)
-IsSystemBy keys (Some system) = (system.number ≡ system_number keys) × (option_map cow_str_bytes system.name ≡ option_map utf8_lossy (citation keys))
+IsSystemBy keys (Some system) = (IsSome system.number ⊎ IsSome system.name) × (system.number ≡ system_number keys)
+    × (option_map cow_str_bytes system.name ≡ option_map utf8_lossy (citation keys))

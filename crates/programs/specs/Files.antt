@@ -1,7 +1,7 @@
 -- The files that the words of `cogserve` name.
 use Rattle.std.specs.Prelude.{◌≡◌, ◌⊎◌, ◌<◌, ◌≤◌, ◌==◌, ℕ, List, [], ◌∷◌, length, string_bytes, ⊤}
 use Rattle.std.specs.Borrow.{Bor}
-use Rattle.std.specs.List.{after_first, before_first, position_or_len}
+use Rattle.std.specs.List.{AllZip, after_first, before_first, position_or_len}
 use Rattle.disk_files.specs.declared.watched.Watched.{Watched}
 use Rattle.programs.specs.declared.fault.Fault.{Fault}
 use Rattle.programs.specs.declared.fault.Fault.TheVariants.{NotAFile, Memory}
@@ -28,9 +28,7 @@ NamesOneOf (word ∷ words) fault = (IsNoFile word.now × NamesFile word.now fau
 
 -- these are the files of the words, one for each, in their order
 abbrev pub AreFiles : List (Bor (List ℕ)) → List Watched → Type 0
-AreFiles [] [] = ⊤
-AreFiles (word ∷ words) (file ∷ files) = IsFile word.now file × AreFiles words files
-AreFiles words files = ⊥
+AreFiles words files = AllZip (λ (word : Bor (List ℕ)) file. IsFile word.now file) words files
 
 -- a word names no file, or memory is wanting
 abbrev pub IsOfFiles : Fault → Type 0

@@ -1,6 +1,7 @@
 -- What the words of `cogread` ask for, and the numbers of its options and of `cogserve`'s.
-use Rattle.std.specs.Prelude.{◌≡◌, ◌⊎◌, ℕ, ◌^◌, ◌-◌, true, false, if◌then◌else◌, List, [], ◌∷◌, ◌++◌, Option, Some, None, option_and_then}
+use Rattle.std.specs.Prelude.{◌≡◌, ◌⊎◌, ℕ, ◌^◌, ◌-◌, true, false, if◌then◌else◌, List, [], ◌∷◌, Option, Some, None, option_and_then}
 use Rattle.std.specs.Borrow.{Bor}
+use Rattle.std.specs.List.{flat_map}
 use Rattle.std.specs.Option.{option_copied}
 use Rattle.std.specs.Str.{bytes_eq}
 use Rattle.tiff_dir.specs.declared.query.Query.{Query}
@@ -106,6 +107,4 @@ IsNoClient refusal fault = ⊥
 
 -- the words, with a server and a name in the place of each that is this URL
 abbrev pub named_by : (url server name : List ℕ) → List (Bor (List ℕ)) → List (List ℕ)
-named_by url server name [] = []
-named_by url server name (word ∷ words) =
-    (if bytes_eq word.now url then server ∷ name ∷ [] else word.now ∷ []) ++ named_by url server name words
+named_by url server name words = flat_map (λ word. if bytes_eq word.now url then server ∷ name ∷ [] else word.now ∷ []) words

@@ -46,17 +46,38 @@ fn own_name(words: &[String]) -> &str {
     path.rsplit('/').next().unwrap_or(path)
 }
 
-/// The name under which a fault of these words is told.
-fn program_of(words: &[String]) -> &'static str {
-    if let Some(program) = Program::from_name(own_name(words)) {
-        return program.name();
+/// What the words of a command line name.
+#[derive(Clone, Copy)]
+enum Command<'w> {
+    /// A program, by this word or by the command's own name, and the words behind it.
+    Program(Program, Option<&'w str>, &'w [String]),
+    /// The stored script, where there is no word.
+    Stored,
+    /// No program: this word.
+    Word(&'w str),
+}
+
+impl<'w> Command<'w> {
+    fn of(words: &'w [String]) -> Command<'w> {
+        if let Some(program) = Program::from_name(own_name(words)) {
+            return Command::Program(program, None, words.get(1..).unwrap_or_default());
+        }
+        let Some(word) = words.get(1) else {
+            return Command::Stored;
+        };
+        match Program::from_name(word.as_str()) {
+            Some(program) => Command::Program(program, Some(word.as_str()), &words[2..]),
+            None => Command::Word(word.as_str()),
+        }
     }
-    let Some(word) = words.get(1) else {
-        return Program::Cogworld.name();
-    };
-    match Program::from_name(word.as_str()) {
-        Some(program) => program.name(),
-        None => "cogtools",
+
+    /// The name under which its fault is told.
+    fn name(self) -> &'static str {
+        match self {
+            Command::Program(program, _, _) => program.name(),
+            Command::Stored => Program::Cogworld.name(),
+            Command::Word(_) => "cogtools",
+        }
     }
 }
 
@@ -117,8 +138,8 @@ where
     }
 }
 
-/// Runs the program that the words name. Without a second word the script "one window" is run, with its file from memory.
-fn run_words<R>(rt: &R, words: &[String]) -> Result<(), Fault>
+/// Runs what the words name, by the command's own name. Without a word the script "one window" is run, with its file from memory.
+fn run_command<R>(rt: &R, name: &str, command: Command<'_>) -> Result<(), Fault>
 where
     R: Files
         + Clock
@@ -127,21 +148,16 @@ where
         + AllocGlobal
         + Net<Listener = TcpListener, Stream = TcpStream>,
 {
-    let name = own_name(words);
-    if let Some(program) = Program::from_name(name) {
-        return run_program(rt, program, name, words.get(1..).unwrap_or_default());
-    }
-    let Some(word) = words.get(1) else {
-        return cogworld::run_stored(rt);
-    };
-    if let Some(program) = Program::from_name(word.as_str()) {
-        let command = format!(in rt.alloc(); "{name} {word}")?;
-        return run_program(rt, program, command.as_str(), &words[2..]);
-    }
-    match word.as_str() {
-        "-h" | "--help" => Ok(rt.println(help(rt.alloc(), name)?)?),
-        "-V" | "--version" => Ok(println!(rt; "{name} {VERSION}")?),
-        word => Err(Fault::NotAProgram(String::from_str(rt.alloc(), word)?)),
+    match command {
+        Command::Stored => cogworld::run_stored(rt),
+        Command::Program(program, None, rest) => run_program(rt, program, name, rest),
+        Command::Program(program, Some(word), rest) => {
+            let typed = format!(in rt.alloc(); "{name} {word}")?;
+            run_program(rt, program, typed.as_str(), rest)
+        }
+        Command::Word("-h" | "--help") => Ok(rt.println(help(rt.alloc(), name)?)?),
+        Command::Word("-V" | "--version") => Ok(println!(rt; "{name} {VERSION}")?),
+        Command::Word(word) => Err(Fault::NotAProgram(String::from_str(rt.alloc(), word)?)),
     }
 }
 
@@ -155,8 +171,9 @@ where
         + AllocGlobal
         + Net<Listener = TcpListener, Stream = TcpStream>,
 {
-    let ended = run_words(rt, words);
-    status_of(rt, program_of(words), &ended)
+    let command = Command::of(words);
+    let ended = run_command(rt, own_name(words), command);
+    status_of(rt, command.name(), &ended)
 }
 
 /// The status of a program that has ended, whose fault is told.
