@@ -17,7 +17,7 @@ from . import _core
 from ._core import Core, Piece
 from ._errors import Error, Lost, NotUsed, fault_of
 from ._info import Info, read_info
-from ._sources import Address, Disk, Host, Source
+from ._sources import Address, Disk, Host, Source, raised_here
 
 Result = TypeVar('Result')
 TRIES = 3
@@ -187,6 +187,8 @@ class File:
             except self._source.final:
                 raise
             except OSError as error:
+                if not raised_here(error):
+                    raise
                 failed = error.with_traceback(None)            # whose frames hold it, and this File
                 continue
             kind, reason = self._core.current(bytes(answer))
@@ -233,6 +235,8 @@ class File:
         except self._source.final:
             raise
         except OSError as error:
+            if not raised_here(error):
+                raise
             lost = error.with_traceback(None)
         kind, number = self._core.end()
         if kind == _core.IGNORED:

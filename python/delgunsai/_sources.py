@@ -9,6 +9,7 @@ import re
 import select
 import socket
 import ssl
+import traceback
 from typing import BinaryIO, Callable, Iterator, List, Optional, Protocol, Tuple, Type, Union
 from urllib.parse import urlsplit
 
@@ -26,8 +27,17 @@ LOSSES = 3
 RANGE = re.compile(rb'\r\nRange: bytes=([0-9]+)-([0-9]+)\r\n')
 CLOSE = b'\r\nConnection: close\r\n'
 LATE = (socket.timeout, TimeoutError)                    # one class from Python 3.10 on
+RAISING = (__name__, 'socket', 'ssl', 'http.client')
+"""The modules whose calls tell what is wrong with a connection or a file."""
 Take = Callable[[Piece], None]
 """Takes a piece, which has other bytes once the call returned."""
+
+
+def raised_here(error: OSError) -> bool:
+    """Whether this is an error of a connection or of a file, by the module in which it was raised. One that a signal handler raises, as
+    TimeoutError at a deadline, isn't, and tells nothing of an answer."""
+    *_, (frame, _) = traceback.walk_tb(error.__traceback__)
+    return frame.f_globals.get('__name__') in RAISING
 
 
 class Source(Protocol):
@@ -164,7 +174,8 @@ class Host:
                 self._lose()
             self._well = goes_on or CLOSE in request
         except OSError as error:
-            self._lose(late=isinstance(error, LATE))
+            if raised_here(error):
+                self._lose(late=isinstance(error, LATE))
             raise
         finally:
             if not goes_on:
@@ -180,10 +191,11 @@ class Host:
                 first = self._beginning()
                 if first and first[8:12] != b' 408':
                     return first
-            except (ConnectionError, ssl.SSLError):
-                pass
-            except LATE:
-                if not self._ahead:
+            except (ConnectionError, ssl.SSLError) as error:
+                if not raised_here(error):
+                    raise
+            except LATE as error:
+                if not self._ahead or not raised_here(error):
                     raise
                 late = True
             self._lose(late)

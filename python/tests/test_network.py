@@ -1,7 +1,9 @@
 """Processes that are forked, servers that bring nothing, and answers that nobody needs."""
 import contextlib
+import itertools
 import os
 import signal
+import ssl
 import subprocess
 import sys
 import threading
@@ -170,6 +172,61 @@ class Interrupted(unittest.TestCase):
             host.exchange(of_bytes(0), [], answer.extend)
             self.assertTrue(answer.endswith(b'\r\n\r\n' + TEXT[:10]))
             host.close()
+
+    def raises(self, kind):
+        """Sets a signal handler that raises this error, until the test ends."""
+        def handle(*_):
+            raise kind('too late')
+        self.addCleanup(signal.signal, signal.SIGALRM, signal.signal(signal.SIGALRM, handle))
+        self.addCleanup(signal.setitimer, signal.ITIMER_REAL, 0)
+
+    def test_deadlines(self):
+        """An error that a signal handler raises is no lost answer: it comes as it is, nothing is asked again, and the file is read on."""
+        for kind, cut, place in itertools.product((TimeoutError, ConnectionResetError, ssl.SSLError), (0, 5, 100), ('new', 'kept', 'ahead')):
+            left = [1000]
+
+            def answer(request, _):
+                left[0] -= 1
+                return served(request, TEXT)[:None if left[0] >= 0 else cut]
+            with self.subTest(place, kind=kind, cut=cut), Made(answer) as server, delgunsai.open(server.url(), timeout=5) as file:
+                self.assertTrue(place == 'new' or right(file, 0, 0, 10))
+                left[0] = int(place == 'ahead')
+                self.raises(kind)
+                with self.assertRaisesRegex(kind, 'too late'):
+                    signal.setitimer(signal.ITIMER_REAL, 0.1)
+                    tall(file, 500)
+                self.assertEqual(server.connections, 1)
+                left[0] = 1000
+                self.assertTrue(tall(file, 500) and file.same() and tall(file, 200))
+                self.assertGreater(file._source.depth, 0)
+
+    def test_deadline_of_same(self):
+        waits = [0.5]
+
+        def answer(request, _):
+            time.sleep(waits.pop() if waits and request.startswith(b'HEAD ') else 0)
+            return served(request, TEXT)
+        with Made(answer) as server, delgunsai.open(server.url(), timeout=5) as file:
+            self.assertTrue(right(file, 0, 0, 10))
+            self.raises(TimeoutError)
+            with self.assertRaisesRegex(TimeoutError, 'too late'):
+                signal.setitimer(signal.ITIMER_REAL, 0.1)
+                file.same()
+            self.assertTrue(file.same() and tall(file, 500))
+
+    def test_deadline_of_a_handshake(self):
+        with Made(lambda *_: b'') as server, delgunsai.open(server.url().replace('http', 'https'), timeout=0.2) as file:
+            self.raises(TimeoutError)
+            signal.setitimer(signal.ITIMER_REAL, 0.1)
+            self.assertRaisesRegex(TimeoutError, 'too late', lambda: file.levels)
+            self.assertRaisesRegex(delgunsai.Lost, 'timed out', lambda: file.levels)
+
+    def test_deadline_on_the_disk(self):
+        self.raises(TimeoutError)
+        with delgunsai.open_file(EXAMPLE) as file:
+            with mock.patch.object(os, 'fstat', lambda _: signal.raise_signal(signal.SIGALRM)):
+                self.assertRaisesRegex(TimeoutError, 'too late', lambda: file.levels)
+            self.assertEqual(file.levels[0], (64, 64))
 
 
 class AtOnce(unittest.TestCase):
