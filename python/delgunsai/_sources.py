@@ -122,6 +122,25 @@ class _Head:
             self.length = min(self.length, most)
 
 
+def _connected(address: Tuple[str, int], timeout: Optional[float], _source: object) -> socket.socket:
+    """What socket.create_connection gives, which after an error that a signal handler raises goes on to the host's next address, too."""
+    failed = OSError('the host has no address')
+    for family, kind, protocol, _, place in socket.getaddrinfo(*address, type=socket.SOCK_STREAM):
+        made: Optional[socket.socket] = None
+        try:
+            made = socket.socket(family, kind, protocol)
+            made.settimeout(timeout)
+            made.connect(place)
+            return made
+        except BaseException as error:
+            if made is not None:
+                made.close()
+            if not isinstance(error, OSError) or not raised_here(error):
+                raise
+            failed = error.with_traceback(None)            # whose frame holds it
+    raise failed
+
+
 @functools.lru_cache(None)
 def _trusting() -> ssl.SSLContext:
     """A context that trusts the certificates which the system has at the first call: to read them takes longer than many a window."""
@@ -144,6 +163,7 @@ class Host:
                 address.host.rstrip('.'), address.port, timeout=timeout, context=context or _trusting())
         else:
             self._connection = http.client.HTTPConnection(address.host, address.port, timeout=timeout)
+        setattr(self._connection, '_create_connection', _connected)     # which connect() calls
         self._room = memoryview(bytearray(PIECE))
         self._begin = self._end = 0
         """Where in the room the bytes are that were read and aren't taken."""

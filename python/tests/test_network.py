@@ -3,6 +3,7 @@ import contextlib
 import itertools
 import os
 import signal
+import socket
 import ssl
 import subprocess
 import sys
@@ -181,8 +182,10 @@ class Interrupted(unittest.TestCase):
         self.addCleanup(signal.setitimer, signal.ITIMER_REAL, 0)
 
     def test_deadlines(self):
-        """An error that a signal handler raises is no lost answer: it comes as it is, nothing is asked again, and the file is read on."""
-        for kind, cut, place in itertools.product((TimeoutError, ConnectionResetError, ssl.SSLError), (0, 5, 100), ('new', 'kept', 'ahead')):
+        """An error that a signal handler raises is no lost answer: it comes as it is, nothing is asked again, and the file is read
+        on."""
+        kinds, places = (TimeoutError, ConnectionResetError, ssl.SSLError), ('new', 'kept', 'ahead')
+        for kind, cut, place in itertools.product(kinds, (0, 5, 100), places):
             left = [1000]
 
             def answer(request, _):
@@ -213,6 +216,24 @@ class Interrupted(unittest.TestCase):
                 signal.setitimer(signal.ITIMER_REAL, 0.1)
                 file.same()
             self.assertTrue(file.same() and tall(file, 500))
+
+    def test_deadline_at_an_address(self):
+        """The next address of a host is tried after an error of the network alone."""
+        with Made(lambda request, _: served(request, TEXT)) as server, contextlib.ExitStack() as opened:
+            full = opened.enter_context(socket.create_server(('127.0.0.1', 0), backlog=0))
+            for _ in range(3):                               # more than are let wait
+                waiting = opened.enter_context(socket.socket())
+                waiting.setblocking(False)
+                waiting.connect_ex(full.getsockname())
+            found = [(socket.AF_INET, socket.SOCK_STREAM, 0, '', place) for place in (full.getsockname(), server.server_address)]
+            with mock.patch.object(socket, 'getaddrinfo', return_value=found), delgunsai.open(server.url(), timeout=5) as file:
+                self.raises(TimeoutError)
+                with self.assertRaisesRegex(TimeoutError, 'too late'):
+                    signal.setitimer(signal.ITIMER_REAL, 0.1)
+                    right(file, 0, 0, 10)
+                self.assertEqual(server.connections, 0)
+                opened.close()
+                self.assertTrue(right(file, 0, 0, 10))
 
     def test_deadline_of_a_handshake(self):
         with Made(lambda *_: b'') as server, delgunsai.open(server.url().replace('http', 'https'), timeout=0.2) as file:
