@@ -99,9 +99,11 @@ class Address:
 
 class _Head:
     """What the head of an answer says of its end (RFC 9112, section 6.3), and of the connection. Of a body that goes on behind all that can
-    be of use the end isn't waited for: of another revision than that of If-Range its front is."""
+    be of use the end isn't waited for: of another revision than that of If-Range its front is, and of a part what comes up to the last byte
+    that was asked for."""
 
     FIELDS = re.compile(rb'\r\n(content-length|transfer-encoding|connection|etag):(.*)(?=\r\n)')
+    PART = re.compile(rb'\r\ncontent-range:[ \t]*bytes ([0-9]{1,19})-')
 
     def __init__(self, head: bytes, request: bytes) -> None:
         fields = [(name, value.strip(b' \t')) for name, value in self.FIELDS.findall((head + b'\r\n').lower())]
@@ -116,8 +118,9 @@ class _Head:
         if self.length is not None and self.length > FRONT:
             tag = re.search(rb'\r\nIf-Range: (.*)\r\n', request)
             other = tag is not None and (b'etag', tag[1].lower()) not in fields
-            asked = RANGE.search(request) if head[8:12] in (b' 200', b' 206') and not other else None
-            most = max(FRONT, int(asked[2]) + 1) if asked else FRONT
+            part = self.PART.search(head.lower()) if head[8:12] == b' 206' else None
+            asked = RANGE.search(request) if (part or head[8:12] == b' 200') and not other else None
+            most = max(FRONT, int(asked[2]) + 1 - (int(part[1]) if part else 0)) if asked else FRONT
             self.closes = self.closes or self.length > most
             self.length = min(self.length, most)
 

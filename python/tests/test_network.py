@@ -2,6 +2,7 @@
 import contextlib
 import itertools
 import os
+import re
 import signal
 import socket
 import ssl
@@ -416,6 +417,17 @@ class Unneeded(unittest.TestCase):
             file.read(**cut_out(7900, 3900, 10))
             self.assertEqual(file.tag, '"2"')
             self.assertLess(server.sent - before, len(text) // 2)
+
+    def test_end_of_a_range(self):
+        """Of a server that passes the end of a range over no more is taken than was asked for, and each name of a field is read."""
+        text = plain(numpy.zeros((4000, 8000), 'uint8'), 256)
+        for name in b'Content-Range', b'content-range':
+            def answer(request, _):
+                return served(re.sub(rb'-[0-9]+\r\n', b'-%d\r\n' % len(text), request), text).replace(b'Content-Range', name)
+            with self.subTest(name), Made(answer) as server, delgunsai.open(server.url()) as file:
+                with mock.patch.object(_core.Core, 'feed', autospec=True, side_effect=_core.Core.feed) as feed:
+                    file.read(**cut_out(4000, 2000, 300))
+                self.assertLess(sum(len(call.args[1]) for call in feed.call_args_list), len(text) // 10)
 
     def test_no_length(self):
         """The connection goes on, so its end isn't waited for either."""
