@@ -103,18 +103,19 @@ class File:
         """
         return self._alone(self._window, self._core.open_columns, _numbers(x=x, y=y, width=width, height=height, columns=columns))[0]
 
-    def read_tagged(self, *, x: SupportsIndex, y: SupportsIndex, width: SupportsIndex, height: SupportsIndex, level: SupportsIndex = 0,
-                    columns: Optional[SupportsIndex] = None) -> Tuple[NDArray[Any], str]:
+    def read_tagged(self, *, x: SupportsIndex, y: SupportsIndex, width: SupportsIndex, height: SupportsIndex,
+                    level: Optional[SupportsIndex] = None, columns: Optional[SupportsIndex] = None) -> Tuple[NDArray[Any], str]:
         """What `read` gives, or with `columns`, and no level, what `read_columns` does, and the tag of its revision, whatever other threads
-        read.
+        read. Without either it is of level 0.
 
         >>> f.read_tagged(x=3000, y=2000, width=256, height=256)[1]                   # doctest: +SKIP
         '"1-1"'
         """
-        if columns is not None and level != 0:
-            raise TypeError('level or columns, and not both')
         if columns is None:
+            level = 0 if level is None else level
             return self._alone(self._window, self._core.open_window, _numbers(x=x, y=y, width=width, height=height, level=level))
+        if level is not None:
+            raise TypeError('level or columns, and not both')
         return self._alone(self._window, self._core.open_columns, _numbers(x=x, y=y, width=width, height=height, columns=columns))
 
     @property
