@@ -148,6 +148,16 @@ class Refused(unittest.TestCase):
                     file.info
                 self.assertEqual(str(seen.exception), f'{server.url("b")}: its status is 404')
 
+    def test_places_that_are_not_printable(self):
+        """What an exception prints of a path are printable characters alone."""
+        for name, printed in (b'\xff.tif', '\\udcff.tif'), (b'\x1b[31m\n \xc3\xa4.tif', '\\x1b[31m\\n \u00e4.tif'):
+            place = os.path.join(os.fsencode(FOLDER), name)
+            shutil.copy(os.fsencode(EXAMPLE), place)
+            with delgunsai.open_file(place) as file, self.assertRaises(delgunsai.Outside) as seen:
+                file.read(x=60, y=0, width=5, height=1)
+            self.assertEqual(seen.exception.where, os.fsdecode(place))
+            self.assertEqual(str(seen.exception), f'{FOLDER}/{printed}: {delgunsai.Outside.__doc__}')
+
     def test_exceptions_are_pickled(self):
         faults = [kind(tag) for kind in delgunsai.FileFault.__subclasses__() for tag in (None, 259)]
         for error in (delgunsai.BadUrl('http://a?b', 'it has no query'), delgunsai.NotUsed(3, 404), delgunsai.NotUsed(1),
