@@ -310,8 +310,9 @@ def open(url: str, *, blocks: SupportsIndex = 256, timeout: Optional[float] = 30
     """A file behind a URL of http or https. Nothing is read yet.
 
     `blocks` of 16,384 bytes, 66 to 4,096, are kept of the file, and of packed tiles as many bytes unpacked; `timeout` is how many
-    seconds a connection and each of its reads may take, None for ever; `context` says which certificates are trusted, those of the
-    system without it. Proxies aren't used.
+    seconds each attempt to connect may take (one for each address of the host), each TLS handshake, and each read and write, None for
+    ever: an exchange that brought nothing is tried three times, so `Lost` may take several of them; `context` says which certificates are
+    trusted, those of the system without it. Proxies aren't used.
 
     >>> with open('http://127.0.0.1:8080/a.tif') as f:                              # doctest: +SKIP
     ...     f.levels

@@ -354,6 +354,14 @@ class Nothing(unittest.TestCase):
     def test_replaced_each_time(self):
         self.lost(self.replaced, 4 * 9, 'the file was replaced 3 times while it was read')
 
+    def test_timeout(self):
+        """A server that doesn't answer is asked three times, each time for as long as the timeout."""
+        with Made(lambda *_: b'') as server, delgunsai.open(server.url(), timeout=0.2) as file:
+            start = time.monotonic()
+            self.assertRaisesRegex(delgunsai.Lost, '3 exchanges: timed out', lambda: file.levels)
+            self.assertGreaterEqual(time.monotonic() - start, 0.6)
+            self.assertEqual((server.requests, server.connections), (3, 3))
+
     def test_example_in_c(self):
         program, folder = os.path.join(FOLDER, 'example'), os.path.join(TOP, 'include')
         subprocess.run(['cc', '-I' + folder, '-o', program, os.path.join(folder, 'example.c'), CORE, HEAP], check=True)
