@@ -105,8 +105,8 @@ int32_t cog_client_look_ahead(struct cog_client *client, uint32_t blocks);
  * of the query before. What is known of the file stays. Gives 0 or COG_NO_CLIENT. */
 int32_t cog_client_open_window(struct cog_client *client, uint32_t x, uint32_t y, uint32_t w, uint32_t h, uint32_t level);
 
-/* cog_client_open_columns: the same, in pixels of level 0, of the smallest level in which the window has at least so many columns, level 0
- * if there is none. Gives 0 or COG_NO_CLIENT. */
+/* cog_client_open_columns: the same, in pixels of level 0, of the smallest level in which the window is at least so many columns wide, before
+ * it is rounded outwards, level 0 if there is none. Gives 0 or COG_NO_CLIENT. */
 int32_t cog_client_open_columns(struct cog_client *client, uint32_t x, uint32_t y, uint32_t w, uint32_t h, uint32_t columns);
 
 /* cog_client_open_info: asks for the sides of the levels and what georeferences the image. Gives 0 or COG_NO_CLIENT. */

@@ -96,7 +96,8 @@ class File:
 
     def read_columns(self, *, x: SupportsIndex, y: SupportsIndex, width: SupportsIndex, height: SupportsIndex,
                      columns: SupportsIndex) -> NDArray[Any]:
-        """The same of a window that is given in pixels of level 0, from the smallest level in which it has at least `columns` columns.
+        """The same of a window that is given in pixels of level 0, from the smallest level in which it is at least `columns` columns wide,
+        before it is rounded outwards, level 0 if there is none.
 
         >>> f.read_columns(x=0, y=0, width=8192, height=5632, columns=512).shape      # doctest: +SKIP
         (352, 512)
