@@ -105,8 +105,8 @@ int32_t cog_client_look_ahead(struct cog_client *client, uint32_t blocks);
  * of the query before. What is known of the file stays. Gives 0 or COG_NO_CLIENT. */
 int32_t cog_client_open_window(struct cog_client *client, uint32_t x, uint32_t y, uint32_t w, uint32_t h, uint32_t level);
 
-/* cog_client_open_columns: the same, in pixels of level 0, of the smallest level in which the window has at least so many columns, level 0
- * if there is none. Gives 0 or COG_NO_CLIENT. */
+/* cog_client_open_columns: the same, in pixels of level 0, of the smallest level in which the window is at least so many columns wide,
+ * before it is rounded outwards, level 0 if there is none. Gives 0 or COG_NO_CLIENT. */
 int32_t cog_client_open_columns(struct cog_client *client, uint32_t x, uint32_t y, uint32_t w, uint32_t h, uint32_t columns);
 
 /* cog_client_open_info: asks for the sides of the levels and what georeferences the image. Gives 0 or COG_NO_CLIENT. */
@@ -115,7 +115,8 @@ int32_t cog_client_open_info(struct cog_client *client);
 /* cog_client_request: goes on as far as the known bytes reach, and lays the text of the next request into the room: a GET with a Range.
  * Gives the text's length; 0, where nothing is asked: a report stands, or there is no query; COG_MEMORY or COG_NO_CLIENT. Asked again
  * before an answer it gives the same text. An unfinished answer is dropped, as by cog_client_open_.. and cog_client_forget too: what is left of
- * it isn't fed. */
+ * it isn't fed. After COG_MEMORY nothing is asked, and the room is as it was; what is known of the file stays, and the call may be made
+ * again. */
 int64_t cog_client_request(struct cog_client *client, uint8_t *room, size_t length);
 
 /* cog_client_later: lays the text of the request into the room that will come `index` requests after the next one, 0 for the one right
@@ -129,8 +130,9 @@ int64_t cog_client_later(struct cog_client *client, uint32_t index, uint8_t *roo
 int32_t cog_client_begin(struct cog_client *client);
 
 /* cog_client_feed: takes the next bytes of the answer, from its status line on, as many as there are. After COG_MEMORY the rest of the
- * answer is dropped, until cog_client_begin: what is fed of it changes nothing. Where no answer is unfinished, one begins
- * here. Gives 0, COG_MEMORY or COG_NO_CLIENT. */
+ * answer is dropped: what is fed of it changes nothing, until cog_client_end, or a call that drops an unfinished answer: cog_client_begin,
+ * cog_client_request, cog_client_open_window, cog_client_open_columns, cog_client_open_info or cog_client_forget. Where no answer is
+ * unfinished, one begins here. Gives 0, COG_MEMORY or COG_NO_CLIENT. */
 int32_t cog_client_feed(struct cog_client *client, const uint8_t *piece, size_t length);
 
 /* What is said of an answer. */
@@ -148,7 +150,8 @@ enum {
 
 /* cog_client_end: ends the answer, whole or cut, and goes on as far as the known bytes reach. The caller's said is written where the result
  * is 0. Of an answer whose rest was dropped it says COG_IGNORED, 1 (cut), though blocks of it may be stored, and its revision may be the
- * one that is read from now on. Gives 0, COG_MEMORY or COG_NO_CLIENT. */
+ * one that is read from now on. Gives 0, COG_MEMORY or COG_NO_CLIENT. After COG_MEMORY the answer has ended too: blocks of it may be
+ * stored, its revision is the one that is read from now on, and cog_client_request goes on; this call isn't made again for it. */
 int32_t cog_client_end(struct cog_client *client, struct cog_said *said);
 
 /* What a report tells; 0 in what isn't of its kind. */

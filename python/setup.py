@@ -4,6 +4,7 @@ import pathlib
 import shlex
 import shutil
 import subprocess
+from typing import List
 
 from setuptools import Distribution, setup
 from setuptools.command.build_py import build_py
@@ -22,7 +23,7 @@ def named(variable: str, file: str) -> pathlib.Path:
 
 def core() -> pathlib.Path:
     """The proved library: DELGUNSAI_CORE, or where `rt lib` leaves it."""
-    if 'DELGUNSAI_CORE' in os.environ:
+    if os.environ.get('DELGUNSAI_CORE'):
         path = named('DELGUNSAI_CORE', 'libdelgunsai_c.a')
     elif CRATE.is_dir():
         path = CRATE / 'out/libdelgunsai_c.a'
@@ -35,7 +36,7 @@ def core() -> pathlib.Path:
 
 def heap() -> pathlib.Path:
     """The kit's library of the heap: DELGUNSAI_HEAP, or beside the command rt."""
-    if 'DELGUNSAI_HEAP' in os.environ:
+    if os.environ.get('DELGUNSAI_HEAP'):
         path = named('DELGUNSAI_HEAP', "the kit's c/liblibc_c.a")
     else:
         rt = shutil.which('rt')
@@ -47,17 +48,26 @@ def heap() -> pathlib.Path:
     return path
 
 
+def compiler() -> List[str]:
+    """The words that call the C compiler: CC, or cc where that has none."""
+    words = os.environ.get('CC', '')
+    try:
+        return shlex.split(words) or ['cc']
+    except ValueError as error:
+        raise SystemExit(f'CC is {words!r}: {error}') from None
+
+
 class Build(build_py):
     """Builds the modules, and the shared library beside them: beside the sources where these are what is imported (pip install -e)."""
 
     def run(self) -> None:
         super().run()
-        compiler = shlex.split(os.environ.get('CC') or 'cc')
-        if shutil.which(compiler[0]) is None:
-            raise SystemExit(f'missing: {compiler[0]}: a C compiler, or set CC to one')
+        words = compiler()
+        if shutil.which(words[0]) is None:
+            raise SystemExit(f'missing: {words[0]}: a C compiler, or set CC to one')
         folder = (HERE if self.editable_mode else pathlib.Path(self.build_lib)) / 'delgunsai'
         folder.mkdir(parents=True, exist_ok=True)
-        subprocess.run([*compiler, '-shared', '-o', str(folder / 'libdelgunsai.so'), '-Wl,--whole-archive', str(core()),
+        subprocess.run([*words, '-shared', '-o', str(folder / 'libdelgunsai.so'), '-Wl,--whole-archive', str(core()),
                         '-Wl,--no-whole-archive', str(heap())], check=True)
 
 

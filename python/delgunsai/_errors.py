@@ -5,12 +5,18 @@ from typing import Any, Optional, Tuple
 
 
 class Error(Exception):
-    """Why a file isn't read. `where` is the URL or the path of the file that was asked, and stands before the sentence."""
+    """Why a file isn't read. `where` is the URL or the path of the file that was asked, and stands before the sentence, where its
+    characters that aren't printable are escaped."""
     where: Optional[str] = None
 
     def __str__(self) -> str:
         words = super().__str__()
-        return words if self.where is None else f'{self.where}: {words}'
+        return words if self.where is None else f'{_printable(self.where)}: {words}'
+
+
+def _printable(text: str) -> str:
+    """The text, whose characters that aren't printable are escaped as repr escapes them."""
+    return ''.join(character if character.isprintable() else repr(character)[1:-1] for character in text)
 
 
 class BadUrl(Error, ValueError):

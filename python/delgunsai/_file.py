@@ -17,7 +17,7 @@ from . import _core
 from ._core import Core, Piece
 from ._errors import Error, Lost, NotUsed, fault_of
 from ._info import Info, read_info
-from ._sources import Address, Disk, Host, Source
+from ._sources import Address, Disk, Host, Source, raised_here
 
 Result = TypeVar('Result')
 TRIES = 3
@@ -96,25 +96,27 @@ class File:
 
     def read_columns(self, *, x: SupportsIndex, y: SupportsIndex, width: SupportsIndex, height: SupportsIndex,
                      columns: SupportsIndex) -> NDArray[Any]:
-        """The same of a window that is given in pixels of level 0, from the smallest level in which it has at least `columns` columns.
+        """The same of a window that is given in pixels of level 0, from the smallest level in which it is at least `columns` columns wide,
+        before it is rounded outwards, level 0 if there is none.
 
         >>> f.read_columns(x=0, y=0, width=8192, height=5632, columns=512).shape      # doctest: +SKIP
         (352, 512)
         """
         return self._alone(self._window, self._core.open_columns, _numbers(x=x, y=y, width=width, height=height, columns=columns))[0]
 
-    def read_tagged(self, *, x: SupportsIndex, y: SupportsIndex, width: SupportsIndex, height: SupportsIndex, level: SupportsIndex = 0,
-                    columns: Optional[SupportsIndex] = None) -> Tuple[NDArray[Any], str]:
+    def read_tagged(self, *, x: SupportsIndex, y: SupportsIndex, width: SupportsIndex, height: SupportsIndex,
+                    level: Optional[SupportsIndex] = None, columns: Optional[SupportsIndex] = None) -> Tuple[NDArray[Any], str]:
         """What `read` gives, or with `columns`, and no level, what `read_columns` does, and the tag of its revision, whatever other threads
-        read.
+        read. Without either it is of level 0.
 
         >>> f.read_tagged(x=3000, y=2000, width=256, height=256)[1]                   # doctest: +SKIP
         '"1-1"'
         """
-        if columns is not None and level != 0:
-            raise TypeError('level or columns, and not both')
         if columns is None:
+            level = 0 if level is None else level
             return self._alone(self._window, self._core.open_window, _numbers(x=x, y=y, width=width, height=height, level=level))
+        if level is not None:
+            raise TypeError('level or columns, and not both')
         return self._alone(self._window, self._core.open_columns, _numbers(x=x, y=y, width=width, height=height, columns=columns))
 
     @property
@@ -187,6 +189,8 @@ class File:
             except self._source.final:
                 raise
             except OSError as error:
+                if not raised_here(error):
+                    raise
                 failed = error.with_traceback(None)            # whose frames hold it, and this File
                 continue
             kind, reason = self._core.current(bytes(answer))
@@ -233,6 +237,8 @@ class File:
         except self._source.final:
             raise
         except OSError as error:
+            if not raised_here(error):
+                raise
             lost = error.with_traceback(None)
         kind, number = self._core.end()
         if kind == _core.IGNORED:
@@ -305,8 +311,9 @@ def open(url: str, *, blocks: SupportsIndex = 256, timeout: Optional[float] = 30
     """A file behind a URL of http or https. Nothing is read yet.
 
     `blocks` of 16,384 bytes, 66 to 4,096, are kept of the file, and of packed tiles as many bytes unpacked; `timeout` is how many
-    seconds a connection and each of its reads may take, None for ever; `context` says which certificates are trusted, those of the
-    system without it. Proxies aren't used.
+    seconds each attempt to connect may take (one for each address of the host), each TLS handshake, and each read and write, None for
+    ever: an exchange that brought nothing is tried three times, so `Lost` may take several of them; `context` says which certificates are
+    trusted, those of the system without it. Proxies aren't used.
 
     >>> with open('http://127.0.0.1:8080/a.tif') as f:                              # doctest: +SKIP
     ...     f.levels

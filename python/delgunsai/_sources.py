@@ -9,6 +9,7 @@ import re
 import select
 import socket
 import ssl
+import traceback
 from typing import BinaryIO, Callable, Iterator, List, Optional, Protocol, Tuple, Type, Union
 from urllib.parse import urlsplit
 
@@ -26,8 +27,17 @@ LOSSES = 3
 RANGE = re.compile(rb'\r\nRange: bytes=([0-9]+)-([0-9]+)\r\n')
 CLOSE = b'\r\nConnection: close\r\n'
 LATE = (socket.timeout, TimeoutError)                    # one class from Python 3.10 on
+RAISING = (__name__, 'socket', 'ssl', 'http.client')
+"""The modules whose calls tell what is wrong with a connection or a file."""
 Take = Callable[[Piece], None]
 """Takes a piece, which has other bytes once the call returned."""
+
+
+def raised_here(error: OSError) -> bool:
+    """Whether this is an error of a connection or of a file, by the module in which it was raised. One that a signal handler raises, as
+    TimeoutError at a deadline, isn't, and tells nothing of an answer."""
+    *_, (frame, _) = traceback.walk_tb(error.__traceback__)
+    return frame.f_globals.get('__name__') in RAISING
 
 
 class Source(Protocol):
@@ -89,9 +99,11 @@ class Address:
 
 class _Head:
     """What the head of an answer says of its end (RFC 9112, section 6.3), and of the connection. Of a body that goes on behind all that can
-    be of use the end isn't waited for: of another revision than that of If-Range its front is."""
+    be of use the end isn't waited for: of another revision than that of If-Range its front is, and of a part what comes up to the last byte
+    that was asked for."""
 
     FIELDS = re.compile(rb'\r\n(content-length|transfer-encoding|connection|etag):(.*)(?=\r\n)')
+    PART = re.compile(rb'\r\ncontent-range:[ \t]*bytes ([0-9]{1,19})-')
 
     def __init__(self, head: bytes, request: bytes) -> None:
         fields = [(name, value.strip(b' \t')) for name, value in self.FIELDS.findall((head + b'\r\n').lower())]
@@ -106,10 +118,30 @@ class _Head:
         if self.length is not None and self.length > FRONT:
             tag = re.search(rb'\r\nIf-Range: (.*)\r\n', request)
             other = tag is not None and (b'etag', tag[1].lower()) not in fields
-            asked = RANGE.search(request) if head[8:12] in (b' 200', b' 206') and not other else None
-            most = max(FRONT, int(asked[2]) + 1) if asked else FRONT
+            part = self.PART.search(head.lower()) if head[8:12] == b' 206' else None
+            asked = RANGE.search(request) if (part or head[8:12] == b' 200') and not other else None
+            most = max(FRONT, int(asked[2]) + 1 - (int(part[1]) if part else 0)) if asked else FRONT
             self.closes = self.closes or self.length > most
             self.length = min(self.length, most)
+
+
+def _connected(address: Tuple[str, int], timeout: Optional[float], _source: object) -> socket.socket:
+    """What socket.create_connection gives, which after an error that a signal handler raises goes on to the host's next address, too."""
+    failed = OSError('the host has no address')
+    for family, kind, protocol, _, place in socket.getaddrinfo(*address, type=socket.SOCK_STREAM):
+        made: Optional[socket.socket] = None
+        try:
+            made = socket.socket(family, kind, protocol)
+            made.settimeout(timeout)
+            made.connect(place)
+            return made
+        except BaseException as error:
+            if made is not None:
+                made.close()
+            if not isinstance(error, OSError) or not raised_here(error):
+                raise
+            failed = error.with_traceback(None)            # whose frame holds it
+    raise failed
 
 
 @functools.lru_cache(None)
@@ -134,6 +166,7 @@ class Host:
                 address.host.rstrip('.'), address.port, timeout=timeout, context=context or _trusting())
         else:
             self._connection = http.client.HTTPConnection(address.host, address.port, timeout=timeout)
+        setattr(self._connection, '_create_connection', _connected)     # which connect() calls
         self._room = memoryview(bytearray(PIECE))
         self._begin = self._end = 0
         """Where in the room the bytes are that were read and aren't taken."""
@@ -164,7 +197,8 @@ class Host:
                 self._lose()
             self._well = goes_on or CLOSE in request
         except OSError as error:
-            self._lose(late=isinstance(error, LATE))
+            if raised_here(error):
+                self._lose(late=isinstance(error, LATE))
             raise
         finally:
             if not goes_on:
@@ -180,10 +214,11 @@ class Host:
                 first = self._beginning()
                 if first and first[8:12] != b' 408':
                     return first
-            except (ConnectionError, ssl.SSLError):
-                pass
-            except LATE:
-                if not self._ahead:
+            except (ConnectionError, ssl.SSLError) as error:
+                if not raised_here(error):
+                    raise
+            except LATE as error:
+                if not self._ahead or not raised_here(error):
                     raise
                 late = True
             self._lose(late)

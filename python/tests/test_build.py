@@ -45,9 +45,17 @@ class Built(unittest.TestCase):
 
     def test_compiler(self):
         self.refused('missing: no-compiler', CC='no-compiler -O2')
-        done = self.pip('--target', os.path.join(self.place, 'package'), self.source, CC='cc -O2')
-        self.assertEqual(done.returncode, 0, done.stderr)
-        self.assertTrue(os.path.exists(os.path.join(self.place, 'package/delgunsai/libdelgunsai.so')))
+        self.refused("""CC is 'cc "-O2': No closing quotation""", CC='cc "-O2')
+        for words in 'cc -O2', ' ', '':
+            place = tempfile.mkdtemp(dir=self.place)
+            done = self.pip('--target', place, self.source, CC=words)
+            self.assertEqual(done.returncode, 0, done.stderr)
+            self.assertTrue(os.path.exists(os.path.join(place, 'delgunsai/libdelgunsai.so')))
+
+    def test_variables_of_no_text(self):
+        """They count as not set."""
+        self.refused('missing: libdelgunsai_c.a: set DELGUNSAI_CORE', DELGUNSAI_CORE='')
+        self.refused('missing: rt: put the kit', DELGUNSAI_HEAP='', CC=shutil.which('cc'), PATH=self.place)
 
     def test_editable(self):
         """The sources themselves are imported, with the library beside them."""

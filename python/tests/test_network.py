@@ -1,7 +1,11 @@
 """Processes that are forked, servers that bring nothing, and answers that nobody needs."""
 import contextlib
+import itertools
 import os
+import re
 import signal
+import socket
+import ssl
 import subprocess
 import sys
 import threading
@@ -171,6 +175,81 @@ class Interrupted(unittest.TestCase):
             self.assertTrue(answer.endswith(b'\r\n\r\n' + TEXT[:10]))
             host.close()
 
+    def raises(self, kind):
+        """Sets a signal handler that raises this error, until the test ends."""
+        def handle(*_):
+            raise kind('too late')
+        self.addCleanup(signal.signal, signal.SIGALRM, signal.signal(signal.SIGALRM, handle))
+        self.addCleanup(signal.setitimer, signal.ITIMER_REAL, 0)
+
+    def test_deadlines(self):
+        """An error that a signal handler raises is no lost answer: it comes as it is, nothing is asked again, and the file is read
+        on."""
+        kinds, places = (TimeoutError, ConnectionResetError, ssl.SSLError), ('new', 'kept', 'ahead')
+        for kind, cut, place in itertools.product(kinds, (0, 5, 100), places):
+            left = [1000]
+
+            def answer(request, _):
+                left[0] -= 1
+                return served(request, TEXT)[:None if left[0] >= 0 else cut]
+            with self.subTest(place, kind=kind, cut=cut), Made(answer) as server, delgunsai.open(server.url(), timeout=5) as file:
+                self.assertTrue(place == 'new' or right(file, 0, 0, 10))
+                left[0] = int(place == 'ahead')
+                self.raises(kind)
+                with self.assertRaisesRegex(kind, 'too late'):
+                    signal.setitimer(signal.ITIMER_REAL, 0.1)
+                    tall(file, 500)
+                self.assertEqual(server.connections, 1)
+                left[0] = 1000
+                self.assertTrue(tall(file, 500) and file.same() and tall(file, 200))
+                self.assertGreater(file._source.depth, 0)
+
+    def test_deadline_of_same(self):
+        waits = [0.5]
+
+        def answer(request, _):
+            time.sleep(waits.pop() if waits and request.startswith(b'HEAD ') else 0)
+            return served(request, TEXT)
+        with Made(answer) as server, delgunsai.open(server.url(), timeout=5) as file:
+            self.assertTrue(right(file, 0, 0, 10))
+            self.raises(TimeoutError)
+            with self.assertRaisesRegex(TimeoutError, 'too late'):
+                signal.setitimer(signal.ITIMER_REAL, 0.1)
+                file.same()
+            self.assertTrue(file.same() and tall(file, 500))
+
+    def test_deadline_at_an_address(self):
+        """The next address of a host is tried after an error of the network alone."""
+        with Made(lambda request, _: served(request, TEXT)) as server, contextlib.ExitStack() as opened:
+            full = opened.enter_context(socket.create_server(('127.0.0.1', 0), backlog=0))
+            for _ in range(3):                               # more than are let wait
+                waiting = opened.enter_context(socket.socket())
+                waiting.setblocking(False)
+                waiting.connect_ex(full.getsockname())
+            found = [(socket.AF_INET, socket.SOCK_STREAM, 0, '', place) for place in (full.getsockname(), server.server_address)]
+            with mock.patch.object(socket, 'getaddrinfo', return_value=found), delgunsai.open(server.url(), timeout=5) as file:
+                self.raises(TimeoutError)
+                with self.assertRaisesRegex(TimeoutError, 'too late'):
+                    signal.setitimer(signal.ITIMER_REAL, 0.1)
+                    right(file, 0, 0, 10)
+                self.assertEqual(server.connections, 0)
+                opened.close()
+                self.assertTrue(right(file, 0, 0, 10))
+
+    def test_deadline_of_a_handshake(self):
+        with Made(lambda *_: b'') as server, delgunsai.open(server.url().replace('http', 'https'), timeout=0.2) as file:
+            self.raises(TimeoutError)
+            signal.setitimer(signal.ITIMER_REAL, 0.1)
+            self.assertRaisesRegex(TimeoutError, 'too late', lambda: file.levels)
+            self.assertRaisesRegex(delgunsai.Lost, 'timed out', lambda: file.levels)
+
+    def test_deadline_on_the_disk(self):
+        self.raises(TimeoutError)
+        with delgunsai.open_file(EXAMPLE) as file:
+            with mock.patch.object(os, 'fstat', lambda _: signal.raise_signal(signal.SIGALRM)):
+                self.assertRaisesRegex(TimeoutError, 'too late', lambda: file.levels)
+            self.assertEqual(file.levels[0], (64, 64))
+
 
 class AtOnce(unittest.TestCase):
     """Requests that are sent at once, and servers that don't take them."""
@@ -275,6 +354,14 @@ class Nothing(unittest.TestCase):
     def test_replaced_each_time(self):
         self.lost(self.replaced, 4 * 9, 'the file was replaced 3 times while it was read')
 
+    def test_timeout(self):
+        """A server that doesn't answer is asked three times, each time for as long as the timeout."""
+        with Made(lambda *_: b'') as server, delgunsai.open(server.url(), timeout=0.2) as file:
+            start = time.monotonic()
+            self.assertRaisesRegex(delgunsai.Lost, '3 exchanges: timed out', lambda: file.levels)
+            self.assertGreaterEqual(time.monotonic() - start, 0.6)
+            self.assertEqual((server.requests, server.connections), (3, 3))
+
     def test_example_in_c(self):
         program, folder = os.path.join(FOLDER, 'example'), os.path.join(TOP, 'include')
         subprocess.run(['cc', '-I' + folder, '-o', program, os.path.join(folder, 'example.c'), CORE, HEAP], check=True)
@@ -338,6 +425,17 @@ class Unneeded(unittest.TestCase):
             file.read(**cut_out(7900, 3900, 10))
             self.assertEqual(file.tag, '"2"')
             self.assertLess(server.sent - before, len(text) // 2)
+
+    def test_end_of_a_range(self):
+        """Of a server that passes the end of a range over no more is taken than was asked for, and each name of a field is read."""
+        text = plain(numpy.zeros((4000, 8000), 'uint8'), 256)
+        for name in b'Content-Range', b'content-range':
+            def answer(request, _):
+                return served(re.sub(rb'-[0-9]+\r\n', b'-%d\r\n' % len(text), request), text).replace(b'Content-Range', name)
+            with self.subTest(name), Made(answer) as server, delgunsai.open(server.url()) as file:
+                with mock.patch.object(_core.Core, 'feed', autospec=True, side_effect=_core.Core.feed) as feed:
+                    file.read(**cut_out(4000, 2000, 300))
+                self.assertLess(sum(len(call.args[1]) for call in feed.call_args_list), len(text) // 10)
 
     def test_no_length(self):
         """The connection goes on, so its end isn't waited for either."""

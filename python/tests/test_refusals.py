@@ -111,8 +111,11 @@ class Refused(unittest.TestCase):
             for name, number in ('x', 1.0), ('level', None), ('width', '1'), ('y', numpy.ones(2)):
                 with self.assertRaisesRegex(TypeError, f'^{name} is .*, and no integer$'):
                     file.read(**{'x': 0, 'y': 0, 'width': 1, 'height': 1, name: number})
-            with self.assertRaisesRegex(TypeError, 'level or columns'):
-                file.read_tagged(x=0, y=0, width=16, height=16, level=2, columns=16)
+            for level in 2, 0, numpy.int64(0):
+                with self.assertRaisesRegex(TypeError, 'level or columns'):
+                    file.read_tagged(x=0, y=0, width=16, height=16, level=level, columns=16)
+            for words in {}, {'level': None}, {'level': 0, 'columns': None}:
+                self.assertEqual(file.read_tagged(x=24, y=30, width=1, height=1, **words)[0].tolist(), [[216]])
             self.assertEqual(file.read(x=numpy.int64(24), y=numpy.uint8(30), width=4, height=1).tolist(), [[216, 221, 226, 231]])
         with self.assertRaises(ValueError):
             file.read(x=0, y=0, width=1, height=1)
@@ -144,6 +147,16 @@ class Refused(unittest.TestCase):
                 with self.assertRaises(delgunsai.NotUsed) as seen:
                     file.info
                 self.assertEqual(str(seen.exception), f'{server.url("b")}: its status is 404')
+
+    def test_places_that_are_not_printable(self):
+        """What an exception prints of a path are printable characters alone."""
+        for name, printed in (b'\xff.tif', '\\udcff.tif'), (b'\x1b[31m\n \xc3\xa4.tif', '\\x1b[31m\\n \u00e4.tif'):
+            place = os.path.join(os.fsencode(FOLDER), name)
+            shutil.copy(os.fsencode(EXAMPLE), place)
+            with delgunsai.open_file(place) as file, self.assertRaises(delgunsai.Outside) as seen:
+                file.read(x=60, y=0, width=5, height=1)
+            self.assertEqual(seen.exception.where, os.fsdecode(place))
+            self.assertEqual(str(seen.exception), f'{FOLDER}/{printed}: {delgunsai.Outside.__doc__}')
 
     def test_exceptions_are_pickled(self):
         faults = [kind(tag) for kind in delgunsai.FileFault.__subclasses__() for tag in (None, 259)]

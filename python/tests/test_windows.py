@@ -6,7 +6,7 @@ import delgunsai
 import numpy
 from files import as_rasterio, ten_files, windows_of
 from servers import Cogserve, Cutting, Nginx
-from support import FOLDER, RASTERIO, TLS, needs
+from support import EXAMPLE, FOLDER, RASTERIO, TLS, needs
 
 
 class Equal(unittest.TestCase):
@@ -77,6 +77,12 @@ class Equal(unittest.TestCase):
                 wanted = max((level for level, width in enumerate(widths) if width >= columns), default=0)
                 got = file.read_columns(x=0, y=0, width=widths[0], height=file.levels[0][1], columns=columns)
                 self.assertTrue(numpy.array_equal(got, as_rasterio(path, wanted, (0, 0, *file.levels[wanted]))), columns)
+
+    def test_columns_before_rounding(self):
+        """Columns are counted before a window is rounded outwards: 10 of 64 are 5 of 32, and 2.5 of 16, for which 3 are read."""
+        with delgunsai.open_file(EXAMPLE) as file:
+            for columns, sides in (2, (1, 3)), (3, (2, 5)), (5, (2, 5)), (6, (4, 10)), (11, (4, 10)):
+                self.assertEqual(file.read_columns(x=0, y=0, width=10, height=4, columns=columns).shape, sides)
 
     @needs(RASTERIO, 'rasterio with GDAL')
     def test_two_at_once(self):
