@@ -45,6 +45,25 @@ may_of (Err why) = may_change why
 unequal : (l m : Lacks) (f : Lacks → Bool) → l ≡ m → f l ≡ true → f m ≡ false → ⊥
 unequal l m f same is isnt = let e : true ≡ false = sym is ∙ ap f same ∙ isnt in cc
 
+-- where bytes of a body came, no head is lacking
+pub no_head : (left n : ℕ) → lacks_behind left n ≡ Head → ⊥
+no_head left n e = elim (cases_lt left n) [
+  | inl more ↦ unequal End Head is_end (sym (over_behind left n more) ∙ e) refl refl
+  | inr few ↦ unequal (Body (left - n)) Head is_body (sym (fits_behind left n few) ∙ e) refl refl
+]
+
+no_head_where : (t : Bool) → cond (t && false) Head End ≡ Head → ⊥
+no_head_where true e = unequal End Head is_end e refl refl
+no_head_where false e = unequal End Head is_end e refl refl
+
+-- where a head is lacking, fewer bytes came than it may have
+pub few_lack : (r : Result Announced Why) (n : ℕ) → lacks_by r n ≡ Head → n < 4096
+few_lack (Ok head) n e = absurd (no_head head.length (n - head.size) e)
+few_lack (Err why) n e = elim (cases_lt n 4096) [
+  | inl few ↦ few
+  | inr enough ↦ absurd (no_head_where (may_change why) (sym (ap (λ (t : Bool). cond (may_change why && t) Head End) (le-ltb n 4096 enough)) ∙ e))
+]
+
 true_false : true ≡ false → ⊥
 true_false e = cc
 
@@ -116,6 +135,18 @@ looked_at a bytes r reads lacks kept says begun = record {
     by left (Ok head) found h =
         record { front = bytes; is_front = ([], append-nil bytes); head = head; reads = found; says = says }
 
+-- what came stays so where what is kept is dropped behind the head
+pub still_came : (old new : AnswerEnd) (bytes : List ℕ) → lacks_of new ≡ lacks_of old → (lacks_of old ≡ Head → kept_of new ≡ kept_of old)
+    → closes new ≡ closes old → has_begun new ≡ has_begun old → Came old bytes → Came new bytes
+still_came old new bytes lacks kept same begun c = record {
+  reading = c.reading;
+  reads = c.reads;
+  lacks = lacks ∙ c.lacks;
+  kept = λ e. kept (sym lacks ∙ e) ∙ c.kept (sym lacks ∙ e);
+  ends = λ left e. subst (EndsBehind bytes) (sym same) (c.ends left (sym lacks ∙ e));
+  begun = begun ∙ c.begun;
+}
+
 module _ (grow : HeadsGrow) where
   body_on : (head : Announced) (front more : List ℕ) (left : ℕ) → ReadsHead front (Ok head)
       → Body left ≡ lacks_behind head.length (length front - head.size)
@@ -157,12 +188,6 @@ module _ (grow : HeadsGrow) where
       → has_begun new ≡ (has_begun old || is_some_of more) → Came old front → Came new (front ++ more)
   came_behind old new front more left was is same begun c = by c.reading c.reads (sym was ∙ c.lacks)
     where
-      no_head : (left n : ℕ) → lacks_behind left n ≡ Head → ⊥
-      no_head left n e = elim (cases_lt left n) [
-        | inl more ↦ unequal End Head is_end (sym (over_behind left n more) ∙ e) refl refl
-        | inr few ↦ unequal (Body (left - n)) Head is_body (sym (fits_behind left n few) ∙ e) refl refl
-      ]
-
       by : (r : Result Announced Why) → ReadsHead front r → Body left ≡ lacks_by r (length front) → Came new (front ++ more)
       by (Err why) reads h = absurd (no_body (may_change why && ltb (length front) 4096) left h)
       by (Ok head) reads h = record {

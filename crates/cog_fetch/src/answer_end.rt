@@ -1,8 +1,8 @@
 //! Where an answer ends on a connection that may go on behind it.
-ghost use Rattle.std.specs.Prelude.{◌≡◌, ◌++◌, ◌||◌, ℕ, [], List, IsOk, OnErr, OnOk, false, true};
+ghost use Rattle.std.specs.Prelude.{◌≡◌, ◌<◌, ◌++◌, ◌||◌, ℕ, [], List, IsOk, OnErr, OnOk, false, length, true};
 ghost use Rattle.http_range.specs.Announced.{head_reading_seen};
 ghost use Rattle.cog_fetch.specs.declared.answer_end.Lacks.TheVariants.{Body, End, Head};
-ghost use Rattle.cog_fetch.specs.AnswerEnd.{is_some_of, lacks_behind, lacks_by, lacks_of, has_begun, kept_of, may_change, Came, IsLast, MayGoOn};
+ghost use Rattle.cog_fetch.specs.AnswerEnd.{closes, is_some_of, lacks_behind, lacks_by, lacks_of, has_begun, kept_of, may_change, Came, IsLast, MayGoOn};
 
 use http_parts::limits::HEAD_LIMIT;
 use http_range::{HeadReading, Why, ends_connection, heads_grow, read_head};
@@ -54,7 +54,7 @@ fn may_change(why: Why) -> bool
     matches!(why, Why::Cut | Why::Head)
 }
 
-/// How far an answer has come. Its bytes are kept until its head is whole, which 4,096 of them decide.
+/// How far an answer has come. Its bytes are kept until its head is whole, which 4,096 of them decide, and none from then on.
 #[derive(Drop)]
 pub struct AnswerEnd {
     head: Vec<u8>,
@@ -66,7 +66,8 @@ pub struct AnswerEnd {
 impl AnswerEnd {
     /// Of an answer of which nothing has come.
     pub fn new(alloc: Global) -> AnswerEnd
-        ensures { Came result [] }
+        ensures came { Came result [] }
+        ensures none { kept_of result ≡ [] }
     {
         heads_grow();
         AnswerEnd {
@@ -79,7 +80,8 @@ impl AnswerEnd {
 
     /// Begins again, with an answer of which nothing has come.
     pub fn begin(&mut self)
-        ensures { Came self.new [] }
+        ensures came { Came self.new [] }
+        ensures none { kept_of self.new ≡ [] }
     {
         heads_grow();
         self.head.clear();
@@ -112,6 +114,12 @@ impl AnswerEnd {
         ensures lost { lacks_of self.old ≡ End → lacks_of self.new ≡ End }
         ensures sure { (lacks_of self.old ≡ Head → ⊥) → IsOk result }
         ensures begun { has_begun self.new ≡ (has_begun self.old || is_some_of bytes.now) }
+
+        // Where the head isn't whole, fewer bytes are kept than one may have; once it is, or can't be any more, none; and behind that
+        // what is kept stays.
+        ensures few { lacks_of self.new ≡ Head → length (kept_of self.new) < HEAD_LIMIT }
+        ensures dropped { lacks_of self.old ≡ Head → ¬ (lacks_of self.new ≡ Head) → kept_of self.new ≡ [] }
+        ensures stays { ¬ (lacks_of self.old ≡ Head) → kept_of self.new ≡ kept_of self.old }
     {
         heads_grow();
         self.begun |= !bytes.is_empty();
@@ -125,18 +133,46 @@ impl AnswerEnd {
         }
     }
 
-    /// Keeps the next bytes, and reads the head if it is whole now.
+    /// Reads the head with the next bytes if it is whole now. They are kept only where it isn't.
     fn look(&mut self, bytes: &[u8]) -> Result<(), AllocError>
         ensures ok { OnOk result ((front : List ℕ) → kept_of self.old ≡ front → has_begun self.old ≡ is_some_of (front ++ bytes.now)
             → Came self.new (front ++ bytes.now)) }
         ensures err { OnErr result (lacks_of self.new ≡ End) }
         ensures begun { has_begun self.new ≡ has_begun self.old }
+        ensures few { lacks_of self.new ≡ Head → length (kept_of self.new) < HEAD_LIMIT }
+        ensures dropped { ¬ (lacks_of self.new ≡ Head) → kept_of self.new ≡ [] }
+    {
+        let kept = self.keep(bytes);
+        self.drop_read();
+        kept
+    }
+
+    /// Keeps the next bytes, and reads the head if it is whole now.
+    fn keep(&mut self, bytes: &[u8]) -> Result<(), AllocError>
+        ensures ok { OnOk result ((front : List ℕ) → kept_of self.old ≡ front → has_begun self.old ≡ is_some_of (front ++ bytes.now)
+            → Came self.new (front ++ bytes.now)) }
+        ensures err { OnErr result (lacks_of self.new ≡ End) }
+        ensures begun { has_begun self.new ≡ has_begun self.old }
+        ensures few { lacks_of self.new ≡ Head → length (kept_of self.new) < HEAD_LIMIT }
     {
         self.lacks = Lacks::End;
         self.head.extend_from_slice(bytes)?;
         self.lacks = lacks_by(&read_head(&self.head), self.head.len());
         self.closes = ends_connection(&self.head);
         Ok(())
+    }
+
+    /// Drops what is kept, unless the head isn't whole.
+    fn drop_read(&mut self)
+        ensures lacks { lacks_of self.new ≡ lacks_of self.old }
+        ensures closes { closes self.new ≡ closes self.old }
+        ensures begun { has_begun self.new ≡ has_begun self.old }
+        ensures kept { lacks_of self.old ≡ Head → kept_of self.new ≡ kept_of self.old }
+        ensures dropped { ¬ (lacks_of self.old ≡ Head) → kept_of self.new ≡ [] }
+    {
+        if self.lacks != Lacks::Head {
+            self.head.clear();
+        }
     }
 
     /// Whether another answer may follow on the connection: this one is whole, nothing behind it came, and its head doesn't say that

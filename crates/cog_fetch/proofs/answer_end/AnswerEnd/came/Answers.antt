@@ -1,6 +1,6 @@
-use Rattle.std.proofs.Common.{◌≡◌, ◌∙◌, ◌||◌, Bool, not, ap, refl, rules}
+use Rattle.std.proofs.Common.{◌≡◌, ◌∙◌, ◌||◌, Bool, not, ap, refl, rules, sym}
 use Rattle.cog_fetch.specs.AnswerEnd.{has_begun, is_some_of}
-use Rattle.cog_fetch.proofs.EndLemmas.{begins_on, came_behind, came_on, on_ok}
+use Rattle.cog_fetch.proofs.EndLemmas.{begins_on, came_behind, came_on, no_head, on_ok}
 use Rattle.cog_fetch.proofs.answer_end.AnswerEnd.came.Goals as goal
 
 pub returns-in-Head-clause-ok : goal.returns-in-Head-clause-ok
@@ -18,3 +18,6 @@ returns-in-Body-clause-ok c =
 pub returns-in-End-clause-ok : goal.returns-in-End-clause-ok
 returns-in-End-clause-ok c =
     λ front. came_on c.heads_grow.ensures c.args.self.now _ front c.args.bytes.now c.in-End.is c.in-End.is (search rules)
+
+pub returns-in-Body-clause-few : goal.returns-in-Body-clause-few
+returns-in-Body-clause-few c lacking = absurd (no_head c.in-Body.left _ (sym c.lacks_behind-self.ensures ∙ lacking))
