@@ -17,7 +17,7 @@ from . import _core
 from ._core import Core, Piece
 from ._errors import Error, Lost, NotUsed, fault_of
 from ._info import Info, read_info
-from ._sources import Address, Disk, Host, Source, raised_here
+from ._sources import Address, Disk, Host, Source, of_handler
 
 Result = TypeVar('Result')
 TRIES = 3
@@ -189,7 +189,7 @@ class File:
             except self._source.final:
                 raise
             except OSError as error:
-                if not raised_here(error):
+                if of_handler(error):
                     raise
                 failed = error.with_traceback(None)            # whose frames hold it, and this File
                 continue
@@ -237,7 +237,7 @@ class File:
         except self._source.final:
             raise
         except OSError as error:
-            if not raised_here(error):
+            if of_handler(error):
                 raise
             lost = error.with_traceback(None)
         kind, number = self._core.end()

@@ -7,9 +7,11 @@ import http.client
 import os
 import re
 import select
+import signal
 import socket
 import ssl
 import traceback
+from types import CodeType
 from typing import BinaryIO, Callable, Iterator, List, Optional, Protocol, Tuple, Type, Union
 from urllib.parse import urlsplit
 
@@ -27,17 +29,21 @@ LOSSES = 3
 RANGE = re.compile(rb'\r\nRange: bytes=([0-9]+)-([0-9]+)\r\n')
 CLOSE = b'\r\nConnection: close\r\n'
 LATE = (socket.timeout, TimeoutError)                    # one class from Python 3.10 on
-RAISING = (__name__, 'socket', 'ssl', 'http.client')
-"""The modules whose calls tell what is wrong with a connection or a file."""
 Take = Callable[[Piece], None]
 """Takes a piece, which has other bytes once the call returned."""
 
 
-def raised_here(error: OSError) -> bool:
-    """Whether this is an error of a connection or of a file, by the module in which it was raised. One that a signal handler raises, as
-    TimeoutError at a deadline, isn't, and tells nothing of an answer."""
-    *_, (frame, _) = traceback.walk_tb(error.__traceback__)
-    return frame.f_globals.get('__name__') in RAISING
+def _code_of(handler: object) -> Optional[CodeType]:
+    """The code that a signal handler runs, where it is Python's."""
+    while isinstance(handler, functools.partial):
+        handler = handler.func
+    return getattr(handler, '__code__', None) or getattr(getattr(handler, '__call__', None), '__code__', None)
+
+
+def of_handler(error: OSError) -> bool:
+    """Whether a signal handler raised this, as TimeoutError at a deadline: then it tells nothing of a connection or an answer."""
+    handlers = {_code_of(signal.getsignal(number)) for number in signal.valid_signals()}
+    return any(frame.f_code in handlers for frame, _ in traceback.walk_tb(error.__traceback__))
 
 
 class Source(Protocol):
@@ -138,7 +144,7 @@ def _connected(address: Tuple[str, int], timeout: Optional[float], _source: obje
         except BaseException as error:
             if made is not None:
                 made.close()
-            if not isinstance(error, OSError) or not raised_here(error):
+            if not isinstance(error, OSError) or of_handler(error):
                 raise
             failed = error.with_traceback(None)            # whose frame holds it
     raise failed
@@ -197,7 +203,7 @@ class Host:
                 self._lose()
             self._well = goes_on or CLOSE in request
         except OSError as error:
-            if raised_here(error):
+            if not of_handler(error):
                 self._lose(late=isinstance(error, LATE))
             raise
         finally:
@@ -215,10 +221,10 @@ class Host:
                 if first and first[8:12] != b' 408':
                     return first
             except (ConnectionError, ssl.SSLError) as error:
-                if not raised_here(error):
+                if of_handler(error):
                     raise
             except LATE as error:
-                if not self._ahead or not raised_here(error):
+                if not self._ahead or of_handler(error):
                     raise
                 late = True
             self._lose(late)

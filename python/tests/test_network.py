@@ -1,5 +1,6 @@
 """Processes that are forked, servers that bring nothing, and answers that nobody needs."""
 import contextlib
+import functools
 import itertools
 import os
 import re
@@ -175,11 +176,11 @@ class Interrupted(unittest.TestCase):
             self.assertTrue(answer.endswith(b'\r\n\r\n' + TEXT[:10]))
             host.close()
 
-    def raises(self, kind):
-        """Sets a signal handler that raises this error, until the test ends."""
+    def raises(self, kind, form=lambda handle: handle):
+        """Sets a signal handler of a form that raises this error, until the test ends."""
         def handle(*_):
             raise kind('too late')
-        self.addCleanup(signal.signal, signal.SIGALRM, signal.signal(signal.SIGALRM, handle))
+        self.addCleanup(signal.signal, signal.SIGALRM, signal.signal(signal.SIGALRM, form(handle)))
         self.addCleanup(signal.setitimer, signal.ITIMER_REAL, 0)
 
     def test_deadlines(self):
@@ -244,11 +245,23 @@ class Interrupted(unittest.TestCase):
             self.assertRaisesRegex(delgunsai.Lost, 'timed out', lambda: file.levels)
 
     def test_deadline_on_the_disk(self):
-        self.raises(TimeoutError)
-        with delgunsai.open_file(EXAMPLE) as file:
-            with mock.patch.object(os, 'fstat', lambda _: signal.raise_signal(signal.SIGALRM)):
-                self.assertRaisesRegex(TimeoutError, 'too late', lambda: file.levels)
-            self.assertEqual(file.levels[0], (64, 64))
+        """Of a handler of whatever form."""
+        class Deadline:
+            def __init__(self, handle):
+                self.handle = handle
+
+            def __call__(self, *words):
+                self.handle(*words)
+
+            def tell(self, *words):
+                self(*words)
+        for form in (lambda handle: handle, functools.partial, Deadline, lambda handle: Deadline(handle).tell,
+                     lambda handle: functools.partial(Deadline.tell, Deadline(handle))):
+            self.raises(TimeoutError, form)
+            with self.subTest(form=form), delgunsai.open_file(EXAMPLE) as file:
+                with mock.patch.object(os, 'fstat', lambda _: signal.raise_signal(signal.SIGALRM)):
+                    self.assertRaisesRegex(TimeoutError, 'too late', lambda: file.levels)
+                self.assertEqual(file.levels[0], (64, 64))
 
 
 class AtOnce(unittest.TestCase):
