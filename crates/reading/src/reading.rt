@@ -72,7 +72,7 @@ impl<R: Eprint + Clock + AllocGlobal> Exchanges<'_, '_, R> {
         ensures keeps { KeepsReading (P.speaks_for (source_of noted.old)) (P.speaks_for (source_of noted.new)) client.old client.new }
         ensures few { StaysWithin self.now.requests (P.count (source_of noted.old)) (P.count (source_of noted.new)) }
         ensures ends { OnOk result ((self.now.requests ≤ P.count (source_of noted.new)) ⊎ IsIdle client.new) }
-        ensures last { P.count (source_of noted.old) ≡ self.now.requests
+        ensures last { self.now.requests ≤ P.count (source_of noted.old)
             → OnOk result ((request : Option (List ℕ)) × RequestsKeeping client.old request client.new) }
     {
         let left = left(noted, self.requests);

@@ -1,4 +1,4 @@
-use Rattle.std.proofs.Common.{inl, refl}
+use Rattle.std.proofs.Common.{arith, inl, refl}
 use Rattle.tiff_dir.specs.declared.query.Query.TheVariants.{Info}
 use Rattle.reading.specs.declared.reading.Asked.TheVariants.{Whole}
 use Rattle.reading.proofs.OpenLemmas.{asks_query, asks_same, asks_whole, opened_query, opened_reads}
@@ -38,7 +38,7 @@ loop-preserved g c = record {
   reads = λ book reads.
       let first = c.fetch.ensures.keeps.reads book (opened_reads _ Info c.loop.client c.open.new.self book c.open.ensures (c.loop.invariant.reads book reads)) in
       c.fetch-in-loop.ensures.keeps.reads book (opened_reads _ c.in-Some.window c.fetch.new.client c.open-in-loop.new.self book c.open-in-loop.ensures first);
-  few = λ start. c.fetch-in-loop.ensures.few (c.fetch.ensures.few (c.loop.invariant.few start));
+  few = omega (arith, c.loop.invariant.few, c.fetch.ensures.few, c.fetch-in-loop.ensures.few);
 }
 
 pub returns-clause-reads : goal.returns-clause-reads
