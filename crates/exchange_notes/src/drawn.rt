@@ -1,7 +1,8 @@
 //! Exchanges whose progress is drawn on standard error, as one line over itself.
-ghost use Rattle.std.specs.Prelude.{◌≡◌, ◌+◌, ◌<◌, ◌≤◌, ◌^◌, ◌⊎◌, OnOk};
+ghost use Rattle.std.specs.Prelude.{◌≡◌, ◌+◌, ◌<◌, ◌≤◌, ◌^◌, ◌⊎◌, IsSome, OnErr, OnOk};
 ghost use Rattle.cog_client.specs.Calls.{IsIdle};
-ghost use Rattle.cog_client.specs.Transport.{AnyText, FetchesSome, KeepsReading};
+ghost use Rattle.cog_client.specs.Client.{report_of};
+ghost use Rattle.cog_client.specs.Transport.{AnyText, FetchesSome, KeepsReading, StopsFetching};
 ghost use Rattle.exchange_notes.specs.Noted.{source_of};
 
 use crate::noted::{Noted, Progress};
@@ -32,8 +33,14 @@ pub fn exchanges_drawn<R: Eprint, P: Pieces>(
     ensures ends { OnOk result ((P.count (source_of noted.new) ≡ P.count (source_of noted.old) + requests) ⊎ IsIdle client.new) }
     ensures few { P.count (source_of noted.new) ≤ P.count (source_of noted.old) + requests }
 
-    // Its requests are asked for, and what comes of the answers is taken, in turn, and nothing else is done to it.
+    // Its requests are asked for, and what comes of the answers is taken, in turn, and nothing else is done to it; want of memory came
+    // in the last of them.
     ensures fetches { OnOk result (FetchesSome AnyText client.old client.new) }
+    ensures stops { OnErr result (StopsFetching AnyText client.old client.new) }
+
+    // Where there is no query, or the report stands already, nothing is sent, and that report stays.
+    ensures idle { IsIdle client.old → P.count (source_of noted.new) ≡ P.count (source_of noted.old) }
+    ensures stands { IsSome (report_of client.old) → OnOk result (report_of client.new ≡ report_of client.old) }
 {
     for done in 0..requests {
         if !exchange_pieces(client, noted, requests - done - 1)? {

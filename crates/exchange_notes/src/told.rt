@@ -1,7 +1,8 @@
 //! Exchanges that are told on standard error, each when it is over.
-ghost use Rattle.std.specs.Prelude.{◌≡◌, ◌+◌, ◌<◌, ◌≤◌, ◌^◌, ◌⊎◌, IfOk, OnOk, false, if◌then◌else◌};
+ghost use Rattle.std.specs.Prelude.{◌≡◌, ◌+◌, ◌<◌, ◌≤◌, ◌^◌, ◌⊎◌, IfOk, IsSome, OnErr, OnOk, false, if◌then◌else◌};
 ghost use Rattle.cog_client.specs.Calls.{IsIdle};
-ghost use Rattle.cog_client.specs.Transport.{AnyText, FetchesOnce, FetchesSome, KeepsReading};
+ghost use Rattle.cog_client.specs.Client.{report_of};
+ghost use Rattle.cog_client.specs.Transport.{AnyText, FetchesOnce, FetchesSome, KeepsReading, StopsFetching, StopsOnce};
 ghost use Rattle.exchange_notes.specs.Noted.{source_of};
 
 use crate::clock::moment;
@@ -34,7 +35,11 @@ fn exchange_told<R: Eprint + Clock, P: Pieces>(
         ≡ (if asked then P.count (source_of noted.old) + 1 else P.count (source_of noted.old))) }
     ensures few { P.count (source_of noted.new) ≤ P.count (source_of noted.old) + 1 }
     ensures fetches { OnOk result (FetchesOnce AnyText client.old client.new) }
+    ensures stops { OnErr result (StopsOnce AnyText client.old client.new) }
     ensures silent { IfOk result (λ asked. asked ≡ false → IsIdle client.new) }
+    ensures idle { IsIdle client.old
+        → (P.count (source_of noted.new) ≡ P.count (source_of noted.old)) × OnOk result (IsIdle client.new) }
+    ensures stands { IsSome (report_of client.old) → OnOk result (report_of client.new ≡ report_of client.old) }
 {
     let before = tag_of(client);
     let since = moment(rt);
@@ -79,8 +84,14 @@ pub fn exchanges_told<R: Eprint + Clock, P: Pieces>(
     ensures ends { OnOk result ((P.count (source_of noted.new) ≡ P.count (source_of noted.old) + requests) ⊎ IsIdle client.new) }
     ensures few { P.count (source_of noted.new) ≤ P.count (source_of noted.old) + requests }
 
-    // Its requests are asked for, and what comes of the answers is taken, in turn, and nothing else is done to it.
+    // Its requests are asked for, and what comes of the answers is taken, in turn, and nothing else is done to it; want of memory came
+    // in the last of them.
     ensures fetches { OnOk result (FetchesSome AnyText client.old client.new) }
+    ensures stops { OnErr result (StopsFetching AnyText client.old client.new) }
+
+    // Where there is no query, or the report stands already, nothing is sent, and that report stays.
+    ensures idle { IsIdle client.old → P.count (source_of noted.new) ≡ P.count (source_of noted.old) }
+    ensures stands { IsSome (report_of client.old) → OnOk result (report_of client.new ≡ report_of client.old) }
 {
     for done in 0..requests {
         if !exchange_told(rt, net, client, noted, later_of(requests, done))? {

@@ -1,6 +1,6 @@
 -- What a client is that has been asked a query and has exchanged since.
-use Rattle.std.proofs.Common.{◌≡◌, ◌≤◌, ◌⊎◌, ℕ, List, Option, Some, None, inl, inr, sym, ap, ◌∙◌, subst}
-use Rattle.std.specs.Prelude.{IfSome, IsSome, OnOk, Result, Ok, Err}
+use Rattle.std.proofs.Common.{◌≡◌, ◌≤◌, ◌⊎◌, ℕ, zero, suc, List, Option, Some, None, inl, inr, refl, sym, ap, ◌∙◌, subst}
+use Rattle.std.specs.Prelude.{IfSome, IsSome, OnErr, OnOk, Result, Ok, Err}
 use Rattle.std.proofs.lemmas.Option.{none-some}
 use Rattle.tiff_dir.specs.declared.query.Query.{Query}
 use Rattle.http_range.specs.Book.{Publication, Book, In}
@@ -8,10 +8,10 @@ use Rattle.cog_client.specs.declared.report.Report.{Report}
 use Rattle.cog_client.specs.Calls.{IsIdle}
 use Rattle.cog_client.specs.Client.{ClientState, name_of, query_of, report_of}
 use Rattle.cog_client.specs.Keeps.{OpensKeeping}
-use Rattle.cog_client.specs.Transport.{KeepsReading, ReadsBook}
+use Rattle.cog_client.specs.Transport.{AnyText, FetchesSome, KeepsReading, ReadsBook, StopsFetching}
 use Rattle.reading.specs.declared.reading.Asked.{Asked}
 use Rattle.reading.specs.declared.reading.Asked.TheVariants as asked
-use Rattle.reading.specs.Exchanges.{AsksOf, Ends}
+use Rattle.reading.specs.Exchanges.{AsksOf, Ends, IsAskedFor, ReadsSome, StopsReading}
 use Rattle.reading.specs.Text.{IsFor, IsOfWholeBy}
 
 opened_name : (q : Query) (old opened : ClientState) → OpensKeeping q old opened → name_of opened ≡ name_of old
@@ -75,3 +75,26 @@ asks_whole book level tag q c is same whole = asks_of book (asked.Whole level) q
 pub on_ok : {T E : Type 0} (r : Result T E) (P : Type 0) → P → OnOk r P
 on_ok (Ok x) P h = h
 on_ok (Err e) P h = tt
+
+-- one query more
+pub reads_more : (a : Asked) (q : Query) (old mid opened new : ClientState) → IsAskedFor a q → ReadsSome a old mid → OpensKeeping q mid opened
+    → FetchesSome AnyText opened new → ReadsSome a old new
+reads_more a q old mid opened new for (n, are) opens fetches = (suc n, (mid, opened, q, for, are, opens, fetches))
+
+-- the first one
+pub reads_one : {T E : Type 0} (r : Result T E) (a : Asked) (q : Query) (old opened new : ClientState) → IsAskedFor a q → OpensKeeping q old opened
+    → OnOk r (FetchesSome AnyText opened new) → OnOk r (ReadsSome a old new)
+reads_one (Ok x) a q old opened new for opens fetches = reads_more a q old old opened new for (zero, refl) opens fetches
+reads_one (Err e) a q old opened new for opens fetches = tt
+
+-- memory was wanting in the exchanges for one query more
+pub stops_more : {T E : Type 0} (r : Result T E) (a : Asked) (q : Query) (old mid opened new : ClientState) → IsAskedFor a q → ReadsSome a old mid
+    → OpensKeeping q mid opened → StopsFetching AnyText opened new → OnErr r (StopsReading a old new)
+stops_more (Ok x) a q old mid opened new for are opens stops = tt
+stops_more (Err e) a q old mid opened new for are opens stops = (mid, opened, q, for, are, opens, stops)
+
+-- in those for the first one
+pub stops_one : {T E : Type 0} (r : Result T E) (a : Asked) (q : Query) (old opened new : ClientState) → IsAskedFor a q → OpensKeeping q old opened
+    → OnErr r (StopsFetching AnyText opened new) → OnErr r (StopsReading a old new)
+stops_one (Ok x) a q old opened new for opens stops = tt
+stops_one (Err e) a q old opened new for opens stops = (old, opened, q, for, (zero, refl), opens, stops)

@@ -1,5 +1,5 @@
 -- What `cogread` writes of a file, and when it is true.
-use Rattle.std.specs.Prelude.{◌≡◌, ◌≤◌, ℕ, ◌⊎◌, List, [], ◌++◌, Option, Some, None, IfSome, Result, Ok, Err, ⊤}
+use Rattle.std.specs.Prelude.{◌≡◌, ◌≤◌, max, ℕ, ◌⊎◌, List, [], ◌++◌, Option, Some, None, IfSome, Result, Ok, Err, ⊤}
 use Rattle.tiff_dir.specs.declared.query.Query.{Query}
 use Rattle.tiff_dir.specs.declared.query.Query.TheVariants.{Window, Info}
 use Rattle.tiff_dir.specs.declared.query.Pick.TheVariants.{Level}
@@ -81,6 +81,6 @@ abbrev pub HasNothing : Asked → Option Report → Type 0
 HasNothing a None = ⊤
 HasNothing a (Some r) = TellsSides a r.outcome
 
--- a number that isn't above the most isn't afterwards
+-- no more than the most, or than there were before
 abbrev pub StaysWithin : (most before after : ℕ) → Type 0
-StaysWithin most before after = before ≤ most → after ≤ most
+StaysWithin most before after = after ≤ max most before

@@ -1,15 +1,15 @@
 //! How `cogread` reads: its exchanges, which are told with `--verbose` and drawn with `--progress`, and what is asked of the file.
-ghost use Rattle.std.specs.Prelude.{◌≡◌, ◌≢◌, ℕ, ◌+◌, ◌<◌, ◌≤◌, ◌^◌, ◌⊎◌, false, true, Err, IfSome, IsSomeAnd, List, None, OnOk, Option, Some, slice_get};
+ghost use Rattle.std.specs.Prelude.{◌≡◌, ◌≢◌, ℕ, ◌+◌, ◌<◌, ◌≤◌, ◌^◌, ◌⊎◌, false, true, Err, IfSome, IsSomeAnd, List, None, OnErr, OnOk, Option, Some, slice_get};
 ghost use Rattle.http_range.specs.Book.{Book, HasDistinctTags};
 ghost use Rattle.cog_client.specs.Calls.{IsIdle};
 ghost use Rattle.cog_client.specs.declared.report.Report.{Report};
 ghost use Rattle.cog_client.specs.Client.{name_of, report_of, ClientAgrees};
 ghost use Rattle.cog_client.specs.Keeps.{RequestsKeeping, Stands};
-ghost use Rattle.cog_client.specs.Transport.{KeepsReading, ReadsBook};
+ghost use Rattle.cog_client.specs.Transport.{AnyText, FetchesSome, KeepsReading, ReadsBook, StopsFetching};
 ghost use Rattle.exchange_notes.specs.Noted.{source_of};
 ghost use Rattle.reading.specs.declared.error.ReadError.TheVariants.{NoReport};
 ghost use Rattle.reading.specs.declared.reading.Asked.TheVariants.{Whole};
-ghost use Rattle.reading.specs.Exchanges.{AsksOf, Ends, StillReads};
+ghost use Rattle.reading.specs.Exchanges.{AsksOf, Ends, IsAskedFor, ReadsSome, StillReads, StopsReading};
 ghost use Rattle.reading.specs.Text.{HasNothing, IsOfFile, IsOfWholeBy, IsWritten, StaysWithin, TellsSides, WritesTrue};
 
 use crate::error::ReadError;
@@ -72,8 +72,13 @@ impl<R: Eprint + Clock + AllocGlobal> Exchanges<'_, '_, R> {
         ensures keeps { KeepsReading (P.speaks_for (source_of noted.old)) (P.speaks_for (source_of noted.new)) client.old client.new }
         ensures few { StaysWithin self.now.requests (P.count (source_of noted.old)) (P.count (source_of noted.new)) }
         ensures ends { OnOk result ((self.now.requests ≤ P.count (source_of noted.new)) ⊎ IsIdle client.new) }
-        ensures last { P.count (source_of noted.old) ≡ self.now.requests
+        ensures last { self.now.requests ≤ P.count (source_of noted.old)
             → OnOk result ((request : Option (List ℕ)) × RequestsKeeping client.old request client.new) }
+
+        // Its requests are asked for, and what comes of the answers is taken, in turn, and nothing else is done to it: what is asked
+        // where no exchange is left has no answer. Want of memory came in the last of them.
+        ensures fetches { OnOk result (FetchesSome AnyText client.old client.new) }
+        ensures stops { OnErr result (StopsFetching AnyText client.old client.new) }
     {
         let left = left(noted, self.requests);
         if left == 0 {
@@ -101,6 +106,11 @@ impl<R: Eprint + Clock + AllocGlobal> Exchanges<'_, '_, R> {
         ensures asks { (book : Book) → ReadsBook (P.speaks_for (source_of noted.old)) client.old book
             → OnOk result (AsksOf book (Whole level) client.new) }
         ensures few { StaysWithin self.now.requests (P.count (source_of noted.old)) (P.count (source_of noted.new)) }
+
+        // Queries for what is asked are put one after another, and exchanged for, and nothing else is done to the client; want of memory
+        // came in the exchanges for the last of them.
+        ensures queries { OnOk result (ReadsSome (Whole level) client.old client.new) }
+        ensures stops { OnErr result (StopsReading (Whole level) client.old client.new) }
     {
         for _ in 0..self.requests {
             client.open(Query::Info);
@@ -137,6 +147,11 @@ impl<R: Eprint + Clock + AllocGlobal> Exchanges<'_, '_, R> {
             → OnOk result (AsksOf book asked client.new) }
         ensures few { StaysWithin self.now.requests (P.count (source_of noted.old)) (P.count (source_of noted.new)) }
         ensures ends { OnOk result (Ends asked self.now.requests (P.count (source_of noted.new)) client.new) }
+
+        // Queries for what is asked are put one after another, and exchanged for, and nothing else is done to the client; want of memory
+        // came in the exchanges for the last of them.
+        ensures queries { OnOk result (ReadsSome asked client.old client.new) }
+        ensures stops { OnErr result (StopsReading asked client.old client.new) }
     {
         let query = match asked {
             Asked::Query(query) => query,
@@ -244,6 +259,7 @@ fn level_sides(info: &Info, level: u32) -> (u32, u32)
 fn whole_of(client: &Client, level: u32) -> Option<(Tag, Query)>
     ensures whole { (book : Book) → HasDistinctTags book → ClientAgrees client.now book
         → IfSome result (λ whole. IsOfWholeBy book whole.0 level whole.1) }
+    ensures asked { IfSome result (λ whole. IsAskedFor (Whole level) whole.1) }
     ensures none { result ≡ None → IfSome (report_of client.now) (λ r. TellsSides (Whole level) r.outcome → ⊥) }
 {
     fronts_are_read();

@@ -1,8 +1,8 @@
 use Rattle.std.proofs.Common.{subst, sym}
 use Rattle.reading.specs.declared.reading.Asked.{Asked}
 use Rattle.reading.specs.Text.{IsFor}
-use Rattle.reading.specs.Exchanges.{AsksOf}
-use Rattle.reading.proofs.OpenLemmas.{asks_query, asks_same, ended, on_ok, opened_reads}
+use Rattle.reading.specs.Exchanges.{AsksOf, IsAskedFor}
+use Rattle.reading.proofs.OpenLemmas.{asks_query, asks_same, ended, on_ok, opened_reads, reads_one, stops_one}
 use Rattle.http_range.specs.Book.{Publication}
 use Rattle.reading.proofs.reading.Exchanges.fetch_asked.Goals.{in-Query, in-Description}
 use Rattle.reading.proofs.reading.Exchanges.fetch_asked.Goals as goal
@@ -24,3 +24,19 @@ pub returns-clause-ends : goal.returns-clause-ends
 returns-clause-ends g c =
     let is = asks_query _ _ c.match-asked.query c.args.client.now c.open.new.self c.fetch.new.client c.open.ensures c.fetch.ensures.keeps in
     ended c.fetch.result c.args.asked c.match-asked.query c.fetch.new.client _ _ is c.fetch.ensures.ends
+
+pub returns-clause-queries : goal.returns-clause-queries
+returns-clause-queries g c =
+    let for : IsAskedFor c.args.asked c.match-asked.query = elim c.match-asked.branch [
+      | in-Query w ↦ subst (λ (a : Asked). IsAskedFor a c.match-asked.query) (sym w.in-Query.is) w.query-is
+      | in-Description w ↦ subst (λ (a : Asked). IsAskedFor a c.match-asked.query) (sym w.in-Description.is) w.query-is
+    ] in
+    reads_one c.fetch.result c.args.asked c.match-asked.query c.args.client.now c.open.new.self c.fetch.new.client for c.open.ensures c.fetch.ensures.fetches
+
+pub returns-clause-stops : goal.returns-clause-stops
+returns-clause-stops g c =
+    let for : IsAskedFor c.args.asked c.match-asked.query = elim c.match-asked.branch [
+      | in-Query w ↦ subst (λ (a : Asked). IsAskedFor a c.match-asked.query) (sym w.in-Query.is) w.query-is
+      | in-Description w ↦ subst (λ (a : Asked). IsAskedFor a c.match-asked.query) (sym w.in-Description.is) w.query-is
+    ] in
+    stops_one c.fetch.result c.args.asked c.match-asked.query c.args.client.now c.open.new.self c.fetch.new.client for c.open.ensures c.fetch.ensures.stops

@@ -1,7 +1,7 @@
-use Rattle.std.proofs.Common.{inl, refl}
+use Rattle.std.proofs.Common.{arith, inl, refl, zero}
 use Rattle.tiff_dir.specs.declared.query.Query.TheVariants.{Info}
 use Rattle.reading.specs.declared.reading.Asked.TheVariants.{Whole}
-use Rattle.reading.proofs.OpenLemmas.{asks_query, asks_same, asks_whole, opened_query, opened_reads}
+use Rattle.reading.proofs.OpenLemmas.{asks_query, asks_same, asks_whole, opened_query, opened_reads, reads_more, stops_more}
 use Rattle.reading.proofs.reading.Exchanges.fetch_whole.Goals as goal
 
 pub returns-in_err-fetch-clause-reads : goal.returns-in_err-fetch-clause-reads
@@ -38,7 +38,10 @@ loop-preserved g c = record {
   reads = λ book reads.
       let first = c.fetch.ensures.keeps.reads book (opened_reads _ Info c.loop.client c.open.new.self book c.open.ensures (c.loop.invariant.reads book reads)) in
       c.fetch-in-loop.ensures.keeps.reads book (opened_reads _ c.in-Some.window c.fetch.new.client c.open-in-loop.new.self book c.open-in-loop.ensures first);
-  few = λ start. c.fetch-in-loop.ensures.few (c.fetch.ensures.few (c.loop.invariant.few start));
+  few = omega (arith, c.loop.invariant.few, c.fetch.ensures.few, c.fetch-in-loop.ensures.few);
+  queries =
+      let first = reads_more (Whole c.args.level) Info c.args.client.now c.loop.client c.open.new.self c.fetch.new.client (inl refl) c.loop.invariant.queries c.open.ensures c.in_ok-fetch.ensures.fetches in
+      reads_more (Whole c.args.level) c.in-Some.window c.args.client.now c.fetch.new.client c.open-in-loop.new.self c.fetch-in-loop.new.client c.in-Some.ensures.asked first c.open-in-loop.ensures c.in_ok-fetch-2.ensures.fetches;
 }
 
 pub returns-clause-reads : goal.returns-clause-reads
@@ -47,3 +50,25 @@ returns-clause-reads g c = λ book reads. opened_reads _ Info c.loop.client c.op
 pub returns-clause-asks : goal.returns-clause-asks
 returns-clause-asks g c = λ book reads.
     asks_same book (Whole c.args.level) Info c.open-2.new.self (opened_query Info c.loop.client c.open-2.new.self c.open-2.ensures) (λ p. inl refl)
+
+pub returns-clause-queries : goal.returns-clause-queries
+returns-clause-queries g c =
+    reads_more (Whole c.args.level) Info c.args.client.now c.loop.client c.open-2.new.self c.open-2.new.self (inl refl) c.loop.invariant.queries c.open-2.ensures (zero, refl)
+
+pub returns-in_default-clause-queries : goal.returns-in_default-clause-queries
+returns-in_default-clause-queries g c =
+    reads_more (Whole c.args.level) Info c.args.client.now c.loop.client c.open.new.self c.fetch.new.client (inl refl) c.loop.invariant.queries c.open.ensures c.in_ok-fetch.ensures.fetches
+
+pub returns-then-not-has_another_tag-clause-queries : goal.returns-then-not-has_another_tag-clause-queries
+returns-then-not-has_another_tag-clause-queries g c =
+    let first = reads_more (Whole c.args.level) Info c.args.client.now c.loop.client c.open.new.self c.fetch.new.client (inl refl) c.loop.invariant.queries c.open.ensures c.in_ok-fetch.ensures.fetches in
+    reads_more (Whole c.args.level) c.in-Some.window c.args.client.now c.fetch.new.client c.open-in-loop.new.self c.fetch-in-loop.new.client c.in-Some.ensures.asked first c.open-in-loop.ensures c.in_ok-fetch-2.ensures.fetches
+
+pub returns-in_err-fetch-clause-stops : goal.returns-in_err-fetch-clause-stops
+returns-in_err-fetch-clause-stops g c =
+    stops_more c.from_residual.result (Whole c.args.level) Info c.args.client.now c.loop.client c.open.new.self c.fetch.new.client (inl refl) c.loop.invariant.queries c.open.ensures c.in_err-fetch.ensures.stops
+
+pub returns-in_err-fetch-2-clause-stops : goal.returns-in_err-fetch-2-clause-stops
+returns-in_err-fetch-2-clause-stops g c =
+    let first = reads_more (Whole c.args.level) Info c.args.client.now c.loop.client c.open.new.self c.fetch.new.client (inl refl) c.loop.invariant.queries c.open.ensures c.in_ok-fetch.ensures.fetches in
+    stops_more c.from_residual-in_err-fetch-2.result (Whole c.args.level) c.in-Some.window c.args.client.now c.fetch.new.client c.open-in-loop.new.self c.fetch-in-loop.new.client c.in-Some.ensures.asked first c.open-in-loop.ensures c.in_err-fetch-2.ensures.stops

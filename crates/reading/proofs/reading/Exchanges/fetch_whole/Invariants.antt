@@ -1,5 +1,6 @@
 use Rattle.exchange_notes.specs.Noted.{source_of}
-use Rattle.reading.specs.Exchanges.{StillReads}
+use Rattle.reading.specs.declared.reading.Asked.TheVariants.{Whole}
+use Rattle.reading.specs.Exchanges.{ReadsSome, StillReads}
 use Rattle.reading.specs.Text.{StaysWithin}
 use Rattle.reading.proofs.reading.Exchanges.fetch_whole.Given as goal
 
@@ -7,4 +8,5 @@ abbrev pub invariant-loop : goal.invariant-loop
 invariant-loop g l = record {
   reads : StillReads (g.P.Pieces.speaks_for (source_of l.fn.noted)) (g.P.Pieces.speaks_for (source_of l.noted)) l.fn.client l.client;
   few : StaysWithin l.fn.self.requests (g.P.Pieces.count (source_of l.fn.noted)) (g.P.Pieces.count (source_of l.noted));
+  queries : ReadsSome (Whole l.level) l.fn.client l.client;
 }
