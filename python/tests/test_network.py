@@ -200,7 +200,7 @@ class Interrupted(unittest.TestCase):
                 with self.assertRaisesRegex(kind, 'too late'):
                     signal.setitimer(signal.ITIMER_REAL, 0.1)
                     tall(file, 500)
-                self.assertEqual(server.connections, 1)
+                self.assertLessEqual(server.connections, 1)
                 left[0] = 1000
                 self.assertTrue(tall(file, 500) and file.same() and tall(file, 200))
                 self.assertGreater(file._source.depth, 0)
@@ -240,8 +240,9 @@ class Interrupted(unittest.TestCase):
     def test_deadline_of_a_handshake(self):
         with Made(lambda *_: b'') as server, delgunsai.open(server.url().replace('http', 'https'), timeout=0.2) as file:
             self.raises(TimeoutError)
-            signal.setitimer(signal.ITIMER_REAL, 0.1)
-            self.assertRaisesRegex(TimeoutError, 'too late', lambda: file.levels)
+            with self.assertRaisesRegex(TimeoutError, 'too late'):
+                signal.setitimer(signal.ITIMER_REAL, 0.1)
+                file.levels
             self.assertRaisesRegex(delgunsai.Lost, 'timed out', lambda: file.levels)
 
     def test_deadline_on_the_disk(self):
