@@ -6,10 +6,6 @@ use Rattle.std.proofs.Math.ListN.{drop_of_length-le}
 use Rattle.std.proofs.lemmas.List.{drop_more, map-append}
 use Rattle.programs.specs.Words.{named_by}
 
--- a text that is lent
-abbrev pub now_of : Bor (List ℕ) → List ℕ
-now_of word = word.now
-
 -- one more text
 pub pushed : {X : Type 0} (text_of : X → List ℕ) (named new : List X) (x : X) (word : List ℕ) → new ≡ named ++ x ∷ [] → text_of x ≡ word
     → map text_of new ≡ map text_of named ++ word ∷ []

@@ -1,5 +1,5 @@
 //! `cogread`: reads a window, the info or a description of a file over sockets.
-ghost use Rattle.std.specs.Prelude.{◌≡◌, IfErr, IfOk, OnErr, Some, map};
+ghost use Rattle.std.specs.Prelude.{◌≡◌, IfErr, IfOk, OnErr, Some, map, string_bytes};
 ghost use Rattle.std.specs.Option.{option_copied};
 ghost use Rattle.cog_client.specs.Calls.{Starts};
 ghost use Rattle.cog_client.specs.Client.{client_refusal};
@@ -198,22 +198,21 @@ where
 }
 
 /// The words with a server and a name in the place of their URL.
-fn named_words<'a>(
+fn named_words(
     alloc: Global,
-    words: &[&'a str],
+    words: &[&str],
     url: &str,
-    server: &'a str,
-    name: &'a str,
-) -> Result<Vec<&'a str>, AllocError>
-    ensures { IfOk result (λ named. map (λ word. word.now) named.items ≡ named_by url.now server.entry.now name.entry.now words.now) }
+    place: &Place<'_>,
+) -> Result<Vec<String>, AllocError>
+    ensures { IfOk result (λ named. map string_bytes named.items ≡ named_by url.now (string_bytes place.now.server) place.now.name.now words.now) }
 {
     let mut named = Vec::new(alloc);
     for word in words {
         if *word == url {
-            named.push(server)?;
-            named.push(name)?;
+            named.push(String::from_str(alloc, place.server.as_str())?)?;
+            named.push(String::from_str(alloc, place.name)?)?;
         } else {
-            named.push(*word)?;
+            named.push(String::from_str(alloc, word)?)?;
         }
     }
     Ok(named)
@@ -237,10 +236,10 @@ fn url_for_missing<'a>(refusal: &clap::Error, words: &[&'a str]) -> Option<&'a s
     url_among(words)
 }
 
-/// The server and the name that a URL names.
-fn place_at<'a, R: AllocGlobal>(rt: &R, url: &'a str) -> Result<Place<'a>, Fault> {
+/// The words with the server and the name of a URL in its place.
+fn words_of_url<R: AllocGlobal>(rt: &R, words: &[&str], url: &str) -> Result<Vec<String>, Fault> {
     match place_of(rt.alloc(), url) {
-        Ok(place) => Ok(place),
+        Ok(place) => Ok(named_words(rt.alloc(), words, url, &place)?),
         Err(PlaceError::Memory) => Err(Fault::Memory),
         Err(error) => Err(Fault::NotAPlace(String::from_str(rt.alloc(), url)?, error)),
     }
@@ -251,8 +250,7 @@ fn run_url<R>(rt: &R, words: &[&str], url: &str) -> Result<(), Fault>
 where
     R: Files + Clock + Print + Eprint + AllocGlobal + Net<Stream = TcpStream>,
 {
-    let place = place_at(rt, url)?;
-    let named = named_words(rt.alloc(), words, url, place.server.as_str(), place.name)?;
+    let named = words_of_url(rt, words, url)?;
     let mut line = read_line(rt.alloc(), &named)?;
     line.keep = !line.close;
     line.ahead = line.ahead.or(Some(AHEAD_OF_A_URL));
