@@ -44,9 +44,8 @@ fn grow(buffer: &mut Vec<u8>, len: usize) -> Result<(), Memory>
     Ok(())
 }
 
-/// Gives the reader the range that it wants, of so many bytes, all of which the cache has. Plain tiles are painted out of the blocks, and
-/// packed ones are compared there with those that are kept; what has to be in one piece is copied to a buffer, which is kept from one range
-/// to the next.
+/// Gives the reader the range that it wants, of so many bytes, all of which the cache has. Tiles, plain and packed, are taken out of the
+/// blocks where they lie; what has to be in one piece is copied to a buffer, which is kept from one range to the next.
 fn give_held(
     reader: &mut Reader,
     cache: &Cache,
