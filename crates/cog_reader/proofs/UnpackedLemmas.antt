@@ -41,14 +41,7 @@ stands_for f first len row size t (Some plain) told is =
     (subst (λ r. Packs r (bytes_in f (record { first = first; len = t.len })) plain.now) (sym told.1)
     (subst (Packs t.row (bytes_in f (record { first = first; len = t.len }))) (sym told.3) is))
 
--- a tile that is made of a file's bytes is the file's
-pub is_made : (f : List ℕ) (first len row : ℕ) (plain : List ℕ) (t : Tile) → (t.len ≡ len) × (t.row ≡ row) × (t.plain.items ≡ plain) → Packs row (bytes_in f (record { first = first; len = len })) plain → IsTileOf f (first, t)
-is_made f first len row plain t made packs =
-    subst (λ n. Packs t.row (bytes_in f (record { first = first; len = n })) t.plain.items) (sym made.0)
-    (subst (λ r. Packs r (bytes_in f (record { first = first; len = len })) t.plain.items) (sym made.1)
-    (subst (Packs row (bytes_in f (record { first = first; len = len }))) (sym made.2) packs))
-
--- and so are those among which it is put, if it is
+-- a tile of the file that is put among its tiles is one of them, if it is put
 pub kept_put : {A E : Type 0} (f : List ℕ) (old new : LruCache ℕ Tile) (first : ℕ) (tile : Tile) (r : Result A E) → OnOk r (new ≡ lru_cache (put_entries nat_eq old first tile) old.cap) → OnErr r (new ≡ old)
     → All (IsTileOf f) old.entries → IsTileOf f (first, tile) → All (IsTileOf f) new.entries
 kept_put f old new first tile (Ok x) put same all one = subst (λ (c : LruCache ℕ Tile). All (IsTileOf f) c.entries) (sym put) (all_put (IsTileOf f) old first tile all one)

@@ -26,17 +26,18 @@ fn unpack_parts<B: Bytes>(
     tiles: &[u32],
     bytes: &B,
     room: &mut [u8],
-    plain: &mut [u8],
+    plain: &mut Vec<u8>,
     unpacked: &mut Unpacked,
 ) -> Result<(), FileFault>
     requires level { canvas.old.level ≡ arrays.now.level }
     requires packed { arrays.now.level.compression ≡ PackBits }
     requires whole { IsWhole arrays.now tiles.now (length (B.bytes bytes.now)) }
     requires room { B.room_needed bytes.now ≤ length room.old }
-    requires plain { length plain.old ≡ plain_size (layout_of arrays.now.level) }
+    requires plain { length plain.old.items ≡ plain_size (layout_of arrays.now.level) }
     ensures level { canvas.new.level ≡ canvas.old.level }
     ensures rectangle { canvas.new.rectangle ≡ canvas.old.rectangle }
     ensures size { length canvas.new.bytes ≡ length canvas.old.bytes }
+    ensures plain { length plain.new.items ≡ length plain.old.items }
     ensures painted { (f : List ℕ) (n first : ℕ) (done : List ℕ) → AreArraysOf f n arrays.now → AreBytesOf f first (B.bytes bytes.now)
         → Adjoin (tile_extent arrays.now) first tiles.now (first + length (B.bytes bytes.now)) → AreTilesOf f unpacked.old
         → All (IsPainted f n canvas.old) done → OnOk result (All (IsPainted f n canvas.new) (done ++ tiles.now)) }
@@ -129,14 +130,17 @@ impl Mosaic {
     ghost use Rattle.cog_reader.specs.Unpacked.{AreTilesOf};
 
     /// The window of a rectangle, in a file of `complete` bytes: nothing of it is there yet. The rectangle lies in the arrays'
-    /// level and is small. Where a tile of it has a wrong byte count or ends past the file, that fault is told.
+    /// level and is small. Where a tile of it has a wrong byte count or ends past the file, that fault is told. What is kept stays, but
+    /// for room for a tile.
     pub fn new(
         alloc: Global,
         arrays: &Arrays,
+        unpacked: &mut Unpacked,
         rect: Rectangle,
         complete: u64,
     ) -> Result<Mosaic, PlanError>
         requires { IsSmall arrays.now.level rect }
+        ensures same { unpacked.new ≡ unpacked.old }
         ensures plan { IfOk result (IsPlan complete arrays.now) }
         ensures none { IfOk result (λ w. (w.given ≡ 0) × (w.picture.rectangle ≡ rect)) }
         ensures underway { (f : List ℕ) (q : Query) → length f ≡ complete
@@ -157,11 +161,10 @@ impl Mosaic {
             &arrays.counts,
         )?;
         let canvas = Canvas::new(alloc, level, rect)?;
-        let room = match level.compression {
-            Compression::Plain => 0,
-            Compression::PackBits => level.plain_size(),
+        let plain = match level.compression {
+            Compression::Plain => Vec::new(alloc),
+            Compression::PackBits => unpacked.take_room(level.plain_size())?,
         };
-        let plain = vec![in alloc; 0u8; room].map_err(|_| PlanError::Memory)?;
         Ok(Mosaic {
             rect,
             groups,
@@ -272,8 +275,10 @@ impl Mosaic {
         self.given += 1;
     }
 
-    /// The bytes of the window's samples, row by row, each sample with its most significant byte first.
-    fn into_pixels(self, arrays: &Arrays) -> Vec<u8>
+    /// The bytes of the window's samples, row by row, each sample with its most significant byte first. What is kept stays, and room for
+    /// a tile is given back to it.
+    fn into_pixels(self, arrays: &Arrays, unpacked: &mut Unpacked) -> Vec<u8>
+        ensures same { unpacked.new ≡ unpacked.old }
         ensures size { (f : List ℕ) (q : Query) → IsUnderway f q arrays.now self → length result.items ≡ length self.picture.bytes }
         ensures samples { (f : List ℕ) (q : Query) → IsUnderway f q arrays.now self → self.given ≡ length self.groups
             → HasSamples f (rectangle_of self.picture.rectangle) (samples_in arrays.now.level.bits result.items) }
@@ -282,14 +287,17 @@ impl Mosaic {
             → ((fault : Fault) → IsFaultOfDirectories f fault → ⊥) → IsWindow f q (samples_in arrays.now.level.bits result.items) }
     {
         tiles_cover();
-        let mut bytes = self.canvas.into_data();
+        let Mosaic { canvas, plain, .. } = self;
+        unpacked.give_room(plain);
+        let mut bytes = canvas.into_data();
         big_first(arrays.order, arrays.level.bits, &mut bytes);
         bytes
     }
 
-    /// The window, when all groups were given.
-    pub fn into_window(self, arrays: &Arrays) -> Window
-        ensures { (f : List ℕ) (q : Query) → IsUnderway f q arrays.now self → self.given ≡ length self.groups
+    /// The window, when all groups were given. What is kept stays, and room for a tile is given back to it.
+    pub fn into_window(self, arrays: &Arrays, unpacked: &mut Unpacked) -> Window
+        ensures same { unpacked.new ≡ unpacked.old }
+        ensures window { (f : List ℕ) (q : Query) → IsUnderway f q arrays.now self → self.given ≡ length self.groups
             → ((fault : Fault) → IsFaultOfDirectories f fault → ⊥) → IsWindowOf f q result }
     {
         let Rectangle { w, h, .. } = self.rect;
@@ -298,7 +306,7 @@ impl Mosaic {
             h,
             samples: arrays.level.samples,
             bits: arrays.level.bits,
-            pixels: self.into_pixels(arrays),
+            pixels: self.into_pixels(arrays, unpacked),
         }
     }
 }

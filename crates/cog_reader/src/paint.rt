@@ -20,18 +20,19 @@ pub fn paint_packed<B: Bytes>(
     first: u32,
     bytes: &B,
     room: &mut [u8],
-    plain: &mut [u8],
+    plain: &mut Vec<u8>,
     unpacked: &mut Unpacked,
 ) -> Result<(), FileFault>
     requires packed { canvas.old.level.compression ≡ PackBits }
     requires tile { tile < tile_total (grid_of canvas.old.level) }
     requires room { B.room_needed bytes.now ≤ length room.old }
-    requires plain { length plain.old ≡ plain_size (layout_of canvas.old.level) }
+    requires plain { length plain.old.items ≡ plain_size (layout_of canvas.old.level) }
     // Of a file that has these bytes there, and whose tiles those are that are kept.
     ensures paint { (f : List ℕ) → B.bytes bytes.now ≡ bytes_in f (record { first = first; len = length (B.bytes bytes.now) })
         → AreTilesOf f unpacked.old → OnOk result (IsPaint tile (B.bytes bytes.now) canvas.old canvas.new) }
     ensures kept { (f : List ℕ) → B.bytes bytes.now ≡ bytes_in f (record { first = first; len = length (B.bytes bytes.now) })
         → AreTilesOf f unpacked.old → AreTilesOf f unpacked.new }
+    ensures plain { length plain.new.items ≡ length plain.old.items }
     ensures bad { IfErr result (IsBad (B.bytes bytes.now) canvas.old) }
     ensures level { canvas.new.level ≡ canvas.old.level }
     ensures rectangle { canvas.new.rectangle ≡ canvas.old.rectangle }

@@ -115,7 +115,7 @@ impl Reader {
         let Some(pending) = &mut self.pending else {
             return Ok(None);
         };
-        pending.need(self.alloc, self.complete, &self.walk, &self.kept)
+        pending.need(self.alloc, self.complete, &self.walk, &self.kept, &mut self.unpacked)
     }
 
     /// The range that is wanted after the next one and `index` more, as far as it is known and ends in the file: the other array

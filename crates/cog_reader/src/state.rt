@@ -53,24 +53,26 @@ fn advance(
     complete: u64,
     walk: &Walk,
     kept: &Kept,
+    unpacked: &mut Unpacked,
     query: Query,
     state: State,
 ) -> Result<Step, State>
     requires kept { IsKeptOf walk.now kept.now }
     requires state { IsState complete walk.now kept.now state }
+    ensures same { unpacked.new ≡ unpacked.old }
     ensures step { IfOk result (IsStep complete walk.now kept.now query state) }
     ensures err { IfErr result (λ s. s ≡ state) }
 {
     match state {
-        State::Directories => match directories::next(alloc, complete, walk, kept, query) {
+        State::Directories => match directories::next(alloc, complete, walk, kept, unpacked, query) {
             Ok(step) => Ok(step),
             Err(Memory) => Err(State::Directories),
         },
-        State::Arrays(rect) => match arrays::next(alloc, complete, walk, kept, rect) {
+        State::Arrays(rect) => match arrays::next(alloc, complete, walk, kept, unpacked, rect) {
             Ok(step) => Ok(step),
             Err(Memory) => Err(State::Arrays(rect)),
         },
-        State::Tiles(mosaic) => Ok(tiles::next(kept.both(), mosaic)),
+        State::Tiles(mosaic) => Ok(tiles::next(kept.both(), unpacked, mosaic)),
         State::Fields(fields) => match fields::next(alloc, complete, walk, fields) {
             Ok(step) => Ok(step),
             Err(fields) => Err(State::Fields(fields)),
@@ -128,9 +130,11 @@ impl PendingQuery {
         complete: u64,
         walk: &Walk,
         kept: &Kept,
+        unpacked: &mut Unpacked,
     ) -> Result<Option<Span>, Memory>
         requires kept { IsKeptOf walk.now kept.now }
         requires state { IsState complete walk.now kept.now self.old.state }
+        ensures same { unpacked.new ≡ unpacked.old }
         ensures query { self.new.query ≡ self.old.query }
         ensures becomes { OnOk result (Becomes complete walk.now kept.now self.old.query self.old.state self.new.state) }
         ensures wanted { IfOk result (λ o. MatchOption o (IsSome (outcome_in self.new.state))
@@ -138,7 +142,7 @@ impl PendingQuery {
         ensures err { OnErr result (self.new ≡ self.old) }
     {
         let state = mem::replace(&mut self.state, State::Directories);
-        match advance(alloc, complete, walk, kept, self.query, state) {
+        match advance(alloc, complete, walk, kept, unpacked, self.query, state) {
             Ok(Step::Read(state, span)) => {
                 self.state = state;
                 Ok(Some(span))

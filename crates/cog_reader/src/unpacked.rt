@@ -1,5 +1,5 @@
 //! Tiles that were unpacked, kept from one window to the next.
-ghost use Rattle.std.specs.Prelude.{ℕ, List};
+ghost use Rattle.std.specs.Prelude.{◌≡◌, ℕ, List, IfOk, length};
 ghost use Rattle.std.specs.List.{All};
 ghost use Rattle.tiff_dir.specs.Needs.{bytes_in};
 ghost use Rattle.tiff_dir.specs.Packets.{Packs};
@@ -8,6 +8,7 @@ ghost use Rattle.cog_reader.specs.Unpacked.{IsTileOf};
 use lru::LruCache;
 use std::alloc::Global;
 use std::marker::Model;
+use std::mem;
 use std::num::NonZeroUsize;
 use tiff_dir::Memory;
 
@@ -20,18 +21,7 @@ pub struct Tile {
 }
 
 impl Tile {
-    ghost use Rattle.std.specs.Prelude.{◌≡◌, IfOk, IfSome, length};
-
-    /// A copy of what they stand for.
-    fn new(alloc: Global, len: usize, row: usize, plain: &[u8]) -> Result<Tile, Memory>
-        ensures { IfOk result (λ tile. (tile.len ≡ len) × (tile.row ≡ row) × (tile.plain.items ≡ plain.now)) }
-    {
-        Ok(Tile {
-            len,
-            row,
-            plain: Vec::from_slice(alloc, plain)?,
-        })
-    }
+    ghost use Rattle.std.specs.Prelude.{◌≡◌, IfSome, length};
 
     /// What it stands for, where its packed bytes are so many, and it has `size` bytes in rows of `row`.
     fn plain_of(&self, len: usize, row: usize, size: usize) -> Option<&[u8]>
@@ -44,30 +34,58 @@ impl Tile {
     }
 }
 
-/// Puts a copy of a tile among others, where there is memory for it.
+/// Room for a tile of so many bytes: that of the tile that was used longest ago, where no more may be kept, and else new.
+fn room_for(
+    tiles: &mut LruCache<u32, Tile>,
+    alloc: Global,
+    size: usize,
+) -> Result<Vec<u8>, Memory>
+    ensures size { IfOk result (λ room. length room.items ≡ size) }
+    ensures of { (f : List ℕ) → All (IsTileOf f) tiles.old.entries → All (IsTileOf f) tiles.new.entries }
+{
+    if tiles.len() >= tiles.cap().get() {
+        if let Some((_, tile)) = tiles.pop_lru() {
+            if tile.plain.len() == size {
+                return Ok(tile.plain);
+            }
+        }
+    }
+    Ok(vec![in alloc; 0u8; size]?)
+}
+
+/// Puts a tile among others, where there is memory for it. Its room is kept with it, and other room of that size stands in its place.
 fn put(
     tiles: &mut LruCache<u32, Tile>,
     alloc: Global,
     first: u32,
     len: usize,
     row: usize,
-    plain: &[u8],
+    plain: &mut Vec<u8>,
 )
-    ensures { (f : List ℕ) → All (IsTileOf f) tiles.old.entries → Packs row (bytes_in f (record { first = first; len = len })) plain.now
+    ensures of { (f : List ℕ) → All (IsTileOf f) tiles.old.entries → Packs row (bytes_in f (record { first = first; len = len })) plain.old.items
         → All (IsTileOf f) tiles.new.entries }
+    ensures size { length plain.new.items ≡ length plain.old.items }
 {
-    if let Ok(tile) = Tile::new(alloc, len, row, plain) {
-        let _ = tiles.put(first, tile);
-    }
+    let Ok(room) = room_for(tiles, alloc, plain.len()) else {
+        return;
+    };
+    let tile = Tile {
+        len,
+        row,
+        plain: mem::replace(plain, room),
+    };
+    let _ = tiles.put(first, tile);
 }
 
-/// Tiles of one file that were unpacked, by where their packed bytes begin in it: those that were used last, as many as have room.
+/// Tiles of one file that were unpacked, by where their packed bytes begin in it: those that were used last, as many as have room. Beside
+/// them it keeps the room for one tile of the window before, for the next window.
 #[derive(Drop)]
 pub struct Unpacked {
     alloc: Global,
-    room: usize,
+    most: usize,
     size: usize,
     tiles: Option<LruCache<u32, Tile>>,
+    room: Vec<u8>,
 }
 
 impl Model for Unpacked {
@@ -81,22 +99,42 @@ impl Model for Unpacked {
 
 #[tactic(auto, unfolding(crate::specs::Unpacked::AreTilesOf))]
 impl Unpacked {
-    ghost use Rattle.std.specs.Prelude.{◌≡◌, ℕ, List, [], IfSome, length};
+    ghost use Rattle.std.specs.Prelude.{◌≡◌, ℕ, List, [], IfOk, IfSome, length};
     ghost use Rattle.tiff_dir.specs.Needs.{bytes_in};
     ghost use Rattle.tiff_dir.specs.Packets.{Packs};
     ghost use Rattle.cog_reader.specs.Unpacked.{AreTilesOf};
 
-    /// None yet, and room for so many bytes of them. It takes no memory.
-    pub fn new(alloc: Global, room: usize) -> Unpacked
+    /// None yet, of at most so many bytes in all. It takes no memory.
+    pub fn new(alloc: Global, most: usize) -> Unpacked
         ensures none { result ≡ [] }
         ensures of { (f : List ℕ) → AreTilesOf f result }
     {
         Unpacked {
             alloc,
-            room,
+            most,
             size: 0,
             tiles: None,
+            room: Vec::new(alloc),
         }
+    }
+
+    /// Room for a tile of so many bytes: that of the window before, where it is as long, and else new.
+    pub fn take_room(&mut self, size: usize) -> Result<Vec<u8>, Memory>
+        ensures size { IfOk result (λ room. length room.items ≡ size) }
+        ensures same { self.new ≡ self.old }
+    {
+        let room = mem::replace(&mut self.room, Vec::new(self.alloc));
+        if room.len() == size {
+            return Ok(room);
+        }
+        Ok(vec![in self.alloc; 0u8; size]?)
+    }
+
+    /// Has this room for the next window.
+    pub fn give_room(&mut self, room: Vec<u8>)
+        ensures { self.new ≡ self.old }
+    {
+        self.room = room;
     }
 
     /// Notes that the tile at this place is used.
@@ -120,10 +158,12 @@ impl Unpacked {
     }
 
     /// Keeps what the packed bytes of the tile at this place stand for, which are so many, in the place of the tile that was used longest
-    /// ago where there is no room. It isn't kept where no memory is left.
-    pub fn keep(&mut self, first: u32, len: usize, row: usize, plain: &[u8])
-        ensures { (f : List ℕ) → AreTilesOf f self.old → Packs row (bytes_in f (record { first = first; len = len })) plain.now
+    /// ago where no more may be kept. Its room is taken, and other room of that size stands in its place. It isn't kept where no memory is
+    /// left.
+    pub fn keep(&mut self, first: u32, len: usize, row: usize, plain: &mut Vec<u8>)
+        ensures of { (f : List ℕ) → AreTilesOf f self.old → Packs row (bytes_in f (record { first = first; len = len })) plain.old.items
             → AreTilesOf f self.new }
+        ensures size { length plain.new.items ≡ length plain.old.items }
     {
         self.fit(plain.len());
         if let Some(tiles) = &mut self.tiles {
@@ -139,7 +179,7 @@ impl Unpacked {
             return;
         }
         self.size = size;
-        self.tiles = match NonZeroUsize::new(self.room.checked_div(size).unwrap_or(0)) {
+        self.tiles = match NonZeroUsize::new(self.most.checked_div(size).unwrap_or(0)) {
             Some(most) => LruCache::sparse(self.alloc, most).ok(),
             None => None,
         };

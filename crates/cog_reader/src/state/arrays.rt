@@ -14,6 +14,7 @@ use crate::Outcome;
 use crate::kept::{Kept, NextArray};
 use crate::mosaic::Mosaic;
 use crate::state::{State, Step, span_of, tiles};
+use crate::unpacked::Unpacked;
 use std::alloc::Global;
 use tiff_dir::{FileFault, Memory, Span, Walk, levels_are_described, what_comes};
 use tile_plan::{PlanError, Rectangle};
@@ -24,12 +25,14 @@ pub fn next(
     complete: u64,
     walk: &Walk,
     kept: &Kept,
+    unpacked: &mut Unpacked,
     rect: Rectangle,
 ) -> Result<Step, Memory>
     requires ended { HasEnded walk.now }
     requires kept { IsKeptOf walk.now kept.now }
     requires small { IsSomeAnd (slice_get (levels_of walk.now) rect.level) (λ l. IsSmall l rect) }
-    ensures { IfOk result (λ step. (q : Asks) → IsStep complete walk.now kept.now q (state.Arrays rect) step) }
+    ensures same { unpacked.new ≡ unpacked.old }
+    ensures step { IfOk result (λ step. (q : Asks) → IsStep complete walk.now kept.now q (state.Arrays rect) step) }
 {
     what_comes();
     levels_are_described();
@@ -39,8 +42,8 @@ pub fn next(
             Some(span) => Ok(Step::Read(State::Arrays(rect), span)),
             None => Ok(Step::Answer(Outcome::Fault(FileFault::PastEnd))),
         },
-        NextArray::Both(arrays) => match Mosaic::new(alloc, arrays, rect, complete) {
-            Ok(mosaic) => Ok(tiles::next(arrays, mosaic)),
+        NextArray::Both(arrays) => match Mosaic::new(alloc, arrays, unpacked, rect, complete) {
+            Ok(mosaic) => Ok(tiles::next(arrays, unpacked, mosaic)),
             Err(PlanError::File(fault)) => Ok(Step::Answer(Outcome::Fault(fault))),
             Err(PlanError::Memory) => Err(Memory),
         },

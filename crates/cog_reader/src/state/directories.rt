@@ -13,6 +13,7 @@ use crate::Outcome;
 use crate::fields::Fields;
 use crate::kept::Kept;
 use crate::state::{State, Step, arrays, fields};
+use crate::unpacked::Unpacked;
 use std::alloc::Global;
 use tiff_dir::{FileFault, Memory, Query, Walk, WalkError, levels_are_described, what_comes};
 use tile_plan::rect;
@@ -23,17 +24,19 @@ pub fn next(
     complete: u64,
     walk: &Walk,
     kept: &Kept,
+    unpacked: &mut Unpacked,
     query: Query,
 ) -> Result<Step, Memory>
     requires { IsKeptOf walk.now kept.now }
-    ensures { IfOk result (IsStep complete walk.now kept.now query state.Directories) }
+    ensures same { unpacked.new ≡ unpacked.old }
+    ensures step { IfOk result (IsStep complete walk.now kept.now query state.Directories) }
 {
     match walk.need(complete) {
         Ok(Some(span)) => Ok(Step::Read(State::Directories, span)),
         Err(fault) => Ok(Step::Answer(Outcome::Fault(fault))),
         Ok(None) => match query {
             Query::Info => begin_info(alloc, complete, walk),
-            Query::Window { .. } => begin_window(alloc, complete, walk, kept, query),
+            Query::Window { .. } => begin_window(alloc, complete, walk, kept, unpacked, query),
         },
     }
 }
@@ -61,17 +64,19 @@ fn begin_window(
     complete: u64,
     walk: &Walk,
     kept: &Kept,
+    unpacked: &mut Unpacked,
     query: Query,
 ) -> Result<Step, Memory>
     requires ended { HasEnded walk.now }
     requires kept { IsKeptOf walk.now kept.now }
     requires window { query ≢ queries.Info }
-    ensures { IfOk result (IsStep complete walk.now kept.now query state.Directories) }
+    ensures same { unpacked.new ≡ unpacked.old }
+    ensures step { IfOk result (IsStep complete walk.now kept.now query state.Directories) }
 {
     what_comes();
     levels_are_described();
     match rect(walk.levels(), query) {
-        Ok(rect) => arrays::next(alloc, complete, walk, kept, rect),
+        Ok(rect) => arrays::next(alloc, complete, walk, kept, unpacked, rect),
         Err(fault) => Ok(Step::Answer(Outcome::Fault(fault))),
     }
 }

@@ -23,13 +23,14 @@ use tiff_dir::{FileFault, Span};
 use tile_plan::Bytes;
 
 /// What comes next: a group, or, where all were given, the window.
-pub fn next(arrays: &Arrays, mosaic: Mosaic) -> Step
-    ensures { (complete n : ℕ) (w : WalkState) (q : Asks) → HasEnded w → IsPlan complete arrays.now mosaic
+pub fn next(arrays: &Arrays, unpacked: &mut Unpacked, mosaic: Mosaic) -> Step
+    ensures same { unpacked.new ≡ unpacked.old }
+    ensures step { (complete n : ℕ) (w : WalkState) (q : Asks) → HasEnded w → IsPlan complete arrays.now mosaic
         → IsStep complete w (kept.Both n arrays.now) q (state.Tiles mosaic) result }
 {
     match mosaic.need() {
         Some(span) => Step::Read(State::Tiles(mosaic), span),
-        None => Step::Answer(Outcome::Window(mosaic.into_window(arrays))),
+        None => Step::Answer(Outcome::Window(mosaic.into_window(arrays, unpacked))),
     }
 }
 

@@ -14,7 +14,7 @@ invariant-loop-tile g l = record {
   rectangle : l.canvas.rectangle ≡ l.fn.canvas.rectangle;
   size : length l.canvas.bytes ≡ length l.fn.canvas.bytes;
   room : length l.room ≡ length l.fn.room;
-  plain : length l.plain ≡ plain_size (layout_of l.arrays.level);
+  plain : length l.plain.items ≡ plain_size (layout_of l.arrays.level);
   painted : (f : List ℕ) (n first : ℕ) (done : List ℕ) → AreArraysOf f n l.arrays → AreBytesOf f first (g.B.Bytes.bytes l.bytes) → Adjoin (tile_extent l.arrays) first l.tiles (first + length (g.B.Bytes.bytes l.bytes))
       → AreTilesOf f l.fn.unpacked → All (IsPainted f n l.fn.canvas) done → All (IsPainted f n l.canvas) (done ++ take l.tile-index l.tiles);
   kept : (f : List ℕ) (n first : ℕ) → AreArraysOf f n l.arrays → AreBytesOf f first (g.B.Bytes.bytes l.bytes) → Adjoin (tile_extent l.arrays) first l.tiles (first + length (g.B.Bytes.bytes l.bytes))

@@ -1,7 +1,9 @@
-use Rattle.cog_reader.proofs.UnpackedLemmas.{is_made, kept_put}
+use Rattle.cog_reader.specs.declared.unpacked.Tile.{Tile}
+use Rattle.cog_reader.proofs.UnpackedLemmas.{kept_put}
 use Rattle.cog_reader.proofs.unpacked.put.Goals as goal
 
-pub returns-in-Ok : goal.returns-in-Ok
-returns-in-Ok c f all packs =
-    kept_put f c.args.tiles.now c.put.new.self c.args.first c.in-Ok.tile c.put.result c.put.ensures.entries c.put.ensures.err all
-    (is_made f c.args.first c.args.len c.args.row c.args.plain.now c.in-Ok.tile c.in-Ok.ensures packs)
+pub returns-clause-of : goal.returns-clause-of
+returns-clause-of c f all packs =
+    let tile : Tile = record { len = c.args.len; row = c.args.row; plain = c.replace.result } in
+    kept_put f c.room_for.new.tiles c.put.new.self c.args.first tile c.put.result c.put.ensures.entries c.put.ensures.err (c.room_for.ensures.of f all)
+    (rw c.replace.ensures.value packs)

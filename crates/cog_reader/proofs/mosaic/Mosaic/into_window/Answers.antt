@@ -5,8 +5,8 @@ use Rattle.tile_plan.specs.Levels.{rectangle_of}
 use Rattle.cog_reader.specs.Mosaic.{MosaicState}
 use Rattle.cog_reader.proofs.mosaic.Mosaic.into_window.Goals as goal
 
-pub returns : goal.returns
-returns c f q u done clean =
+pub returns-clause-window : goal.returns-clause-window
+returns-clause-window c f q u done clean =
     let rect : c.self.inside.rect ≡ c.args.self.picture.rectangle = c.self.invariant.0 ∙ ap (λ (w : MosaicState). w.picture.rectangle) c.self.view_is in
     let a = c.args.arrays.now in record {
       window = c.into_pixels.ensures.window f q u done clean;

@@ -12,15 +12,15 @@ use Rattle.cog_reader.proofs.state.arrays.next.Goals as goal
 pub span_of-requires : goal.span_of-requires
 span_of-requires c = some_array c.args.kept.now c.args.rect.level c.index-levels-rect.result c.in-Read.place c.in-Read.ensures
 
-pub returns-in-None : goal.returns-in-None
-returns-in-None c q =
+pub returns-in-None-clause-step : goal.returns-in-None-clause-step
+returns-in-None-clause-step c q =
     let l = c.index-levels-rect.result in
     let here = level_told c.args.walk.now c.levels.result.now c.args.rect.level l c.args.rect c.levels.ensures.held c.requires.small c.index-levels-rect.is c.levels.ensures.levels c.levels_are_described.ensures.described (λ f told. c.what_comes.ensures.clean _ f told c.requires.ended) in
     becomes_done c.args.complete c.args.walk.now c.args.kept.now q _ _
     (λ f base state. past_array f q c.args.rect l c.args.kept.now c.in-Read.place state.0 state.1 (here.layout f base.walked) c.in-Read.ensures (subst (λ n. n < c.in-Read.place.first + c.in-Read.place.len) (sym base.size) c.in-None.ensures))
 
-pub returns-in-Some : goal.returns-in-Some
-returns-in-Some c q =
+pub returns-in-Some-clause-step : goal.returns-in-Some-clause-step
+returns-in-Some-clause-step c q =
     let l = c.index-levels-rect.result in
     let w = c.args.walk.now in
     let k = c.args.kept.now in
@@ -31,8 +31,8 @@ returns-in-Some c q =
       array_wanted c.args.complete w k c.args.rect l p c.in-Some.span here c.in-Read.ensures c.in-Some.ensures.0 (fair_array c.args.complete k c.args.rect.level l p c.in-Read.ensures (λ past. omega (arith, past, within))),
     )
 
-pub returns-in-Ok : goal.returns-in-Ok
-returns-in-Ok c q =
+pub returns-in-Ok-clause-step : goal.returns-in-Ok-clause-step
+returns-in-Ok-clause-step c q =
     let l = c.index-levels-rect.result in
     let w = c.args.walk.now in
     let a = c.in-Both.arrays.now in
@@ -42,10 +42,10 @@ returns-in-Ok c q =
     let begun = becomes_tiles c.args.complete w c.args.kept.now q c.args.rect l a c.in-Ok.mosaic c.requires.ended here c.in-Both.ensures same c.in-Ok.ensures.plan c.in-Ok.ensures.none.0 (λ f size p. c.in-Ok.ensures.underway f q size p) in
     step_more c.args.complete w c.args.kept.now q (Arrays c.args.rect) (Tiles c.in-Ok.mosaic) c.next-in-Ok.result begun
     (subst (λ (k : Kept). IsStep c.args.complete w k q (Tiles c.in-Ok.mosaic) c.next-in-Ok.result) (sym c.in-Both.ensures)
-    (c.next-in-Ok.ensures c.args.complete c.args.rect.level w q c.requires.ended c.in-Ok.ensures.plan))
+    (c.next-in-Ok.ensures.step c.args.complete c.args.rect.level w q c.requires.ended c.in-Ok.ensures.plan))
 
-pub returns-in-Err-File : goal.returns-in-Err-File
-returns-in-Err-File c q =
+pub returns-in-Err-File-clause-step : goal.returns-in-Err-File-clause-step
+returns-in-Err-File-clause-step c q =
     let l = c.index-levels-rect.result in
     let w = c.args.walk.now in
     let a = c.in-Both.arrays.now in

@@ -6,17 +6,17 @@ use Rattle.cog_reader.specs.Step.{IsStep}
 use Rattle.cog_reader.proofs.StepLemmas.{becomes_done, becomes_window, if_ok, own_fault, step_more}
 use Rattle.cog_reader.proofs.state.directories.begin_window.Goals as goal
 
-pub returns-in-Ok : goal.returns-in-Ok
-returns-in-Ok c =
+pub returns-in-Ok-clause-step : goal.returns-in-Ok-clause-step
+returns-in-Ok-clause-step c =
     let w = c.args.walk.now in
     let k = c.args.kept.now in
     let begun = becomes_window c.args.complete w k c.args.query c.levels.result.now c.in-Ok.rect c.requires.ended c.levels.ensures.held c.in-Ok.ensures.asked
     (λ f told. record { levels = c.levels.ensures.levels f told; each = λ n l. c.levels_are_described.ensures.described f _ n l (c.levels.ensures.levels f told) }) (λ f told. c.what_comes.ensures.over w f told c.requires.ended) in
-    if_ok c.next.result (λ (step : Step). (q : Query) → IsStep c.args.complete w k q (Arrays c.in-Ok.rect) step) (λ (step : Step). IsStep c.args.complete w k c.args.query Directories step) c.next.ensures
+    if_ok c.next.result (λ (step : Step). (q : Query) → IsStep c.args.complete w k q (Arrays c.in-Ok.rect) step) (λ (step : Step). IsStep c.args.complete w k c.args.query Directories step) c.next.ensures.step
     (λ step more. step_more c.args.complete w k c.args.query Directories (Arrays c.in-Ok.rect) step begun (more c.args.query))
 
-pub returns-in-Err : goal.returns-in-Err
-returns-in-Err c =
+pub returns-in-Err-clause-step : goal.returns-in-Err-clause-step
+returns-in-Err-clause-step c =
     becomes_done c.args.complete c.args.walk.now c.args.kept.now c.args.query _ _
     (λ f base state. own_fault f c.args.query c.in-Err.fault c.requires.window (elim c.in-Err.ensures.refused [
       | inl info ↦ absurd (c.requires.window info)

@@ -5,8 +5,8 @@ use Rattle.cog_reader.proofs.FirstLemmas.{directories_wanted}
 use Rattle.cog_reader.proofs.StepLemmas.{becomes_done, becomes_same, directory_fault}
 use Rattle.cog_reader.proofs.state.directories.next.Goals as goal
 
-pub returns-in-Ok-Some : goal.returns-in-Ok-Some
-returns-in-Ok-Some c =
+pub returns-in-Ok-Some-clause-step : goal.returns-in-Ok-Some-clause-step
+returns-in-Ok-Some-clause-step c =
     let s = c.in-Ok-Some.span in
     let wants = subst (Wants c.args.walk.now c.args.complete) c.in-Ok-Some.field-0-is c.in-Ok-Some.ensures.wanted in
     let up = s.ascending in
@@ -16,6 +16,6 @@ returns-in-Ok-Some c =
       directories_wanted c.args.complete c.args.walk.now c.args.kept.now (extent_of_span s) wants.0 (record { some = omega (arith, up); inside = omega (arith, inside, up); few = omega (arith, few, up) }) c.in-Ok-Some.ensures.first,
     )
 
-pub returns-in-Err : goal.returns-in-Err
-returns-in-Err c =
+pub returns-in-Err-clause-step : goal.returns-in-Err-clause-step
+returns-in-Err-clause-step c =
     becomes_done c.args.complete c.args.walk.now c.args.kept.now c.args.query _ _ (λ f base state. directory_fault f c.args.query c.in-Err.fault (c.in-Err.ensures.fault f base.size base.walked))

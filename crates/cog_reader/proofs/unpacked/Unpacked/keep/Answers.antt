@@ -3,13 +3,13 @@ use Rattle.cog_reader.specs.Unpacked.{tiles_in, AreTilesOf}
 use Rattle.cog_reader.proofs.unpacked.Unpacked.keep.Goals as goal
 use Rattle.cog_reader.proofs.unpacked.Unpacked.keep.Goals.{in-Some, in_default}
 
-pub returns : goal.returns
+pub returns-clause-of : goal.returns-clause-of
 unfolding AreTilesOf
-returns c f all packs =
+returns-clause-of c f all packs =
     let fits = subst (AreTilesOf f) (sym c.self.view_is) (c.fit.ensures f all) in
     elim c.match-self.branch [
       | in-Some w ↦
           subst (λ u. AreTilesOf f (tiles_in u.tiles)) (sym w.self-inside-is)
-          (w.put.ensures f (subst (λ o. AreTilesOf f (tiles_in o)) w.in-Some.is fits) packs)
+          (w.put.ensures.of f (subst (λ o. AreTilesOf f (tiles_in o)) w.in-Some.is fits) packs)
       | in_default w ↦ subst (λ u. AreTilesOf f (tiles_in u.tiles)) (sym w.self-inside-is) fits
     ]
