@@ -78,7 +78,7 @@ struct cog_client {
 /* cog_client_new: makes a client of a file's name at a host, with a cache of so many blocks of 16,384 bytes, in the place of the one
  * before, which is freed.
  *   host, name   text, as it stands in requests: a host with its port, and a path without the slash it begins with
- *   blocks       66 to 4,096; of packed tiles as many bytes are kept unpacked, and their packed bytes again
+ *   blocks       66 to 4,096; of packed tiles as many bytes are kept unpacked, and room for one tile more
  *   client       the handle; where the result is negative, it is as it was
  * Gives 0, COG_HOST, COG_NAME, COG_BLOCKS, the first that stands against it, or COG_MEMORY. */
 int32_t cog_client_new(const uint8_t *host, size_t host_length, const uint8_t *name, size_t name_length, uint32_t blocks,

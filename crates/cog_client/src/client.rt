@@ -34,8 +34,8 @@ fn first_span() -> Span
 }
 
 /// A client of one file of a host, by its name. It answers one query after another, by ranges of one revision of the file,
-/// which it keeps from one query to the next: its directories, the tile arrays of the level last read, and blocks of 16,384
-/// bytes in a bounded cache.
+/// which it keeps from one query to the next: its directories, the tile arrays of the level last read, blocks of 16,384
+/// bytes in a bounded cache, and of packed tiles what they stand for.
 #[derive(Drop)]
 pub struct Client {
     alloc: Global,

@@ -29,7 +29,7 @@ use Rattle.tiff_dir.specs.Needs.{Extent, ends_past, extent_of_place}
 use Rattle.tiff_dir.specs.Query as queries
 use Rattle.tiff_dir.specs.Query.{array_ranges, joined_after, joins, is_refused, needs_of_query, rectangle, tile_ranges, tiles_in}
 use Rattle.tiff_dir.specs.Walk as walk
-use Rattle.tiff_dir.specs.Walk.{levels_of, extent_of_span, AreGeoPlaces, AreTyped, HasEnded, IsDescribed, IsGeoPlace}
+use Rattle.tiff_dir.specs.Walk.{levels_of, extent_of_span, AreGeoPlaces, AreTyped, HasEnded, IsDescribed}
 use Rattle.tile_plan.specs.declared.asked.Rectangle.{Rectangle}
 use Rattle.cog_reader.specs.declared.mosaic.Mosaic.{Mosaic}
 use Rattle.tile_plan.specs.declared.plan.Group.{Group}

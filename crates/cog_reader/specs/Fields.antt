@@ -16,6 +16,7 @@ six p = p.directory ∷ p.doubles ∷ p.ascii ∷ p.scale ∷ p.tiepoints ∷ p.
 abbrev pub present_in : GeoPlaces → List Place
 present_in p = filter_map (λ o. o) (six p)
 
+-- how many bytes stand at these places together
 abbrev pub total : List Place → ℕ
 total ps = sum_by (λ (p : Place). p.len) ps
 
@@ -35,7 +36,7 @@ pub record AreFields (places : GeoPlaces) (given : ℕ) (bytes : List ℕ) : Typ
 abbrev pub len_of_field : Option Place → ℕ
 len_of_field o = option_map_or (λ (p : Place). p.len) o 0
 
--- the bytes of a geo field of the file, none where it is absent
+-- the bytes of a geo field of the file (OGC 19-008, sections 7.1 and 8), none where it is absent
 abbrev pub geo_bytes : List ℕ → ℕ → List ℕ
 geo_bytes f tag = option_map_or (λ p. bytes_in f (extent_of_place p)) (geo_place f tag) []
 

@@ -90,7 +90,7 @@ pub record AreBytesOf (f : List ℕ) (first : ℕ) (bytes : List ℕ) : Type 0 w
   pub are : bytes ≡ slice_range f first (first + length bytes)
   pub inside : first + length bytes ≤ length f
 
--- no tile is unpacked from the bytes of one of these
+-- no tile is unpacked from the bytes of one of these, and the fault says so
 pub record HasDamage (f : List ℕ) (n : ℕ) (l : Level) (ts : List ℕ) (fault : FileFault) : Type 0 where
   pub tile : ℕ
   pub among : IsAmong ts tile

@@ -94,6 +94,10 @@ query_of r = option_map (λ (a : PendingQuery). a.query) r.pending
 unfoldable pub complete_of : ReaderState → ℕ
 complete_of r = r.complete
 
+-- The tiles that are kept unpacked.
+unfoldable pub tiles_of : ReaderState → List KeptTile
+tiles_of r = r.tiles
+
 -- All directories of the file are read.
 unfoldable pub AreDirectoriesRead : ReaderState → Type 0
 AreDirectoriesRead r = HasEnded r.walk

@@ -25,7 +25,8 @@ pub record IsBase (f : List ℕ) (complete : ℕ) (w : WalkState) (k : Kept) : T
   pub walked : walk.WalkAgrees w f
   pub kept : KeptAgrees f k
 
--- One state takes the place of another: what it holds is the file's, and it wants the same ranges, or none, being done.
+-- One state takes the place of another: what it holds is the file's, and it wants the same ranges, or none, being done. Where the other
+-- was done, it is.
 pub record Becomes (complete : ℕ) (w : WalkState) (k : Kept) (q : Query) (old new : State) : Type 0 where
   pub sound : IsState complete w k new
   pub same : (f : List ℕ) → IsBase f complete w k → StateAgrees f q k old → StateAgrees f q k new

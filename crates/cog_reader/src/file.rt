@@ -22,7 +22,7 @@ pub fn read_file(alloc: Global, file: &[u8], query: Query) -> Result<Outcome, Me
     while let Some(span) = reader.need()? {
         reader.give(&file[span.first as usize..=span.last as usize])?;
     }
-    match reader.into_outcome() {
+    match reader.take_outcome() {
         Some(outcome) => Ok(outcome),
         None => unreachable!(),
     }

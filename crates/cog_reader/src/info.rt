@@ -1,5 +1,5 @@
 //! What georeferences an image, by the bytes of its geo fields.
-ghost use Rattle.std.specs.Prelude.{◌≡◌, ◌%◌, ℕ, List, Some, IfErr, IfOk, length, map};
+ghost use Rattle.std.specs.Prelude.{◌≡◌, ◌%◌, ℕ, List, IfErr, IfOk, length, map};
 ghost use Rattle.std.specs.Option.{option_map};
 ghost use Rattle.tiff_dir.specs.Walk.{WalkAgrees, HasEnded};
 ghost use Rattle.geokeys.specs.Doubles.{doubles_in};

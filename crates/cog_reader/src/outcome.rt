@@ -18,25 +18,27 @@ pub struct Window {
     pub pixels: Vec<u8>,
 }
 
-/// What georeferences an image (OGC 19-008). Numbers of eight bytes have their most significant byte first.
+/// What georeferences an image (OGC 19-008). Numbers of eight bytes are DOUBLEs (TIFF 6.0, section 2), with the most significant byte first.
 #[derive(Debug, Drop, PartialEq, Eq)]
 pub struct Info {
     /// ImageWidth and ImageLength of each level, in pixels.
     pub sides: Vec<(u32, u32)>,
     /// The keys of the key directory (34735).
     pub geo: Geo,
-    /// The numbers of ModelPixelScale (33550), where it is there.
+    /// The numbers of ModelPixelScale (33550), where it is there: three.
     pub scale: Option<Vec<[u8; 8]>>,
-    /// Those of ModelTiepoint (33922).
+    /// Those of ModelTiepoint (33922): six for each point.
     pub tiepoints: Option<Vec<[u8; 8]>>,
-    /// Those of ModelTransformation (34264).
+    /// Those of ModelTransformation (34264): sixteen, row by row.
     pub transformation: Option<Vec<[u8; 8]>>,
 }
 
 /// The answer to a query of a file.
 #[derive(Debug, Drop, PartialEq, Eq)]
 pub enum Outcome {
+    /// The window's samples.
     Window(Window),
+    /// The sides of the levels, and what georeferences the image.
     Info(Info),
     /// This is wrong with the file, or with what is asked of it.
     Fault(FileFault),

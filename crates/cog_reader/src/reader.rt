@@ -10,7 +10,7 @@ use tile_plan::Bytes;
 
 /// A reader of one TIFF file of a known length, which answers one query after another. It says which bytes it needs next, and is
 /// given them, until the query is answered. The directories, and the tile arrays of the level last read, are kept from one
-/// query to the next.
+/// query to the next; and tiles unpacked, where it is made by `keeping`.
 #[derive(Drop)]
 pub struct Reader {
     alloc: Global,
@@ -31,15 +31,15 @@ impl Model for Reader {
     ghost invariant = { λ r. IsReader r.complete r.walk r.kept r.pending };
 }
 
-#[tactic(auto, unfolding(crate::specs::Reader::wanted, crate::specs::Reader::tiles_wanted, crate::specs::Reader::outcome_of, crate::specs::Reader::query_of, crate::specs::Reader::complete_of, crate::specs::Reader::to_come, crate::specs::Reader::unread, crate::specs::Reader::upcoming, crate::specs::Reader::steps_of, crate::specs::Reader::AreDirectoriesRead, crate::specs::Reader::ReaderAgrees))]
+#[tactic(auto, unfolding(crate::specs::Reader::wanted, crate::specs::Reader::tiles_wanted, crate::specs::Reader::outcome_of, crate::specs::Reader::query_of, crate::specs::Reader::complete_of, crate::specs::Reader::to_come, crate::specs::Reader::unread, crate::specs::Reader::upcoming, crate::specs::Reader::steps_of, crate::specs::Reader::tiles_of, crate::specs::Reader::AreDirectoriesRead, crate::specs::Reader::ReaderAgrees))]
 impl Reader {
-    ghost use Rattle.std.specs.Prelude.{◌≡◌, ◌+◌, ◌<◌, ◌≤◌, ℕ, List, None, Some, IfOk, IfSome, IsSome, IsSomeAnd, MatchOption, OnErr, OnOk, length, slice_get};
+    ghost use Rattle.std.specs.Prelude.{◌≡◌, ◌+◌, ◌≤◌, ℕ, List, None, Some, IfOk, IfSome, IsOk, IsSome, IsSomeAnd, MatchOption, OnErr, OnOk, length, slice_get, ◌⊎◌};
     ghost use Rattle.tiff_dir.specs.declared.level.Compression.TheVariants.{PackBits, Plain};
     ghost use Rattle.tiff_dir.specs.Described.{AreLevels};
     ghost use Rattle.tiff_dir.specs.Walk.{extent_of_span};
     ghost use Rattle.tiff_dir.specs.declared.query.Query.{Query};
     ghost use Rattle.cog_reader.specs.Outcome.{IsTrueOf};
-    ghost use Rattle.cog_reader.specs.Reader.{complete_of, outcome_of, query_of, steps_of, tiles_wanted, to_come, unread, wanted, AreDirectoriesRead, ReaderAgrees, IsUpcoming, IsWanted, Takes, Wants};
+    ghost use Rattle.cog_reader.specs.Reader.{complete_of, outcome_of, query_of, steps_of, tiles_of, tiles_wanted, to_come, unread, wanted, AreDirectoriesRead, ReaderAgrees, IsUpcoming, IsWanted, Takes, Wants};
 
     /// A reader of a file of `complete` bytes, of which nothing is known yet, and nothing asked. It takes no memory.
     ///
@@ -81,9 +81,10 @@ impl Reader {
     /// Asks a query, in the place of the one before, whose state goes. It takes no memory.
     pub fn open(&mut self, query: Query)
         ensures agrees { (f : List ℕ) → ReaderAgrees self.old f → ReaderAgrees self.new f }
-        // What the query needs is to come, but for the directories and the arrays that are held.
+        // What the query needs is to come, but for the directories and the arrays that are held. These stay, and the tiles that are kept.
         ensures come { (f : List ℕ) → to_come self.new f ≡ unread self.old f query }
         ensures held { (f : List ℕ) (q : Query) → unread self.new f q ≡ unread self.old f q }
+        ensures tiles { tiles_of self.new ≡ tiles_of self.old }
         ensures complete { complete_of self.new ≡ complete_of self.old }
         ensures query { query_of self.new ≡ Some query }
         ensures outcome { outcome_of self.new ≡ None }
@@ -107,6 +108,9 @@ impl Reader {
         ensures come { OnOk result ((f : List ℕ) → ReaderAgrees self.old f → outcome_of self.new ≡ None → to_come self.new f ≡ to_come self.old f) }
         // What is held of the file stays: no query needs more of it than before.
         ensures held { (f : List ℕ) (q : Query) → unread self.new f q ≡ unread self.old f q }
+        ensures tiles { tiles_of self.new ≡ tiles_of self.old }
+        // Where nothing is asked, or an outcome stands, it isn't refused, and nothing changes.
+        ensures idle { query_of self.old ≡ None ⊎ IsSome (outcome_of self.old) → IsOk result × (self.new ≡ self.old) }
         ensures steps { steps_of self.new ≤ steps_of self.old }
         ensures complete { complete_of self.new ≡ complete_of self.old }
         ensures query { query_of self.new ≡ query_of self.old }
@@ -115,7 +119,13 @@ impl Reader {
         let Some(pending) = &mut self.pending else {
             return Ok(None);
         };
-        pending.need(self.alloc, self.complete, &self.walk, &self.kept, &mut self.unpacked)
+        pending.need(
+            self.alloc,
+            self.complete,
+            &self.walk,
+            &self.kept,
+            &mut self.unpacked,
+        )
     }
 
     /// The range that is wanted after the next one and `index` more, as far as it is known and ends in the file: the other array
@@ -130,10 +140,12 @@ impl Reader {
         pending.upcoming(self.complete, &self.walk, &self.kept, index)
     }
 
-    /// Takes all bytes of the range that is wanted. A refusal (`Memory`, the only error) leaves the reader as it was.
+    /// Takes all bytes of the range that is wanted. A refusal (`Memory`, the only error) leaves the reader as it was. Tiles are never
+    /// refused.
     pub fn give(&mut self, bytes: &[u8]) -> Result<(), Memory>
         requires { IsWanted self.old (length bytes.now) }
         ensures takes { OnOk result (Takes bytes.now self.old self.new) }
+        ensures tiles { IsSome (tiles_wanted self.old) → IsOk result }
         ensures err { OnErr result (self.new ≡ self.old) }
     {
         let Some(pending) = &mut self.pending else {
@@ -163,7 +175,8 @@ impl Reader {
     pub fn paint<B: Bytes>(&mut self, bytes: &B)
         requires plain { tiles_wanted self.old ≡ Some Plain }
         requires wanted { IsWanted self.old (length (B.bytes bytes.now)) }
-        ensures { Takes (B.bytes bytes.now) self.old self.new }
+        ensures takes { Takes (B.bytes bytes.now) self.old self.new }
+        ensures tiles { tiles_of self.new ≡ tiles_of self.old }
     {
         let Some(pending) = &mut self.pending else {
             unreachable!()
@@ -172,8 +185,8 @@ impl Reader {
     }
 
     /// Takes the range that is wanted, of packed tiles: as `give` does. Tiles that are kept unpacked are copied out of what is kept; the
-    /// bytes of another one are put in one piece, in `room` where they stand in several, which is as long as `Bytes` says: the whole range
-    /// is enough. It is never refused.
+    /// bytes of another one are put in one piece, in `room` where they stand in several, which is as long as `Bytes` says. It is never
+    /// refused.
     pub fn unpack<B: Bytes>(&mut self, bytes: &B, room: &mut [u8])
         requires packed { tiles_wanted self.old ≡ Some PackBits }
         requires wanted { IsWanted self.old (length (B.bytes bytes.now)) }
@@ -213,19 +226,6 @@ impl Reader {
         }
     }
 
-    /// What answers the query, by value.
-    pub(crate) fn into_outcome(self) -> Option<Outcome>
-        ensures outcome { result ≡ outcome_of self }
-        ensures true_of { (f : List ℕ) → ReaderAgrees self f → IfSome result (λ o. IsSomeAnd (query_of self) (λ q. IsTrueOf f q o)) }
-    {
-        let Reader { pending, .. } = self;
-        let PendingQuery { state, .. } = pending?;
-        match state {
-            State::Answered(outcome) => Some(outcome),
-            _other => None,
-        }
-    }
-
     /// What answers the query, by value, where it is answered: no query is asked then. Otherwise the reader stays as it is.
     /// It takes no memory.
     pub fn take_outcome(&mut self) -> Option<Outcome>
@@ -238,6 +238,7 @@ impl Reader {
         // What is held of the file stays.
         ensures agrees { (f : List ℕ) → ReaderAgrees self.old f → ReaderAgrees self.new f }
         ensures held { (f : List ℕ) (q : Query) → unread self.new f q ≡ unread self.old f q }
+        ensures tiles { tiles_of self.new ≡ tiles_of self.old }
         ensures complete { complete_of self.new ≡ complete_of self.old }
         ensures none { result ≡ None → self.new ≡ self.old }
     {

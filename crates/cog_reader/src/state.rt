@@ -1,9 +1,13 @@
 //! The states of a query, and what leads from one to the next: a step, which takes no byte of the file, and the bytes of the
 //! range that a state wants.
-ghost use Rattle.std.specs.Prelude.{◌≡◌, ◌+◌, ◌<◌, ◌≤◌, ℕ, IfErr, IfOk, IsSome, IsSomeAnd, MatchOption, OnErr, OnOk, length};
+ghost use Rattle.std.specs.Prelude.{◌≡◌, ◌+◌, ◌<◌, ◌≤◌, ℕ, IfErr, IfOk, IsOk, IsSome, IsSomeAnd, MatchOption, Ok, OnErr, OnOk, length};
 ghost use Rattle.tiff_dir.specs.Needs.{extent_of_place};
 ghost use Rattle.tiff_dir.specs.Walk.{extent_of_span};
+ghost use Rattle.cog_reader.specs.declared.outcome.Outcome.{Outcome as Answer};
+ghost use Rattle.cog_reader.specs.declared.state.State.TheVariants as states;
+ghost use Rattle.cog_reader.specs.declared.state.Step.TheVariants as steps;
 ghost use Rattle.cog_reader.specs.Kept.{IsKeptOf};
+ghost use Rattle.cog_reader.specs.Mosaic.{MosaicState};
 ghost use Rattle.cog_reader.specs.Reader.{outcome_in, wanted_by, tiles_wanted_by, AreTiles, IsState};
 ghost use Rattle.cog_reader.specs.Give.{AcceptsRange, Gives};
 ghost use Rattle.cog_reader.specs.Step.{Becomes, ComesLater, IsStep, IsWantedBy};
@@ -61,10 +65,13 @@ fn advance(
     requires state { IsState complete walk.now kept.now state }
     ensures same { unpacked.new ≡ unpacked.old }
     ensures step { IfOk result (IsStep complete walk.now kept.now query state) }
+    ensures done { (o : Answer) → state ≡ states.Answered o → result ≡ Ok (steps.Answer o) }
     ensures err { IfErr result (λ s. s ≡ state) }
 {
     match state {
-        State::Directories => match directories::next(alloc, complete, walk, kept, unpacked, query) {
+        State::Directories => match directories::next(
+            alloc, complete, walk, kept, unpacked, query,
+        ) {
             Ok(step) => Ok(step),
             Err(Memory) => Err(State::Directories),
         },
@@ -97,6 +104,7 @@ fn accept(
         → AcceptsRange complete bytes.now
         (record { walk = walk.old; kept = kept.old; tiles = unpacked.old; state = state.old })
         (record { walk = walk.new; kept = kept.new; tiles = unpacked.new; state = state.new }) o) }
+    ensures tiles { (m : MosaicState) → state.old ≡ states.Tiles m → IsOk result }
     ensures err { OnErr result ((walk.new ≡ walk.old) × (kept.new ≡ kept.old) × (unpacked.new ≡ unpacked.old) × (state.new ≡ state.old)) }
 {
     match state {
@@ -139,6 +147,7 @@ impl PendingQuery {
         ensures becomes { OnOk result (Becomes complete walk.now kept.now self.old.query self.old.state self.new.state) }
         ensures wanted { IfOk result (λ o. MatchOption o (IsSome (outcome_in self.new.state))
             (λ span. IsWantedBy complete walk.now kept.now self.new.state (extent_of_span span))) }
+        ensures done { IsSome (outcome_in self.old.state) → IsOk result × (self.new ≡ self.old) }
         ensures err { OnErr result (self.new ≡ self.old) }
     {
         let state = mem::replace(&mut self.state, State::Directories);
@@ -188,6 +197,7 @@ impl PendingQuery {
             → Gives complete bytes.now self.old.query
             (record { walk = walk.old; kept = kept.old; tiles = unpacked.old; state = self.old.state })
             (record { walk = walk.new; kept = kept.new; tiles = unpacked.new; state = self.new.state })) }
+        ensures tiles { IsSome (tiles_wanted_by kept.old self.old.state) → IsOk result }
         ensures err { OnErr result ((walk.new ≡ walk.old) × (kept.new ≡ kept.old) × (unpacked.new ≡ unpacked.old) × (self.new ≡ self.old)) }
     {
         match accept(alloc, walk, kept, &mut self.state, unpacked, bytes)? {

@@ -35,11 +35,7 @@ impl Tile {
 }
 
 /// Room for a tile of so many bytes: that of the tile that was used longest ago, where no more may be kept, and else new.
-fn room_for(
-    tiles: &mut LruCache<u32, Tile>,
-    alloc: Global,
-    size: usize,
-) -> Result<Vec<u8>, Memory>
+fn room_for(tiles: &mut LruCache<u32, Tile>, alloc: Global, size: usize) -> Result<Vec<u8>, Memory>
     ensures size { IfOk result (λ room. length room.items ≡ size) }
     ensures of { (f : List ℕ) → All (IsTileOf f) tiles.old.entries → All (IsTileOf f) tiles.new.entries }
 {
@@ -127,6 +123,7 @@ impl Unpacked {
         if room.len() == size {
             return Ok(room);
         }
+        drop(room);
         Ok(vec![in self.alloc; 0u8; size]?)
     }
 
@@ -171,11 +168,11 @@ impl Unpacked {
         }
     }
 
-    /// Has room for tiles of this size, in the place of those of another one.
+    /// May keep tiles of this size, in the place of those of another one, where one at least may be kept and there is memory.
     fn fit(&mut self, size: usize)
         ensures { (f : List ℕ) → AreTilesOf f self.old → AreTilesOf f self.new }
     {
-        if self.size == size {
+        if self.size == size && self.tiles.is_some() {
             return;
         }
         self.size = size;

@@ -1,4 +1,4 @@
--- Numbers as digits: `1*DIGIT`, leading zeros allowed.
+-- Numbers as digits: `1*DIGIT`, leading zeros allowed (RFC 9110, sections 8.6 and 14.1.1).
 use Rattle.std.specs.Prelude.{ℕ, ◌-◌, ◌^◌, ◌&&◌, min, if◌then◌else◌, nat_lt, List, length, Option, Some, None, option_and_then}
 use Rattle.std.specs.Str.{all_ascii_digits}
 use Rattle.std.specs.Str.Parse.{digits_value}

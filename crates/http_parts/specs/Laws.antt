@@ -31,7 +31,7 @@ pub record TagsAreQuoted : Type 0 where
   pub weak : (text : List ℕ) → IsTrue (is_weak_tag text)
       ↔ ((tag : List ℕ) × (text ≡ codes "W/" ++ tag) × IsTrue (is_opaque_tag tag))
 
--- a tag without `W/` is visible bytes, and no weak one
+-- a tag without `W/` is bytes that are visible or past ASCII, and no weak one
 pub record TagsAreVisible : Type 0 where
   pub some : (tag : List ℕ) → IsTrue (is_opaque_tag tag) → 0 < length tag
   pub visible : (tag : List ℕ) → IsTrue (is_opaque_tag tag) → AllPass is_uri_byte tag
@@ -71,7 +71,7 @@ pub record LinesAreFields : Type 0 where
   pub field : (l : FieldLine) → IsPlain l → IsField (field_of l)
   pub seen : (l : FieldLine) → IsPlain l → name_and_value (field_of l) ≡ l
 
--- visible bytes may stand in a value, and where some stand at its front or end, no white space does
+-- bytes that are visible or past ASCII may stand in a value, and where some stand at its front or end, no white space does
 pub record VisibleValues : Type 0 where
   pub value : (v : List ℕ) → AllPass is_uri_byte v → AllPass is_value_byte v
   pub front : (v after : List ℕ) → AllPass is_uri_byte v → 0 < length v → skip_ows (v ++ after) ≡ v ++ after

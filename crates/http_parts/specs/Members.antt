@@ -1,11 +1,12 @@
--- Lists in the value of a field (RFC 9110, sections 5.6.1 and 5.6.4), as they are computed. Laws tie them to the standard: which
--- lists of entity tags these are (`ListsAreMatched`), and what the members are where no quote counts (`MembersStandBetweenCommas`).
+-- Lists in the value of a field (RFC 9110, section 5.6.1), as they are computed. Laws tie them to the standard: which lists of entity
+-- tags these are (`ListsAreMatched`), and what the members are where no quote counts (`MembersStandBetweenCommas`).
 use Rattle.std.specs.Prelude.{ℕ, Bool, false, ◌&&◌, ◌==◌, not, if◌then◌else◌, List, [], ◌∷◌, map}
 use Rattle.std.specs.List.{list_any, onto_first}
 use Rattle.std.specs.Str.{str_eq_ignore_ascii_case}
 use Rattle.httparse.specs.Grammar.{trim_ows}
 
--- the parts between commas, where no quoted string is open: with `quotes` each quote opens one or closes it
+-- the parts between commas; with `quotes` those commas alone that don't stand between two quotes of an entity tag, in which a backslash
+-- is a byte as any other (RFC 9110, section 8.8.3)
 abbrev pub parts_from : Bool → Bool → List ℕ → List (List ℕ)
 parts_from quotes open_before [] = [] ∷ []
 parts_from quotes open_before (b ∷ bytes) =

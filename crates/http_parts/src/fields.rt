@@ -76,7 +76,7 @@ impl<'b> Fields<'b> {
         any_has_member(self.bytes, &self.spans[..self.count], name, word)
     }
 
-    /// Whether a field under a name names the tag, or `*`.
+    /// Whether a field under a name matches the tag, as `any_match` says of its value.
     pub fn one_matches(&self, name: &[u8], tag: &Tag, strong: bool) -> bool
         ensures { result ≡ one_matches (values_of name.now self.now) tag.now strong }
     {

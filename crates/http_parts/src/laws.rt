@@ -6,7 +6,7 @@ pub fn limits_are()
     ensures { LimitsAre }
 {}
 
-/// What is written of tags, numbers and field lines is read as it was.
+/// What is written of tags, numbers and field lines is read as it was; which lists of entity tags match, and what the members of a list are.
 pub fn parts_are_read()
     ensures { PartsAreRead }
 {}

@@ -1,5 +1,5 @@
-//! What heads of HTTP/1.1 are made of (RFC 9110, RFC 9112): entity tags, numbers, names, lists and field lines. Nothing
-//! here knows a request or an answer.
+//! What heads of HTTP/1.1 are made of (RFC 9110, RFC 9112): entity tags, numbers, names, lists and field lines. No request
+//! and no answer is read here, or written.
 //!
 //! Only `line` takes memory.
 #![tactic(auto)]

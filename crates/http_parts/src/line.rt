@@ -1,4 +1,4 @@
-//! Lines of a head (RFC 9112, sections 2.1 and 5).
+//! Lines of a head (RFC 9112, sections 2.1 and 5). Want of memory, their only error, may leave a part of a line behind the text.
 ghost use Rattle.std.specs.Prelude.{◌≡◌, ◌++◌, OnOk, decimal};
 ghost use Rattle.std.specs.List.{flat_map};
 ghost use Rattle.http_parts.specs.Text.{line, closing};

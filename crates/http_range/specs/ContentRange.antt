@@ -1,4 +1,4 @@
--- The value of a Content-Range field (RFC 9110, section 14.4).
+-- The value of a Content-Range field (RFC 9110, section 14.4), without the forms that have `*`, and with its unit in small letters (own).
 use Rattle.std.specs.Prelude.{◌≡◌, ◌<◌, ◌≤◌, ℕ, ◌&&◌, ◌==◌, nat_lt, nat_le, nat_eq, if◌then◌else◌, List, ◌∷◌, ◌++◌, drop, codes, Option, Some, None, ⊤}
 use Rattle.std.specs.List.{before_first, after_first, starts_with}
 use Rattle.http_range.specs.declared.reading.ContentRange.{ContentRange}

@@ -161,7 +161,7 @@ HasNone r = (r ≡ Err Cut) ⊎ (r ≡ Err Head)
 
 -- what is read of the head at the front of an answer stays when bytes follow
 pub record HeadsGrow : Type 0 where
-  -- only *cut* may change
+  -- what isn't *cut* is a reading of the longer bytes, too
   pub stays : (front more : List ℕ) (r : Result Announced Why) → r ≢ Err Cut → ReadsHead front r → ReadsHead (front ++ more) r
   -- a head is not *cut* where there are 4,096 bytes
   pub decided : (bytes : List ℕ) (r : Result Announced Why) → HEAD_LIMIT ≤ length bytes → ReadsHead bytes r → r ≢ Err Cut

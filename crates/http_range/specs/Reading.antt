@@ -1,4 +1,5 @@
--- How an answer is read: the rows of the table, each by itself, and the first that applies.
+-- How an answer is read (RFC 9110, sections 8.6, 8.8.3, 14.4 and 15.3; which answers aren't used is own): the rows of the table, each by
+-- itself, and the first that applies.
 use Rattle.std.specs.Prelude.{◌≡◌, ℕ, ◌+◌, ◌-◌, ◌&&◌, ◌||◌, ◌==◌, not, nat_le, Bool, true, false, if◌then◌else◌, List, [], length, take, codes, Option, None, is_none, unwrap_or, option_and_then, Result, Ok, Err}
 use Rattle.std.specs.Option.{option_map_or}
 use Rattle.http_range.specs.declared.reading.Why.{Why}
@@ -87,7 +88,8 @@ ReadsAnswer bytes r = (head : Result Announced Why) × ReadsHead bytes head × (
 
 -- ---- the connection
 
--- the head says that the connection ends with the answer (RFC 9112, section 9.6)
+-- the head says that the connection ends with the answer (RFC 9112, section 9.6); the version isn't asked, by which one of HTTP/1.0 ends
+-- it, too (section 9.3)
 abbrev pub says_close : SeenHead → Bool
 says_close head = list_any (has_member (codes "close")) (values_of (codes "Connection") head.fields)
 

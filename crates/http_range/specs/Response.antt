@@ -1,4 +1,4 @@
--- What a server answers to a message (RFC 9110, sections 7.2, 9, 13.1, 14.2 and 15; RFC 9112, sections 3, 6 and 9.6).
+-- What a server answers to a message (RFC 9110, sections 7.2, 9, 13.1, 13.2.2, 14.2 and 15; RFC 9112, sections 3, 6 and 9.6).
 use Rattle.std.specs.Prelude.{◌≡◌, ℕ, ◌+◌, ◌-◌, ◌&&◌, ◌||◌, ◌==◌, min, not, nat_eq, nat_lt, Bool, true, false, if◌then◌else◌, List, [], ◌++◌, length, take, drop, codes, Option, Some, None, option_and_then}
 use Rattle.std.specs.List.{list_any, starts_with}
 use Rattle.std.specs.Str.{bytes_eq}

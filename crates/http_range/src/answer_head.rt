@@ -55,7 +55,8 @@ pub(crate) fn head_of(bytes: &[u8]) -> Result<AnswerHead<'_>, Why>
     }
 }
 
-/// Whether the connection ends with the answer: its head, read from a front of it, says so (RFC 9112, section 9.6), or isn't there.
+/// Whether the connection ends with the answer: its head, read from a front of it, says so (RFC 9112, section 9.6), or isn't there. The
+/// version isn't asked.
 pub fn ends_connection(bytes: &[u8]) -> bool
     ensures { EndsConnection bytes.now result }
 {

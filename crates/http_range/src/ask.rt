@@ -9,8 +9,8 @@ use http_parts::tag::Tag;
 use std::alloc::{AllocError, Global};
 use tiff_dir::{Memory, Span};
 
-/// The request for the bytes of a span of the file under a name; with a tag it asks for them of that revision alone
-/// (RFC 9110, sections 13.1.5 and 14.2). The connection is to end with the answer. Its only error is want of memory.
+/// The request for the bytes of a span of the file under a name; with a tag it asks for them if the file still has that tag, and else for
+/// the whole file (RFC 9110, sections 13.1.5 and 14.2). The connection is to end with the answer. Its only error is want of memory.
 pub fn write_request(
     alloc: Global,
     host: &[u8],

@@ -11,7 +11,9 @@ use http_parts::tag::Tag;
 /// What the answer to a check says: the tag under which the server has the file, or why it is not used.
 #[derive(Debug, Drop)]
 pub enum CheckReading {
+    /// The server has the file with this tag.
     Seen(Tag),
+    /// The answer isn't used.
     NotUsed(Why),
 }
 

@@ -12,16 +12,22 @@ use http_parts::numeral::{capped, in_order, is_number, number};
 /// The value of a Range field: positions count from 0, and the last one belongs to the part.
 #[derive(Clone, Copy, Debug, PartialEq, Eq)]
 pub enum RangeSpec {
+    /// From a first to a last position.
     Between(u64, u64),
+    /// From a position to the end.
     From(u64),
+    /// The last so many bytes.
     Suffix(u64),
 }
 
 /// What a range names in a content: its first and its last position.
 #[derive(Clone, Copy, Debug, PartialEq, Eq)]
 pub enum Resolved {
+    /// All of it.
     Whole,
+    /// From a first to a last position.
     Part(u64, u64),
+    /// None of its positions.
     Unsatisfiable,
 }
 
@@ -96,8 +102,8 @@ fn read(value: &[u8]) -> Option<RangeSpec>
     spec_behind(past(value, 6))
 }
 
-/// The range that the value of a Range field names, with numbers past 64 bits lowered to the greatest. None where it is
-/// no range: another unit, a space inside, several ranges, or a last position below the first (RFC 9110, section 14.1.1).
+/// The range that the value of a Range field names, with numbers past 64 bits lowered to the greatest. None where it is no range of
+/// bytes (RFC 9110, section 14.1.1), or one that is ignored, as section 14.2 allows: several ranges, or white space in it.
 ///
 /// ```
 /// let range = read_range(b"bytes=0-99");

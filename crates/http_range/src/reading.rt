@@ -21,10 +21,15 @@ pub enum Why {
     Head,
     /// Another status than 200 and 206; of an answer to a check, another than 200, 206 and 304.
     Status(u16),
+    /// No ETag, several, or one that is no entity tag.
     NoTag,
+    /// A weak tag: it doesn't name one sequence of bytes.
     WeakTag,
+    /// A tag of more than 64 bytes.
     TagTooLong,
+    /// A part without exactly one Content-Range that is read.
     NoRange,
+    /// Not exactly one Content-Length that is read, or, of a part, one that isn't its range's length.
     NoLength,
     /// A transfer or content coding.
     Coding,
@@ -52,6 +57,7 @@ impl Why {
 /// A piece of a file: the bytes of the revision with this tag from a first position on.
 #[derive(Debug, Drop)]
 pub struct Piece<'b> {
+    /// The revision's tag.
     pub tag: Tag,
     /// Whether the answer is the whole file.
     pub whole: bool,
@@ -59,12 +65,14 @@ pub struct Piece<'b> {
     pub first: u64,
     /// The length of the whole file in bytes.
     pub complete: u64,
+    /// The bytes, as far as they came.
     pub body: &'b [u8],
 }
 
 /// The head of an answer that brings a piece of a file: of which revision, from where on, and how many bytes.
 #[derive(Debug, Drop)]
 pub struct Head {
+    /// The revision's tag.
     pub tag: Tag,
     /// Whether the answer is the whole file.
     pub whole: bool,
@@ -81,14 +89,18 @@ pub struct Head {
 /// What the head of an answer says to a client.
 #[derive(Debug, Drop)]
 pub enum HeadReading {
+    /// A piece of a file follows.
     Head(Head),
+    /// The answer isn't used.
     NotUsed(Why),
 }
 
 /// What an answer says to a client.
 #[derive(Debug, Drop)]
 pub enum Reading<'b> {
+    /// A piece of a file.
     Piece(Piece<'b>),
+    /// The answer isn't used.
     NotUsed(Why),
 }
 

@@ -18,8 +18,11 @@ pub enum Reply {
     R206(Tag, u64, u64, u64),
     /// The client has the file with this tag already.
     R304(Tag),
+    /// What came is no request that is answered.
     R400,
+    /// No file is published under the name.
     R404,
+    /// The method is neither GET nor HEAD.
     R405,
     /// The file has none of the tags that the client named.
     R412,

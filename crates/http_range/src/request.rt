@@ -5,7 +5,7 @@ ghost use Rattle.http_parts.specs.Fields.{values_of, only, is_there};
 ghost use Rattle.http_parts.specs.Members.{has_member};
 ghost use Rattle.http_parts.specs.Conditional.{one_matches};
 ghost use Rattle.http_range.specs.Seen.{HasRequest};
-ghost use Rattle.http_range.specs.Ask.{CanAsk, request_by, asked_request};
+ghost use Rattle.http_range.specs.Ask.{CanAsk, CanCheck, check_text, checked_request, request_by, asked_request};
 
 use http_parts::bytes::up_to;
 use http_parts::fields::Fields;
@@ -102,6 +102,10 @@ pub fn read_request(bytes: &[u8]) -> Option<Request<'_>>
         → CanAsk host name first last tag
         → bytes.now ≡ request_by close host name first last tag ++ more
         → result ≡ Some (asked_request close host name first last tag) }
+
+    // And so is the text of its check.
+    ensures checked { (host name tag more : List ℕ) → CanCheck host name tag → bytes.now ≡ check_text host name tag ++ more
+        → result ≡ Some (checked_request host name tag) }
 {
     parts_are_read();
     find(bytes)

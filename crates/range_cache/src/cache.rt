@@ -81,8 +81,8 @@ impl Cache {
         }
     }
 
-    /// Says whether all the blocks of a range of so many bytes from `first` on are there, and else what is missing. In both
-    /// cases those that are there come to the front, in ascending order.
+    /// Says whether all the blocks of a range of so many bytes from `first` on are there, and else the first unbroken run of those that
+    /// are missing. In both cases those that are there come to the front, in ascending order.
     ///
     /// `complete` is the length of the file, and the range lies in it.
     pub fn touch(&mut self, complete: u64, first: u64, len: usize) -> Result<(), Missing>

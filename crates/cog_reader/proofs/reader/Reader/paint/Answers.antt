@@ -12,8 +12,8 @@ invariant_of-self g c =
     let state = subst (λ (o : Option PendingQuery). IfSome o (λ a. IsState i.complete i.walk i.kept a.state)) c.in-Some.is c.self.invariant.state in
     given_sound i.complete bytes i.walk i.walk i.kept i.kept i.unpacked i.unpacked c.in-Some.pending c.paint.new.self (c.paint.ensures.gives i.complete i.walk i.unpacked c.self.invariant.kept state)
 
-pub returns : goal.returns
-returns g c =
+pub returns-clause-takes : goal.returns-clause-takes
+returns-clause-takes g c =
     let i = c.self.inside in
     let bytes = g.B.Bytes.bytes c.args.bytes.now in
     let state = subst (λ (o : Option PendingQuery). IfSome o (λ a. IsState i.complete i.walk i.kept a.state)) c.in-Some.is c.self.invariant.state in
