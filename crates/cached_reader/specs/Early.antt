@@ -1,29 +1,48 @@
 -- What may be asked for early: before the answer came to what is asked for now.
-use Rattle.std.specs.Prelude.{◌≡◌, ℕ, ◌+◌, ◌-◌, ◌*◌, ◌<◌, ◌≤◌, false, List}
+use Rattle.std.specs.Prelude.{◌≡◌, ℕ, ◌+◌, ◌-◌, ◌*◌, ◌<◌, ◌≤◌, false, List, Some, slice_get}
 use Rattle.std.specs.List.{AllPairs}
 use Rattle.tiff_dir.specs.declared.span.Span.{Span}
 use Rattle.tiff_dir.specs.declared.limits.TheConstants.{BLOCK_SIZE}
-use Rattle.tiff_dir.specs.Block.{end_of}
-use Rattle.range_cache.specs.Cache.{numbers}
-use Rattle.range_cache.specs.Numbers.{has}
-use Rattle.cog_reader.specs.Reader.{ReaderAgrees, complete_of, to_come}
+use Rattle.tiff_dir.specs.Needs.{Extent}
+use Rattle.tiff_dir.specs.Block.{end_of, first_block, blocks}
+use Rattle.range_cache.specs.Cache.{Blocks, numbers}
+use Rattle.range_cache.specs.Numbers.{has, missing as absent}
+use Rattle.cog_reader.specs.Reader.{ReaderAgrees, complete_of, to_come, upcoming}
 use Rattle.cached_reader.specs.declared.ahead.TheConstants.{MAX_BLOCKS}
 use Rattle.cached_reader.specs.Going.{CachedReader, OneTouches}
 
+-- From a block of a range on, blocks up to another one go on to the end of a run in the range, none of which is there, and behind it by at
+-- most so many more. They have room beside the blocks of the range that are there then: all before them, and those behind that are there.
+pub record IsRunIn (b : Blocks) (r : Extent) (ahead from to : ℕ) : Type 0 where
+  pub end : ℕ
+  pub begins : first_block r.first ≤ from
+  pub some : from < end
+  pub within : end ≤ first_block r.first + blocks r.first r.len
+  pub gone : (k : ℕ) → from ≤ k → k < end → has k (numbers b.entries) ≡ false
+  pub on : end ≤ to
+  pub near : to ≤ end + ahead
+  pub room : blocks r.first r.len - absent (numbers b.entries) from (first_block r.first + blocks r.first r.len - from) + (to - from) ≤ b.capacity
+
 -- The blocks from one number up to another begin in the file, and are 65 at most. None of them is there, and each touches a range that
--- is still to come, of whatever file is read.
-pub record AreNeededLater (w : CachedReader) (from to : ℕ) : Type 0 where
+-- is still to come, of whatever file is read: the one that is needed next counts too. They begin in a range that the reader wants later,
+-- and go on behind their run in it by at most so many blocks.
+pub record AreNeededLater (w : CachedReader) (ahead from to : ℕ) : Type 0 where
   pub some : from < to
   pub few : to ≤ from + MAX_BLOCKS
   pub inside : to * BLOCK_SIZE < complete_of w.reader + BLOCK_SIZE
   pub gone : (k : ℕ) → from ≤ k → k < to → has k (numbers w.cache.entries) ≡ false
   pub needed : (f : List ℕ) → ReaderAgrees w.reader f → (k : ℕ) → from ≤ k → k < to → OneTouches (to_come w.reader f) k
+  pub range : Extent
+  pub index : ℕ
+  pub known : upcoming w.reader index ≡ Some range
+  pub comes : (f : List ℕ) → ReaderAgrees w.reader f → slice_get (to_come w.reader f) (index + 1) ≡ Some range
+  pub run : IsRunIn w.cache range ahead from to
 
 -- The span is of such blocks, behind what is asked for now.
-pub record IsEarly (w : CachedReader) (asked span : Span) : Type 0 where
+pub record IsEarly (w : CachedReader) (ahead : ℕ) (asked span : Span) : Type 0 where
   pub from : ℕ
   pub to : ℕ
-  pub blocks : AreNeededLater w from to
+  pub blocks : AreNeededLater w ahead from to
   pub first : span.first ≡ from * BLOCK_SIZE
   pub last : span.last + 1 ≡ end_of (complete_of w.reader) (to - 1)
   pub behind : asked.last < span.first

@@ -4,7 +4,7 @@ ghost use Rattle.std.specs.List.{All};
 ghost use Rattle.tiff_dir.specs.declared.limits.TheConstants.{BLOCK_SIZE};
 ghost use Rattle.tiff_dir.specs.Block.{end_of};
 ghost use Rattle.tiff_dir.specs.Walk.{extent_of_span};
-ghost use Rattle.cog_reader.specs.Reader.{complete_of, to_come, ReaderAgrees};
+ghost use Rattle.cog_reader.specs.Reader.{complete_of, to_come, upcoming, ReaderAgrees};
 ghost use Rattle.cached_reader.specs.Going.{work};
 ghost use Rattle.cached_reader.specs.Early.{AreApart, AreNeededLater, IsEarly};
 
@@ -32,12 +32,13 @@ fn run_in(
     ahead: u32,
     index: u32,
 ) -> Option<Run>
+    requires known { upcoming reader.now index ≡ Some (extent_of_span range) }
     requires within { range.last < complete_of reader.now }
     requires begins { range.first / BLOCK_SIZE ≤ from }
     requires ends { from ≤ range.last / BLOCK_SIZE }
     requires more { index + 1 < 2 ^ 32 }
     requires comes { (f : List ℕ) → ReaderAgrees reader.now f → slice_get (to_come reader.now f) (index + 1) ≡ Some (extent_of_span range) }
-    ensures needed { IfSome result (λ run. AreNeededLater (work reader.now cache.now) run.from run.to) }
+    ensures needed { IfSome result (λ run. AreNeededLater (work reader.now cache.now) ahead run.from run.to) }
     ensures from { IfSome result (λ run. run.from ≡ from) }
 {
     let to = range.last / BLOCK_SIZE + 1;
@@ -72,7 +73,7 @@ fn first_gap(cache: &Cache, from: u64, to: u64) -> Option<u64>
 /// and the ranges stand in the order of the file.
 fn next_run(reader: &Reader, cache: &Cache, last: Run, ahead: u32) -> Option<Run>
     requires { last.to < 2 ^ 60 }
-    ensures needed { IfSome result (λ run. AreNeededLater (work reader.now cache.now) run.from run.to) }
+    ensures needed { IfSome result (λ run. AreNeededLater (work reader.now cache.now) ahead run.from run.to) }
     ensures behind { IfSome result (λ run. last.to ≤ run.from) }
 {
     for index in last.index..u32::MAX {
@@ -116,7 +117,7 @@ pub fn early_spans(
     most: u32,
 ) -> Result<Vec<Span>, Memory>
     requires { complete_of reader.now ≡ complete }
-    ensures early { IfOk result (λ spans. All (IsEarly (work reader.now cache.now) asked) spans.items) }
+    ensures early { IfOk result (λ spans. All (IsEarly (work reader.now cache.now) ahead asked) spans.items) }
     ensures apart { IfOk result (λ spans. AreApart spans.items) }
     ensures few { IfOk result (λ spans. length spans.items ≤ most) }
 {

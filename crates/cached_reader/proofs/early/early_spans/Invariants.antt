@@ -8,7 +8,7 @@ use Rattle.cached_reader.proofs.early.early_spans.Given as goal
 
 abbrev pub invariant-loop : goal.invariant-loop
 invariant-loop l = record {
-  early : All (IsEarly (work l.reader l.cache) l.fn.asked) l.spans.items;
+  early : All (IsEarly (work l.reader l.cache) l.fn.ahead l.fn.asked) l.spans.items;
   apart : AreApart l.spans.items;
   before : AreBefore (l.last.to * BLOCK_SIZE) l.spans.items;
   few : length l.spans.items ≤ l.counter;
