@@ -15,12 +15,14 @@ use std::alloc::Global;
 use tiff_dir::limits::BLOCK_SIZE;
 use tiff_dir::{Memory, Span};
 
-/// The blocks that one request asks for, and the first range among the upcoming ones that they don't begin in.
+/// The blocks that one request asks for, and how to go on behind them: the first of the upcoming ranges that may lack more, and the
+/// block that neither it nor a later one may begin before.
 #[derive(Clone, Copy)]
 struct Run {
     from: u64,
     to: u64,
     index: u32,
+    least: u64,
 }
 
 /// The run of blocks that is asked for in an upcoming range of which those before `from` are there then, and behind it: as `extend` does.
@@ -36,16 +38,16 @@ fn run_in(
     requires within { range.last < complete_of reader.now }
     requires begins { range.first / BLOCK_SIZE ≤ from }
     requires ends { from ≤ range.last / BLOCK_SIZE }
-    requires more { index + 1 < 2 ^ 32 }
     requires comes { (f : List ℕ) → ReaderAgrees reader.now f → slice_get (to_come reader.now f) (index + 1) ≡ Some (extent_of_span range) }
     ensures needed { IfSome result (λ run. AreNeededLater (work reader.now cache.now) ahead run.from run.to) }
     ensures from { IfSome result (λ run. run.from ≡ from) }
 {
-    let to = range.last / BLOCK_SIZE + 1;
-    let there = from - range.first / BLOCK_SIZE + cache.present(from, to);
+    let first = range.first / BLOCK_SIZE;
+    let range_end = range.last / BLOCK_SIZE + 1;
+    let there = from - first + cache.present(from, range_end);
     let room = u64::from(cache.capacity()).saturating_sub(there);
     let limit = from + room.min(MAX_BLOCKS);
-    let end = cache.run_end(from, to.min(limit));
+    let end = cache.run_end(from, range_end.min(limit));
     if end == from {
         return None;
     }
@@ -53,7 +55,8 @@ fn run_in(
     Some(Run {
         from,
         to,
-        index: index + 1,
+        index,
+        least: first,
     })
 }
 
@@ -83,7 +86,7 @@ fn next_run(reader: &Reader, cache: &Cache, last: Run, ahead: u32) -> Option<Run
         let first = range.first / BLOCK_SIZE;
         let to = range.last / BLOCK_SIZE + 1;
         let from = first.max(last.to);
-        if first < last.from {
+        if first < last.least {
             return None;
         }
         if let Some(gap) = first_gap(cache, from, to) {
@@ -126,6 +129,7 @@ pub fn early_spans(
         from: asked.first / BLOCK_SIZE,
         to: asked.last / BLOCK_SIZE + 1,
         index: 0,
+        least: asked.first / BLOCK_SIZE,
     };
     for _ in 0..most {
         let Some(run) = next_run(reader, cache, last, ahead) else {
