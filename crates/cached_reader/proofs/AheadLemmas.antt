@@ -8,7 +8,7 @@ use Rattle.tiff_dir.specs.Block.{blocks}
 use Rattle.range_cache.specs.Cache.{Blocks, numbers}
 use Rattle.range_cache.specs.Numbers.{has, missing as absent}
 use Rattle.range_cache.specs.Laws.{RunsAreMissing}
-use Rattle.cog_reader.specs.Reader.{ReaderAgrees, complete_of, to_come}
+use Rattle.cog_reader.specs.Reader.{ReaderAgrees, complete_of, to_come, wanted}
 use Rattle.cached_reader.specs.Going.{CachedReader, HasRoom, IsMissing, OneTouches, IsStopped, LooksAtOneRange, Touches}
 use Rattle.cached_reader.proofs.GoingLemmas.{few_blocks, some_blocks}
 
@@ -70,13 +70,13 @@ lies runs b complete range missing present m present_is =
 
 pub looks_ahead : (w : CachedReader) (complete : ℕ) (range missing span : Span) (ahead present capacity limit reached : ℕ) → complete_of w.reader ≡ complete
     → (m : IsMissing w.cache (complete_of w.reader) (extent_of_span range) 0 missing) → HasRoom w.cache (complete_of w.reader) (extent_of_span range) 0 missing m → Lies w.cache (complete_of w.reader) range missing m.lacks.from m.lacks.to present
-    → ((f : List ℕ) → ReaderAgrees w.reader f → slice_get (to_come w.reader f) 0 ≡ Some (extent_of_span range))
+    → wanted w.reader ≡ Some (extent_of_span range) → ((f : List ℕ) → ReaderAgrees w.reader f → slice_get (to_come w.reader f) 0 ≡ Some (extent_of_span range))
     → capacity ≡ w.cache.capacity → present ≤ capacity → limit ≡ min (missing.first / 16384 + min (capacity - present) 65) (missing.last / 16384 + 1 + ahead)
     → missing.last / 16384 + 1 ≤ reached → reached ≤ limit → reached * 16384 < complete_of w.reader + 16384
     → ((k : ℕ) → missing.last / 16384 + 1 ≤ k → k < reached → has k (numbers w.cache.entries) ≡ false)
     → ((f : List ℕ) → ReaderAgrees w.reader f → (k : ℕ) → missing.last / 16384 + 1 ≤ k → k < reached → OneTouches (to_come w.reader f) k)
     → span.first ≡ missing.first → span.last ≡ min ((reached - 1) * 16384 + 16383) (complete - 1) → IsStopped w ahead span
-looks_ahead w complete range missing span ahead present capacity limit reached complete_is m room l next capacity_is fits limit_is low high inside gone needed first_is last_is =
+looks_ahead w complete range missing span ahead present capacity limit reached complete_is m room l wants next capacity_is fits limit_is low high inside gone needed first_is last_is =
     let from_is = l.from_is in
     let to_is = l.to_is in
     let some = l.some in
@@ -84,6 +84,7 @@ looks_ahead w complete range missing span ahead present capacity limit reached c
     let g = m.lacks.gap in
     record {
       range = extent_of_span range;
+      wanted = wants;
       first = next;
       missing = record {
         some = m.some;

@@ -4,7 +4,7 @@ ghost use Rattle.tiff_dir.specs.declared.limits.TheConstants.{BLOCK_SIZE};
 ghost use Rattle.tiff_dir.specs.Walk.{extent_of_span};
 ghost use Rattle.range_cache.specs.Numbers.{has};
 ghost use Rattle.range_cache.specs.Cache.{numbers};
-ghost use Rattle.cog_reader.specs.Reader.{complete_of, to_come, ReaderAgrees};
+ghost use Rattle.cog_reader.specs.Reader.{complete_of, to_come, wanted, ReaderAgrees};
 ghost use Rattle.cached_reader.specs.Going.{work, IsMissingWithRoom, OneTouches, IsStopped, Touches};
 
 use cog_reader::Reader;
@@ -68,6 +68,7 @@ pub fn extend(
     ahead: u32,
 ) -> Span
     requires missing { IsMissingWithRoom cache.now (complete_of reader.now) (extent_of_span range) 0 missing }
+    requires wanted { wanted reader.now ≡ Some (extent_of_span range) }
     requires next { (f : List ℕ) → ReaderAgrees reader.now f → slice_get (to_come reader.now f) 0 ≡ Some (extent_of_span range) }
     requires complete { complete_of reader.now ≡ complete }
     ensures { IsStopped (work reader.now cache.now) ahead result }
