@@ -4,7 +4,7 @@ use Rattle.std.specs.Prelude.{IsSomeAnd, slice_get}
 use Rattle.std.proofs.lemmas.Bool.{cases_lt}
 use Rattle.tiff_dir.specs.declared.span.Span.{Span}
 use Rattle.tiff_dir.specs.Walk.{extent_of_span}
-use Rattle.tiff_dir.specs.Block.{blocks}
+use Rattle.tiff_dir.specs.Block.{blocks, end_of}
 use Rattle.range_cache.specs.Cache.{Blocks, numbers}
 use Rattle.range_cache.specs.Numbers.{has, missing as absent}
 use Rattle.range_cache.specs.Laws.{RunsAreMissing}
@@ -75,7 +75,7 @@ pub looks_ahead : (w : CachedReader) (complete : ℕ) (range missing span : Span
     → missing.last / 16384 + 1 ≤ reached → reached ≤ limit → reached * 16384 < complete_of w.reader + 16384
     → ((k : ℕ) → missing.last / 16384 + 1 ≤ k → k < reached → has k (numbers w.cache.entries) ≡ false)
     → ((f : List ℕ) → ReaderAgrees w.reader f → (k : ℕ) → missing.last / 16384 + 1 ≤ k → k < reached → OneTouches (to_come w.reader f) k)
-    → span.first ≡ missing.first → span.last ≡ min ((reached - 1) * 16384 + 16383) (complete - 1) → IsStopped w ahead span
+    → span.first ≡ missing.first → span.last + 1 ≡ end_of complete (reached - 1) → IsStopped w ahead span
 looks_ahead w complete range missing span ahead present capacity limit reached complete_is m room l wants next capacity_is fits limit_is low high inside gone needed first_is last_is =
     let from_is = l.from_is in
     let to_is = l.to_is in

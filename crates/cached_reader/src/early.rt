@@ -1,14 +1,15 @@
 //! Asking early: what is asked for next, and then next again, where the answers before come whole.
-ghost use Rattle.std.specs.Prelude.{◌≡◌, ◌+◌, ◌-◌, ◌*◌, ◌/◌, ◌<◌, ◌≤◌, ◌^◌, ℕ, List, Some, IfOk, IfSome, length, slice_get};
+ghost use Rattle.std.specs.Prelude.{◌≡◌, ◌+◌, ◌-◌, ◌*◌, ◌/◌, ◌<◌, ◌≤◌, ◌^◌, false, ℕ, List, Some, IfOk, IfSome, length, slice_get};
 ghost use Rattle.std.specs.List.{All};
 ghost use Rattle.tiff_dir.specs.declared.limits.TheConstants.{BLOCK_SIZE};
-ghost use Rattle.tiff_dir.specs.Block.{end_of};
 ghost use Rattle.tiff_dir.specs.Walk.{extent_of_span};
+ghost use Rattle.range_cache.specs.Cache.{numbers};
+ghost use Rattle.range_cache.specs.Numbers.{has};
 ghost use Rattle.cog_reader.specs.Reader.{complete_of, to_come, upcoming, ReaderAgrees};
 ghost use Rattle.cached_reader.specs.Going.{work};
 ghost use Rattle.cached_reader.specs.Early.{AreApart, AreNeededLater, IsEarly};
 
-use crate::ahead::{MAX_BLOCKS, reach};
+use crate::ahead::{MAX_BLOCKS, reach, span_of_blocks};
 use cog_reader::Reader;
 use range_cache::Cache;
 use std::alloc::Global;
@@ -60,12 +61,21 @@ fn run_in(
     })
 }
 
-/// The first of the blocks from a number on, before another one, that isn't there.
+/// Whether a block is there.
+fn is_there(cache: &Cache, block: u64) -> bool
+    requires { block + 1 < 2 ^ 64 }
+    ensures { result ≡ has block (numbers cache.now.entries) }
+{
+    cache.run_end(block, block + 1) == block
+}
+
+/// A block from a number on, before another one, that isn't there: the first one.
 fn first_gap(cache: &Cache, from: u64, to: u64) -> Option<u64>
-    ensures { IfSome result (λ n. (from ≤ n) × (n < to)) }
+    ensures within { IfSome result (λ n. (from ≤ n) × (n < to)) }
+    ensures gone { IfSome result (λ n. has n (numbers cache.now.entries) ≡ false) }
 {
     for block in from..to {
-        if cache.present(block, block + 1) == 0 {
+        if !is_there(cache, block) {
             return Some(block);
         }
     }
@@ -96,20 +106,9 @@ fn next_run(reader: &Reader, cache: &Cache, last: Run, ahead: u32) -> Option<Run
     None
 }
 
-/// The span of a run.
-fn span_of(run: Run, complete: u64) -> Span
-    requires some { run.from < run.to }
-    requires inside { run.to * BLOCK_SIZE < complete + BLOCK_SIZE }
-    ensures first { result.first ≡ run.from * BLOCK_SIZE }
-    ensures last { result.last + 1 ≡ end_of complete (run.to - 1) }
-{
-    Span {
-        first: run.from * BLOCK_SIZE,
-        last: ((run.to - 1) * BLOCK_SIZE + (BLOCK_SIZE - 1)).min(complete - 1),
-    }
-}
-
-/// What is asked for behind `asked`, one request after another, as far as it is known: at most so many. `Memory` is the only error.
+/// What is asked for behind `asked`, one request after another, as far as it is known: at most `most`. `complete` is the length of the
+/// file, and each request asks for at most `ahead` blocks behind the run of missing blocks that it begins with in a range. `Memory` is the
+/// only error.
 pub fn early_spans(
     alloc: Global,
     reader: &Reader,
@@ -135,7 +134,7 @@ pub fn early_spans(
         let Some(run) = next_run(reader, cache, last, ahead) else {
             break;
         };
-        spans.push(span_of(run, complete))?;
+        spans.push(span_of_blocks(run.from, run.to, complete))?;
         last = run;
     }
     Ok(spans)
