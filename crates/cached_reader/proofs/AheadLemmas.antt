@@ -9,7 +9,7 @@ use Rattle.range_cache.specs.Cache.{Blocks, numbers}
 use Rattle.range_cache.specs.Numbers.{has, missing as absent}
 use Rattle.range_cache.specs.Laws.{RunsAreMissing}
 use Rattle.cog_reader.specs.Reader.{ReaderAgrees, complete_of, to_come, wanted}
-use Rattle.cached_reader.specs.Going.{CachedReader, HasRoom, IsMissing, OneTouches, IsStopped, LooksAtOneRange, Touches}
+use Rattle.cached_reader.specs.Going.{CachedReader, HasRoom, IsMissing, OneTouches, IsStopped, IsWantedLater, LooksAtOneRange, Touches}
 use Rattle.cached_reader.proofs.GoingLemmas.{few_blocks, some_blocks}
 
 -- the blocks that a span touches
@@ -74,9 +74,10 @@ pub looks_ahead : (w : CachedReader) (complete : ℕ) (range missing span : Span
     → capacity ≡ w.cache.capacity → present ≤ capacity → limit ≡ min (missing.first / 16384 + min (capacity - present) 65) (missing.last / 16384 + 1 + ahead)
     → missing.last / 16384 + 1 ≤ reached → reached ≤ limit → reached * 16384 < complete_of w.reader + 16384
     → ((k : ℕ) → missing.last / 16384 + 1 ≤ k → k < reached → has k (numbers w.cache.entries) ≡ false)
+    → ((k : ℕ) → missing.last / 16384 + 1 ≤ k → k < reached → IsWantedLater w.reader k)
     → ((f : List ℕ) → ReaderAgrees w.reader f → (k : ℕ) → missing.last / 16384 + 1 ≤ k → k < reached → OneTouches (to_come w.reader f) k)
     → span.first ≡ missing.first → span.last + 1 ≡ end_of complete (reached - 1) → IsStopped w ahead span
-looks_ahead w complete range missing span ahead present capacity limit reached complete_is m room l wants next capacity_is fits limit_is low high inside gone needed first_is last_is =
+looks_ahead w complete range missing span ahead present capacity limit reached complete_is m room l wants next capacity_is fits limit_is low high inside gone later needed first_is last_is =
     let from_is = l.from_is in
     let to_is = l.to_is in
     let some = l.some in
@@ -101,20 +102,21 @@ looks_ahead w complete range missing span ahead present capacity limit reached c
         inside = inside;
         gone = λ k from_k k_to. elim (cases_lt k m.lacks.to) [
           | inl first ↦ g.gone k from_k first
-          | inr later ↦ gone k (omega (arith, later, to_is)) k_to
+          | inr more ↦ gone k (omega (arith, more, to_is)) k_to
         ];
       };
       room = record {
         led = room.led;
         room = omega (arith, high, limit_is, from_is, capacity_is, fits, l.present_is);
       };
+      later = λ k from_k k_to. later k (omega (arith, from_k, to_is)) k_to;
       needed = λ f agrees k from_k k_to.
           let first = first_is ∙ m.first ∙ m.lacks.first_is in
           let low_k : m.lacks.from ≤ k = omega (arith, first, from_k) in
           let high_k : k < reached = omega (arith, last_is, k_to, low, to_is, some) in
           elim (cases_lt k m.lacks.to) [
             | inl before ↦ (0, subst (λ o. IsSomeAnd o (λ e. Touches e k)) (sym (next f agrees)) (touches_in range k (omega (arith, low_k, l.begins)) (omega (arith, before, l.ends))))
-            | inr later ↦ needed f agrees k (omega (arith, later, to_is)) high_k
+            | inr more ↦ needed f agrees k (omega (arith, more, to_is)) high_k
           ];
     }
 

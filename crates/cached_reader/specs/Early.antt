@@ -9,7 +9,7 @@ use Rattle.range_cache.specs.Cache.{Blocks, numbers}
 use Rattle.range_cache.specs.Numbers.{has, missing as absent}
 use Rattle.cog_reader.specs.Reader.{ReaderAgrees, complete_of, to_come, upcoming}
 use Rattle.cached_reader.specs.declared.ahead.TheConstants.{MAX_BLOCKS}
-use Rattle.cached_reader.specs.Going.{CachedReader, OneTouches}
+use Rattle.cached_reader.specs.Going.{CachedReader, IsWantedLater, OneTouches}
 
 -- From a block of a range on, blocks up to another one go on to the end of a run in the range, none of which is there, and behind it by at
 -- most so many more. They have room beside the blocks of the range that are there then: all before them, and those behind that are there.
@@ -32,6 +32,7 @@ pub record AreNeededLater (w : CachedReader) (ahead from to : ℕ) : Type 0 wher
   pub inside : to * BLOCK_SIZE < complete_of w.reader + BLOCK_SIZE
   pub gone : (k : ℕ) → from ≤ k → k < to → has k (numbers w.cache.entries) ≡ false
   pub needed : (f : List ℕ) → ReaderAgrees w.reader f → (k : ℕ) → from ≤ k → k < to → OneTouches (to_come w.reader f) k
+  pub wanted : (k : ℕ) → from ≤ k → k < to → IsWantedLater w.reader k
   pub range : Extent
   pub index : ℕ
   pub known : upcoming w.reader index ≡ Some range

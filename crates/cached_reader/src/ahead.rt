@@ -6,7 +6,7 @@ ghost use Rattle.tiff_dir.specs.Walk.{extent_of_span};
 ghost use Rattle.range_cache.specs.Numbers.{has};
 ghost use Rattle.range_cache.specs.Cache.{numbers};
 ghost use Rattle.cog_reader.specs.Reader.{complete_of, to_come, wanted, ReaderAgrees};
-ghost use Rattle.cached_reader.specs.Going.{work, IsMissingWithRoom, OneTouches, IsStopped, Touches};
+ghost use Rattle.cached_reader.specs.Going.{work, IsMissingWithRoom, OneTouches, IsStopped, IsWantedLater, Touches};
 
 use cog_reader::Reader;
 use range_cache::{Cache, missing_is_exact};
@@ -40,6 +40,7 @@ pub(crate) fn reach(reader: &Reader, cache: &Cache, from: u64, limit: u64) -> u6
     ensures high { result ≤ limit }
     ensures inside { result * BLOCK_SIZE < complete_of reader.now + BLOCK_SIZE }
     ensures gone { (k : ℕ) → from ≤ k → k < result → has k (numbers cache.now.entries) ≡ false }
+    ensures wanted { (k : ℕ) → from ≤ k → k < result → IsWantedLater reader.now k }
     ensures needed { (f : List ℕ) → ReaderAgrees reader.now f → (k : ℕ) → from ≤ k → k < result → OneTouches (to_come reader.now f) k }
 {
     let mut end = from;

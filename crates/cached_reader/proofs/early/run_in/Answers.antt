@@ -39,6 +39,10 @@ returns-clause-needed c =
         | inl old ↦ (a.index + 1, subst (λ o. IsSomeAnd o (λ e. Touches e k)) (sym (c.requires.comes f agrees)) (touches_in a.range k (omega (arith, begins, from_k)) (omega (arith, old, within))))
         | inr new ↦ r.needed f agrees k new k_to
       ];
+      wanted = λ k from_k k_to. elim (cases_lt k end) [
+        | inl old ↦ (a.index, subst (λ o. IsSomeAnd o (λ e. Touches e k)) (sym c.requires.known) (touches_in a.range k (omega (arith, begins, from_k)) (omega (arith, old, within))))
+        | inr new ↦ r.wanted k new k_to
+      ];
       range = extent_of_span a.range;
       index = a.index;
       known = c.requires.known;
