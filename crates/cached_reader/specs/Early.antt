@@ -11,8 +11,8 @@ use Rattle.cog_reader.specs.Reader.{ReaderAgrees, complete_of, to_come, upcoming
 use Rattle.cached_reader.specs.declared.ahead.TheConstants.{MAX_BLOCKS}
 use Rattle.cached_reader.specs.Going.{CachedReader, IsWantedLater, OneTouches}
 
--- From a block of a range on, blocks up to another one go on to the end of a run in the range, none of which is there, and behind it by at
--- most so many more. They have room beside the blocks of the range that are there then: all before them, and those behind that are there.
+-- The blocks from one number up to another begin in a range, with blocks of it that aren't there, and go on behind these by at most so
+-- many more. They have room beside the blocks of the range that are there then: all before them, and those of the others that are there.
 pub record IsRunIn (b : Blocks) (r : Extent) (ahead from to : ℕ) : Type 0 where
   pub end : ℕ
   pub begins : first_block r.first ≤ from
@@ -23,9 +23,9 @@ pub record IsRunIn (b : Blocks) (r : Extent) (ahead from to : ℕ) : Type 0 wher
   pub near : to ≤ end + ahead
   pub room : blocks r.first r.len - absent (numbers b.entries) from (first_block r.first + blocks r.first r.len - from) + (to - from) ≤ b.capacity
 
--- The blocks from one number up to another begin in the file, and are 65 at most. None of them is there, and each touches a range that
--- is still to come, of whatever file is read: the one that is needed next counts too. They begin in a range that the reader wants later,
--- and go on behind their run in it by at most so many blocks.
+-- The blocks from one number up to another begin in the file, and are 65 at most. None of them is there. Each touches a range that the
+-- reader wants later, as far as it knows it, and one that is still to come, of whatever file is read (the present range counts among
+-- these). They begin in a range that it wants later, and go on behind that one's first missing blocks among them by at most so many.
 pub record AreNeededLater (w : CachedReader) (ahead from to : ℕ) : Type 0 where
   pub some : from < to
   pub few : to ≤ from + MAX_BLOCKS
