@@ -1,5 +1,5 @@
 //! Asking early: what is asked for next, and then next again, where the answers before come whole.
-ghost use Rattle.std.specs.Prelude.{◌≡◌, ◌+◌, ◌-◌, ◌*◌, ◌/◌, ◌<◌, ◌≤◌, ◌^◌, false, ℕ, List, Some, IfOk, IfSome, length, slice_get};
+ghost use Rattle.std.specs.Prelude.{◌≡◌, ◌+◌, ◌-◌, ◌*◌, ◌/◌, ◌<◌, ◌≤◌, ◌^◌, false, true, ℕ, List, Some, IfOk, IfSome, MatchOption, length, slice_get};
 ghost use Rattle.std.specs.List.{All};
 ghost use Rattle.tiff_dir.specs.declared.limits.TheConstants.{BLOCK_SIZE};
 ghost use Rattle.tiff_dir.specs.Walk.{extent_of_span};
@@ -7,7 +7,7 @@ ghost use Rattle.range_cache.specs.Cache.{numbers};
 ghost use Rattle.range_cache.specs.Numbers.{has};
 ghost use Rattle.cog_reader.specs.Reader.{complete_of, to_come, upcoming, ReaderAgrees};
 ghost use Rattle.cached_reader.specs.Going.{work};
-ghost use Rattle.cached_reader.specs.Early.{AreApart, AreNeededLater, IsEarly};
+ghost use Rattle.cached_reader.specs.Early.{AreApart, AreNeededLater, ArePassed, BeginsIn, IsEarly, LeavesNothing};
 
 use crate::ahead::{MAX_BLOCKS, reach, span_of_blocks};
 use cog_reader::Reader;
@@ -42,6 +42,9 @@ fn run_in(
     requires comes { (f : List ℕ) → ReaderAgrees reader.now f → slice_get (to_come reader.now f) (index + 1) ≡ Some (extent_of_span range) }
     ensures needed { IfSome result (λ run. AreNeededLater (work reader.now cache.now) ahead run.from run.to) }
     ensures from { IfSome result (λ run. run.from ≡ from) }
+    ensures index { IfSome result (λ run. run.index ≡ index) }
+    ensures least { IfSome result (λ run. run.least ≡ range.first / BLOCK_SIZE) }
+    ensures range { IfSome result (λ run. BeginsIn (work reader.now cache.now) run.index run.least run.from) }
 {
     let first = range.first / BLOCK_SIZE;
     let range_end = range.last / BLOCK_SIZE + 1;
@@ -73,6 +76,9 @@ fn is_there(cache: &Cache, block: u64) -> bool
 fn first_gap(cache: &Cache, from: u64, to: u64) -> Option<u64>
     ensures within { IfSome result (λ n. (from ≤ n) × (n < to)) }
     ensures gone { IfSome result (λ n. has n (numbers cache.now.entries) ≡ false) }
+    ensures before { MatchOption result
+        ((k : ℕ) → from ≤ k → k < to → has k (numbers cache.now.entries) ≡ true)
+        (λ n. (k : ℕ) → from ≤ k → k < n → has k (numbers cache.now.entries) ≡ true) }
 {
     for block in from..to {
         if !is_there(cache, block) {
@@ -88,6 +94,11 @@ fn next_run(reader: &Reader, cache: &Cache, last: Run, ahead: u32) -> Option<Run
     requires { last.to < 2 ^ 60 }
     ensures needed { IfSome result (λ run. AreNeededLater (work reader.now cache.now) ahead run.from run.to) }
     ensures behind { IfSome result (λ run. last.to ≤ run.from) }
+    ensures least { IfSome result (λ run. last.least ≤ run.least) }
+    ensures index { IfSome result (λ run. last.index ≤ run.index) }
+    ensures range { IfSome result (λ run. BeginsIn (work reader.now cache.now) run.index run.least run.from) }
+    ensures passed { IfSome result (λ run. ArePassed (work reader.now cache.now) last.index run.index last.least last.to) }
+    ensures before { IfSome result (λ run. (k : ℕ) → run.least ≤ k → last.to ≤ k → k < run.from → has k (numbers cache.now.entries) ≡ true) }
 {
     for index in last.index..u32::MAX {
         let Some(range) = reader.upcoming(index) else {
@@ -122,6 +133,8 @@ pub fn early_spans(
     ensures early { IfOk result (λ spans. All (IsEarly (work reader.now cache.now) ahead asked) spans.items) }
     ensures apart { IfOk result (λ spans. AreApart spans.items) }
     ensures few { IfOk result (λ spans. length spans.items ≤ most) }
+    // Before each of them nothing that is missing is left out, of the ranges up to the one that it begins in.
+    ensures order { IfOk result (λ spans. All (LeavesNothing (work reader.now cache.now) asked spans.items) spans.items) }
 {
     let mut spans = Vec::new(alloc);
     let mut last = Run {
