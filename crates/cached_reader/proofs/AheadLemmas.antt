@@ -4,12 +4,12 @@ use Rattle.std.specs.Prelude.{IsSomeAnd, slice_get}
 use Rattle.std.proofs.lemmas.Bool.{cases_lt}
 use Rattle.tiff_dir.specs.declared.span.Span.{Span}
 use Rattle.tiff_dir.specs.Walk.{extent_of_span}
-use Rattle.tiff_dir.specs.Block.{blocks}
+use Rattle.tiff_dir.specs.Block.{blocks, end_of}
 use Rattle.range_cache.specs.Cache.{Blocks, numbers}
 use Rattle.range_cache.specs.Numbers.{has, missing as absent}
 use Rattle.range_cache.specs.Laws.{RunsAreMissing}
-use Rattle.cog_reader.specs.Reader.{ReaderAgrees, complete_of, to_come}
-use Rattle.cached_reader.specs.Going.{CachedReader, HasRoom, IsMissing, OneTouches, IsStopped, LooksAtOneRange, Touches}
+use Rattle.cog_reader.specs.Reader.{ReaderAgrees, complete_of, to_come, wanted}
+use Rattle.cached_reader.specs.Going.{CachedReader, HasRoom, IsMissing, OneTouches, IsStopped, IsWantedLater, LooksAtOneRange, Touches}
 use Rattle.cached_reader.proofs.GoingLemmas.{few_blocks, some_blocks}
 
 -- the blocks that a span touches
@@ -70,13 +70,14 @@ lies runs b complete range missing present m present_is =
 
 pub looks_ahead : (w : CachedReader) (complete : ℕ) (range missing span : Span) (ahead present capacity limit reached : ℕ) → complete_of w.reader ≡ complete
     → (m : IsMissing w.cache (complete_of w.reader) (extent_of_span range) 0 missing) → HasRoom w.cache (complete_of w.reader) (extent_of_span range) 0 missing m → Lies w.cache (complete_of w.reader) range missing m.lacks.from m.lacks.to present
-    → ((f : List ℕ) → ReaderAgrees w.reader f → slice_get (to_come w.reader f) 0 ≡ Some (extent_of_span range))
+    → wanted w.reader ≡ Some (extent_of_span range) → ((f : List ℕ) → ReaderAgrees w.reader f → slice_get (to_come w.reader f) 0 ≡ Some (extent_of_span range))
     → capacity ≡ w.cache.capacity → present ≤ capacity → limit ≡ min (missing.first / 16384 + min (capacity - present) 65) (missing.last / 16384 + 1 + ahead)
     → missing.last / 16384 + 1 ≤ reached → reached ≤ limit → reached * 16384 < complete_of w.reader + 16384
     → ((k : ℕ) → missing.last / 16384 + 1 ≤ k → k < reached → has k (numbers w.cache.entries) ≡ false)
+    → ((k : ℕ) → missing.last / 16384 + 1 ≤ k → k < reached → IsWantedLater w.reader k)
     → ((f : List ℕ) → ReaderAgrees w.reader f → (k : ℕ) → missing.last / 16384 + 1 ≤ k → k < reached → OneTouches (to_come w.reader f) k)
-    → span.first ≡ missing.first → span.last ≡ min ((reached - 1) * 16384 + 16383) (complete - 1) → IsStopped w ahead span
-looks_ahead w complete range missing span ahead present capacity limit reached complete_is m room l next capacity_is fits limit_is low high inside gone needed first_is last_is =
+    → span.first ≡ missing.first → span.last + 1 ≡ end_of complete (reached - 1) → IsStopped w ahead span
+looks_ahead w complete range missing span ahead present capacity limit reached complete_is m room l wants next capacity_is fits limit_is low high inside gone later needed first_is last_is =
     let from_is = l.from_is in
     let to_is = l.to_is in
     let some = l.some in
@@ -84,6 +85,7 @@ looks_ahead w complete range missing span ahead present capacity limit reached c
     let g = m.lacks.gap in
     record {
       range = extent_of_span range;
+      wanted = wants;
       first = next;
       missing = record {
         some = m.some;
@@ -100,20 +102,21 @@ looks_ahead w complete range missing span ahead present capacity limit reached c
         inside = inside;
         gone = λ k from_k k_to. elim (cases_lt k m.lacks.to) [
           | inl first ↦ g.gone k from_k first
-          | inr later ↦ gone k (omega (arith, later, to_is)) k_to
+          | inr more ↦ gone k (omega (arith, more, to_is)) k_to
         ];
       };
       room = record {
         led = room.led;
         room = omega (arith, high, limit_is, from_is, capacity_is, fits, l.present_is);
       };
+      later = λ k from_k k_to. later k (omega (arith, from_k, to_is)) k_to;
       needed = λ f agrees k from_k k_to.
           let first = first_is ∙ m.first ∙ m.lacks.first_is in
           let low_k : m.lacks.from ≤ k = omega (arith, first, from_k) in
           let high_k : k < reached = omega (arith, last_is, k_to, low, to_is, some) in
           elim (cases_lt k m.lacks.to) [
             | inl before ↦ (0, subst (λ o. IsSomeAnd o (λ e. Touches e k)) (sym (next f agrees)) (touches_in range k (omega (arith, low_k, l.begins)) (omega (arith, before, l.ends))))
-            | inr later ↦ needed f agrees k (omega (arith, later, to_is)) high_k
+            | inr more ↦ needed f agrees k (omega (arith, more, to_is)) high_k
           ];
     }
 

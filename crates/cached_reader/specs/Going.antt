@@ -10,7 +10,7 @@ use Rattle.range_cache.specs.Cache.{Blocks, Holds, block_at, numbers}
 use Rattle.range_cache.specs.Numbers.{has, missing as absent, IsLed}
 use Rattle.range_cache.specs.Missing.{IsFirstGap}
 use Rattle.range_cache.specs.declared.missing.Missing.{Missing}
-use Rattle.cog_reader.specs.Reader.{AreOfOneLevel, ReaderState, ReaderAgrees, complete_of, outcome_of, query_of, steps_of, to_come, unread}
+use Rattle.cog_reader.specs.Reader.{AreOfOneLevel, ReaderState, ReaderAgrees, complete_of, outcome_of, query_of, steps_of, to_come, unread, upcoming, wanted}
 
 -- a reader, and the blocks that it reads from
 pub record CachedReader : Type 0 where
@@ -55,6 +55,10 @@ OneTouches rs k = (place : ℕ) × IsSomeAnd (slice_get rs place) (λ r. Touches
 abbrev pub AreTouched : List Extent → Span → Type 0
 AreTouched rs s = (k : ℕ) → s.first ≤ k * BLOCK_SIZE → k * BLOCK_SIZE ≤ s.last → OneTouches rs k
 
+-- a range that the reader wants later, as far as it knows it, touches block k
+abbrev pub IsWantedLater : ReaderState → ℕ → Type 0
+IsWantedLater r k = (index : ℕ) × IsSomeAnd (upcoming r index) (λ x. Touches x k)
+
 -- Of a range these are the bytes of the first run of missing blocks, and behind it of at most so many more, none of which is there:
 -- 65 blocks at most in all.
 pub record IsMissing (b : Blocks) (complete : ℕ) (r : Extent) (ahead : ℕ) (span : Span) : Type 0 where
@@ -80,13 +84,15 @@ pub record HasRoom (b : Blocks) (complete : ℕ) (r : Extent) (ahead : ℕ) (spa
 abbrev pub IsMissingWithRoom : Blocks → ℕ → Extent → ℕ → Span → Type 0
 IsMissingWithRoom b complete r ahead span = (m : IsMissing b complete r ahead span) × HasRoom b complete r ahead span m
 
--- The range that is still to come first, of whatever file is read, isn't all there: this is missing of it, and behind it of those
--- that are to come later.
+-- The range that the reader wants, which is still to come first of whatever file is read, isn't all there. The span is the first run
+-- of missing blocks of it, and behind it blocks of ranges that the reader wants later, which are to come later.
 pub record IsStopped (w : CachedReader) (ahead : ℕ) (span : Span) : Type 0 where
   pub range : Extent
+  pub wanted : wanted w.reader ≡ Some range
   pub first : (f : List ℕ) → ReaderAgrees w.reader f → slice_get (to_come w.reader f) 0 ≡ Some range
   pub missing : IsMissing w.cache (complete_of w.reader) range ahead span
   pub room : HasRoom w.cache (complete_of w.reader) range ahead span missing
+  pub later : (k : ℕ) → missing.lacks.to ≤ k → k < missing.to → IsWantedLater w.reader k
   pub needed : (f : List ℕ) → ReaderAgrees w.reader f → AreTouched (to_come w.reader f) span
 
 -- The reader needs nothing more, or stopped where the cache lacks something.

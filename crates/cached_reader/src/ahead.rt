@@ -1,11 +1,12 @@
 //! Looking ahead: behind what is missing of the range that is needed next, the blocks that follow it may be asked for too.
-ghost use Rattle.std.specs.Prelude.{◌≡◌, ◌+◌, ◌*◌, ◌/◌, ◌<◌, ◌≤◌, ℕ, List, Some, false, slice_get};
+ghost use Rattle.std.specs.Prelude.{◌≡◌, ◌+◌, ◌-◌, ◌*◌, ◌/◌, ◌<◌, ◌≤◌, ℕ, List, Some, false, slice_get};
 ghost use Rattle.tiff_dir.specs.declared.limits.TheConstants.{BLOCK_SIZE};
+ghost use Rattle.tiff_dir.specs.Block.{end_of};
 ghost use Rattle.tiff_dir.specs.Walk.{extent_of_span};
 ghost use Rattle.range_cache.specs.Numbers.{has};
 ghost use Rattle.range_cache.specs.Cache.{numbers};
-ghost use Rattle.cog_reader.specs.Reader.{complete_of, to_come, ReaderAgrees};
-ghost use Rattle.cached_reader.specs.Going.{work, IsMissingWithRoom, OneTouches, IsStopped, Touches};
+ghost use Rattle.cog_reader.specs.Reader.{complete_of, to_come, wanted, ReaderAgrees};
+ghost use Rattle.cached_reader.specs.Going.{work, IsMissingWithRoom, OneTouches, IsStopped, IsWantedLater, Touches};
 
 use cog_reader::Reader;
 use range_cache::{Cache, missing_is_exact};
@@ -39,6 +40,7 @@ pub(crate) fn reach(reader: &Reader, cache: &Cache, from: u64, limit: u64) -> u6
     ensures high { result ≤ limit }
     ensures inside { result * BLOCK_SIZE < complete_of reader.now + BLOCK_SIZE }
     ensures gone { (k : ℕ) → from ≤ k → k < result → has k (numbers cache.now.entries) ≡ false }
+    ensures wanted { (k : ℕ) → from ≤ k → k < result → IsWantedLater reader.now k }
     ensures needed { (f : List ℕ) → ReaderAgrees reader.now f → (k : ℕ) → from ≤ k → k < result → OneTouches (to_come reader.now f) k }
 {
     let mut end = from;
@@ -57,8 +59,21 @@ pub(crate) fn reach(reader: &Reader, cache: &Cache, from: u64, limit: u64) -> u6
     end
 }
 
-/// What to ask for: what is missing of the range that is needed next, and behind it at most so many blocks that are needed
-/// later. All have room beside the blocks of the range that are there.
+/// The bytes of the blocks from one number up to another, the last of which begins in a file of `complete` bytes.
+pub(crate) fn span_of_blocks(from: u64, to: u64, complete: u64) -> Span
+    requires some { from < to }
+    requires inside { to * BLOCK_SIZE < complete + BLOCK_SIZE }
+    ensures first { result.first ≡ from * BLOCK_SIZE }
+    ensures last { result.last + 1 ≡ end_of complete (to - 1) }
+{
+    Span {
+        first: from * BLOCK_SIZE,
+        last: ((to - 1) * BLOCK_SIZE + (BLOCK_SIZE - 1)).min(complete - 1),
+    }
+}
+
+/// What to ask for: the first unbroken run of missing blocks of the range that is needed next, `missing`, and behind it at most `ahead`
+/// blocks that are needed later. All have room beside the blocks of the range that are there. `complete` is the length of the file.
 pub fn extend(
     reader: &Reader,
     cache: &Cache,
@@ -68,6 +83,7 @@ pub fn extend(
     ahead: u32,
 ) -> Span
     requires missing { IsMissingWithRoom cache.now (complete_of reader.now) (extent_of_span range) 0 missing }
+    requires wanted { wanted reader.now ≡ Some (extent_of_span range) }
     requires next { (f : List ℕ) → ReaderAgrees reader.now f → slice_get (to_come reader.now f) 0 ≡ Some (extent_of_span range) }
     requires complete { complete_of reader.now ≡ complete }
     ensures { IsStopped (work reader.now cache.now) ahead result }
@@ -79,8 +95,5 @@ pub fn extend(
     let room = u64::from(cache.capacity()) - present;
     let limit = (from + room.min(MAX_BLOCKS)).min(end + u64::from(ahead));
     let end = reach(reader, cache, end, limit);
-    Span {
-        first: missing.first,
-        last: ((end - 1) * BLOCK_SIZE + (BLOCK_SIZE - 1)).min(complete - 1),
-    }
+    span_of_blocks(from, end, complete)
 }

@@ -1,26 +1,29 @@
 //! Asking early: what is asked for next, and then next again, where the answers before come whole.
-ghost use Rattle.std.specs.Prelude.{◌≡◌, ◌+◌, ◌-◌, ◌*◌, ◌/◌, ◌<◌, ◌≤◌, ◌^◌, ℕ, List, Some, IfOk, IfSome, length, slice_get};
+ghost use Rattle.std.specs.Prelude.{◌≡◌, ◌+◌, ◌-◌, ◌*◌, ◌/◌, ◌<◌, ◌≤◌, ◌^◌, false, true, ℕ, List, Some, IfOk, IfSome, MatchOption, length, slice_get};
 ghost use Rattle.std.specs.List.{All};
 ghost use Rattle.tiff_dir.specs.declared.limits.TheConstants.{BLOCK_SIZE};
-ghost use Rattle.tiff_dir.specs.Block.{end_of};
 ghost use Rattle.tiff_dir.specs.Walk.{extent_of_span};
-ghost use Rattle.cog_reader.specs.Reader.{complete_of, to_come, ReaderAgrees};
+ghost use Rattle.range_cache.specs.Cache.{numbers};
+ghost use Rattle.range_cache.specs.Numbers.{has};
+ghost use Rattle.cog_reader.specs.Reader.{complete_of, to_come, upcoming, ReaderAgrees};
 ghost use Rattle.cached_reader.specs.Going.{work};
-ghost use Rattle.cached_reader.specs.Early.{AreApart, AreNeededLater, IsEarly};
+ghost use Rattle.cached_reader.specs.Early.{AreApart, AreNeededLater, ArePassed, BeginsIn, IsEarly, LeavesNothing};
 
-use crate::ahead::{MAX_BLOCKS, reach};
+use crate::ahead::{MAX_BLOCKS, reach, span_of_blocks};
 use cog_reader::Reader;
 use range_cache::Cache;
 use std::alloc::Global;
 use tiff_dir::limits::BLOCK_SIZE;
 use tiff_dir::{Memory, Span};
 
-/// The blocks that one request asks for, and the first range among the upcoming ones that they don't begin in.
+/// The blocks that one request asks for, and how to go on behind them: the first of the upcoming ranges that may lack more, and the
+/// block that neither it nor a later one may begin before.
 #[derive(Clone, Copy)]
 struct Run {
     from: u64,
     to: u64,
     index: u32,
+    least: u64,
 }
 
 /// The run of blocks that is asked for in an upcoming range of which those before `from` are there then, and behind it: as `extend` does.
@@ -32,19 +35,23 @@ fn run_in(
     ahead: u32,
     index: u32,
 ) -> Option<Run>
+    requires known { upcoming reader.now index ≡ Some (extent_of_span range) }
     requires within { range.last < complete_of reader.now }
     requires begins { range.first / BLOCK_SIZE ≤ from }
     requires ends { from ≤ range.last / BLOCK_SIZE }
-    requires more { index + 1 < 2 ^ 32 }
     requires comes { (f : List ℕ) → ReaderAgrees reader.now f → slice_get (to_come reader.now f) (index + 1) ≡ Some (extent_of_span range) }
-    ensures needed { IfSome result (λ run. AreNeededLater (work reader.now cache.now) run.from run.to) }
+    ensures needed { IfSome result (λ run. AreNeededLater (work reader.now cache.now) ahead run.from run.to) }
     ensures from { IfSome result (λ run. run.from ≡ from) }
+    ensures index { IfSome result (λ run. run.index ≡ index) }
+    ensures least { IfSome result (λ run. run.least ≡ range.first / BLOCK_SIZE) }
+    ensures range { IfSome result (λ run. BeginsIn (work reader.now cache.now) run.index run.least run.from) }
 {
-    let to = range.last / BLOCK_SIZE + 1;
-    let there = from - range.first / BLOCK_SIZE + cache.present(from, to);
+    let first = range.first / BLOCK_SIZE;
+    let range_end = range.last / BLOCK_SIZE + 1;
+    let there = from - first + cache.present(from, range_end);
     let room = u64::from(cache.capacity()).saturating_sub(there);
     let limit = from + room.min(MAX_BLOCKS);
-    let end = cache.run_end(from, to.min(limit));
+    let end = cache.run_end(from, range_end.min(limit));
     if end == from {
         return None;
     }
@@ -52,16 +59,29 @@ fn run_in(
     Some(Run {
         from,
         to,
-        index: index + 1,
+        index,
+        least: first,
     })
 }
 
-/// The first of the blocks from a number on, before another one, that isn't there.
+/// Whether a block is there.
+fn is_there(cache: &Cache, block: u64) -> bool
+    requires { block + 1 < 2 ^ 64 }
+    ensures { result ≡ has block (numbers cache.now.entries) }
+{
+    cache.run_end(block, block + 1) == block
+}
+
+/// A block from a number on, before another one, that isn't there: the first one.
 fn first_gap(cache: &Cache, from: u64, to: u64) -> Option<u64>
-    ensures { IfSome result (λ n. (from ≤ n) × (n < to)) }
+    ensures within { IfSome result (λ n. (from ≤ n) × (n < to)) }
+    ensures gone { IfSome result (λ n. has n (numbers cache.now.entries) ≡ false) }
+    ensures before { MatchOption result
+        ((k : ℕ) → from ≤ k → k < to → has k (numbers cache.now.entries) ≡ true)
+        (λ n. (k : ℕ) → from ≤ k → k < n → has k (numbers cache.now.entries) ≡ true) }
 {
     for block in from..to {
-        if cache.present(block, block + 1) == 0 {
+        if !is_there(cache, block) {
             return Some(block);
         }
     }
@@ -72,8 +92,13 @@ fn first_gap(cache: &Cache, from: u64, to: u64) -> Option<u64>
 /// and the ranges stand in the order of the file.
 fn next_run(reader: &Reader, cache: &Cache, last: Run, ahead: u32) -> Option<Run>
     requires { last.to < 2 ^ 60 }
-    ensures needed { IfSome result (λ run. AreNeededLater (work reader.now cache.now) run.from run.to) }
+    ensures needed { IfSome result (λ run. AreNeededLater (work reader.now cache.now) ahead run.from run.to) }
     ensures behind { IfSome result (λ run. last.to ≤ run.from) }
+    ensures least { IfSome result (λ run. last.least ≤ run.least) }
+    ensures index { IfSome result (λ run. last.index ≤ run.index) }
+    ensures range { IfSome result (λ run. BeginsIn (work reader.now cache.now) run.index run.least run.from) }
+    ensures passed { IfSome result (λ run. ArePassed (work reader.now cache.now) last.index run.index last.least last.to) }
+    ensures before { IfSome result (λ run. (k : ℕ) → run.least ≤ k → last.to ≤ k → k < run.from → has k (numbers cache.now.entries) ≡ true) }
 {
     for index in last.index..u32::MAX {
         let Some(range) = reader.upcoming(index) else {
@@ -82,7 +107,7 @@ fn next_run(reader: &Reader, cache: &Cache, last: Run, ahead: u32) -> Option<Run
         let first = range.first / BLOCK_SIZE;
         let to = range.last / BLOCK_SIZE + 1;
         let from = first.max(last.to);
-        if first < last.from {
+        if first < last.least {
             return None;
         }
         if let Some(gap) = first_gap(cache, from, to) {
@@ -92,20 +117,9 @@ fn next_run(reader: &Reader, cache: &Cache, last: Run, ahead: u32) -> Option<Run
     None
 }
 
-/// The span of a run.
-fn span_of(run: Run, complete: u64) -> Span
-    requires some { run.from < run.to }
-    requires inside { run.to * BLOCK_SIZE < complete + BLOCK_SIZE }
-    ensures first { result.first ≡ run.from * BLOCK_SIZE }
-    ensures last { result.last + 1 ≡ end_of complete (run.to - 1) }
-{
-    Span {
-        first: run.from * BLOCK_SIZE,
-        last: ((run.to - 1) * BLOCK_SIZE + (BLOCK_SIZE - 1)).min(complete - 1),
-    }
-}
-
-/// What is asked for behind `asked`, one request after another, as far as it is known: at most so many. `Memory` is the only error.
+/// What is asked for behind `asked`, one request after another, as far as it is known: at most `most`. `complete` is the length of the
+/// file, and each request asks for at most `ahead` blocks behind the run of missing blocks that it begins with in a range. `Memory` is the
+/// only error.
 pub fn early_spans(
     alloc: Global,
     reader: &Reader,
@@ -116,21 +130,24 @@ pub fn early_spans(
     most: u32,
 ) -> Result<Vec<Span>, Memory>
     requires { complete_of reader.now ≡ complete }
-    ensures early { IfOk result (λ spans. All (IsEarly (work reader.now cache.now) asked) spans.items) }
+    ensures early { IfOk result (λ spans. All (IsEarly (work reader.now cache.now) ahead asked) spans.items) }
     ensures apart { IfOk result (λ spans. AreApart spans.items) }
     ensures few { IfOk result (λ spans. length spans.items ≤ most) }
+    // Before each of them nothing that is missing is left out, of the ranges up to the one that it begins in.
+    ensures order { IfOk result (λ spans. All (LeavesNothing (work reader.now cache.now) asked spans.items) spans.items) }
 {
     let mut spans = Vec::new(alloc);
     let mut last = Run {
         from: asked.first / BLOCK_SIZE,
         to: asked.last / BLOCK_SIZE + 1,
         index: 0,
+        least: asked.first / BLOCK_SIZE,
     };
     for _ in 0..most {
         let Some(run) = next_run(reader, cache, last, ahead) else {
             break;
         };
-        spans.push(span_of(run, complete))?;
+        spans.push(span_of_blocks(run.from, run.to, complete))?;
         last = run;
     }
     Ok(spans)

@@ -73,7 +73,7 @@ fn give_held(
     Ok(())
 }
 
-/// Gives the reader the range that it wants, where the cache has it, and else says what is missing of it.
+/// Gives the reader the range that it wants, where the cache has it, and else tells the first unbroken run of missing blocks of it.
 fn give_next(
     reader: &mut Reader,
     cache: &mut Cache,
@@ -101,8 +101,12 @@ fn give_next(
     }
 }
 
-/// Gives the reader one range after another, as far as the cache has them, and says what is missing then: of the next range, and
-/// at most `ahead` blocks behind that which are needed later.
+/// Gives the reader one range after another, as far as the cache has them, and says what to ask for then: the first unbroken run of
+/// missing blocks of the next range, and at most `ahead` blocks behind it that are needed later.
+///
+/// `complete` is the length of the file. `buffer` is room for what has to stand in one piece: it may hold anything, and gets no longer than
+/// 1,048,576 bytes, if it wasn't. After a refusal (`Memory`, the only error) the reader has taken the ranges that it was given until then,
+/// the same blocks are there, and it may be called again.
 pub fn fill(
     reader: &mut Reader,
     cache: &mut Cache,

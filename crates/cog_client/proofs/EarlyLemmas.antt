@@ -21,8 +21,8 @@ use Rattle.cog_client.specs.Early.{AsksNothingEarly, IsEarly, IsNeededEarly, IsR
 use Rattle.cog_client.proofs.ClientLemmas.{known}
 
 module _ (e : Feed) (how : Asking) (h n : List ℕ) (q : Option Query) (asked : Span) (s : Source) (b : Blocks) (r : Option Report) (long : complete_of s.reader ≡ s.complete) where
-  early_span : (span : Span) → reading.IsEarly (work s.reader b) asked span → IsNeededEarly (known e how h n q (Some asked) (Some s) b r) s.complete asked span
-  unfolding blocks_of to_come Knows
+  early_span : (span : Span) → reading.IsEarly (work s.reader b) how.ahead asked span → IsNeededEarly (known e how h n q (Some asked) (Some s) b r) s.complete asked span
+  unfolding blocks_of how_of to_come Knows
   early_span span i =
       let l = i.blocks in
       record {
@@ -36,9 +36,13 @@ module _ (e : Feed) (how : Asking) (h n : List ℕ) (q : Option Query) (asked : 
         behind = i.behind;
         gone = l.gone;
         needed = λ f knows. l.needed f knows.reader;
+        range = l.range;
+        place = l.index + 1;
+        comes = λ f knows. l.comes f knows.reader;
+        run = l.run;
       }
 
-  pub early_spans : (spans : List Span) → All (reading.IsEarly (work s.reader b) asked) spans → All (IsEarly (known e how h n q (Some asked) (Some s) b r)) spans
+  pub early_spans : (spans : List Span) → All (reading.IsEarly (work s.reader b) how.ahead asked) spans → All (IsEarly (known e how h n q (Some asked) (Some s) b r)) spans
   unfolding asked_of revision_of
   early_spans spans all k d lt = early_span _ (all k d lt)
 

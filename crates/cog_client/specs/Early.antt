@@ -1,20 +1,23 @@
 -- The requests that a client makes early: before the answer came to what it asks for now.
-use Rattle.std.specs.Prelude.{◌≡◌, ℕ, ◌+◌, ◌-◌, ◌*◌, ◌<◌, ◌≤◌, ◌⊎◌, false, true, List, [], Some, IsSomeAnd}
+use Rattle.std.specs.Prelude.{◌≡◌, ℕ, ◌+◌, ◌-◌, ◌*◌, ◌<◌, ◌≤◌, ◌⊎◌, false, true, List, [], Some, IsSomeAnd, slice_get}
 use Rattle.std.specs.List.{All, AllZip}
 use Rattle.tiff_dir.specs.declared.span.Span.{Span}
 use Rattle.tiff_dir.specs.declared.limits.TheConstants.{BLOCK_SIZE}
+use Rattle.tiff_dir.specs.Needs.{Extent}
 use Rattle.tiff_dir.specs.Block.{end_of}
 use Rattle.http_range.specs.Ask.{CanAsk}
 use Rattle.range_cache.specs.Cache.{numbers}
 use Rattle.range_cache.specs.Numbers.{has}
 use Rattle.cached_reader.specs.declared.ahead.TheConstants.{MAX_BLOCKS}
 use Rattle.cached_reader.specs.Going.{OneTouches}
-use Rattle.cached_reader.specs.Early.{AreApart}
+use Rattle.cached_reader.specs.Early.{AreApart, IsRunIn}
 use Rattle.cog_client.specs.Client.{ClientState, Knows, ahead_of, asked_of, blocks_of, closes, host_of, name_of, revision_of, tag_of, to_come}
 use Rattle.cog_client.specs.Calls.{request_for}
 
 -- In a file of this length the span is of the blocks from one number up to another, which begin in it, and are 65 at most. It lies behind
--- what is asked for now. None of its blocks is there, and each touches a range that the client needs of whatever file it knows.
+-- what is asked for now. None of its blocks is there, and each touches a range that the client needs of whatever file it knows. They begin
+-- in one of those ranges, and go on behind their run in it by at most as many blocks as the client looks ahead; all have room beside the
+-- blocks of that range that are there then.
 pub record IsNeededEarly (c : ClientState) (complete : ℕ) (asked span : Span) : Type 0 where
   pub from : ℕ
   pub to : ℕ
@@ -26,6 +29,10 @@ pub record IsNeededEarly (c : ClientState) (complete : ℕ) (asked span : Span) 
   pub behind : asked.last < span.first
   pub gone : (k : ℕ) → from ≤ k → k < to → has k (numbers (blocks_of c).entries) ≡ false
   pub needed : (f : List ℕ) → Knows f c → (k : ℕ) → from ≤ k → k < to → OneTouches (to_come c f) k
+  pub range : Extent
+  pub place : ℕ
+  pub comes : (f : List ℕ) → Knows f c → slice_get (to_come c f) place ≡ Some range
+  pub run : IsRunIn (blocks_of c) range (ahead_of c) from to
 
 -- such a span of the revision that is read, where the client asks for something now
 abbrev pub IsEarly : ClientState → Span → Type 0

@@ -18,6 +18,10 @@ loop-index-preserved c =
         | inr same ↦ omega (arith, before.inside, r.low)
       ];
       gone = λ k low high. elim (cases_lt k end) [ inl old ↦ before.gone k low old | inr new ↦ r.gone k new high ];
+      wanted = λ k low high. elim (cases_lt k end) [
+        | inl old ↦ before.wanted k low old
+        | inr new ↦ (c.loop-index.index, subst (λ o. IsSomeAnd o (λ e. Touches e k)) (sym range.known.0) (r.touches k new high))
+      ];
       needed = λ f agrees k low high. elim (cases_lt k end) [
         | inl old ↦ before.needed f agrees k low old
         | inr new ↦ (c.loop-index.index + 1, subst (λ o. IsSomeAnd o (λ e. Touches e k)) (sym (range.comes f agrees)) (r.touches k new high))

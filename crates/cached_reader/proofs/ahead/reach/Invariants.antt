@@ -3,7 +3,7 @@ use Rattle.tiff_dir.specs.declared.limits.TheConstants.{BLOCK_SIZE}
 use Rattle.range_cache.specs.Cache.{numbers}
 use Rattle.range_cache.specs.Numbers.{has}
 use Rattle.cog_reader.specs.Reader.{complete_of, to_come, ReaderAgrees}
-use Rattle.cached_reader.specs.Going.{OneTouches}
+use Rattle.cached_reader.specs.Going.{IsWantedLater, OneTouches}
 use Rattle.cached_reader.proofs.ahead.reach.Given as goal
 
 abbrev pub invariant-loop-index : goal.invariant-loop-index
@@ -12,5 +12,6 @@ invariant-loop-index l = record {
   high : l.end ≤ l.limit;
   inside : l.end * BLOCK_SIZE < complete_of l.reader + BLOCK_SIZE;
   gone : (k : ℕ) → l.from ≤ k → k < l.end → has k (numbers l.cache.entries) ≡ false;
+  wanted : (k : ℕ) → l.from ≤ k → k < l.end → IsWantedLater l.reader k;
   needed : (f : List ℕ) → ReaderAgrees l.reader f → (k : ℕ) → l.from ≤ k → k < l.end → OneTouches (to_come l.reader f) k;
 }

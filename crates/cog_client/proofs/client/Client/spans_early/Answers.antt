@@ -21,7 +21,7 @@ returns-clause-early c =
     sym (ap (λ o. known i.arrival i.how i.host.items i.name.items i.query o i.source i.cache i.report) c.in-Some-Some.is-0
     ∙ ap (λ o. known i.arrival i.how i.host.items i.name.items i.query (Some asked) o i.cache i.report) c.in-Some-Some.is-1) ∙ c.self.view_is in
     subst (λ k. IfOk c.early_spans.result (λ spans. All (IsEarly k) spans.items)) is
-    (IfOk-weaker c.early_spans.result (λ spans. All (reading.IsEarly (work s.reader i.cache) asked) spans.items) (λ spans. All (IsEarly made) spans.items)
+    (IfOk-weaker c.early_spans.result (λ spans. All (reading.IsEarly (work s.reader i.cache) i.how.ahead asked) spans.items) (λ spans. All (IsEarly made) spans.items)
     (λ spans all. early_spans i.arrival i.how i.host.items i.name.items i.query asked s i.cache i.report (sym reads.0) spans.items all) c.early_spans.ensures.early)
 
 pub returns-clause-none : goal.returns-clause-none
