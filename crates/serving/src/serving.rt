@@ -96,7 +96,7 @@ pub struct Serving {
     buffer: Vec<u8>,
     /// Whether a newcomer may wait.
     knocks: bool,
-    /// Whether there was no room for one.
+    /// Whether there was no room for a newcomer, since the last one that was accepted.
     is_starved: bool,
     accepted: u32,
 }
@@ -249,6 +249,7 @@ impl Serving {
     fn ask(&mut self) -> Result<(), AcceptError>
         ensures asked { self.new.knocks ≡ false }
         ensures held { self.new.held ≡ self.old.held }
+        ensures starved { self.new.is_starved ≡ self.old.is_starved }
         ensures nobody { NobodyComes self.old self.new }
     {
         self.knocks = false;
@@ -269,10 +270,12 @@ impl Serving {
         ensures asks { room_of self.new ≤ length (places_of self.new) → self.new.knocks ≡ false }
         ensures busy { KeepsBusy now self.old self.new }
         ensures next { next_of self.new ≤ next_of self.old + 1 }
+        ensures fed { self.new.is_starved ≡ false }
     {
         self.accepted = self.accepted.saturating_add(1);
         self.held.add(&self.poll, stream, now);
         if self.is_starved || !self.held.has_place() {
+            self.is_starved = false;
             self.ask()?;
         }
         Ok(())
