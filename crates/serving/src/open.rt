@@ -164,6 +164,9 @@ impl Open {
         ensures next { self.new.connections.next ≡ self.old.connections.next }
         ensures once { self.new.ended ≤ self.old.ended + 1 }
         ensures drained { DrainsAt number self.old → self.new.ended ≡ self.old.ended }
+        ensures counted { IsSome (timed_at number self.old.connections.table.entries) → ¬ DrainsAt number self.old
+            → self.old.ended + 1 < 2 ^ 32 → self.new.ended ≡ self.old.ended + 1 }
+        ensures none { timed_at number self.old.connections.table.entries ≡ None → self.new.ended ≡ self.old.ended }
     {
         if let Some(peer) = self.peers.remove(&number)
             && !peer.is_draining
