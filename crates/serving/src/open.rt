@@ -1,11 +1,11 @@
 //! The connections that have a place, with their sockets.
-ghost use Rattle.std.specs.Prelude.{◌≡◌, ◌≢◌, ◌⊎◌, ◌↔◌, ◌+◌, ◌<◌, ◌≤◌, ◌^◌, ℕ, [], IfOk, IfSome, IsSome, IsSomeAnd, IsTrue, None, OnErr, Some, length, nat_eq, true};
+ghost use Rattle.std.specs.Prelude.{◌≡◌, ◌≢◌, ◌⊎◌, ◌↔◌, ◌+◌, ◌<◌, ◌≤◌, ◌^◌, ℕ, [], IfOk, IfSome, IsSome, IsSomeAnd, IsTrue, None, OnErr, OnOk, Some, length, nat_eq, true};
 ghost use Rattle.std.specs.Map.{remove_entry};
 ghost use Rattle.std.specs.NonZero.{non_zero_usize_get};
 ghost use Rattle.cog_connections.specs.Table.{OthersStay, timed_at};
 ghost use Rattle.cog_connections.specs.declared.timed.Timed.{Timed};
 ghost use Rattle.cog_connections.specs.Yielding.{MayYield, WakesAt, Yields};
-ghost use Rattle.serving.specs.Turns.{HasEndedAt, HaveSockets, IsDrainedAt, KeepsPlaces};
+ghost use Rattle.serving.specs.Turns.{HasEndedAt, HasStartedAt, HaveSockets, IsDrainedAt, KeepsPlaces};
 ghost use Rattle.serving.specs.declared.turn.Turn.TheVariants.{Ended};
 
 use crate::answered::{Asked, Audience, Teller};
@@ -106,7 +106,7 @@ impl Open {
         }
     }
 
-    /// Adds a connection. One for which the system or memory has no room has ended at once.
+    /// Adds a connection, which starts at this moment. One for which the system or memory has no room has ended at once.
     pub fn add(&mut self, poll: &Poll, stream: TcpStream, now: u64)
         ensures others { OthersStay self.old.connections.next self.old.connections.table.entries self.new.connections.table.entries }
         ensures kept { (k : ℕ) (p : Timed) → timed_at k self.old.connections.table.entries ≡ Some p
@@ -114,6 +114,8 @@ impl Open {
         ensures next { self.new.connections.next ≤ self.old.connections.next + 1 }
         ensures ended { self.old.ended ≤ self.new.ended }
         ensures cap { self.new.connections.table.cap ≡ self.old.connections.table.cap }
+        ensures added { HasStartedAt self.old.connections.next now self.new.connections.table.entries
+            ⊎ (self.old.ended + 1 < 2 ^ 32 → self.new.ended ≡ self.old.ended + 1) }
     {
         if self.try_add(poll, stream, now).is_err() {
             self.ended = self.ended.saturating_add(1);
@@ -122,7 +124,8 @@ impl Open {
 
     /// Adds a connection, or none: one without a socket has no place.
     fn try_add(&mut self, poll: &Poll, mut stream: TcpStream, now: u64) -> io::Result<()>
-        ensures ended { self.old.ended ≤ self.new.ended }
+        ensures ended { self.new.ended ≡ self.old.ended }
+        ensures added { OnOk result (HasStartedAt self.old.connections.next now self.new.connections.table.entries) }
         ensures err { OnErr result ((k : ℕ) → timed_at k self.new.connections.table.entries ≡ timed_at k self.old.connections.table.entries) }
         ensures others { OthersStay self.old.connections.next self.old.connections.table.entries self.new.connections.table.entries }
         ensures kept { (k : ℕ) (p : Timed) → timed_at k self.old.connections.table.entries ≡ Some p
