@@ -3,6 +3,7 @@
 #![tactic(auto)]
 
 mod answered;
+mod drain;
 mod open;
 mod refusal;
 mod serving;

@@ -1,14 +1,16 @@
 //! The sockets of a server: who gets a place, whose turn it is, and how long to wait.
-ghost use Rattle.std.specs.Prelude.{◌≡◌, ◌≢◌, ◌+◌, ◌-◌, ◌*◌, ◌<◌, ◌≤◌, ◌^◌, ◌⊎◌, ◌↔◌, ◌++◌, ◌∷◌, ℕ, [], IfOk, IfSome, IsSomeAnd, IsTrue, None, OnErr, OnOk, Some, false, length, slice_get, true};
+ghost use Rattle.std.specs.Prelude.{◌≡◌, ◌≢◌, ◌+◌, ◌-◌, ◌*◌, ◌<◌, ◌≤◌, ◌^◌, ◌⊎◌, ◌↔◌, ◌++◌, ◌∷◌, ℕ, [], IfOk, IfSome, IsSomeAnd, IsTrue, None, OnErr, OnOk, Some, drop, false, length, slice_get, true};
 ghost use Rattle.std.specs.Duration.{as_nanos};
 ghost use Rattle.std.specs.NonZero.{non_zero_usize_get};
 ghost use Rattle.cog_connections.specs.Table.{OthersStay, timed_at};
+ghost use Rattle.serving.specs.Draining.{drain_of};
 ghost use Rattle.serving.specs.Held.{KeepsBusy, NobodyComes, accepted_of, ended_of, limits_of, next_of, places_of, room_of, WakesBy, WakesIn};
 ghost use Rattle.serving.specs.Refusals.{HasNoRoom, IsPassing};
 ghost use Rattle.serving.specs.Turns.{GivesPlace, HasStartedAt};
 ghost use Rattle.serving.specs.declared.turn.Turn.TheVariants.{Ended, Failed, GoesOn, Waits};
 
 use crate::answered::Audience;
+use crate::drain::{DRAIN, Drain};
 use crate::open::Open;
 use crate::refusal::{Refusal, refusal_of};
 use crate::turn::Turn;
@@ -28,9 +30,6 @@ const LISTENER: Token = Token(usize::MAX);
 
 /// The most events of one wait.
 const EVENTS: usize = 1024;
-
-/// So many milliseconds a connection whose answers are written waits for its peer's end.
-const DRAIN: u64 = 2_000;
 
 /// After so many milliseconds a newcomer for which there was no room is tried again.
 const RETRY: u64 = 1_000;
@@ -91,8 +90,8 @@ pub struct Serving {
     held: Open,
     /// The numbers of those that may go on.
     ready: VecDeque<u64>,
-    /// The moments at which drains end, in order, with the numbers of their connections.
-    drains: VecDeque<(u64, u64)>,
+    /// The drains, in the order in which they end.
+    drains: VecDeque<Drain>,
     buffer: Vec<u8>,
     /// Whether a newcomer may wait.
     knocks: bool,
@@ -337,6 +336,8 @@ impl Serving {
             ⊎ (timed_at number (places_of self.new) ≡ None) }
         ensures ended { turn ≡ Ended → (self.new.ready.items ≡ self.old.ready.items ++ number ∷ [])
             ⊎ (timed_at number (places_of self.new) ≡ None) }
+        ensures drains { turn ≡ Ended → (self.new.drains.items ≡ self.old.drains.items ++ drain_of now number ∷ [])
+            ⊎ (timed_at number (places_of self.new) ≡ None) }
         ensures failed { turn ≡ Failed → timed_at number (places_of self.new) ≡ None }
     {
         match turn {
@@ -344,7 +345,9 @@ impl Serving {
             Turn::GoesOn => self.make_ready(number),
             Turn::Ended => {
                 let ends = now.saturating_add(DRAIN);
-                if self.held.drain(number) && self.drains.push_back((ends, number)).is_ok() {
+                if self.held.drain(number)
+                    && self.drains.push_back(Drain { ends, number }).is_ok()
+                {
                     self.make_ready(number);
                 } else {
                     self.held.close(number);
@@ -359,6 +362,7 @@ impl Serving {
         ensures others { OthersStay number self.old.held.connections.table.entries self.new.held.connections.table.entries }
         ensures nobody { NobodyComes self.old self.new }
         ensures ready { (self.new.ready.items ≡ self.old.ready.items ++ number ∷ []) ⊎ (timed_at number (places_of self.new) ≡ None) }
+        ensures drains { self.new.drains ≡ self.old.drains }
     {
         if self.ready.push_back(number).is_err() {
             self.held.close(number);
@@ -369,6 +373,8 @@ impl Serving {
     #[tactic(auto, using(crate::proofs::HeldLemmas::nobody_yet))]
     fn end_drains(&mut self, now: u64)
         ensures nobody { NobodyComes self.old self.new }
+        // None is left whose moment has come.
+        ensures over { IfSome (slice_get self.new.drains.items 0) (λ drain. now < drain.ends) }
     {
         for _ in 0..self.drains.len() {
             if !self.end_drain(now) {
@@ -380,14 +386,16 @@ impl Serving {
     /// Closes the connection whose drain ends first, if the moment for that has come, and says whether it had.
     fn end_drain(&mut self, now: u64) -> bool
         ensures nobody { NobodyComes self.old self.new }
-        ensures early { IfSome (slice_get self.old.drains.items 0) (λ drain. now < drain.0 → (result ≡ false) × (self.new ≡ self.old)) }
-        ensures over { IfSome (slice_get self.old.drains.items 0) (λ drain. drain.0 ≤ now → (result ≡ true)
-            × (timed_at drain.1 (places_of self.new) ≡ None)) }
+        ensures early { result ≡ false → (self.new ≡ self.old)
+            × IfSome (slice_get self.old.drains.items 0) (λ drain. now < drain.ends) }
+        ensures over { result ≡ true → IsSomeAnd (slice_get self.old.drains.items 0) (λ drain. (drain.ends ≤ now)
+            × (timed_at drain.number (places_of self.new) ≡ None)) }
+        ensures gone { result ≡ true → self.new.drains.items ≡ drop 1 self.old.drains.items }
     {
         match self.drains.front().copied() {
-            Some((ends, number)) if ends <= now => {
+            Some(drain) if drain.ends <= now => {
                 self.drains.pop_front();
-                self.held.close(number);
+                self.held.close(drain.number);
                 true
             }
             _ => false,
@@ -419,7 +427,7 @@ impl Serving {
     fn timeout(&self, now: u64) -> Option<Duration>
         ensures ready { self.now.ready.items ≢ [] → IsSomeAnd result (λ wait. as_nanos wait ≡ 0) }
         ensures drain { IfSome (slice_get self.now.drains.items 0) (λ drain.
-            IsSomeAnd result (λ wait. as_nanos wait ≤ (drain.0 - now) * 1000000)) }
+            IsSomeAnd result (λ wait. as_nanos wait ≤ (drain.ends - now) * 1000000)) }
         ensures starved { self.now.is_starved ≡ true → self.now.knocks ≡ true → accepted_of self.now < (limits_of self.now).connections
             → IsSomeAnd result (λ wait. as_nanos wait ≤ 1000 * 1000000) }
         ensures place { self.now.ready.items ≡ [] → self.now.knocks ≡ true → accepted_of self.now < (limits_of self.now).connections
@@ -428,12 +436,12 @@ impl Serving {
         // is none.
         ensures idle { self.now.ready.items ≡ [] → self.now.drains.items ≡ [] → self.now.knocks ≡ false → result ≡ None }
         ensures just { self.now.ready.items ≡ [] → self.now.knocks ≡ false → IfSome (slice_get self.now.drains.items 0) (λ drain.
-            IsSomeAnd result (λ wait. as_nanos wait ≡ (drain.0 - now) * 1000000)) }
+            IsSomeAnd result (λ wait. as_nanos wait ≡ (drain.ends - now) * 1000000)) }
     {
         if !self.ready.is_empty() {
             return Some(Duration::ZERO);
         }
-        let drain = self.drains.front().map(|(ends, _)| *ends);
+        let drain = self.drains.front().map(|drain| drain.ends);
         let moment = earlier(drain, self.looks_at(now))?;
         Some(Duration::from_millis(moment.saturating_sub(now)))
     }
