@@ -4,7 +4,7 @@ ghost use Rattle.std.specs.Duration.{as_nanos};
 ghost use Rattle.std.specs.NonZero.{non_zero_usize_get};
 ghost use Rattle.cog_connections.specs.Table.{OthersStay, timed_at};
 ghost use Rattle.serving.specs.Draining.{drain_of};
-ghost use Rattle.serving.specs.Held.{KeepsBusy, NobodyComes, accepted_of, ended_of, limits_of, next_of, places_of, room_of, WakesBy, WakesIn};
+ghost use Rattle.serving.specs.Held.{IsLookedAt, IsWaitedFor, KeepsBusy, NobodyComes, accepted_of, ended_of, limits_of, next_of, places_of, room_of, WakesBy, WakesIn};
 ghost use Rattle.serving.specs.Refusals.{HasNoRoom, IsPassing};
 ghost use Rattle.serving.specs.Turns.{GivesPlace, HasStartedAt};
 ghost use Rattle.serving.specs.declared.turn.Turn.TheVariants.{Ended, Failed, GoesOn, Waits};
@@ -410,6 +410,7 @@ impl Serving {
         ensures place { self.now.knocks ≡ true → accepted_of self.now < (limits_of self.now).connections → room_of self.now ≢ 1
             → WakesBy self.now result }
         ensures idle { self.now.knocks ≡ false → result ≡ None }
+        ensures only { IfSome result (IsLookedAt now self.now) }
     {
         if !self.is_awaited() {
             return None;
@@ -437,6 +438,8 @@ impl Serving {
         ensures idle { self.now.ready.items ≡ [] → self.now.drains.items ≡ [] → self.now.knocks ≡ false → result ≡ None }
         ensures just { self.now.ready.items ≡ [] → self.now.knocks ≡ false → IfSome (slice_get self.now.drains.items 0) (λ drain.
             IsSomeAnd result (λ wait. as_nanos wait ≡ (drain.ends - now) * 1000000)) }
+        // It is never woken for anything else.
+        ensures only { self.now.ready.items ≡ [] → IfSome result (IsWaitedFor now self.now) }
     {
         if !self.ready.is_empty() {
             return Some(Duration::ZERO);
