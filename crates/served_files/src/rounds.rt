@@ -98,7 +98,7 @@ where
             break;
         }
         if let Err(error) = serving.wait(moment(log.rt)) {
-            return Err(ServeError::CantAccept(error));
+            return Err(ServeError::CantWait(error));
         }
     }
     Ok(())

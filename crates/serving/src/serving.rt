@@ -1,12 +1,13 @@
 //! The sockets of a server: who gets a place, whose turn it is, and how long to wait.
-ghost use Rattle.std.specs.Prelude.{◌≡◌, ◌≢◌, ◌+◌, ◌-◌, ◌*◌, ◌<◌, ◌≤◌, ◌^◌, ◌⊎◌, ◌↔◌, ◌++◌, ◌∷◌, ℕ, [], IfOk, IfSome, IsSomeAnd, IsTrue, None, OnErr, OnOk, Some, drop, false, length, slice_get, true};
+ghost use Rattle.std.specs.Prelude.{◌≡◌, ◌≢◌, ◌+◌, ◌-◌, ◌*◌, ◌<◌, ◌≤◌, ◌^◌, ◌⊎◌, ◌↔◌, ◌++◌, ◌∷◌, ℕ, [], IfErr, IfOk, IfSome, IsSomeAnd, IsTrue, None, OnErr, OnOk, Some, drop, false, length, slice_get, true};
 ghost use Rattle.std.specs.Duration.{as_nanos};
 ghost use Rattle.std.specs.NonZero.{non_zero_usize_get};
 ghost use Rattle.cog_connections.specs.Table.{OthersStay, timed_at};
 ghost use Rattle.serving.specs.Draining.{drain_of};
 ghost use Rattle.serving.specs.Held.{IsLookedAt, IsWaitedFor, KeepsBusy, NobodyComes, accepted_of, ended_of, limits_of, next_of, places_of, room_of, WakesBy, WakesIn};
-ghost use Rattle.serving.specs.Refusals.{HasNoRoom, IsPassing};
+ghost use Rattle.serving.specs.Refusals.{HasNoRoom, IsLasting, IsOfAsking, IsPassing};
 ghost use Rattle.serving.specs.Turns.{GivesPlace, HasStartedAt};
+ghost use Rattle.serving.specs.declared.serving.AcceptError.TheVariants.{Accept};
 ghost use Rattle.serving.specs.declared.turn.Turn.TheVariants.{Ended, Failed, GoesOn, Waits};
 
 use crate::answered::Audience;
@@ -78,7 +79,12 @@ pub struct Limits {
 
 /// No connection can be accepted any more, and what the system says of it.
 #[derive(Debug, Drop)]
-pub struct AcceptError(pub io::Error);
+pub enum AcceptError {
+    /// It doesn't accept one.
+    Accept(io::Error),
+    /// It can't be asked whether one waits.
+    Ask(io::Error),
+}
 
 /// A server's sockets. Each moment is given in milliseconds of one clock.
 #[derive(Drop)]
@@ -158,6 +164,11 @@ impl Serving {
         ensures limits { limits_of self.new ≡ limits_of self.old }
         ensures room { room_of self.new ≡ room_of self.old }
         ensures ended { ended_of self.old ≤ ended_of self.new }
+        ensures last { IfErr result IsLasting }
+
+        // Nothing is done while no newcomer waits, nor where there may be no more.
+        ensures quiet { self.old.knocks ≡ false → self.new ≡ self.old }
+        ensures full { (limits_of self.old).connections ≤ accepted_of self.old → self.new ≡ self.old }
 
         // Nobody loses a place but those that may, and each newcomer that gets one counts.
         ensures busy { KeepsBusy now self.old self.new }
@@ -246,6 +257,7 @@ impl Serving {
 
     /// Asks the system whether a newcomer waits. Until it says so, nobody is displaced for one.
     fn ask(&mut self) -> Result<(), AcceptError>
+        ensures err { IfErr result IsOfAsking }
         ensures asked { self.new.knocks ≡ false }
         ensures held { self.new.held ≡ self.old.held }
         ensures starved { self.new.is_starved ≡ self.old.is_starved }
@@ -255,7 +267,7 @@ impl Serving {
         let registry = self.poll.registry();
         registry
             .reregister(&mut self.listener, LISTENER, Interest::READABLE)
-            .map_err(AcceptError)
+            .map_err(AcceptError::Ask)
     }
 
     /// Gives a newcomer its place.
@@ -269,6 +281,7 @@ impl Serving {
         ensures asks { room_of self.new ≤ length (places_of self.new) → self.new.knocks ≡ false }
         ensures busy { KeepsBusy now self.old self.new }
         ensures next { next_of self.new ≤ next_of self.old + 1 }
+        ensures err { IfErr result IsOfAsking }
         ensures fed { self.new.is_starved ≡ false }
         ensures welcomed { HasStartedAt (next_of self.old) now (places_of self.new)
             ⊎ (ended_of self.old + 1 < 2 ^ 32 → ended_of self.new ≡ ended_of self.old + 1) }
@@ -291,8 +304,9 @@ impl Serving {
         ensures kept { IfOk result (λ again. again ≡ false → self.new.held.connections ≡ self.old.held.connections) }
         ensures passing { OnOk result (IsPassing error) }
         ensures err { OnErr result (self.new.held.connections ≡ self.old.held.connections) }
-        // Where an error that passes is told, no newcomer counts as waiting.
-        ensures last { OnErr result (IsPassing error → self.new.knocks ≡ false) }
+        // An error that passes isn't told: where the system can't be asked behind it, that is, and no newcomer counts as waiting.
+        ensures last { IfErr result (λ told. (IsOfAsking told × (self.new.knocks ≡ false))
+            ⊎ ((told ≡ Accept error) × ¬ IsPassing error)) }
         ensures nobody { NobodyComes self.old self.new }
         ensures busy { KeepsBusy now self.old self.new }
         ensures next { next_of self.new ≡ next_of self.old }
@@ -313,7 +327,7 @@ impl Serving {
                 self.ask()?;
                 Ok(false)
             }
-            Refusal::Last => Err(AcceptError(error)),
+            Refusal::Last => Err(AcceptError::Accept(error)),
         }
     }
 

@@ -1,4 +1,4 @@
-use Rattle.std.specs.Prelude.{◌≡◌, ◌+◌, ◌-◌, ◌≤◌}
+use Rattle.std.specs.Prelude.{◌≡◌, false, ◌+◌, ◌-◌, ◌≤◌}
 use Rattle.serving.specs.Held.{KeepsBusy, accepted_of, ended_of, limits_of, next_of, room_of}
 use Rattle.serving.proofs.serving.Serving.accept.Given as goal
 
@@ -11,5 +11,7 @@ invariant-loop l = record {
   ended : ended_of l.fn.self ≤ ended_of l.self;
   busy : KeepsBusy l.now l.fn.self l.self;
   numbers : next_of l.self ≤ next_of l.fn.self + (accepted_of l.self - accepted_of l.fn.self);
+  quiet : l.fn.self.knocks ≡ false → l.self ≡ l.fn.self;
+  full : (limits_of l.fn.self).connections ≤ accepted_of l.fn.self → l.self ≡ l.fn.self;
   few : accepted_of l.fn.self ≤ (limits_of l.fn.self).connections → accepted_of l.self ≤ (limits_of l.fn.self).connections;
 }
