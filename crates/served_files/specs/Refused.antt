@@ -1,6 +1,6 @@
 -- What is told where no connection can be accepted any more.
-use Rattle.serving.specs.declared.serving.AcceptError.{AcceptError}
-use Rattle.serving.specs.declared.serving.AcceptError.TheVariants.{Accept, Ask}
+use Rattle.serving.specs.declared.refusal.AcceptError.{AcceptError}
+use Rattle.serving.specs.declared.refusal.AcceptError.TheVariants.{Accept, Ask}
 use Rattle.served_files.specs.declared.error.ServeError.{ServeError}
 use Rattle.served_files.specs.declared.error.ServeError.TheVariants.{CantAccept, CantWait}
 

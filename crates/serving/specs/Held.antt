@@ -5,6 +5,7 @@ use Rattle.std.specs.Duration.{as_nanos}
 use Rattle.cog_connections.specs.declared.timed.Timed.{Timed}
 use Rattle.cog_connections.specs.Table.{Table, timed_at}
 use Rattle.cog_connections.specs.Yielding.{MayYield, WakesAt}
+use Rattle.serving.specs.Turns.{HasStartedAt}
 use Rattle.serving.specs.declared.serving.Limits.{Limits}
 use Rattle.serving.specs.declared.serving.Serving.{Serving}
 
@@ -60,6 +61,24 @@ IsWaitedFor now s wait =
 abbrev pub KeepsBusy : ℕ → Serving → Serving → Type 0
 KeepsBusy now old new = (k : ℕ) (p : Timed) → timed_at k (places_of old) ≡ Some p →
     MayYield now (limits_of old).patience p ⊎ (timed_at k (places_of new) ≡ Some p)
+
+-- each connection has the place that it had, as it was
+abbrev pub KeepsAll : Serving → Serving → Type 0
+KeepsAll old new = (k : ℕ) (p : Timed) → timed_at k (places_of old) ≡ Some p → timed_at k (places_of new) ≡ Some p
+
+-- who has a place had it, and it is as it was
+abbrev pub NoneChanges : Serving → Serving → Type 0
+NoneChanges old new = (k : ℕ) (p : Timed) → timed_at k (places_of new) ≡ Some p → timed_at k (places_of old) ≡ Some p
+
+-- who has a place and had none starts at this moment
+abbrev pub AllStart : ℕ → Serving → Serving → Type 0
+AllStart now old new =
+    (k : ℕ) (p : Timed) → timed_at k (places_of old) ≡ None → timed_at k (places_of new) ≡ Some p → HasStartedAt k now (places_of new)
+
+-- who has a place had it, and is as it was, or starts at this moment
+abbrev pub StayOrStart : ℕ → Serving → Serving → Type 0
+StayOrStart now old new =
+    (k : ℕ) (p : Timed) → timed_at k (places_of new) ≡ Some p → (timed_at k (places_of old) ≡ Some p) ⊎ HasStartedAt k now (places_of new)
 
 -- nobody is accepted, nobody gets a place, there are as many places, and none that ended is forgotten
 pub record NobodyComes (old new : Serving) : Type 0 where

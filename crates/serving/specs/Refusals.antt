@@ -4,8 +4,8 @@ use Rattle.std.specs.Prelude.{◌≡◌, ◌⊎◌, ℤ, pos, List, [], ◌∷�
 use Rattle.std.specs.IoError.{error_kind, raw_os_error}
 use Rattle.std.specs.declared.io.Error.{Error}
 use Rattle.std.specs.declared.io.ErrorKind.TheVariants.{WouldBlock}
-use Rattle.serving.specs.declared.serving.AcceptError.{AcceptError}
-use Rattle.serving.specs.declared.serving.AcceptError.TheVariants.{Accept, Ask}
+use Rattle.serving.specs.declared.refusal.AcceptError.{AcceptError}
+use Rattle.serving.specs.declared.refusal.AcceptError.TheVariants.{Accept, Ask}
 
 -- there is no room for it: no descriptor is left to the process (EMFILE) or to the system (ENFILE), or no memory (ENOMEM, ENOBUFS)
 abbrev pub no_room : List ℤ

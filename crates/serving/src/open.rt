@@ -114,8 +114,10 @@ impl Open {
         ensures next { self.new.connections.next ≤ self.old.connections.next + 1 }
         ensures ended { self.old.ended ≤ self.new.ended }
         ensures cap { self.new.connections.table.cap ≡ self.old.connections.table.cap }
+        ensures more { length self.new.connections.table.entries ≤ length self.old.connections.table.entries + 1 }
         ensures added { HasStartedAt self.old.connections.next now self.new.connections.table.entries
-            ⊎ (self.old.ended + 1 < 2 ^ 32 → self.new.ended ≡ self.old.ended + 1) }
+            ⊎ ((self.old.ended + 1 < 2 ^ 32 → self.new.ended ≡ self.old.ended + 1)
+            × ((k : ℕ) → timed_at k self.new.connections.table.entries ≡ timed_at k self.old.connections.table.entries)) }
     {
         if self.try_add(poll, stream, now).is_err() {
             self.ended = self.ended.saturating_add(1);
@@ -132,6 +134,7 @@ impl Open {
             → timed_at k self.new.connections.table.entries ≡ Some p }
         ensures next { self.new.connections.next ≤ self.old.connections.next + 1 }
         ensures cap { self.new.connections.table.cap ≡ self.old.connections.table.cap }
+        ensures more { length self.new.connections.table.entries ≤ length self.old.connections.table.entries + 1 }
     {
         if !has_place(&self.connections) {
             return Err(io::Error::from(io::ErrorKind::Other));
@@ -163,6 +166,7 @@ impl Open {
         ensures others { OthersStay number self.old.connections.table.entries self.new.connections.table.entries }
         ensures gone { timed_at number self.new.connections.table.entries ≡ None }
         ensures cap { self.new.connections.table.cap ≡ self.old.connections.table.cap }
+        ensures fewer { length self.new.connections.table.entries ≤ length self.old.connections.table.entries }
         ensures entries { self.new.connections.table.entries ≡ remove_entry (nat_eq number) self.old.connections.table.entries }
         ensures next { self.new.connections.next ≡ self.old.connections.next }
         ensures once { self.new.ended ≤ self.old.ended + 1 }

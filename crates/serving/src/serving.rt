@@ -4,16 +4,17 @@ ghost use Rattle.std.specs.Duration.{as_nanos};
 ghost use Rattle.std.specs.NonZero.{non_zero_usize_get};
 ghost use Rattle.cog_connections.specs.Table.{OthersStay, timed_at};
 ghost use Rattle.serving.specs.Draining.{drain_of};
-ghost use Rattle.serving.specs.Held.{IsLookedAt, IsWaitedFor, KeepsBusy, NobodyComes, accepted_of, ended_of, limits_of, next_of, places_of, room_of, WakesBy, WakesIn};
+ghost use Rattle.serving.specs.Held.{AllStart, IsLookedAt, IsWaitedFor, KeepsAll, KeepsBusy, NoneChanges, NobodyComes, StayOrStart, accepted_of, ended_of, limits_of, next_of, places_of, room_of, WakesBy, WakesIn};
 ghost use Rattle.serving.specs.Refusals.{HasNoRoom, IsLasting, IsOfAsking, IsPassing};
 ghost use Rattle.serving.specs.Turns.{GivesPlace, HasStartedAt};
-ghost use Rattle.serving.specs.declared.serving.AcceptError.TheVariants.{Accept};
+ghost use Rattle.serving.specs.declared.refusal.AcceptError.TheVariants.{Accept};
 ghost use Rattle.serving.specs.declared.turn.Turn.TheVariants.{Ended, Failed, GoesOn, Waits};
 
 use crate::answered::Audience;
 use crate::drain::{DRAIN, Drain};
+use crate::moments::earlier;
 use crate::open::Open;
-use crate::refusal::{Refusal, refusal_of};
+use crate::refusal::{AcceptError, Refusal, refusal_of};
 use crate::turn::Turn;
 use cog_server::Server;
 use http_range::MESSAGE_LIMIT;
@@ -34,18 +35,6 @@ const EVENTS: usize = 1024;
 
 /// After so many milliseconds a newcomer for which there was no room is tried again.
 const RETRY: u64 = 1_000;
-
-/// The earlier of two moments, where there are such.
-fn earlier(one: Option<u64>, other: Option<u64>) -> Option<u64>
-    ensures one { IfSome one (λ moment. IsSomeAnd result (λ first. first ≤ moment)) }
-    ensures other { IfSome other (λ moment. IsSomeAnd result (λ first. first ≤ moment)) }
-    ensures among { IfSome result (λ first. (one ≡ Some first) ⊎ (other ≡ Some first)) }
-{
-    match (one, other) {
-        (Some(one), Some(other)) => Some(one.min(other)),
-        (one, other) => one.or(other),
-    }
-}
 
 /// Notes the connections that may go on, and says whether a newcomer may wait. One that memory has no room for is closed.
 fn note(events: &Events, held: &mut Open, ready: &mut VecDeque<u64>) -> bool
@@ -75,15 +64,6 @@ pub struct Limits {
     pub at_once: NonZeroUsize,
     /// So many milliseconds a connection that makes no progress keeps its place while a newcomer waits.
     pub patience: u64,
-}
-
-/// No connection can be accepted any more, and what the system says of it.
-#[derive(Debug, Drop)]
-pub enum AcceptError {
-    /// It doesn't accept one.
-    Accept(io::Error),
-    /// It can't be asked whether one waits.
-    Ask(io::Error),
 }
 
 /// A server's sockets. Each moment is given in milliseconds of one clock.
@@ -156,7 +136,7 @@ impl Serving {
     }
 
     /// Accepts the newcomers that get a place, and tells how many: in all no more than there may be.
-    #[tactic(auto, using(crate::proofs::HeldLemmas::busy_on))]
+    #[tactic(auto, using(crate::proofs::HeldLemmas::busy_on, crate::proofs::HeldLemmas::start_on, crate::proofs::HeldLemmas::spared_on))]
     pub fn accept(&mut self, now: u64) -> Result<u32, AcceptError>
         ensures counted { IfOk result (λ count. accepted_of self.new ≡ accepted_of self.old + count) }
         ensures few { accepted_of self.old ≤ (limits_of self.old).connections
@@ -172,20 +152,18 @@ impl Serving {
 
         // Nobody loses a place but those that may, and each newcomer that gets one counts.
         ensures busy { KeepsBusy now self.old self.new }
+        // Where there is room for each newcomer, and more, no connection loses its place.
+        ensures spared { self.old.is_starved ≡ false
+            → length (places_of self.old) + (accepted_of self.new - accepted_of self.old) < room_of self.old
+            → KeepsAll self.old self.new }
+        // Who has a place had it, and is as it was, or starts at this moment.
+        ensures newcomers { StayOrStart now self.old self.new }
         ensures numbers { next_of self.new ≤ next_of self.old + (accepted_of self.new - accepted_of self.old) }
     {
         let before = self.accepted;
         for _ in 0..u32::MAX {
-            if !self.is_awaited() || !self.has_place(now) {
+            if !self.accept_next(now)? {
                 break;
-            }
-            match self.listener.accept() {
-                Ok((stream, _)) => self.welcome(stream, now)?,
-                Err(error) => {
-                    if !self.may_try_again(error, now)? {
-                        break;
-                    }
-                }
             }
         }
         Ok(self.accepted.saturating_sub(before))
@@ -225,9 +203,43 @@ impl Serving {
         self.knocks && self.accepted < self.limits.connections
     }
 
+    /// Accepts the next newcomer, if one waits and gets a place, and says whether another one may.
+    #[tactic(auto, using(crate::proofs::HeldLemmas::busy_on, crate::proofs::HeldLemmas::start_more, crate::proofs::HeldLemmas::start_fewer))]
+    fn accept_next(&mut self, now: u64) -> Result<bool, AcceptError>
+        ensures more { accepted_of self.old ≤ accepted_of self.new }
+        ensures few { accepted_of self.old ≤ (limits_of self.old).connections
+            → accepted_of self.new ≤ (limits_of self.old).connections }
+        ensures limits { limits_of self.new ≡ limits_of self.old }
+        ensures room { room_of self.new ≡ room_of self.old }
+        ensures ended { ended_of self.old ≤ ended_of self.new }
+        ensures last { IfErr result IsLasting }
+        ensures quiet { self.old.knocks ≡ false → self.new ≡ self.old }
+        ensures full { (limits_of self.old).connections ≤ accepted_of self.old → self.new ≡ self.old }
+        ensures busy { KeepsBusy now self.old self.new }
+        ensures spared { self.old.is_starved ≡ false → length (places_of self.old) < room_of self.old → KeepsAll self.old self.new }
+        ensures fed { IfOk result (λ again. again ≡ true → self.old.is_starved ≡ false → self.new.is_starved ≡ false) }
+        ensures places { length (places_of self.new) ≤ length (places_of self.old) + (accepted_of self.new - accepted_of self.old) }
+        ensures newcomers { StayOrStart now self.old self.new }
+        ensures numbers { next_of self.new ≤ next_of self.old + (accepted_of self.new - accepted_of self.old) }
+    {
+        if !self.is_awaited() || !self.has_place(now) {
+            return Ok(false);
+        }
+        match self.listener.accept() {
+            Ok((stream, _)) => {
+                self.welcome(stream, now)?;
+                Ok(true)
+            }
+            Err(error) => self.may_try_again(error, now),
+        }
+    }
+
     /// Whether there is a place for a newcomer: a free one, or one that another connection loses.
     fn has_place(&mut self, now: u64) -> bool
         ensures free { length (places_of self.old) < room_of self.old → (result ≡ true) × (self.new ≡ self.old) }
+        ensures starved { self.new.is_starved ≡ self.old.is_starved }
+        ensures same { NoneChanges self.old self.new }
+        ensures fewer { length (places_of self.new) ≤ length (places_of self.old) }
         ensures nobody { NobodyComes self.old self.new }
         ensures busy { KeepsBusy now self.old self.new }
         ensures next { next_of self.new ≡ next_of self.old }
@@ -240,6 +252,9 @@ impl Serving {
         requires { (room_of self.old ≤ length (places_of self.old)) ⊎ (self.old.is_starved ≡ true) }
         ensures one { self.old.held.connections.table.cap ≡ 1 → result ≡ false }
         ensures no { result ≡ false → self.new.held.connections ≡ self.old.held.connections }
+        ensures starved { self.new.is_starved ≡ self.old.is_starved }
+        ensures same { NoneChanges self.old self.new }
+        ensures fewer { length (places_of self.new) ≤ length (places_of self.old) }
         ensures yes { result ≡ true → GivesPlace now self.old.limits.patience self.old.held.connections.table.entries
             self.new.held.connections.table.entries }
         ensures nobody { NobodyComes self.old self.new }
@@ -283,6 +298,9 @@ impl Serving {
         ensures next { next_of self.new ≤ next_of self.old + 1 }
         ensures err { IfErr result IsOfAsking }
         ensures fed { self.new.is_starved ≡ false }
+        ensures kept { KeepsAll self.old self.new }
+        ensures more { length (places_of self.new) ≤ length (places_of self.old) + 1 }
+        ensures newcomer { AllStart now self.old self.new }
         ensures welcomed { HasStartedAt (next_of self.old) now (places_of self.new)
             ⊎ (ended_of self.old + 1 < 2 ^ 32 → ended_of self.new ≡ ended_of self.old + 1) }
     {
@@ -302,6 +320,10 @@ impl Serving {
         ensures again { IfOk result (λ again. again ≡ true → HasNoRoom error
             × GivesPlace now self.old.limits.patience self.old.held.connections.table.entries self.new.held.connections.table.entries) }
         ensures kept { IfOk result (λ again. again ≡ false → self.new.held.connections ≡ self.old.held.connections) }
+        // Nobody is displaced for the first newcomer without room.
+        ensures first { IfOk result (λ again. again ≡ true → self.old.is_starved ≡ true) }
+        ensures same { NoneChanges self.old self.new }
+        ensures fewer { length (places_of self.new) ≤ length (places_of self.old) }
         ensures passing { OnOk result (IsPassing error) }
         ensures err { OnErr result (self.new.held.connections ≡ self.old.held.connections) }
         // An error that passes isn't told: where the system can't be asked behind it, that is, and no newcomer counts as waiting.
