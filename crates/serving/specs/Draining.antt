@@ -8,6 +8,10 @@ use Rattle.serving.specs.declared.open.Open.{Open}
 abbrev pub DrainsAt : ℕ → Open → Type 0
 DrainsAt k o = IsSomeAnd (get nat_eq o.peers k) (λ p. p.is_draining ≡ true)
 
+-- connection k has a socket, and its turn is noted and hasn't come yet
+abbrev pub IsReadyAt : ℕ → Open → Type 0
+IsReadyAt k o = IsSomeAnd (get nat_eq o.peers k) (λ p. p.is_ready ≡ true)
+
 -- the drain of a connection whose last answer is written at this moment: it ends two seconds later
 abbrev pub drain_of : ℕ → ℕ → Drain
 drain_of now number = record { ends = min (now + 2000) (2 ^ 64 - 1); number = number }

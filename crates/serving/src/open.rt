@@ -1,5 +1,5 @@
 //! The connections that have a place, with their sockets.
-ghost use Rattle.std.specs.Prelude.{◌≡◌, ◌≢◌, ◌⊎◌, ◌↔◌, ◌+◌, ◌<◌, ◌≤◌, ◌^◌, ℕ, [], IfOk, IfSome, IsSome, IsSomeAnd, IsTrue, None, OnErr, OnOk, Some, length, nat_eq, true};
+ghost use Rattle.std.specs.Prelude.{◌≡◌, ◌≢◌, ◌⊎◌, ◌↔◌, ◌+◌, ◌<◌, ◌≤◌, ◌^◌, ℕ, [], IfOk, IfSome, IsSome, IsSomeAnd, IsTrue, None, OnErr, OnOk, Some, false, length, nat_eq, true};
 ghost use Rattle.std.specs.Map.{remove_entry};
 ghost use Rattle.std.specs.NonZero.{non_zero_usize_get};
 ghost use Rattle.cog_connections.specs.Table.{OthersStay, timed_at};
@@ -28,6 +28,8 @@ struct Peer {
     socket: Socket,
     /// Whether all its answers are written.
     is_draining: bool,
+    /// Whether its turn is noted, and hasn't come yet.
+    is_ready: bool,
     asked: Asked,
 }
 
@@ -49,7 +51,7 @@ pub struct Open {
 }
 
 impl Open {
-    ghost use Rattle.serving.specs.Draining.{DrainsAt};
+    ghost use Rattle.serving.specs.Draining.{DrainsAt, IsReadyAt};
 
     /// None, with so many places.
     pub fn new(alloc: Global, places: NonZeroUsize) -> Result<Self, Memory>
@@ -151,6 +153,7 @@ impl Open {
         let peer = Peer {
             socket: Socket { number, stream },
             is_draining: false,
+            is_ready: false,
             asked: Asked::new(self.alloc),
         };
         if added.is_err() || self.peers.insert(number, peer).is_err() {
@@ -202,6 +205,23 @@ impl Open {
         }
     }
 
+    /// Notes that a connection may have its turn, and says whether there is one for which that wasn't noted.
+    pub fn note_ready(&mut self, number: u64) -> bool
+        ensures kept { self.new.connections ≡ self.old.connections }
+        ensures ended { self.new.ended ≡ self.old.ended }
+        ensures once { IsReadyAt number self.old → result ≡ false }
+        ensures noted { result ≡ false → (timed_at number self.old.connections.table.entries ≡ None) ⊎ IsReadyAt number self.old }
+        ensures ready { IsReadyAt number self.new ⊎ (timed_at number self.new.connections.table.entries ≡ None) }
+    {
+        match self.peers.get_mut(&number) {
+            Some(peer) if !peer.is_ready => {
+                peer.is_ready = true;
+                true
+            }
+            _ => false,
+        }
+    }
+
     /// A connection's turn, of whose answers the audience is told.
     pub fn turn<A: Audience>(
         &mut self,
@@ -215,10 +235,12 @@ impl Open {
         ensures ended { result ≡ Ended → HasEndedAt number self.new.connections.table.entries
             ⊎ (DrainsAt number self.old × IsDrainedAt number self.new.connections.table.entries) }
         ensures counted { self.new.ended ≡ self.old.ended }
+        ensures taken { ¬ IsReadyAt number self.new }
     {
         let Some(peer) = self.peers.get_mut(&number) else {
             return Turn::Waits;
         };
+        peer.is_ready = false;
         let socket = &peer.socket;
         if peer.is_draining {
             return drain_turn(&mut self.connections, socket, buffer);

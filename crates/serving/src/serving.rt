@@ -3,6 +3,7 @@ ghost use Rattle.std.specs.Prelude.{◌≡◌, ◌≢◌, ◌+◌, ◌-◌, ◌*
 ghost use Rattle.std.specs.Duration.{as_nanos};
 ghost use Rattle.std.specs.NonZero.{non_zero_usize_get};
 ghost use Rattle.cog_connections.specs.Table.{OthersStay, timed_at};
+ghost use Rattle.mio.specs.Events.{capacity};
 ghost use Rattle.serving.specs.Draining.{drain_of};
 ghost use Rattle.serving.specs.Held.{AllStart, IsLookedAt, IsWaitedFor, KeepsAll, KeepsBusy, NoneChanges, NobodyComes, StayOrStart, accepted_of, ended_of, limits_of, next_of, places_of, room_of, WakesBy, WakesIn};
 ghost use Rattle.serving.specs.Refusals.{HasNoRoom, IsLasting, IsOfAsking, IsPassing};
@@ -31,12 +32,12 @@ use std::{io, net};
 const LISTENER: Token = Token(usize::MAX);
 
 /// The most events of one wait.
-const EVENTS: usize = 1024;
+const EVENTS: usize = 65_536;
 
 /// After so many milliseconds a newcomer for which there was no room is tried again.
 const RETRY: u64 = 1_000;
 
-/// Notes the connections that may go on, and says whether a newcomer may wait. One that memory has no room for is closed.
+/// Notes the connections that may go on, each once, and says whether a newcomer may wait. One that memory has no room for is closed.
 fn note(events: &Events, held: &mut Open, ready: &mut VecDeque<u64>) -> bool
     ensures places { (k : ℕ) → timed_at k held.old.connections.table.entries ≡ None
         → timed_at k held.new.connections.table.entries ≡ None }
@@ -48,7 +49,7 @@ fn note(events: &Events, held: &mut Open, ready: &mut VecDeque<u64>) -> bool
         let token = event.token();
         if token == LISTENER {
             knocks = true;
-        } else if ready.push_back(token.0 as u64).is_err() {
+        } else if held.note_ready(token.0 as u64) && ready.push_back(token.0 as u64).is_err() {
             held.close(token.0 as u64);
         }
     }
@@ -96,7 +97,11 @@ impl Serving {
         ensures none { IfOk result (λ s. (accepted_of s ≡ 0) × (places_of s ≡ [])) }
         ensures limits { IfOk result (λ s. limits_of s ≡ limits) }
         ensures room { IfOk result (λ s. room_of s ≡ non_zero_usize_get limits.at_once) }
+        // One wait may tell of each connection, and of a newcomer.
+        ensures events { non_zero_usize_get limits.at_once < 65536
+            → IfOk result (λ s. capacity s.events ≡ non_zero_usize_get limits.at_once + 1) }
     {
+        let most = limits.at_once.get().saturating_add(1).min(EVENTS);
         listener.set_nonblocking(true)?;
         let mut listener = TcpListener::from_std(listener);
         let poll = Poll::new(rt)?;
@@ -108,7 +113,7 @@ impl Serving {
         };
         Ok(Serving {
             poll,
-            events: Events::with_capacity(alloc, EVENTS)?,
+            events: Events::with_capacity(alloc, most)?,
             listener,
             limits,
             held,
@@ -400,6 +405,7 @@ impl Serving {
         ensures ready { (self.new.ready.items ≡ self.old.ready.items ++ number ∷ []) ⊎ (timed_at number (places_of self.new) ≡ None) }
         ensures drains { self.new.drains ≡ self.old.drains }
     {
+        self.held.note_ready(number);
         if self.ready.push_back(number).is_err() {
             self.held.close(number);
         }
