@@ -158,6 +158,9 @@ becomes_new n p table new is =
 pub falling_accepted : (n : ℕ) (p : Timed) (table new : Table) → AreFalling n table → new ≡ (n, p) ∷ table → AreFalling (n + 1) new
 falling_accepted n p table new h is = subst (AreFalling (n + 1)) (sym is) (omega arith, h)
 
+pub one_more : (e : ℕ × Timed) (table new : Table) → new ≡ e ∷ table → length new ≡ length table + 1
+one_more e table new is = let long = ap length is in omega (arith, long)
+
 -- ---- the one that is taken away
 
 still : (k other : ℕ) (table : Table) → other ≢ k → timed_at other (remove_entry (nat_eq k) table) ≡ timed_at other table
@@ -167,6 +170,17 @@ still k other (x ∷ table) ne =
       | inl same ↦ (let no : nat_eq other x.0 ≡ false = other_number other x.0 (λ e. ne (e ∙ is_number k x.0 same)) in rw (same, no) refl)
       | inr different ↦ rw different (ap (cond (nat_eq other x.0) (Some x.1)) (still k other table ne))
     ]
+
+fewer_without : (k : ℕ) (table : Table) → length (remove_entry (nat_eq k) table) ≤ length table
+fewer_without k [] = omega arith
+fewer_without k (x ∷ table) =
+    elim (cases_Bool (nat_eq k x.0)) [
+      | inl same ↦ rw same (omega arith)
+      | inr other ↦ rw other (let fewer = fewer_without k table in omega (arith, fewer))
+    ]
+
+pub fewer : (k : ℕ) (table new : Table) → new ≡ remove_entry (nat_eq k) table → length new ≤ length table
+fewer k table new is = subst (λ (t : Table). length t ≤ length table) (sym is) (fewer_without k table)
 
 pub others_still : (k : ℕ) (table new : Table) → new ≡ remove_entry (nat_eq k) table → OthersStay k table new
 others_still k table new is other ne = ap (timed_at other) is ∙ still k other table ne

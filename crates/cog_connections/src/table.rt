@@ -131,6 +131,7 @@ impl Connections {
         ensures gone { timed_at number self.new.table.entries ≡ None }
         ensures others { OthersStay number self.old.table.entries self.new.table.entries }
         ensures entries { self.new.table.entries ≡ remove_entry (nat_eq number) self.old.table.entries }
+        ensures fewer { length self.new.table.entries ≤ length self.old.table.entries }
         ensures cap { self.new.table.cap ≡ self.old.table.cap }
         ensures next { self.new.next ≡ self.old.next }
     {
@@ -145,6 +146,7 @@ impl Connections {
         ensures table { IfOk result (λ number. Becomes number (Some (record { connection = start; progress = now }))
             self.old.table.entries self.new.table.entries) }
         ensures next { OnOk result (self.new.next ≡ self.old.next + 1) }
+        ensures grows { OnOk result (length self.new.table.entries ≡ length self.old.table.entries + 1) }
         ensures kept { OnErr result (self.new.next ≡ self.old.next) }
         ensures cap { self.new.table.cap ≡ self.old.table.cap }
         ensures err { OnErr result (self.new.table.entries ≡ self.old.table.entries) }

@@ -1,1 +1,2 @@
 pub mod Publishing
+pub mod Refused

@@ -54,6 +54,9 @@ pub enum ServeError<'a> {
     /// No connection can be accepted any more.
     #[error("can't accept: {0}")]
     CantAccept(io::Error),
+    /// It can't be waited for connections any more.
+    #[error("can't wait: {0}")]
+    CantWait(io::Error),
     /// Standard output can't be written.
     #[error("can't write: {0}")]
     CantWrite(io::Error),
@@ -61,12 +64,14 @@ pub enum ServeError<'a> {
 
 impl From<AcceptError> for ServeError<'_> {
     ghost use Rattle.std.specs.Prelude.{◌≡◌};
-    ghost use Rattle.served_files.specs.declared.error.ServeError.TheVariants.{CantAccept};
+    ghost use Rattle.served_files.specs.Refused.{told_of};
 
-    ghost from_gives = { λ refused error. error ≡ CantAccept refused.0 };
+    ghost from_gives = { λ refused error. error ≡ told_of refused };
 
     fn from(error: AcceptError) -> Self {
-        let AcceptError(error) = error;
-        ServeError::CantAccept(error)
+        match error {
+            AcceptError::Accept(error) => ServeError::CantAccept(error),
+            AcceptError::Ask(error) => ServeError::CantWait(error),
+        }
     }
 }

@@ -54,8 +54,8 @@ fn print_served<R: Print>(rt: &R, told: u32, ended: u32) -> u32
     told.max(ended)
 }
 
-/// Gives each connection that is ready its turn, accepts newcomers, and looks at the files where one came. Turns come first: a
-/// connection whose message is there isn't idle.
+/// Gives each connection that is ready its turn, accepts newcomers, and looks at the files where one came. Turns come first: each
+/// connection that the last wait told of has its turn before an idle one loses its place.
 fn round<R: Files + Clock + Print + Eprint + AllocGlobal>(
     log: &mut Log<'_, R>,
     server: &mut Server,
@@ -98,7 +98,7 @@ where
             break;
         }
         if let Err(error) = serving.wait(moment(log.rt)) {
-            return Err(ServeError::CantAccept(error));
+            return Err(ServeError::CantWait(error));
         }
     }
     Ok(())

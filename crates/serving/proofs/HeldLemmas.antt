@@ -1,9 +1,12 @@
 -- What nobody's coming is, and who keeps a place.
-use Rattle.std.proofs.Common.{◌≡◌, ◌∙◌, ℕ, le_trans, subst, inl, inr}
+use Rattle.std.proofs.Common.{◌≡◌, ◌∙◌, ◌+◌, ◌-◌, ◌<◌, ◌≤◌, ◌⊎◌, ℕ, arith, false, length, Option, None, Some, refl, sym, le_trans, subst, inl, inr}
+use Rattle.cog_connections.specs.declared.timed.Timed.{Timed}
 use Rattle.serving.specs.declared.serving.Serving.{Serving}
+use Rattle.cog_connections.specs.Table.{timed_at}
 use Rattle.cog_connections.specs.Yielding.{MayYield}
+use Rattle.serving.specs.Turns.{HasStartedAt}
 use Rattle.serving.specs.declared.serving.Limits.{Limits}
-use Rattle.serving.specs.Held.{KeepsBusy, NobodyComes, limits_of}
+use Rattle.serving.specs.Held.{AllStart, KeepsAll, KeepsBusy, NobodyComes, NoneChanges, StayOrStart, accepted_of, limits_of, places_of, room_of}
 
 -- where nobody comes at first, nor then, nobody does
 pub nobody_yet : (a b c : Serving) → NobodyComes a b → NobodyComes b c → NobodyComes a c
@@ -25,3 +28,39 @@ busy_on now a b c limits first then k p there =
         | inr still ↦ inr still
       ]
     ]
+
+-- who is there was there, or starts, where some lose their places
+pub start_fewer : (now : ℕ) (a b : Serving) → NoneChanges a b → StayOrStart now a b
+start_fewer now a b fewer k p there = inl (fewer k p there)
+
+-- and where one more comes behind that
+start_at : (now : ℕ) (a b c : Serving) → NoneChanges a b → KeepsAll b c → AllStart now b c → (k : ℕ) (p : Timed)
+    → timed_at k (places_of c) ≡ Some p → (before : Option Timed) → timed_at k (places_of b) ≡ before
+    → (timed_at k (places_of a) ≡ Some p) ⊎ HasStartedAt k now (places_of c)
+start_at now a b c fewer keeps then k p there None gone = inr (then k p gone there)
+start_at now a b c fewer keeps then k p there (Some q) has = inl (fewer k p (has ∙ sym (keeps k q has) ∙ there))
+
+pub start_more : (now : ℕ) (a b c : Serving) → NoneChanges a b → KeepsAll b c → AllStart now b c → StayOrStart now a c
+start_more now a b c fewer keeps then k p there = start_at now a b c fewer keeps then k p there (timed_at k (places_of b)) refl
+
+-- at first, and then
+pub start_on : (now : ℕ) (a b c : Serving) → StayOrStart now a b → StayOrStart now b c → StayOrStart now a c
+start_on now a b c first then k p there =
+    elim (then k p there) [
+      | inr starts ↦ inr starts
+      | inl stays ↦ elim (first k p stays) [
+        | inl was ↦ inl was
+        | inr started ↦ inr (there ∙ sym stays ∙ started)
+      ]
+    ]
+
+-- who keeps its place as long as there is room for each newcomer, and more
+pub spared_on : (a b c : Serving) → room_of b ≡ room_of a → accepted_of a ≤ accepted_of b → accepted_of b ≤ accepted_of c
+    → length (places_of b) ≤ length (places_of a) + (accepted_of b - accepted_of a)
+    → (a.is_starved ≡ false → b.is_starved ≡ false)
+    → (a.is_starved ≡ false → length (places_of a) + (accepted_of b - accepted_of a) < room_of a → KeepsAll a b)
+    → (b.is_starved ≡ false → length (places_of b) < room_of b → KeepsAll b c)
+    → a.is_starved ≡ false → length (places_of a) + (accepted_of c - accepted_of a) < room_of a → KeepsAll a c
+spared_on a b c room more again places fed first then is-fed free k p there =
+    then (fed is-fed) (omega (arith, room, more, again, places, free)) k p
+    (first is-fed (omega (arith, more, again, free)) k p there)

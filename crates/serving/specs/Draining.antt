@@ -1,8 +1,17 @@
 -- Connections whose answers are written.
-use Rattle.std.specs.Prelude.{◌≡◌, ℕ, nat_eq, true, IsSomeAnd}
+use Rattle.std.specs.Prelude.{◌≡◌, ◌+◌, ◌-◌, ◌^◌, ℕ, min, nat_eq, true, IsSomeAnd}
 use Rattle.std.specs.HashMap.{get}
+use Rattle.serving.specs.declared.drain.Drain.{Drain}
 use Rattle.serving.specs.declared.open.Open.{Open}
 
--- all answers of connection k are written, as its peer was told, and it is read to its end
+-- connection k has a socket and is marked as one that drains
 abbrev pub DrainsAt : ℕ → Open → Type 0
 DrainsAt k o = IsSomeAnd (get nat_eq o.peers k) (λ p. p.is_draining ≡ true)
+
+-- connection k has a socket, and its turn is noted and hasn't come yet
+abbrev pub IsReadyAt : ℕ → Open → Type 0
+IsReadyAt k o = IsSomeAnd (get nat_eq o.peers k) (λ p. p.is_ready ≡ true)
+
+-- the drain of a connection whose last answer is written at this moment: it ends two seconds later
+abbrev pub drain_of : ℕ → ℕ → Drain
+drain_of now number = record { ends = min (now + 2000) (2 ^ 64 - 1); number = number }

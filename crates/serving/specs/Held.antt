@@ -1,10 +1,11 @@
 -- What others know of a server's sockets.
-use Rattle.std.specs.Prelude.{◌≡◌, ◌⊎◌, ◌-◌, ◌*◌, ◌≤◌, ℕ, Option, None, Some, IfSome, IsSomeAnd}
+use Rattle.std.specs.Prelude.{◌≡◌, ◌≢◌, ◌<◌, ◌⊎◌, ◌+◌, ◌-◌, ◌*◌, ◌^◌, ◌≤◌, ℕ, true, min, slice_get, Option, None, Some, IfSome, IsSomeAnd}
 use Rattle.std.specs.declared.time.Duration.{Duration}
 use Rattle.std.specs.Duration.{as_nanos}
 use Rattle.cog_connections.specs.declared.timed.Timed.{Timed}
 use Rattle.cog_connections.specs.Table.{Table, timed_at}
 use Rattle.cog_connections.specs.Yielding.{MayYield, WakesAt}
+use Rattle.serving.specs.Turns.{HasStartedAt}
 use Rattle.serving.specs.declared.serving.Limits.{Limits}
 use Rattle.serving.specs.declared.serving.Serving.{Serving}
 
@@ -42,10 +43,42 @@ abbrev pub WakesIn : ℕ → Serving → Option Duration → Type 0
 WakesIn now s wait = (wake : Option ℕ)
     × WakesAt (limits_of s).patience (places_of s) wake × IfSome wake (λ moment. IsSomeAnd wait (λ d. as_nanos d ≤ (moment - now) * 1000000))
 
+-- At this moment a newcomer that waits is looked at again: of several places, where the first connection will have made no progress for
+-- as long as the patience, or a second from now where there was no room for it.
+abbrev pub IsLookedAt : ℕ → Serving → ℕ → Type 0
+IsLookedAt now s moment =
+    (s.knocks ≡ true) × (accepted_of s < (limits_of s).connections)
+    × (((room_of s ≢ 1) × WakesAt (limits_of s).patience (places_of s) (Some moment))
+    ⊎ ((s.is_starved ≡ true) × (moment ≡ min (now + 1000) (2 ^ 64 - 1))))
+
+-- it is waited until the first drain ends, or a newcomer that waits is looked at again
+abbrev pub IsWaitedFor : ℕ → Serving → Duration → Type 0
+IsWaitedFor now s wait =
+    (moment : ℕ) × (IsSomeAnd (slice_get s.drains.items 0) (λ drain. drain.ends ≡ moment) ⊎ IsLookedAt now s moment)
+    × (as_nanos wait ≡ (moment - now) * 1000000)
+
 -- a connection that had a place has it as it was, unless a newcomer may take it at this moment
 abbrev pub KeepsBusy : ℕ → Serving → Serving → Type 0
 KeepsBusy now old new = (k : ℕ) (p : Timed) → timed_at k (places_of old) ≡ Some p →
     MayYield now (limits_of old).patience p ⊎ (timed_at k (places_of new) ≡ Some p)
+
+-- each connection has the place that it had, as it was
+abbrev pub KeepsAll : Serving → Serving → Type 0
+KeepsAll old new = (k : ℕ) (p : Timed) → timed_at k (places_of old) ≡ Some p → timed_at k (places_of new) ≡ Some p
+
+-- who has a place had it, and it is as it was
+abbrev pub NoneChanges : Serving → Serving → Type 0
+NoneChanges old new = (k : ℕ) (p : Timed) → timed_at k (places_of new) ≡ Some p → timed_at k (places_of old) ≡ Some p
+
+-- who has a place and had none starts at this moment
+abbrev pub AllStart : ℕ → Serving → Serving → Type 0
+AllStart now old new =
+    (k : ℕ) (p : Timed) → timed_at k (places_of old) ≡ None → timed_at k (places_of new) ≡ Some p → HasStartedAt k now (places_of new)
+
+-- who has a place had it, and is as it was, or starts at this moment
+abbrev pub StayOrStart : ℕ → Serving → Serving → Type 0
+StayOrStart now old new =
+    (k : ℕ) (p : Timed) → timed_at k (places_of new) ≡ Some p → (timed_at k (places_of old) ≡ Some p) ⊎ HasStartedAt k now (places_of new)
 
 -- nobody is accepted, nobody gets a place, there are as many places, and none that ended is forgotten
 pub record NobodyComes (old new : Serving) : Type 0 where

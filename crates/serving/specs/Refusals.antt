@@ -4,6 +4,8 @@ use Rattle.std.specs.Prelude.{◌≡◌, ◌⊎◌, ℤ, pos, List, [], ◌∷�
 use Rattle.std.specs.IoError.{error_kind, raw_os_error}
 use Rattle.std.specs.declared.io.Error.{Error}
 use Rattle.std.specs.declared.io.ErrorKind.TheVariants.{WouldBlock}
+use Rattle.serving.specs.declared.refusal.AcceptError.{AcceptError}
+use Rattle.serving.specs.declared.refusal.AcceptError.TheVariants.{Accept, Ask}
 
 -- there is no room for it: no descriptor is left to the process (EMFILE) or to the system (ENFILE), or no memory (ENOMEM, ENOBUFS)
 abbrev pub no_room : List ℤ
@@ -21,3 +23,11 @@ HasNoRoom error = IsSomeAnd (raw_os_error error) (Contains no_room)
 -- newcomers can be accepted later: none waits now, there is no room for one, or it is lost
 abbrev pub IsPassing : Error → Type 0
 IsPassing error = (error_kind error ≡ WouldBlock) ⊎ (HasNoRoom error ⊎ IsSomeAnd (raw_os_error error) (Contains lost))
+
+-- the system can't be asked whether a newcomer waits
+abbrev pub IsOfAsking : AcceptError → Type 0
+IsOfAsking told = (error : Error) × (told ≡ Ask error)
+
+-- the system can't be asked, or it accepts no newcomer, and not for a reason that passes
+abbrev pub IsLasting : AcceptError → Type 0
+IsLasting told = IsOfAsking told ⊎ ((error : Error) × (told ≡ Accept error) × ¬ IsPassing error)

@@ -2,7 +2,7 @@
 use Rattle.std.specs.Prelude.{◌≡◌, ℕ, nat_eq, IfSome, IsTrue, Some, is_some}
 use Rattle.std.specs.HashMap.{HashMap, get}
 use Rattle.std.specs.Map.{remove_entry}
-use Rattle.cog_server.specs.Status.{EndsBy, is_drained}
+use Rattle.cog_server.specs.Status.{EndsBy, is_drained, start}
 use Rattle.cog_server.specs.declared.served.Ended.{Ended}
 use Rattle.cog_connections.specs.declared.table.Connections.{Connections}
 use Rattle.cog_connections.specs.Table.{Table, OthersStay, timed_at}
@@ -14,6 +14,10 @@ pub record KeepsPlaces (k : ℕ) (old new : Connections) : Type 0 where
   pub others : OthersStay k old.table.entries new.table.entries
   pub cap : new.table.cap ≡ old.table.cap
   pub next : new.next ≡ old.next
+
+-- connection k has its place, and starts at this moment: nothing came on it, and its progress is counted from now on
+abbrev pub HasStartedAt : ℕ → ℕ → Table → Type 0
+HasStartedAt k now table = timed_at k table ≡ Some (record { connection = start; progress = now })
 
 -- all answers of connection k are written, and no more come; or there is no such connection
 abbrev pub HasEndedAt : ℕ → Table → Type 0

@@ -3,6 +3,8 @@
 #![tactic(auto)]
 
 mod answered;
+mod drain;
+mod moments;
 mod open;
 mod refusal;
 mod serving;
@@ -10,4 +12,5 @@ mod socket;
 mod turn;
 
 pub use answered::{Answer, Audience, Nobody};
-pub use serving::{AcceptError, Limits, Serving};
+pub use refusal::AcceptError;
+pub use serving::{Limits, Serving};

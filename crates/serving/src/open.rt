@@ -1,11 +1,11 @@
 //! The connections that have a place, with their sockets.
-ghost use Rattle.std.specs.Prelude.{◌≡◌, ◌≢◌, ◌⊎◌, ◌↔◌, ◌+◌, ◌<◌, ◌≤◌, ◌^◌, ℕ, [], IfOk, IfSome, IsSome, IsSomeAnd, IsTrue, None, OnErr, Some, length, nat_eq, true};
+ghost use Rattle.std.specs.Prelude.{◌≡◌, ◌≢◌, ◌⊎◌, ◌↔◌, ◌+◌, ◌<◌, ◌≤◌, ◌^◌, ℕ, [], IfOk, IfSome, IsSome, IsSomeAnd, IsTrue, None, OnErr, OnOk, Some, false, length, nat_eq, true};
 ghost use Rattle.std.specs.Map.{remove_entry};
 ghost use Rattle.std.specs.NonZero.{non_zero_usize_get};
 ghost use Rattle.cog_connections.specs.Table.{OthersStay, timed_at};
 ghost use Rattle.cog_connections.specs.declared.timed.Timed.{Timed};
 ghost use Rattle.cog_connections.specs.Yielding.{MayYield, WakesAt, Yields};
-ghost use Rattle.serving.specs.Turns.{HasEndedAt, HaveSockets, IsDrainedAt, KeepsPlaces};
+ghost use Rattle.serving.specs.Turns.{HasEndedAt, HasStartedAt, HaveSockets, IsDrainedAt, KeepsPlaces};
 ghost use Rattle.serving.specs.declared.turn.Turn.TheVariants.{Ended};
 
 use crate::answered::{Asked, Audience, Teller};
@@ -28,6 +28,8 @@ struct Peer {
     socket: Socket,
     /// Whether all its answers are written.
     is_draining: bool,
+    /// Whether its turn is noted, and hasn't come yet.
+    is_ready: bool,
     asked: Asked,
 }
 
@@ -49,7 +51,7 @@ pub struct Open {
 }
 
 impl Open {
-    ghost use Rattle.serving.specs.Draining.{DrainsAt};
+    ghost use Rattle.serving.specs.Draining.{DrainsAt, IsReadyAt};
 
     /// None, with so many places.
     pub fn new(alloc: Global, places: NonZeroUsize) -> Result<Self, Memory>
@@ -106,7 +108,7 @@ impl Open {
         }
     }
 
-    /// Adds a connection. One for which the system or memory has no room has ended at once.
+    /// Adds a connection, which starts at this moment. One for which the system or memory has no room has ended at once.
     pub fn add(&mut self, poll: &Poll, stream: TcpStream, now: u64)
         ensures others { OthersStay self.old.connections.next self.old.connections.table.entries self.new.connections.table.entries }
         ensures kept { (k : ℕ) (p : Timed) → timed_at k self.old.connections.table.entries ≡ Some p
@@ -114,6 +116,10 @@ impl Open {
         ensures next { self.new.connections.next ≤ self.old.connections.next + 1 }
         ensures ended { self.old.ended ≤ self.new.ended }
         ensures cap { self.new.connections.table.cap ≡ self.old.connections.table.cap }
+        ensures more { length self.new.connections.table.entries ≤ length self.old.connections.table.entries + 1 }
+        ensures added { HasStartedAt self.old.connections.next now self.new.connections.table.entries
+            ⊎ ((self.old.ended + 1 < 2 ^ 32 → self.new.ended ≡ self.old.ended + 1)
+            × ((k : ℕ) → timed_at k self.new.connections.table.entries ≡ timed_at k self.old.connections.table.entries)) }
     {
         if self.try_add(poll, stream, now).is_err() {
             self.ended = self.ended.saturating_add(1);
@@ -122,13 +128,15 @@ impl Open {
 
     /// Adds a connection, or none: one without a socket has no place.
     fn try_add(&mut self, poll: &Poll, mut stream: TcpStream, now: u64) -> io::Result<()>
-        ensures ended { self.old.ended ≤ self.new.ended }
+        ensures ended { self.new.ended ≡ self.old.ended }
+        ensures added { OnOk result (HasStartedAt self.old.connections.next now self.new.connections.table.entries) }
         ensures err { OnErr result ((k : ℕ) → timed_at k self.new.connections.table.entries ≡ timed_at k self.old.connections.table.entries) }
         ensures others { OthersStay self.old.connections.next self.old.connections.table.entries self.new.connections.table.entries }
         ensures kept { (k : ℕ) (p : Timed) → timed_at k self.old.connections.table.entries ≡ Some p
             → timed_at k self.new.connections.table.entries ≡ Some p }
         ensures next { self.new.connections.next ≤ self.old.connections.next + 1 }
         ensures cap { self.new.connections.table.cap ≡ self.old.connections.table.cap }
+        ensures more { length self.new.connections.table.entries ≤ length self.old.connections.table.entries + 1 }
     {
         if !has_place(&self.connections) {
             return Err(io::Error::from(io::ErrorKind::Other));
@@ -145,6 +153,7 @@ impl Open {
         let peer = Peer {
             socket: Socket { number, stream },
             is_draining: false,
+            is_ready: false,
             asked: Asked::new(self.alloc),
         };
         if added.is_err() || self.peers.insert(number, peer).is_err() {
@@ -160,10 +169,14 @@ impl Open {
         ensures others { OthersStay number self.old.connections.table.entries self.new.connections.table.entries }
         ensures gone { timed_at number self.new.connections.table.entries ≡ None }
         ensures cap { self.new.connections.table.cap ≡ self.old.connections.table.cap }
+        ensures fewer { length self.new.connections.table.entries ≤ length self.old.connections.table.entries }
         ensures entries { self.new.connections.table.entries ≡ remove_entry (nat_eq number) self.old.connections.table.entries }
         ensures next { self.new.connections.next ≡ self.old.connections.next }
         ensures once { self.new.ended ≤ self.old.ended + 1 }
         ensures drained { DrainsAt number self.old → self.new.ended ≡ self.old.ended }
+        ensures counted { IsSome (timed_at number self.old.connections.table.entries) → ¬ DrainsAt number self.old
+            → self.old.ended + 1 < 2 ^ 32 → self.new.ended ≡ self.old.ended + 1 }
+        ensures none { timed_at number self.old.connections.table.entries ≡ None → self.new.ended ≡ self.old.ended }
     {
         if let Some(peer) = self.peers.remove(&number)
             && !peer.is_draining
@@ -192,6 +205,23 @@ impl Open {
         }
     }
 
+    /// Notes that a connection may have its turn, and says whether there is one for which that wasn't noted.
+    pub fn note_ready(&mut self, number: u64) -> bool
+        ensures kept { self.new.connections ≡ self.old.connections }
+        ensures ended { self.new.ended ≡ self.old.ended }
+        ensures once { IsReadyAt number self.old → result ≡ false }
+        ensures noted { result ≡ false → (timed_at number self.old.connections.table.entries ≡ None) ⊎ IsReadyAt number self.old }
+        ensures ready { IsReadyAt number self.new ⊎ (timed_at number self.new.connections.table.entries ≡ None) }
+    {
+        match self.peers.get_mut(&number) {
+            Some(peer) if !peer.is_ready => {
+                peer.is_ready = true;
+                true
+            }
+            _ => false,
+        }
+    }
+
     /// A connection's turn, of whose answers the audience is told.
     pub fn turn<A: Audience>(
         &mut self,
@@ -205,10 +235,12 @@ impl Open {
         ensures ended { result ≡ Ended → HasEndedAt number self.new.connections.table.entries
             ⊎ (DrainsAt number self.old × IsDrainedAt number self.new.connections.table.entries) }
         ensures counted { self.new.ended ≡ self.old.ended }
+        ensures taken { ¬ IsReadyAt number self.new }
     {
         let Some(peer) = self.peers.get_mut(&number) else {
             return Turn::Waits;
         };
+        peer.is_ready = false;
         let socket = &peer.socket;
         if peer.is_draining {
             return drain_turn(&mut self.connections, socket, buffer);

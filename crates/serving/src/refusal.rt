@@ -3,6 +3,17 @@ ghost use Rattle.std.specs.Prelude.{◌≡◌, ◌↔◌, Contains};
 ghost use Rattle.serving.specs.Refusals.{lost, no_room};
 ghost use Rattle.serving.specs.declared.refusal.Refusal.TheVariants.{Lost, NoRoom};
 
+use std::io;
+
+/// No connection can be accepted any more, and what the system says of it.
+#[derive(Debug, Drop)]
+pub enum AcceptError {
+    /// It doesn't accept one.
+    Accept(io::Error),
+    /// It can't be asked whether one waits.
+    Ask(io::Error),
+}
+
 /// Why the system doesn't accept a newcomer.
 #[derive(Clone, Copy, Debug, PartialEq, Eq)]
 pub enum Refusal {

@@ -1,16 +1,21 @@
 //! The sockets of a server: who gets a place, whose turn it is, and how long to wait.
-ghost use Rattle.std.specs.Prelude.{◌≡◌, ◌≢◌, ◌+◌, ◌-◌, ◌*◌, ◌<◌, ◌≤◌, ◌^◌, ◌⊎◌, ◌↔◌, ◌++◌, ◌∷◌, ℕ, [], IfOk, IfSome, IsSomeAnd, IsTrue, None, OnErr, OnOk, Some, false, length, slice_get, true};
+ghost use Rattle.std.specs.Prelude.{◌≡◌, ◌≢◌, ◌+◌, ◌-◌, ◌*◌, ◌<◌, ◌≤◌, ◌^◌, ◌⊎◌, ◌↔◌, ◌++◌, ◌∷◌, ℕ, [], IfErr, IfOk, IfSome, IsSomeAnd, IsTrue, None, OnErr, OnOk, Some, drop, false, length, slice_get, true};
 ghost use Rattle.std.specs.Duration.{as_nanos};
 ghost use Rattle.std.specs.NonZero.{non_zero_usize_get};
 ghost use Rattle.cog_connections.specs.Table.{OthersStay, timed_at};
-ghost use Rattle.serving.specs.Held.{KeepsBusy, NobodyComes, accepted_of, ended_of, limits_of, next_of, places_of, room_of, WakesBy, WakesIn};
-ghost use Rattle.serving.specs.Refusals.{HasNoRoom, IsPassing};
-ghost use Rattle.serving.specs.Turns.{GivesPlace};
+ghost use Rattle.mio.specs.Events.{capacity};
+ghost use Rattle.serving.specs.Draining.{drain_of};
+ghost use Rattle.serving.specs.Held.{AllStart, IsLookedAt, IsWaitedFor, KeepsAll, KeepsBusy, NoneChanges, NobodyComes, StayOrStart, accepted_of, ended_of, limits_of, next_of, places_of, room_of, WakesBy, WakesIn};
+ghost use Rattle.serving.specs.Refusals.{HasNoRoom, IsLasting, IsOfAsking, IsPassing};
+ghost use Rattle.serving.specs.Turns.{GivesPlace, HasStartedAt};
+ghost use Rattle.serving.specs.declared.refusal.AcceptError.TheVariants.{Accept};
 ghost use Rattle.serving.specs.declared.turn.Turn.TheVariants.{Ended, Failed, GoesOn, Waits};
 
 use crate::answered::Audience;
+use crate::drain::{DRAIN, Drain};
+use crate::moments::earlier;
 use crate::open::Open;
-use crate::refusal::{Refusal, refusal_of};
+use crate::refusal::{AcceptError, Refusal, refusal_of};
 use crate::turn::Turn;
 use cog_server::Server;
 use http_range::MESSAGE_LIMIT;
@@ -27,27 +32,12 @@ use std::{io, net};
 const LISTENER: Token = Token(usize::MAX);
 
 /// The most events of one wait.
-const EVENTS: usize = 1024;
-
-/// So many milliseconds a connection whose answers are written waits for its peer's end.
-const DRAIN: u64 = 2_000;
+const EVENTS: usize = 65_536;
 
 /// After so many milliseconds a newcomer for which there was no room is tried again.
 const RETRY: u64 = 1_000;
 
-/// The earlier of two moments, where there are such.
-fn earlier(one: Option<u64>, other: Option<u64>) -> Option<u64>
-    ensures one { IfSome one (λ moment. IsSomeAnd result (λ first. first ≤ moment)) }
-    ensures other { IfSome other (λ moment. IsSomeAnd result (λ first. first ≤ moment)) }
-    ensures among { IfSome result (λ first. (one ≡ Some first) ⊎ (other ≡ Some first)) }
-{
-    match (one, other) {
-        (Some(one), Some(other)) => Some(one.min(other)),
-        (one, other) => one.or(other),
-    }
-}
-
-/// Notes the connections that may go on, and says whether a newcomer may wait. One that memory has no room for is closed.
+/// Notes the connections that may go on, each once, and says whether a newcomer may wait. One that memory has no room for is closed.
 fn note(events: &Events, held: &mut Open, ready: &mut VecDeque<u64>) -> bool
     ensures places { (k : ℕ) → timed_at k held.old.connections.table.entries ≡ None
         → timed_at k held.new.connections.table.entries ≡ None }
@@ -59,7 +49,7 @@ fn note(events: &Events, held: &mut Open, ready: &mut VecDeque<u64>) -> bool
         let token = event.token();
         if token == LISTENER {
             knocks = true;
-        } else if ready.push_back(token.0 as u64).is_err() {
+        } else if held.note_ready(token.0 as u64) && ready.push_back(token.0 as u64).is_err() {
             held.close(token.0 as u64);
         }
     }
@@ -77,10 +67,6 @@ pub struct Limits {
     pub patience: u64,
 }
 
-/// No connection can be accepted any more, and what the system says of it.
-#[derive(Debug, Drop)]
-pub struct AcceptError(pub io::Error);
-
 /// A server's sockets. Each moment is given in milliseconds of one clock.
 #[derive(Drop)]
 pub struct Serving {
@@ -91,12 +77,12 @@ pub struct Serving {
     held: Open,
     /// The numbers of those that may go on.
     ready: VecDeque<u64>,
-    /// The moments at which drains end, in order, with the numbers of their connections.
-    drains: VecDeque<(u64, u64)>,
+    /// The drains, in the order in which they end.
+    drains: VecDeque<Drain>,
     buffer: Vec<u8>,
     /// Whether a newcomer may wait.
     knocks: bool,
-    /// Whether there was no room for one.
+    /// Whether there was no room for a newcomer, since the last one that was accepted.
     is_starved: bool,
     accepted: u32,
 }
@@ -111,7 +97,11 @@ impl Serving {
         ensures none { IfOk result (λ s. (accepted_of s ≡ 0) × (places_of s ≡ [])) }
         ensures limits { IfOk result (λ s. limits_of s ≡ limits) }
         ensures room { IfOk result (λ s. room_of s ≡ non_zero_usize_get limits.at_once) }
+        // One wait may tell of each connection, and of a newcomer.
+        ensures events { non_zero_usize_get limits.at_once < 65536
+            → IfOk result (λ s. capacity s.events ≡ non_zero_usize_get limits.at_once + 1) }
     {
+        let most = limits.at_once.get().saturating_add(1).min(EVENTS);
         listener.set_nonblocking(true)?;
         let mut listener = TcpListener::from_std(listener);
         let poll = Poll::new(rt)?;
@@ -123,7 +113,7 @@ impl Serving {
         };
         Ok(Serving {
             poll,
-            events: Events::with_capacity(alloc, EVENTS)?,
+            events: Events::with_capacity(alloc, most)?,
             listener,
             limits,
             held,
@@ -151,7 +141,7 @@ impl Serving {
     }
 
     /// Accepts the newcomers that get a place, and tells how many: in all no more than there may be.
-    #[tactic(auto, using(crate::proofs::HeldLemmas::busy_on))]
+    #[tactic(auto, using(crate::proofs::HeldLemmas::busy_on, crate::proofs::HeldLemmas::start_on, crate::proofs::HeldLemmas::spared_on))]
     pub fn accept(&mut self, now: u64) -> Result<u32, AcceptError>
         ensures counted { IfOk result (λ count. accepted_of self.new ≡ accepted_of self.old + count) }
         ensures few { accepted_of self.old ≤ (limits_of self.old).connections
@@ -159,23 +149,26 @@ impl Serving {
         ensures limits { limits_of self.new ≡ limits_of self.old }
         ensures room { room_of self.new ≡ room_of self.old }
         ensures ended { ended_of self.old ≤ ended_of self.new }
+        ensures last { IfErr result IsLasting }
+
+        // Nothing is done while no newcomer waits, nor where there may be no more.
+        ensures quiet { self.old.knocks ≡ false → self.new ≡ self.old }
+        ensures full { (limits_of self.old).connections ≤ accepted_of self.old → self.new ≡ self.old }
 
         // Nobody loses a place but those that may, and each newcomer that gets one counts.
         ensures busy { KeepsBusy now self.old self.new }
+        // Where there is room for each newcomer, and more, no connection loses its place.
+        ensures spared { self.old.is_starved ≡ false
+            → length (places_of self.old) + (accepted_of self.new - accepted_of self.old) < room_of self.old
+            → KeepsAll self.old self.new }
+        // Who has a place had it, and is as it was, or starts at this moment.
+        ensures newcomers { StayOrStart now self.old self.new }
         ensures numbers { next_of self.new ≤ next_of self.old + (accepted_of self.new - accepted_of self.old) }
     {
         let before = self.accepted;
         for _ in 0..u32::MAX {
-            if !self.is_awaited() || !self.has_place(now) {
+            if !self.accept_next(now)? {
                 break;
-            }
-            match self.listener.accept() {
-                Ok((stream, _)) => self.welcome(stream, now)?,
-                Err(error) => {
-                    if !self.may_try_again(error, now)? {
-                        break;
-                    }
-                }
             }
         }
         Ok(self.accepted.saturating_sub(before))
@@ -215,9 +208,43 @@ impl Serving {
         self.knocks && self.accepted < self.limits.connections
     }
 
+    /// Accepts the next newcomer, if one waits and gets a place, and says whether another one may.
+    #[tactic(auto, using(crate::proofs::HeldLemmas::busy_on, crate::proofs::HeldLemmas::start_more, crate::proofs::HeldLemmas::start_fewer))]
+    fn accept_next(&mut self, now: u64) -> Result<bool, AcceptError>
+        ensures more { accepted_of self.old ≤ accepted_of self.new }
+        ensures few { accepted_of self.old ≤ (limits_of self.old).connections
+            → accepted_of self.new ≤ (limits_of self.old).connections }
+        ensures limits { limits_of self.new ≡ limits_of self.old }
+        ensures room { room_of self.new ≡ room_of self.old }
+        ensures ended { ended_of self.old ≤ ended_of self.new }
+        ensures last { IfErr result IsLasting }
+        ensures quiet { self.old.knocks ≡ false → self.new ≡ self.old }
+        ensures full { (limits_of self.old).connections ≤ accepted_of self.old → self.new ≡ self.old }
+        ensures busy { KeepsBusy now self.old self.new }
+        ensures spared { self.old.is_starved ≡ false → length (places_of self.old) < room_of self.old → KeepsAll self.old self.new }
+        ensures fed { IfOk result (λ again. again ≡ true → self.old.is_starved ≡ false → self.new.is_starved ≡ false) }
+        ensures places { length (places_of self.new) ≤ length (places_of self.old) + (accepted_of self.new - accepted_of self.old) }
+        ensures newcomers { StayOrStart now self.old self.new }
+        ensures numbers { next_of self.new ≤ next_of self.old + (accepted_of self.new - accepted_of self.old) }
+    {
+        if !self.is_awaited() || !self.has_place(now) {
+            return Ok(false);
+        }
+        match self.listener.accept() {
+            Ok((stream, _)) => {
+                self.welcome(stream, now)?;
+                Ok(true)
+            }
+            Err(error) => self.may_try_again(error, now),
+        }
+    }
+
     /// Whether there is a place for a newcomer: a free one, or one that another connection loses.
     fn has_place(&mut self, now: u64) -> bool
         ensures free { length (places_of self.old) < room_of self.old → (result ≡ true) × (self.new ≡ self.old) }
+        ensures starved { self.new.is_starved ≡ self.old.is_starved }
+        ensures same { NoneChanges self.old self.new }
+        ensures fewer { length (places_of self.new) ≤ length (places_of self.old) }
         ensures nobody { NobodyComes self.old self.new }
         ensures busy { KeepsBusy now self.old self.new }
         ensures next { next_of self.new ≡ next_of self.old }
@@ -230,6 +257,9 @@ impl Serving {
         requires { (room_of self.old ≤ length (places_of self.old)) ⊎ (self.old.is_starved ≡ true) }
         ensures one { self.old.held.connections.table.cap ≡ 1 → result ≡ false }
         ensures no { result ≡ false → self.new.held.connections ≡ self.old.held.connections }
+        ensures starved { self.new.is_starved ≡ self.old.is_starved }
+        ensures same { NoneChanges self.old self.new }
+        ensures fewer { length (places_of self.new) ≤ length (places_of self.old) }
         ensures yes { result ≡ true → GivesPlace now self.old.limits.patience self.old.held.connections.table.entries
             self.new.held.connections.table.entries }
         ensures nobody { NobodyComes self.old self.new }
@@ -247,15 +277,17 @@ impl Serving {
 
     /// Asks the system whether a newcomer waits. Until it says so, nobody is displaced for one.
     fn ask(&mut self) -> Result<(), AcceptError>
+        ensures err { IfErr result IsOfAsking }
         ensures asked { self.new.knocks ≡ false }
         ensures held { self.new.held ≡ self.old.held }
+        ensures starved { self.new.is_starved ≡ self.old.is_starved }
         ensures nobody { NobodyComes self.old self.new }
     {
         self.knocks = false;
         let registry = self.poll.registry();
         registry
             .reregister(&mut self.listener, LISTENER, Interest::READABLE)
-            .map_err(AcceptError)
+            .map_err(AcceptError::Ask)
     }
 
     /// Gives a newcomer its place.
@@ -269,10 +301,18 @@ impl Serving {
         ensures asks { room_of self.new ≤ length (places_of self.new) → self.new.knocks ≡ false }
         ensures busy { KeepsBusy now self.old self.new }
         ensures next { next_of self.new ≤ next_of self.old + 1 }
+        ensures err { IfErr result IsOfAsking }
+        ensures fed { self.new.is_starved ≡ false }
+        ensures kept { KeepsAll self.old self.new }
+        ensures more { length (places_of self.new) ≤ length (places_of self.old) + 1 }
+        ensures newcomer { AllStart now self.old self.new }
+        ensures welcomed { HasStartedAt (next_of self.old) now (places_of self.new)
+            ⊎ (ended_of self.old + 1 < 2 ^ 32 → ended_of self.new ≡ ended_of self.old + 1) }
     {
         self.accepted = self.accepted.saturating_add(1);
         self.held.add(&self.poll, stream, now);
         if self.is_starved || !self.held.has_place() {
+            self.is_starved = false;
             self.ask()?;
         }
         Ok(())
@@ -285,10 +325,15 @@ impl Serving {
         ensures again { IfOk result (λ again. again ≡ true → HasNoRoom error
             × GivesPlace now self.old.limits.patience self.old.held.connections.table.entries self.new.held.connections.table.entries) }
         ensures kept { IfOk result (λ again. again ≡ false → self.new.held.connections ≡ self.old.held.connections) }
+        // Nobody is displaced for the first newcomer without room.
+        ensures first { IfOk result (λ again. again ≡ true → self.old.is_starved ≡ true) }
+        ensures same { NoneChanges self.old self.new }
+        ensures fewer { length (places_of self.new) ≤ length (places_of self.old) }
         ensures passing { OnOk result (IsPassing error) }
         ensures err { OnErr result (self.new.held.connections ≡ self.old.held.connections) }
-        // Where an error that passes is told, no newcomer counts as waiting.
-        ensures last { OnErr result (IsPassing error → self.new.knocks ≡ false) }
+        // An error that passes isn't told: where the system can't be asked behind it, that is, and no newcomer counts as waiting.
+        ensures last { IfErr result (λ told. (IsOfAsking told × (self.new.knocks ≡ false))
+            ⊎ ((told ≡ Accept error) × ¬ IsPassing error)) }
         ensures nobody { NobodyComes self.old self.new }
         ensures busy { KeepsBusy now self.old self.new }
         ensures next { next_of self.new ≡ next_of self.old }
@@ -309,7 +354,7 @@ impl Serving {
                 self.ask()?;
                 Ok(false)
             }
-            Refusal::Last => Err(AcceptError(error)),
+            Refusal::Last => Err(AcceptError::Accept(error)),
         }
     }
 
@@ -332,6 +377,8 @@ impl Serving {
             ⊎ (timed_at number (places_of self.new) ≡ None) }
         ensures ended { turn ≡ Ended → (self.new.ready.items ≡ self.old.ready.items ++ number ∷ [])
             ⊎ (timed_at number (places_of self.new) ≡ None) }
+        ensures drains { turn ≡ Ended → (self.new.drains.items ≡ self.old.drains.items ++ drain_of now number ∷ [])
+            ⊎ (timed_at number (places_of self.new) ≡ None) }
         ensures failed { turn ≡ Failed → timed_at number (places_of self.new) ≡ None }
     {
         match turn {
@@ -339,7 +386,9 @@ impl Serving {
             Turn::GoesOn => self.make_ready(number),
             Turn::Ended => {
                 let ends = now.saturating_add(DRAIN);
-                if self.held.drain(number) && self.drains.push_back((ends, number)).is_ok() {
+                if self.held.drain(number)
+                    && self.drains.push_back(Drain { ends, number }).is_ok()
+                {
                     self.make_ready(number);
                 } else {
                     self.held.close(number);
@@ -354,7 +403,9 @@ impl Serving {
         ensures others { OthersStay number self.old.held.connections.table.entries self.new.held.connections.table.entries }
         ensures nobody { NobodyComes self.old self.new }
         ensures ready { (self.new.ready.items ≡ self.old.ready.items ++ number ∷ []) ⊎ (timed_at number (places_of self.new) ≡ None) }
+        ensures drains { self.new.drains ≡ self.old.drains }
     {
+        self.held.note_ready(number);
         if self.ready.push_back(number).is_err() {
             self.held.close(number);
         }
@@ -364,6 +415,8 @@ impl Serving {
     #[tactic(auto, using(crate::proofs::HeldLemmas::nobody_yet))]
     fn end_drains(&mut self, now: u64)
         ensures nobody { NobodyComes self.old self.new }
+        // None is left whose moment has come.
+        ensures over { IfSome (slice_get self.new.drains.items 0) (λ drain. now < drain.ends) }
     {
         for _ in 0..self.drains.len() {
             if !self.end_drain(now) {
@@ -375,14 +428,16 @@ impl Serving {
     /// Closes the connection whose drain ends first, if the moment for that has come, and says whether it had.
     fn end_drain(&mut self, now: u64) -> bool
         ensures nobody { NobodyComes self.old self.new }
-        ensures early { IfSome (slice_get self.old.drains.items 0) (λ drain. now < drain.0 → (result ≡ false) × (self.new ≡ self.old)) }
-        ensures over { IfSome (slice_get self.old.drains.items 0) (λ drain. drain.0 ≤ now → (result ≡ true)
-            × (timed_at drain.1 (places_of self.new) ≡ None)) }
+        ensures early { result ≡ false → (self.new ≡ self.old)
+            × IfSome (slice_get self.old.drains.items 0) (λ drain. now < drain.ends) }
+        ensures over { result ≡ true → IsSomeAnd (slice_get self.old.drains.items 0) (λ drain. (drain.ends ≤ now)
+            × (timed_at drain.number (places_of self.new) ≡ None)) }
+        ensures gone { result ≡ true → self.new.drains.items ≡ drop 1 self.old.drains.items }
     {
         match self.drains.front().copied() {
-            Some((ends, number)) if ends <= now => {
+            Some(drain) if drain.ends <= now => {
                 self.drains.pop_front();
-                self.held.close(number);
+                self.held.close(drain.number);
                 true
             }
             _ => false,
@@ -397,6 +452,7 @@ impl Serving {
         ensures place { self.now.knocks ≡ true → accepted_of self.now < (limits_of self.now).connections → room_of self.now ≢ 1
             → WakesBy self.now result }
         ensures idle { self.now.knocks ≡ false → result ≡ None }
+        ensures only { IfSome result (IsLookedAt now self.now) }
     {
         if !self.is_awaited() {
             return None;
@@ -414,7 +470,7 @@ impl Serving {
     fn timeout(&self, now: u64) -> Option<Duration>
         ensures ready { self.now.ready.items ≢ [] → IsSomeAnd result (λ wait. as_nanos wait ≡ 0) }
         ensures drain { IfSome (slice_get self.now.drains.items 0) (λ drain.
-            IsSomeAnd result (λ wait. as_nanos wait ≤ (drain.0 - now) * 1000000)) }
+            IsSomeAnd result (λ wait. as_nanos wait ≤ (drain.ends - now) * 1000000)) }
         ensures starved { self.now.is_starved ≡ true → self.now.knocks ≡ true → accepted_of self.now < (limits_of self.now).connections
             → IsSomeAnd result (λ wait. as_nanos wait ≤ 1000 * 1000000) }
         ensures place { self.now.ready.items ≡ [] → self.now.knocks ≡ true → accepted_of self.now < (limits_of self.now).connections
@@ -423,12 +479,14 @@ impl Serving {
         // is none.
         ensures idle { self.now.ready.items ≡ [] → self.now.drains.items ≡ [] → self.now.knocks ≡ false → result ≡ None }
         ensures just { self.now.ready.items ≡ [] → self.now.knocks ≡ false → IfSome (slice_get self.now.drains.items 0) (λ drain.
-            IsSomeAnd result (λ wait. as_nanos wait ≡ (drain.0 - now) * 1000000)) }
+            IsSomeAnd result (λ wait. as_nanos wait ≡ (drain.ends - now) * 1000000)) }
+        // It is never woken for anything else.
+        ensures only { self.now.ready.items ≡ [] → IfSome result (IsWaitedFor now self.now) }
     {
         if !self.ready.is_empty() {
             return Some(Duration::ZERO);
         }
-        let drain = self.drains.front().map(|(ends, _)| *ends);
+        let drain = self.drains.front().map(|drain| drain.ends);
         let moment = earlier(drain, self.looks_at(now))?;
         Some(Duration::from_millis(moment.saturating_sub(now)))
     }

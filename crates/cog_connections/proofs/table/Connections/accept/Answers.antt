@@ -2,7 +2,7 @@ use Rattle.std.proofs.Common.{ap, ◌∙◌, subst, Some}
 use Rattle.cog_server.specs.Status.{Status}
 use Rattle.cog_connections.specs.declared.timed.Timed.{Timed}
 use Rattle.cog_connections.specs.Table.{Becomes}
-use Rattle.cog_connections.proofs.TableLemmas.{accepted, becomes_new, falling_accepted, new_number}
+use Rattle.cog_connections.proofs.TableLemmas.{accepted, becomes_new, falling_accepted, new_number, one_more}
 use Rattle.cog_connections.proofs.table.Connections.accept.Goals as goal
 
 pub invariant_of-self-2 : goal.invariant_of-self-2
@@ -23,3 +23,9 @@ returns-clause-table c =
 
 pub returns-clause-unused : goal.returns-clause-unused
 returns-clause-unused c = new_number c.args.self.now.next c.args.self.now.table.entries c.args.self.now.fresh
+
+pub returns-clause-grows : goal.returns-clause-grows
+returns-clause-grows c =
+    let s = c.args.self.now in
+    let p : Timed = record { connection = c.new-connection.result; progress = c.args.now } in
+    one_more (s.next, p) s.table.entries _ (ap (λ x. x.entries) c.in_ok-push.ensures.entries ∙ accepted s.table s.next p s.fresh c.requires)

@@ -1,5 +1,5 @@
 use Rattle.std.proofs.Common.{ap}
-use Rattle.cog_connections.proofs.TableLemmas.{falling_removed, gone, others_still}
+use Rattle.cog_connections.proofs.TableLemmas.{falling_removed, fewer, gone, others_still}
 use Rattle.cog_connections.proofs.table.Connections.close.Goals as goal
 
 pub invariant_of-self : goal.invariant_of-self
@@ -11,3 +11,6 @@ returns-clause-others c = others_still c.args.number c.args.self.now.table.entri
 
 pub returns-clause-gone : goal.returns-clause-gone
 returns-clause-gone c = gone c.args.number c.args.self.now.next c.args.self.now.table.entries _ (ap (λ x. x.entries) c.pop.ensures.entries) c.args.self.now.fresh
+
+pub returns-clause-fewer : goal.returns-clause-fewer
+returns-clause-fewer c = fewer c.args.number c.args.self.now.table.entries _ (ap (λ x. x.entries) c.pop.ensures.entries)

@@ -1,5 +1,5 @@
-use Rattle.std.specs.Prelude.{◌≡◌, ◌+◌, ◌-◌, ◌≤◌}
-use Rattle.serving.specs.Held.{KeepsBusy, accepted_of, ended_of, limits_of, next_of, room_of}
+use Rattle.std.specs.Prelude.{◌≡◌, ◌+◌, ◌-◌, ◌<◌, ◌≤◌, false, length}
+use Rattle.serving.specs.Held.{StayOrStart, KeepsAll, KeepsBusy, accepted_of, ended_of, limits_of, next_of, places_of, room_of}
 use Rattle.serving.proofs.serving.Serving.accept.Given as goal
 
 abbrev pub invariant-loop : goal.invariant-loop
@@ -11,5 +11,12 @@ invariant-loop l = record {
   ended : ended_of l.fn.self ≤ ended_of l.self;
   busy : KeepsBusy l.now l.fn.self l.self;
   numbers : next_of l.self ≤ next_of l.fn.self + (accepted_of l.self - accepted_of l.fn.self);
+  fed : l.fn.self.is_starved ≡ false → l.self.is_starved ≡ false;
+  spared : l.fn.self.is_starved ≡ false → length (places_of l.fn.self) + (accepted_of l.self - accepted_of l.fn.self) < room_of l.fn.self
+      → KeepsAll l.fn.self l.self;
+  held : length (places_of l.self) ≤ length (places_of l.fn.self) + (accepted_of l.self - accepted_of l.fn.self);
+  newcomers : StayOrStart l.now l.fn.self l.self;
+  quiet : l.fn.self.knocks ≡ false → l.self ≡ l.fn.self;
+  full : (limits_of l.fn.self).connections ≤ accepted_of l.fn.self → l.self ≡ l.fn.self;
   few : accepted_of l.fn.self ≤ (limits_of l.fn.self).connections → accepted_of l.self ≤ (limits_of l.fn.self).connections;
 }

@@ -1,5 +1,9 @@
+use Rattle.std.specs.Prelude.{◌≡◌, ◌+◌, length}
 use Rattle.serving.specs.Held.{NobodyComes}
 use Rattle.serving.proofs.serving.Serving.end_drains.Given as goal
 
 abbrev pub invariant-loop : goal.invariant-loop
-invariant-loop l = NobodyComes l.fn.self l.self
+invariant-loop l = record {
+  nobody : NobodyComes l.fn.self l.self;
+  left : l.counter + length l.self.drains.items ≡ l.end;
+}
