@@ -61,9 +61,9 @@ pub struct Serving {
     buffer: Vec<u8>,
     /// Whether a newcomer may wait.
     knocks: bool,
-    /// Whether there was no room for a newcomer, since the last one that was accepted.
+    /// Whether there was no room for a newcomer, since one was accepted, or none waited.
     is_starved: bool,
-    /// Whether the one that waits wasn't let in, since the last one that was accepted.
+    /// Whether one wasn't let in, since one was accepted, or none waited.
     is_barred: bool,
     accepted: u32,
 }
@@ -160,6 +160,8 @@ impl Serving {
     #[tactic(auto, using(crate::proofs::HeldLemmas::nobody_yet))]
     pub fn turns<A: Audience>(&mut self, server: &Server, now: u64, audience: &mut A)
         ensures nobody { NobodyComes self.old self.new }
+        // No drain is left first in its queue whose moment has come.
+        ensures over { IfSome (slice_get self.new.drains.items 0) (λ drain. now < drain.ends) }
     {
         for _ in 0..self.ready.len() {
             if let Some(number) = self.ready.pop_front() {
@@ -405,7 +407,7 @@ impl Serving {
     #[tactic(auto, using(crate::proofs::HeldLemmas::nobody_yet))]
     fn end_drains(&mut self, now: u64)
         ensures nobody { NobodyComes self.old self.new }
-        // None is left whose moment has come.
+        // None is left first in the queue whose moment has come.
         ensures over { IfSome (slice_get self.new.drains.items 0) (λ drain. now < drain.ends) }
     {
         for _ in 0..self.drains.len() {
