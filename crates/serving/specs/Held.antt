@@ -1,5 +1,5 @@
 -- What others know of a server's sockets.
-use Rattle.std.specs.Prelude.{◌≡◌, ◌≢◌, ◌<◌, ◌⊎◌, ◌+◌, ◌-◌, ◌*◌, ◌^◌, ◌≤◌, ℕ, true, min, slice_get, Option, None, Some, IfSome, IsSomeAnd}
+use Rattle.std.specs.Prelude.{◌≡◌, ◌≢◌, ◌<◌, ◌⊎◌, ◌+◌, ◌-◌, ◌*◌, ◌^◌, ◌≤◌, ℕ, false, true, min, slice_get, Option, None, Some, IfSome, IsSomeAnd}
 use Rattle.std.specs.declared.time.Duration.{Duration}
 use Rattle.std.specs.Duration.{as_nanos}
 use Rattle.cog_connections.specs.declared.timed.Timed.{Timed}
@@ -44,12 +44,12 @@ WakesIn now s wait = (wake : Option ℕ)
     × WakesAt (limits_of s).patience (places_of s) wake × IfSome wake (λ moment. IsSomeAnd wait (λ d. as_nanos d ≤ (moment - now) * 1000000))
 
 -- At this moment a newcomer that waits is looked at again: of several places, where the first connection will have made no progress for
--- as long as the patience, or a second from now where there was no room for it.
+-- as long as the patience, or a second from now where there was no room for it, and only then where it wasn't let in.
 abbrev pub IsLookedAt : ℕ → Serving → ℕ → Type 0
 IsLookedAt now s moment =
     (s.knocks ≡ true) × (accepted_of s < (limits_of s).connections)
-    × (((room_of s ≢ 1) × WakesAt (limits_of s).patience (places_of s) (Some moment))
-    ⊎ ((s.is_starved ≡ true) × (moment ≡ min (now + 1000) (2 ^ 64 - 1))))
+    × (((s.is_barred ≡ false) × (room_of s ≢ 1) × WakesAt (limits_of s).patience (places_of s) (Some moment))
+    ⊎ (((s.is_starved ≡ true) ⊎ (s.is_barred ≡ true)) × (moment ≡ min (now + 1000) (2 ^ 64 - 1))))
 
 -- it is waited until the first drain ends, or a newcomer that waits is looked at again
 abbrev pub IsWaitedFor : ℕ → Serving → Duration → Type 0

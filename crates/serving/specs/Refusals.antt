@@ -3,7 +3,7 @@
 use Rattle.std.specs.Prelude.{◌≡◌, ◌⊎◌, ℤ, pos, List, [], ◌∷◌, Contains, IsSomeAnd}
 use Rattle.std.specs.IoError.{error_kind, raw_os_error}
 use Rattle.std.specs.declared.io.Error.{Error}
-use Rattle.std.specs.declared.io.ErrorKind.TheVariants.{WouldBlock}
+use Rattle.std.specs.declared.io.ErrorKind.TheVariants.{PermissionDenied, WouldBlock}
 use Rattle.serving.specs.declared.refusal.AcceptError.{AcceptError}
 use Rattle.serving.specs.declared.refusal.AcceptError.TheVariants.{Accept, Ask}
 
@@ -19,6 +19,10 @@ lost = pos 103 ∷ pos 1 ∷ pos 71 ∷ pos 92 ∷ pos 95 ∷ pos 64 ∷ pos 100
 -- it says that there is no room
 abbrev pub HasNoRoom : Error → Type 0
 HasNoRoom error = IsSomeAnd (raw_os_error error) (Contains no_room)
+
+-- a rule of the system forbids to accept it, as a firewall or a filter of system calls, and it may still wait: EPERM, of those above
+abbrev pub IsBarred : Error → Type 0
+IsBarred error = (error_kind error ≡ PermissionDenied) × IsSomeAnd (raw_os_error error) (Contains lost)
 
 -- newcomers can be accepted later: none waits now, there is no room for one, or it is lost
 abbrev pub IsPassing : Error → Type 0

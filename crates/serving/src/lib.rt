@@ -4,6 +4,7 @@
 
 mod answered;
 mod drain;
+mod events;
 mod moments;
 mod open;
 mod refusal;

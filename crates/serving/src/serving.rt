@@ -6,13 +6,14 @@ ghost use Rattle.cog_connections.specs.Table.{OthersStay, timed_at};
 ghost use Rattle.mio.specs.Events.{capacity};
 ghost use Rattle.serving.specs.Draining.{drain_of};
 ghost use Rattle.serving.specs.Held.{AllStart, IsLookedAt, IsWaitedFor, KeepsAll, KeepsBusy, NoneChanges, NobodyComes, StayOrStart, accepted_of, ended_of, limits_of, next_of, places_of, room_of, WakesBy, WakesIn};
-ghost use Rattle.serving.specs.Refusals.{HasNoRoom, IsLasting, IsOfAsking, IsPassing};
+ghost use Rattle.serving.specs.Refusals.{HasNoRoom, IsBarred, IsLasting, IsOfAsking, IsPassing};
 ghost use Rattle.serving.specs.Turns.{GivesPlace, HasStartedAt};
 ghost use Rattle.serving.specs.declared.refusal.AcceptError.TheVariants.{Accept};
 ghost use Rattle.serving.specs.declared.turn.Turn.TheVariants.{Ended, Failed, GoesOn, Waits};
 
 use crate::answered::Audience;
 use crate::drain::{DRAIN, Drain};
+use crate::events::{LISTENER, note};
 use crate::moments::earlier;
 use crate::open::Open;
 use crate::refusal::{AcceptError, Refusal, refusal_of};
@@ -20,7 +21,7 @@ use crate::turn::Turn;
 use cog_server::Server;
 use http_range::MESSAGE_LIMIT;
 use mio::net::{TcpListener, TcpStream};
-use mio::{Events, Interest, Poll, Token};
+use mio::{Events, Interest, Poll};
 use std::collections::VecDeque;
 use std::io::ErrorKind;
 use std::net::Net;
@@ -28,33 +29,11 @@ use std::num::NonZeroUsize;
 use std::time::Duration;
 use std::{io, net};
 
-/// The listener's token. No connection's number is so great.
-const LISTENER: Token = Token(usize::MAX);
-
 /// The most events of one wait.
 const EVENTS: usize = 65_536;
 
-/// After so many milliseconds a newcomer for which there was no room is tried again.
+/// After so many milliseconds a newcomer for which there was no room, or that wasn't let in, is tried again.
 const RETRY: u64 = 1_000;
-
-/// Notes the connections that may go on, each once, and says whether a newcomer may wait. One that memory has no room for is closed.
-fn note(events: &Events, held: &mut Open, ready: &mut VecDeque<u64>) -> bool
-    ensures places { (k : ℕ) → timed_at k held.old.connections.table.entries ≡ None
-        → timed_at k held.new.connections.table.entries ≡ None }
-    ensures ended { held.old.ended ≤ held.new.ended }
-    ensures cap { held.new.connections.table.cap ≡ held.old.connections.table.cap }
-{
-    let mut knocks = false;
-    for event in events {
-        let token = event.token();
-        if token == LISTENER {
-            knocks = true;
-        } else if held.note_ready(token.0 as u64) && ready.push_back(token.0 as u64).is_err() {
-            held.close(token.0 as u64);
-        }
-    }
-    knocks
-}
 
 /// How many connections there may be, and how long one keeps its place.
 #[derive(Clone, Copy, Debug, PartialEq, Eq)]
@@ -82,8 +61,10 @@ pub struct Serving {
     buffer: Vec<u8>,
     /// Whether a newcomer may wait.
     knocks: bool,
-    /// Whether there was no room for a newcomer, since the last one that was accepted.
+    /// Whether there was no room for a newcomer, since one was accepted, or none waited.
     is_starved: bool,
+    /// Whether one wasn't let in, since one was accepted, or none waited.
+    is_barred: bool,
     accepted: u32,
 }
 
@@ -122,6 +103,7 @@ impl Serving {
             buffer: vec![in alloc; 0u8; MESSAGE_LIMIT]?,
             knocks: true,
             is_starved: false,
+            is_barred: false,
             accepted: 0,
         })
     }
@@ -178,6 +160,8 @@ impl Serving {
     #[tactic(auto, using(crate::proofs::HeldLemmas::nobody_yet))]
     pub fn turns<A: Audience>(&mut self, server: &Server, now: u64, audience: &mut A)
         ensures nobody { NobodyComes self.old self.new }
+        // No drain is left first in its queue whose moment has come.
+        ensures over { IfSome (slice_get self.new.drains.items 0) (λ drain. now < drain.ends) }
     {
         for _ in 0..self.ready.len() {
             if let Some(number) = self.ready.pop_front() {
@@ -281,6 +265,7 @@ impl Serving {
         ensures asked { self.new.knocks ≡ false }
         ensures held { self.new.held ≡ self.old.held }
         ensures starved { self.new.is_starved ≡ self.old.is_starved }
+        ensures barred { self.new.is_barred ≡ self.old.is_barred }
         ensures nobody { NobodyComes self.old self.new }
     {
         self.knocks = false;
@@ -302,7 +287,7 @@ impl Serving {
         ensures busy { KeepsBusy now self.old self.new }
         ensures next { next_of self.new ≤ next_of self.old + 1 }
         ensures err { IfErr result IsOfAsking }
-        ensures fed { self.new.is_starved ≡ false }
+        ensures fed { (self.new.is_starved ≡ false) × (self.new.is_barred ≡ false) }
         ensures kept { KeepsAll self.old self.new }
         ensures more { length (places_of self.new) ≤ length (places_of self.old) + 1 }
         ensures newcomer { AllStart now self.old self.new }
@@ -310,6 +295,7 @@ impl Serving {
             ⊎ (ended_of self.old + 1 < 2 ^ 32 → ended_of self.new ≡ ended_of self.old + 1) }
     {
         self.accepted = self.accepted.saturating_add(1);
+        self.is_barred = false;
         self.held.add(&self.poll, stream, now);
         if self.is_starved || !self.held.has_place() {
             self.is_starved = false;
@@ -320,7 +306,7 @@ impl Serving {
 
     /// Whether to try again at once: where there is no room for a newcomer and another connection was displaced for it. Else no newcomer
     /// waits, or it waits until the system says so again: behind one that is lost at once, without room once a connection ends or can be
-    /// displaced.
+    /// displaced. One that isn't let in is tried again when the others have had their turn, or after a second.
     fn may_try_again(&mut self, error: io::Error, now: u64) -> Result<bool, AcceptError>
         ensures again { IfOk result (λ again. again ≡ true → HasNoRoom error
             × GivesPlace now self.old.limits.patience self.old.held.connections.table.entries self.new.held.connections.table.entries) }
@@ -330,6 +316,7 @@ impl Serving {
         ensures same { NoneChanges self.old self.new }
         ensures fewer { length (places_of self.new) ≤ length (places_of self.old) }
         ensures passing { OnOk result (IsPassing error) }
+        ensures barred { IsBarred error → OnOk result (self.new.is_barred ≡ true) }
         ensures err { OnErr result (self.new.held.connections ≡ self.old.held.connections) }
         // An error that passes isn't told: where the system can't be asked behind it, that is, and no newcomer counts as waiting.
         ensures last { IfErr result (λ told. (IsOfAsking told × (self.new.knocks ≡ false))
@@ -341,9 +328,14 @@ impl Serving {
         if error.kind() == ErrorKind::WouldBlock {
             self.knocks = false;
             self.is_starved = false;
+            self.is_barred = false;
             return Ok(false);
         }
         match error.raw_os_error().map_or(Refusal::Last, refusal_of) {
+            Refusal::Lost if error.kind() == ErrorKind::PermissionDenied => {
+                self.is_barred = true;
+                Ok(false)
+            }
             Refusal::Lost => {
                 self.ask()?;
                 Ok(false)
@@ -415,7 +407,7 @@ impl Serving {
     #[tactic(auto, using(crate::proofs::HeldLemmas::nobody_yet))]
     fn end_drains(&mut self, now: u64)
         ensures nobody { NobodyComes self.old self.new }
-        // None is left whose moment has come.
+        // None is left first in the queue whose moment has come.
         ensures over { IfSome (slice_get self.new.drains.items 0) (λ drain. now < drain.ends) }
     {
         for _ in 0..self.drains.len() {
@@ -445,17 +437,20 @@ impl Serving {
     }
 
     /// When a newcomer that waits is looked at again: where a connection may lose its place, and after a second where there was no room for
-    /// it.
+    /// it. One that wasn't let in is looked at after a second, whoever may lose a place.
     fn looks_at(&self, now: u64) -> Option<u64>
-        ensures starved { self.now.is_starved ≡ true → self.now.knocks ≡ true → accepted_of self.now < (limits_of self.now).connections
-            → IsSomeAnd result (λ moment. moment ≤ now + 1000) }
-        ensures place { self.now.knocks ≡ true → accepted_of self.now < (limits_of self.now).connections → room_of self.now ≢ 1
+        ensures starved { (self.now.is_starved ≡ true) ⊎ (self.now.is_barred ≡ true) → self.now.knocks ≡ true
+            → accepted_of self.now < (limits_of self.now).connections → IsSomeAnd result (λ moment. moment ≤ now + 1000) }
+        ensures place { self.now.is_barred ≡ false → self.now.knocks ≡ true → accepted_of self.now < (limits_of self.now).connections → room_of self.now ≢ 1
             → WakesBy self.now result }
         ensures idle { self.now.knocks ≡ false → result ≡ None }
         ensures only { IfSome result (IsLookedAt now self.now) }
     {
         if !self.is_awaited() {
             return None;
+        }
+        if self.is_barred {
+            return Some(now.saturating_add(RETRY));
         }
         let place = self.held.wakes_at(self.limits.patience);
         let again = if self.is_starved {
@@ -471,9 +466,9 @@ impl Serving {
         ensures ready { self.now.ready.items ≢ [] → IsSomeAnd result (λ wait. as_nanos wait ≡ 0) }
         ensures drain { IfSome (slice_get self.now.drains.items 0) (λ drain.
             IsSomeAnd result (λ wait. as_nanos wait ≤ (drain.ends - now) * 1000000)) }
-        ensures starved { self.now.is_starved ≡ true → self.now.knocks ≡ true → accepted_of self.now < (limits_of self.now).connections
-            → IsSomeAnd result (λ wait. as_nanos wait ≤ 1000 * 1000000) }
-        ensures place { self.now.ready.items ≡ [] → self.now.knocks ≡ true → accepted_of self.now < (limits_of self.now).connections
+        ensures starved { (self.now.is_starved ≡ true) ⊎ (self.now.is_barred ≡ true) → self.now.knocks ≡ true
+            → accepted_of self.now < (limits_of self.now).connections → IsSomeAnd result (λ wait. as_nanos wait ≤ 1000 * 1000000) }
+        ensures place { self.now.ready.items ≡ [] → self.now.is_barred ≡ false → self.now.knocks ≡ true → accepted_of self.now < (limits_of self.now).connections
             → room_of self.now ≢ 1 → WakesIn now self.now result }
         // Where no connection may go on and no newcomer waits, it is waited just until the first drain ends, or without a limit where there
         // is none.

@@ -1,6 +1,6 @@
 use Rattle.std.specs.Prelude.{◌≡◌, ◌≤◌, ℕ, None}
 use Rattle.cog_connections.specs.Table.{timed_at}
-use Rattle.serving.proofs.serving.note.Given as goal
+use Rattle.serving.proofs.events.note.Given as goal
 
 abbrev pub invariant-loop-event : goal.invariant-loop-event
 invariant-loop-event l = record {
