@@ -2,6 +2,7 @@
 use cog_client::{Client, Query};
 use cog_client_support::{AHEAD, NotDone, OLD, Publication, client_of_a, cog};
 use cog_reader_support::{Fixture, WINDOWS, of_level, window};
+use fixtures_support::f5;
 use std::alloc::Global;
 use std::test::Fail;
 
@@ -177,5 +178,48 @@ fn told_to_closing(alloc: Global, file: &[u8]) -> Result<Option<u32>, NotDone> {
 fn tells_nothing_where_connections_are_closed(rt: HostRuntime) -> Result<(), Fail> {
     let file = cog(rt.alloc(), 8, false)?;
     assert_eq!(rt; told_to_closing(rt.alloc(), &file)?, Some(0));
+    Ok(())
+}
+
+/// The requests that are told at a window's first one, and those that are made behind that.
+fn told_and_made(
+    alloc: Global,
+    client: &mut Client,
+    published: Publication<'_>,
+    query: Query,
+) -> Result<(Vec<Vec<u8>>, Vec<Vec<u8>>), NotDone> {
+    client.open(query);
+    client.request()?;
+    let told = client.early_requests(MOST)?;
+    let mut made = Vec::new(alloc);
+    for _ in 0..100u32 {
+        answer(alloc, client, published)?;
+        match client.request()? {
+            Some(request) => made.push(request)?,
+            None => break,
+        }
+    }
+    Ok((told, made))
+}
+
+/// Of two rows of tiles the one in the second row and the second column is there: behind the first row's request two are made, for
+/// what the second row lacks before that tile and behind it, and both are told.
+#[test]
+fn tells_what_a_row_lacks_behind_a_tile_that_is_there(rt: HostRuntime) -> Result<(), Fail> {
+    let file = f5(rt.alloc())?;
+    let published = Publication {
+        tag: OLD,
+        file: &file,
+    };
+    let mut client = keeping(rt.alloc(), 4096, 64)?;
+    told_of(
+        rt.alloc(),
+        &mut client,
+        published,
+        of_level(300, 300, 16, 16, 0),
+    )?;
+    let query = of_level(0, 0, 1000, 500, 0);
+    let (told, made) = told_and_made(rt.alloc(), &mut client, published, query)?;
+    assert_eq!(rt; (made.len(), told == made), (2, true));
     Ok(())
 }
