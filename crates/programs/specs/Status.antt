@@ -8,7 +8,7 @@ use Rattle.reading.specs.declared.error.ReadError.{ReadError}
 use Rattle.reading.specs.declared.error.ReadError.TheVariants as reading
 use Rattle.programs.specs.declared.fault.Fault.{Fault}
 use Rattle.programs.specs.declared.fault.Fault.TheVariants.{NotText, NotAProgram, CommandLine, NotANumber, NotAFile, Script}
-use Rattle.programs.specs.declared.fault.Fault.TheVariants.{RefusedClient, NotAPlace, OfFile, NoReport, CantRead, Refused, CantListen, CantAccept, CantWrite, CantWriteFile, Memory}
+use Rattle.programs.specs.declared.fault.Fault.TheVariants.{RefusedClient, NotAPlace, OfFile, NoReport, CantRead, Refused, CantListen, CantAccept, CantWait, CantWrite, CantWriteFile, Memory}
 
 -- 0 where help or the version is asked for, and 2 where the words aren't the program's
 abbrev pub line_status : ErrorKind → ℕ
@@ -35,6 +35,7 @@ HasStatus (CantRead path) n = n ≡ 1
 HasStatus (Refused refusal name) n = n ≡ 1
 HasStatus CantListen n = n ≡ 1
 HasStatus CantAccept n = n ≡ 1
+HasStatus CantWait n = n ≡ 1
 HasStatus CantWrite n = n ≡ 1
 HasStatus (CantWriteFile path) n = n ≡ 1
 HasStatus Memory n = n ≡ 1

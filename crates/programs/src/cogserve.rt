@@ -140,10 +140,11 @@ fn fault_of_file<R: AllocGlobal>(rt: &R, file: NotPublished<'_>) -> Result<Fault
 fn fault_of<R: AllocGlobal>(rt: &R, error: ServeError<'_>) -> Result<Fault, AllocError> {
     match error {
         ServeError::NotPublished(file) => fault_of_file(rt, file),
-        ServeError::CantListen(error) | ServeError::CantAccept(error)
+        ServeError::CantListen(error) | ServeError::CantAccept(error) | ServeError::CantWait(error)
             if error.kind() == ErrorKind::OutOfMemory => { Ok(Fault::Memory) }
         ServeError::CantListen(_) => Ok(Fault::CantListen),
         ServeError::CantAccept(_) => Ok(Fault::CantAccept),
+        ServeError::CantWait(_) => Ok(Fault::CantWait),
         ServeError::CantWrite(error) => Ok(Fault::from(error)),
     }
 }

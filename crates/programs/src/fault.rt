@@ -40,6 +40,8 @@ pub enum Fault {
     CantListen,
     /// No connection can be accepted any more.
     CantAccept,
+    /// Connections can't be waited for any more.
+    CantWait,
     /// The standard output can't be written.
     CantWrite,
     /// The file at this path can't be written.
@@ -73,6 +75,7 @@ impl Fault {
             | Fault::Refused(_, _)
             | Fault::CantListen
             | Fault::CantAccept
+            | Fault::CantWait
             | Fault::CantWrite
             | Fault::CantWriteFile(_)
             | Fault::Memory => 1,
@@ -143,6 +146,7 @@ impl fmt::Display for FaultLine<'_> {
             Fault::NoReport => write!(f, "{program}: no report"),
             Fault::CantListen => write!(f, "{program}: can't listen"),
             Fault::CantAccept => write!(f, "{program}: can't accept"),
+            Fault::CantWait => write!(f, "{program}: can't wait"),
             Fault::CantWrite => write!(f, "{program}: can't write"),
             Fault::CantWriteFile(path) => write!(f, "{program}: can't write {path}"),
             Fault::Script(ScriptError::Memory) | Fault::Memory => {

@@ -62,6 +62,7 @@ fn tells_a_fault_by_its_program_and_words(rt: HostRuntime) -> Result<(), Fail> {
         (Fault::Memory, "cogread", "out of memory", 1),
         (of_script, "cogworld", "out of memory", 1),
         (Fault::CantAccept, "cogserve", "can't accept", 1),
+        (Fault::CantWait, "cogserve", "can't wait", 1),
         (Fault::CantWrite, "cogserve", "can't write", 1),
     ];
     for (fault, program, words, status) in table {
