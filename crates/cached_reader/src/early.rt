@@ -133,7 +133,8 @@ pub fn early_spans(
     ensures early { IfOk result (λ spans. All (IsEarly (work reader.now cache.now) ahead asked) spans.items) }
     ensures apart { IfOk result (λ spans. AreApart spans.items) }
     ensures few { IfOk result (λ spans. length spans.items ≤ most) }
-    // Before each of them nothing that is missing is left out, of the ranges up to the one that it begins in.
+    // Before each of them nothing that is missing is left out, of the ranges that are wanted after the present one, up to the one that it
+    // begins in, as far as they are known.
     ensures order { IfOk result (λ spans. All (LeavesNothing (work reader.now cache.now) asked spans.items) spans.items) }
 {
     let mut spans = Vec::new(alloc);
