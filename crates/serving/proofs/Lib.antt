@@ -1,3 +1,4 @@
+pub mod GoingLemmas
 pub mod HeldLemmas
 pub mod RefusalLemmas
 pub mod TurnLemmas
