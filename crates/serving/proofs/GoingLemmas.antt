@@ -1,6 +1,6 @@
 -- How connections go on, step by step.
-use Rattle.std.proofs.Common.{◌≡◌, ◌≢◌, ◌||◌, ◌≤◌, ℕ, Bool, true, false, nat_eq, not, List, [], ◌∷◌, ◌++◌, length, take, Option, Some, None, refl, sym, ap, ◌∙◌, subst, arith, inl, inr}
-use Rattle.std.specs.Prelude.{◌==◌, if◌then◌else◌, IfSome, IsSomeAnd, option_map}
+use Rattle.std.proofs.Common.{◌≡◌, ◌≢◌, ◌||◌, ◌≤◌, ℕ, Bool, true, false, nat_eq, not, List, [], ◌∷◌, ◌++◌, length, take, Option, Some, None, Result, Ok, Err, refl, sym, ap, ◌∙◌, subst, arith, inl, inr}
+use Rattle.std.specs.Prelude.{◌==◌, if◌then◌else◌, IfOk, IfSome, IsSomeAnd, OnErr, option_map}
 use Rattle.std.specs.List.{list_any}
 use Rattle.std.proofs.lemmas.Bool.{cases_Bool}
 use Rattle.std.proofs.lemmas.Bool.Decides.{nat_tests}
@@ -201,6 +201,14 @@ read_on catalogue now k n bytes old new changes within room =
     let few = length-take-le n bytes within in
     changed catalogue now k (λ p. record p { connection = after_read (take n bytes) p.connection }) old new changes
     (if_some (timed_at k old) (λ p fits. read catalogue now p (take n bytes) (subst (λ (i : ℕ). i ≤ room_of p.connection) (sym few) fits)) room)
+
+-- or the reading failed
+pub read_or_not : {E : Type 0} (catalogue : Catalogue) (now k : ℕ) (result : Result ℕ E) (bytes : List ℕ) (old new : Table)
+    → IfOk result (λ n. n ≤ length bytes) → IfOk result (λ n. IfSome (timed_at k old) (λ p. n ≤ room_of p.connection))
+    → IfOk result (λ n. Changes k (λ p. record p { connection = after_read (take n bytes) p.connection }) old new)
+    → OnErr result (Changes k (λ p. p) old new) → AllWentOn catalogue now old new
+read_or_not catalogue now k (Ok n) bytes old new within room came err = read_on catalogue now k n bytes old new came within room
+read_or_not catalogue now k (Err e) bytes old new within room came err = none_on catalogue now k old new err
 
 -- bytes of one are written
 pub written_on : (catalogue : Catalogue) (now k n : ℕ) (old new : Table) → Changes k (timed_after_write n now) old new

@@ -155,7 +155,7 @@ pub fn serve_turn<A: Audience>(
 }
 
 /// Drops what still comes behind the last message. It has ended where nothing more may come.
-#[tactic(auto, using(crate::proofs::TurnLemmas::keeps_on))]
+#[tactic(auto, using(crate::proofs::TurnLemmas::keeps_on, crate::proofs::GoingLemmas::all_still))]
 pub fn drain_turn(connections: &mut Connections, socket: &Socket, buffer: &mut [u8]) -> Turn
     ensures kept { KeepsPlaces socket.now.number connections.old connections.new }
     // No message is answered, from whatever catalogue.
