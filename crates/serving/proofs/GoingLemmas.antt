@@ -18,11 +18,11 @@ use Rattle.serving.specs.Going.{AllWentOn, WentOn, is_progress, since}
 
 -- ---- runs one behind another
 
-run_append : (first next : List Event) (p : Past) → run (first ++ next) p ≡ run next (run first p)
+pub run_append : (first next : List Event) (p : Past) → run (first ++ next) p ≡ run next (run first p)
 run_append [] next p = refl
 run_append (e ∷ first) next p = run_append first next (happened e p)
 
-can_append : (first next : List Event) (p : Past) → CanRun first p → CanRun next (run first p) → CanRun (first ++ next) p
+pub can_append : (first next : List Event) (p : Past) → CanRun first p → CanRun next (run first p) → CanRun (first ++ next) p
 can_append [] next p can may = may
 can_append (e ∷ first) next p can may = (can.0, can_append first next (happened e p) can.1 may)
 
@@ -33,11 +33,11 @@ same_event Came_to_end p q same = ap after_end same
 same_event (Answered e) p q same = ap (after_answer e.message e.response) same
 same_event (Wrote n) p q same = ap (after_write n) same
 
-same_run : (es : List Event) (p q : Past) → p.status ≡ q.status → (run es p).status ≡ (run es q).status
+pub same_run : (es : List Event) (p q : Past) → p.status ≡ q.status → (run es p).status ≡ (run es q).status
 same_run [] p q same = same
 same_run (e ∷ es) p q same = same_run es (happened e p) (happened e q) (same_event e p q same)
 
-same_can : (es : List Event) (p q : Past) → p.status ≡ q.status → CanRun es p → CanRun es q
+pub same_can : (es : List Event) (p q : Past) → p.status ≡ q.status → CanRun es p → CanRun es q
 same_can [] p q same can = tt
 same_can (e ∷ es) p q same can =
     (subst (CanHappen e) same can.0, same_can es (happened e p) (happened e q) (same_event e p q same) can.1)

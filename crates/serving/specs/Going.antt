@@ -1,12 +1,13 @@
 -- How connections go on.
-use Rattle.std.specs.Prelude.{◌≡◌, ◌==◌, ℕ, not, if◌then◌else◌, Bool, true, false, List, [], Some, IsSomeAnd}
+use Rattle.std.specs.Prelude.{◌≡◌, ◌⊎◌, ◌==◌, ℕ, not, if◌then◌else◌, Bool, true, false, List, [], Some, IsSomeAnd}
 use Rattle.std.specs.List.{list_any}
 use Rattle.http_range.specs.Book.{Catalogue}
-use Rattle.cog_server.specs.Run.{AreFrom, CanRun, Event, Past, run}
+use Rattle.cog_server.specs.Run.{AreFrom, CanRun, Event, IsAnsweredAlone, Past, none_yet, run}
 use Rattle.cog_server.specs.Run.Event.{Came, Came_to_end, Answered, Wrote}
 use Rattle.cog_server.specs.Status.{Status}
 use Rattle.cog_connections.specs.declared.timed.Timed.{Timed}
 use Rattle.cog_connections.specs.Table.{Table, timed_at}
+use Rattle.serving.specs.Turns.{HasStartedAt}
 
 -- nothing has happened since it was so
 abbrev pub since : Status → Past
@@ -31,3 +32,25 @@ pub record WentOn (catalogue : Catalogue) (now : ℕ) (old new : Timed) : Type 0
 -- who has a place had it, and went on from there by its own bytes, and by answers from this catalogue
 pub record AllWentOn (catalogue : Catalogue) (now : ℕ) (old new : Table) : Type 0 where
   pub each : (k : ℕ) (p : Timed) → timed_at k new ≡ Some p → IsSomeAnd (timed_at k old) (λ before. WentOn catalogue now before p)
+
+-- or it starts at this moment
+pub record AllWentOnOrStart (catalogue : Catalogue) (now : ℕ) (old new : Table) : Type 0 where
+  pub each : (k : ℕ) (p : Timed) → timed_at k new ≡ Some p
+      → IsSomeAnd (timed_at k old) (λ before. WentOn catalogue now before p) ⊎ HasStartedAt k now new
+
+-- ---- from the start
+
+-- a connection came so far from its start by events that may happen, and by these it was answered as if it were alone
+pub record HasRun (s : Status) : Type 0 where
+  pub events : List Event
+  pub can : CanRun events none_yet
+  pub status : s ≡ (run events none_yet).status
+  pub alone : IsAnsweredAlone (run events none_yet)
+
+-- each that has a place did
+abbrev pub AllHaveRun : Table → Type 0
+AllHaveRun table = (k : ℕ) (p : Timed) → timed_at k table ≡ Some p → HasRun p.connection
+
+-- whoever goes on, or starts, from whatever catalogue, at whatever moment
+abbrev pub RunsGoOn : Type 0
+RunsGoOn = (catalogue : Catalogue) (now : ℕ) (old new : Table) → AllWentOnOrStart catalogue now old new → AllHaveRun old → AllHaveRun new
