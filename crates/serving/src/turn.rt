@@ -89,7 +89,7 @@ struct Bounds {
 }
 
 /// Writes what waits, or answers the next message, or reads: how many bytes were written, none where all answers are.
-#[tactic(auto, using(crate::proofs::GoingLemmas::none_on, crate::proofs::GoingLemmas::read_on, crate::proofs::GoingLemmas::written_on, crate::proofs::GoingLemmas::answered_on, crate::proofs::GoingLemmas::all_on))]
+#[tactic(auto, using(crate::proofs::GoingLemmas::none_on, crate::proofs::GoingLemmas::written_on, crate::proofs::GoingLemmas::answered_on, crate::proofs::GoingLemmas::all_on))]
 fn step<A: Audience>(
     connections: &mut Connections,
     socket: &Socket,

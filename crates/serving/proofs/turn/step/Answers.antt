@@ -1,16 +1,5 @@
-use Rattle.serving.proofs.GoingLemmas.{all_on, answered_on, read_on, written_on}
+use Rattle.serving.proofs.GoingLemmas.{all_on, answered_on, read_on}
 use Rattle.serving.proofs.turn.step.Goals as goal
-
-pub returns-then-is_waiting-clause-went : goal.returns-then-is_waiting-clause-went
-returns-then-is_waiting-clause-went g c =
-    written_on c.args.server.now.catalogue c.args.bounds.now c.args.socket.now.number c.in_ok-write_some.field-0
-    c.args.connections.now.table.entries c.write_some.new.connections.table.entries
-    c.in_ok-write_some.ensures.wrote c.in_ok-write_some.ensures.waits
-
-pub returns-then-branch-clause-went : goal.returns-then-branch-clause-went
-returns-then-branch-clause-went g c =
-    answered_on c.args.server.now.catalogue c.args.bounds.now c.args.socket.now.number c.args.connections.now.table.entries
-    c.answer.new.connections.table.entries c.in_ok-answer.field-0 c.in_ok-answer.ensures.ok
 
 pub returns-clause-went : goal.returns-clause-went
 returns-clause-went g c =
