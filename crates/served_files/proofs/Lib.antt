@@ -1,1 +1,2 @@
 pub mod PublishingLemmas
+pub mod RoundLemmas

@@ -1,6 +1,8 @@
 //! Serving: round by round, as connections come and are ready.
-ghost use Rattle.std.specs.Prelude.{◌≡◌, max};
+ghost use Rattle.std.specs.Prelude.{◌≡◌, ℕ, max};
 ghost use Rattle.served_files.specs.Publishing.{KeepsOthersThan, names};
+ghost use Rattle.serving.specs.Going.{AllWentOnOrStart};
+ghost use Rattle.serving.specs.Held.{places_of};
 
 use crate::error::ServeError;
 use crate::lines::Listening;
@@ -56,12 +58,15 @@ fn print_served<R: Print>(rt: &R, told: u32, ended: u32) -> u32
 
 /// Gives each connection that is ready its turn, accepts newcomers, and looks at the files where one came. Turns come first: each
 /// connection that the last wait told of has its turn before an idle one loses its place.
+#[tactic(auto, using(crate::proofs::RoundLemmas::went_or_started))]
 fn round<R: Files + Clock + Print + Eprint + AllocGlobal>(
     log: &mut Log<'_, R>,
     server: &mut Server,
     files: &mut [Watched<'_>],
     serving: &mut Serving,
 ) -> Result<(), ServeError<'static>>
+    // Who has a place had it, and went on from there by its own bytes, and by answers from what was published before, or starts now.
+    ensures went { (now : ℕ) × AllWentOnOrStart server.old.catalogue now (places_of serving.old) (places_of serving.new) }
     ensures others { KeepsOthersThan (names files.old) server.old server.new }
     ensures names { names files.new ≡ names files.old }
 {

@@ -1,9 +1,12 @@
 -- What nobody's coming is, and who keeps a place.
 use Rattle.std.proofs.Common.{◌≡◌, ◌∙◌, ◌+◌, ◌-◌, ◌<◌, ◌≤◌, ◌⊎◌, ℕ, arith, false, length, Option, None, Some, refl, sym, le_trans, subst, inl, inr}
+use Rattle.http_range.specs.Book.{Catalogue}
 use Rattle.cog_connections.specs.declared.timed.Timed.{Timed}
 use Rattle.serving.specs.declared.serving.Serving.{Serving}
 use Rattle.cog_connections.specs.Table.{timed_at}
 use Rattle.cog_connections.specs.Yielding.{MayYield}
+use Rattle.serving.specs.Going.{AllWentOn}
+use Rattle.serving.proofs.GoingLemmas.{all_on, all_still}
 use Rattle.serving.specs.Turns.{HasStartedAt}
 use Rattle.serving.specs.declared.serving.Limits.{Limits}
 use Rattle.serving.specs.Held.{AllStart, KeepsAll, KeepsBusy, NobodyComes, NoneChanges, StayOrStart, accepted_of, limits_of, places_of, room_of}
@@ -28,6 +31,16 @@ busy_on now a b c limits first then k p there =
         | inr still ↦ inr still
       ]
     ]
+
+-- who is there is as it was, behind both
+pub same_on : (a b c : Serving) → NoneChanges a b → NoneChanges b c → NoneChanges a c
+same_on a b c first then k p there = first k p (then k p there)
+
+-- all went on, and then some lose their places
+pub went_still : (catalogue : Catalogue) (now : ℕ) (a b c : Serving) → AllWentOn catalogue now (places_of a) (places_of b) → NoneChanges b c
+    → AllWentOn catalogue now (places_of a) (places_of c)
+went_still catalogue now a b c went same =
+    all_on catalogue now (places_of a) (places_of b) (places_of c) went (all_still catalogue now (places_of b) (places_of c) same)
 
 -- who is there was there, or starts, where some lose their places
 pub start_fewer : (now : ℕ) (a b : Serving) → NoneChanges a b → StayOrStart now a b

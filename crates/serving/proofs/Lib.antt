@@ -1,3 +1,5 @@
+pub mod GoingLemmas
 pub mod HeldLemmas
 pub mod RefusalLemmas
+pub mod RunLemmas
 pub mod TurnLemmas

@@ -1,6 +1,7 @@
 //! What a wait tells.
-ghost use Rattle.std.specs.Prelude.{◌≡◌, ◌≤◌, ℕ, None};
+ghost use Rattle.std.specs.Prelude.{◌≡◌, ◌≤◌, ℕ, None, Some};
 ghost use Rattle.cog_connections.specs.Table.{timed_at};
+ghost use Rattle.cog_connections.specs.declared.timed.Timed.{Timed};
 
 use crate::open::Open;
 use mio::{Events, Token};
@@ -13,6 +14,8 @@ pub const LISTENER: Token = Token(usize::MAX);
 pub fn note(events: &Events, held: &mut Open, ready: &mut VecDeque<u64>) -> bool
     ensures places { (k : ℕ) → timed_at k held.old.connections.table.entries ≡ None
         → timed_at k held.new.connections.table.entries ≡ None }
+    ensures same { (k : ℕ) (p : Timed) → timed_at k held.new.connections.table.entries ≡ Some p
+        → timed_at k held.old.connections.table.entries ≡ Some p }
     ensures ended { held.old.ended ≤ held.new.ended }
     ensures cap { held.new.connections.table.cap ≡ held.old.connections.table.cap }
 {

@@ -5,6 +5,7 @@
 mod answered;
 mod drain;
 mod events;
+mod laws;
 mod moments;
 mod open;
 mod refusal;
@@ -13,5 +14,6 @@ mod socket;
 mod turn;
 
 pub use answered::{Answer, Audience, Nobody};
+pub use laws::runs_go_on;
 pub use refusal::AcceptError;
 pub use serving::{Limits, Serving};

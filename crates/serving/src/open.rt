@@ -5,6 +5,7 @@ ghost use Rattle.std.specs.NonZero.{non_zero_usize_get};
 ghost use Rattle.cog_connections.specs.Table.{OthersStay, timed_at};
 ghost use Rattle.cog_connections.specs.declared.timed.Timed.{Timed};
 ghost use Rattle.cog_connections.specs.Yielding.{MayYield, WakesAt, Yields};
+ghost use Rattle.serving.specs.Going.{AllWentOn};
 ghost use Rattle.serving.specs.Turns.{HasEndedAt, HasStartedAt, HaveSockets, IsDrainedAt, KeepsPlaces};
 ghost use Rattle.serving.specs.declared.turn.Turn.TheVariants.{Ended};
 
@@ -223,6 +224,7 @@ impl Open {
     }
 
     /// A connection's turn, of whose answers the audience is told.
+    #[tactic(auto, using(crate::proofs::GoingLemmas::all_still))]
     pub fn turn<A: Audience>(
         &mut self,
         number: u64,
@@ -232,6 +234,7 @@ impl Open {
         audience: &mut A,
     ) -> Turn
         ensures kept { KeepsPlaces number self.old.connections self.new.connections }
+        ensures went { AllWentOn server.now.catalogue now self.old.connections.table.entries self.new.connections.table.entries }
         ensures ended { result ≡ Ended → HasEndedAt number self.new.connections.table.entries
             ⊎ (DrainsAt number self.old × IsDrainedAt number self.new.connections.table.entries) }
         ensures counted { self.new.ended ≡ self.old.ended }

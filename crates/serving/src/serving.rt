@@ -5,6 +5,7 @@ ghost use Rattle.std.specs.NonZero.{non_zero_usize_get};
 ghost use Rattle.cog_connections.specs.Table.{OthersStay, timed_at};
 ghost use Rattle.mio.specs.Events.{capacity};
 ghost use Rattle.serving.specs.Draining.{drain_of};
+ghost use Rattle.serving.specs.Going.{AllWentOn};
 ghost use Rattle.serving.specs.Held.{AllStart, IsLookedAt, IsWaitedFor, KeepsAll, KeepsBusy, NoneChanges, NobodyComes, StayOrStart, accepted_of, ended_of, limits_of, next_of, places_of, room_of, WakesBy, WakesIn};
 ghost use Rattle.serving.specs.Refusals.{HasNoRoom, IsBarred, IsLasting, IsOfAsking, IsPassing};
 ghost use Rattle.serving.specs.Turns.{GivesPlace, HasStartedAt};
@@ -157,9 +158,11 @@ impl Serving {
     }
 
     /// Gives each connection that may go on its turn, and closes those whose drain ends. The audience is told of each answer.
-    #[tactic(auto, using(crate::proofs::HeldLemmas::nobody_yet))]
+    #[tactic(auto, using(crate::proofs::HeldLemmas::nobody_yet, crate::proofs::GoingLemmas::all_on, crate::proofs::HeldLemmas::went_still))]
     pub fn turns<A: Audience>(&mut self, server: &Server, now: u64, audience: &mut A)
         ensures nobody { NobodyComes self.old self.new }
+        // Who has a place had it, and went on from there by its own bytes, and by answers from this catalogue.
+        ensures went { AllWentOn server.now.catalogue now (places_of self.old) (places_of self.new) }
         // No drain is left first in its queue whose moment has come.
         ensures over { IfSome (slice_get self.new.drains.items 0) (λ drain. now < drain.ends) }
     {
@@ -175,6 +178,7 @@ impl Serving {
     #[tactic(auto, using(crate::proofs::HeldLemmas::nobody_yet))]
     pub fn wait(&mut self, now: u64) -> io::Result<()>
         ensures nobody { NobodyComes self.old self.new }
+        ensures same { NoneChanges self.old self.new }
     {
         let timeout = self.timeout(now);
         self.poll.poll(&mut self.events, timeout)?;
@@ -351,9 +355,11 @@ impl Serving {
     }
 
     /// A connection goes on.
+    #[tactic(auto, using(crate::proofs::HeldLemmas::nobody_yet, crate::proofs::HeldLemmas::went_still))]
     fn turn<A: Audience>(&mut self, number: u64, server: &Server, now: u64, audience: &mut A)
         ensures others { OthersStay number self.old.held.connections.table.entries self.new.held.connections.table.entries }
         ensures nobody { NobodyComes self.old self.new }
+        ensures went { AllWentOn server.now.catalogue now (places_of self.old) (places_of self.new) }
     {
         let buffer = &mut self.buffer;
         let turn = self.held.turn(number, server, buffer, now, audience);
@@ -364,6 +370,7 @@ impl Serving {
     fn after(&mut self, number: u64, turn: Turn, now: u64)
         ensures others { OthersStay number self.old.held.connections.table.entries self.new.held.connections.table.entries }
         ensures nobody { NobodyComes self.old self.new }
+        ensures same { NoneChanges self.old self.new }
         ensures waits { turn ≡ Waits → self.new ≡ self.old }
         ensures goes_on { turn ≡ GoesOn → (self.new.ready.items ≡ self.old.ready.items ++ number ∷ [])
             ⊎ (timed_at number (places_of self.new) ≡ None) }
@@ -394,6 +401,7 @@ impl Serving {
     fn make_ready(&mut self, number: u64)
         ensures others { OthersStay number self.old.held.connections.table.entries self.new.held.connections.table.entries }
         ensures nobody { NobodyComes self.old self.new }
+        ensures same { NoneChanges self.old self.new }
         ensures ready { (self.new.ready.items ≡ self.old.ready.items ++ number ∷ []) ⊎ (timed_at number (places_of self.new) ≡ None) }
         ensures drains { self.new.drains ≡ self.old.drains }
     {
@@ -404,9 +412,10 @@ impl Serving {
     }
 
     /// Closes the connections whose drain ends.
-    #[tactic(auto, using(crate::proofs::HeldLemmas::nobody_yet))]
+    #[tactic(auto, using(crate::proofs::HeldLemmas::nobody_yet, crate::proofs::HeldLemmas::same_on))]
     fn end_drains(&mut self, now: u64)
         ensures nobody { NobodyComes self.old self.new }
+        ensures same { NoneChanges self.old self.new }
         // None is left first in the queue whose moment has come.
         ensures over { IfSome (slice_get self.new.drains.items 0) (λ drain. now < drain.ends) }
     {
@@ -420,6 +429,7 @@ impl Serving {
     /// Closes the connection whose drain ends first, if the moment for that has come, and says whether it had.
     fn end_drain(&mut self, now: u64) -> bool
         ensures nobody { NobodyComes self.old self.new }
+        ensures same { NoneChanges self.old self.new }
         ensures early { result ≡ false → (self.new ≡ self.old)
             × IfSome (slice_get self.old.drains.items 0) (λ drain. now < drain.ends) }
         ensures over { result ≡ true → IsSomeAnd (slice_get self.old.drains.items 0) (λ drain. (drain.ends ≤ now)

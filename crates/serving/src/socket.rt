@@ -1,6 +1,7 @@
 //! Bytes between a connection and its socket.
-ghost use Rattle.std.specs.Prelude.{◌≤◌, IfOk, OnErr, length, take};
+ghost use Rattle.std.specs.Prelude.{◌≤◌, IfOk, IfSome, OnErr, length, take};
 ghost use Rattle.cog_server.specs.Received.{after_read};
+ghost use Rattle.cog_server.specs.Status.{room_of};
 ghost use Rattle.cog_connections.specs.Table.{Changes, GoesOnAt, timed_after_write, timed_at};
 ghost use Rattle.serving.specs.Turns.{KeepsPlaces};
 
@@ -32,6 +33,8 @@ pub fn write_some(
     now: u64,
 ) -> io::Result<usize>
     ensures few { IfOk result (λ n. n ≤ most) }
+    ensures waits { IfOk result (λ n. IfSome (timed_at socket.now.number connections.old.table.entries)
+        (λ p. n ≤ length p.connection.waiting)) }
     ensures wrote { IfOk result (λ n. Changes socket.now.number (timed_after_write n now)
         connections.old.table.entries connections.new.table.entries) }
     ensures err { OnErr result (Changes socket.now.number (λ p. p) connections.old.table.entries connections.new.table.entries) }
@@ -65,6 +68,8 @@ pub fn read_some(
     buffer: &mut [u8],
 ) -> io::Result<usize>
     ensures within { IfOk result (λ n. n ≤ length buffer.new) }
+    ensures room { IfOk result (λ n. IfSome (timed_at socket.now.number connections.old.table.entries)
+        (λ p. n ≤ room_of p.connection)) }
     ensures came { IfOk result (λ n. Changes socket.now.number
         (λ p. record p { connection = after_read (take n buffer.new) p.connection })
         connections.old.table.entries connections.new.table.entries) }

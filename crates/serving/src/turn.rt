@@ -1,9 +1,11 @@
 //! A connection's turn: it goes on until its socket would block, and no longer than is fair to others.
-ghost use Rattle.std.specs.Prelude.{◌≡◌, ◌≢◌, ◌<◌, ◌↔◌, false, length, IfOk, IsSomeAnd, IsTrue, None, Some};
+ghost use Rattle.std.specs.Prelude.{◌≡◌, ◌≢◌, ◌<◌, ◌↔◌, ℕ, false, length, IfOk, IsSomeAnd, IsTrue, None, Some};
 ghost use Rattle.std.specs.IoError.{error_kind};
 ghost use Rattle.cog_connections.specs.Table.{timed_at};
+ghost use Rattle.http_range.specs.Book.{Catalogue};
 ghost use Rattle.cog_server.specs.Status.{EndsBy};
 ghost use Rattle.std.specs.declared.io.ErrorKind.TheVariants.{Interrupted, WouldBlock};
+ghost use Rattle.serving.specs.Going.{AllWentOn};
 ghost use Rattle.serving.specs.Turns.{HasEndedAt, IsDrainedAt, KeepsPlaces};
 ghost use Rattle.serving.specs.declared.turn.Turn.TheVariants.{Ended, GoesOn, Waits};
 
@@ -87,6 +89,7 @@ struct Bounds {
 }
 
 /// Writes what waits, or answers the next message, or reads: how many bytes were written, none where all answers are.
+#[tactic(auto, using(crate::proofs::GoingLemmas::none_on, crate::proofs::GoingLemmas::written_on, crate::proofs::GoingLemmas::answered_on, crate::proofs::GoingLemmas::all_on))]
 fn step<A: Audience>(
     connections: &mut Connections,
     socket: &Socket,
@@ -96,6 +99,7 @@ fn step<A: Audience>(
     teller: &mut Teller<'_, A>,
 ) -> io::Result<Option<usize>>
     ensures kept { KeepsPlaces socket.now.number connections.old connections.new }
+    ensures went { AllWentOn server.now.catalogue bounds.now connections.old.table.entries connections.new.table.entries }
     ensures ended { IfOk result (λ count. count ≡ None → HasEndedAt socket.now.number connections.new.table.entries) }
     ensures asked { teller.new.asked.ghost_name ≡ teller.old.asked.ghost_name }
 {
@@ -117,7 +121,7 @@ fn step<A: Audience>(
 }
 
 /// Reads messages and writes their answers, of which the teller tells. It has ended where the last answer is written.
-#[tactic(auto, using(crate::proofs::TurnLemmas::keeps_on))]
+#[tactic(auto, using(crate::proofs::TurnLemmas::keeps_on, crate::proofs::GoingLemmas::all_on))]
 pub fn serve_turn<A: Audience>(
     connections: &mut Connections,
     socket: &Socket,
@@ -127,6 +131,7 @@ pub fn serve_turn<A: Audience>(
     teller: &mut Teller<'_, A>,
 ) -> Turn
     ensures kept { KeepsPlaces socket.now.number connections.old connections.new }
+    ensures went { AllWentOn server.now.catalogue now connections.old.table.entries connections.new.table.entries }
     ensures ended { result ≡ Ended → HasEndedAt socket.now.number connections.new.table.entries }
     ensures asked { teller.new.asked.ghost_name ≡ teller.old.asked.ghost_name }
 {
@@ -150,9 +155,11 @@ pub fn serve_turn<A: Audience>(
 }
 
 /// Drops what still comes behind the last message. It has ended where nothing more may come.
-#[tactic(auto, using(crate::proofs::TurnLemmas::keeps_on))]
+#[tactic(auto, using(crate::proofs::TurnLemmas::keeps_on, crate::proofs::GoingLemmas::all_still))]
 pub fn drain_turn(connections: &mut Connections, socket: &Socket, buffer: &mut [u8]) -> Turn
     ensures kept { KeepsPlaces socket.now.number connections.old connections.new }
+    // No message is answered, from whatever catalogue.
+    ensures went { (catalogue : Catalogue) (now : ℕ) → AllWentOn catalogue now connections.old.table.entries connections.new.table.entries }
     ensures ended { result ≡ Ended → IsDrainedAt socket.now.number connections.new.table.entries }
 {
     for _ in 0..STEP_LIMIT {

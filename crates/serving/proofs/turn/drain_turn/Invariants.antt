@@ -1,5 +1,11 @@
+use Rattle.std.specs.Prelude.{ℕ}
+use Rattle.http_range.specs.Book.{Catalogue}
+use Rattle.serving.specs.Going.{AllWentOn}
 use Rattle.serving.specs.Turns.{KeepsPlaces}
 use Rattle.serving.proofs.turn.drain_turn.Given as goal
 
 abbrev pub invariant-loop : goal.invariant-loop
-invariant-loop l = KeepsPlaces l.socket.number l.fn.connections l.connections
+invariant-loop l = record {
+  kept : KeepsPlaces l.socket.number l.fn.connections l.connections;
+  went : (catalogue : Catalogue) (now : ℕ) → AllWentOn catalogue now l.fn.connections.table.entries l.connections.table.entries;
+}

@@ -1,9 +1,10 @@
 use Rattle.std.specs.Prelude.{◌≡◌, ◌+◌, length}
-use Rattle.serving.specs.Held.{NobodyComes}
+use Rattle.serving.specs.Held.{NobodyComes, NoneChanges}
 use Rattle.serving.proofs.serving.Serving.end_drains.Given as goal
 
 abbrev pub invariant-loop : goal.invariant-loop
 invariant-loop l = record {
   nobody : NobodyComes l.fn.self l.self;
+  same : NoneChanges l.fn.self l.self;
   left : l.counter + length l.self.drains.items ≡ l.end;
 }

@@ -1,0 +1,21 @@
+use Rattle.serving.proofs.GoingLemmas.{all_on, none_on, read_or_not}
+use Rattle.serving.proofs.TurnLemmas.{keeps_on}
+use Rattle.serving.proofs.turn.drain_turn.Goals as goal
+
+pub returns-in-loop-clause-went : goal.returns-in-loop-clause-went
+returns-in-loop-clause-went c = λ catalogue now.
+    all_on catalogue now c.args.connections.now.table.entries c.loop.connections.table.entries c.read_some.new.connections.table.entries
+    (c.loop.invariant.went catalogue now)
+    (none_on catalogue now c.args.socket.now.number c.loop.connections.table.entries c.read_some.new.connections.table.entries c.in-Err.ensures.err)
+
+pub loop-preserved : goal.loop-preserved
+loop-preserved c = record {
+  kept = keeps_on c.args.socket.now.number c.args.connections.now c.loop.connections c.read_some.new.connections
+      c.loop.invariant.kept c.read_some.ensures.kept;
+  went = λ catalogue now.
+      all_on catalogue now c.args.connections.now.table.entries c.loop.connections.table.entries c.read_some.new.connections.table.entries
+      (c.loop.invariant.went catalogue now)
+      (read_or_not catalogue now c.args.socket.now.number c.read_some.result c.read_some.new.buffer
+      c.loop.connections.table.entries c.read_some.new.connections.table.entries
+      c.read_some.ensures.within c.read_some.ensures.room c.read_some.ensures.came c.read_some.ensures.err);
+}
