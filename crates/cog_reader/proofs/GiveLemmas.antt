@@ -36,12 +36,12 @@ use Rattle.cog_reader.specs.Kept.{arrays_held, next_array, KeptAgrees, IsKeptOf}
 use Rattle.cog_reader.specs.Mosaic.{IsWantedGroup, IsPlan, IsUnderway}
 use Rattle.cog_reader.specs.Reader.{own_given, steps_by, unread_by, wanted_by, StateAgrees}
 use Rattle.cog_reader.specs.Give.{Gives, AcceptsDirectoryRange, Snapshot, AcceptsRange, AcceptsDirectories, Advances, TellsFault}
-use Rattle.cog_reader.specs.Unpacked.{KeptTile, AreTilesOf}
+use Rattle.cog_reader.specs.Unpacked.{KeptTiles, AreTilesOf}
 use Rattle.cog_reader.proofs.FieldLemmas.{geo_ranges_are}
 use Rattle.cog_reader.proofs.KeptLemmas.{some_at, from_some}
 use Rattle.cog_reader.proofs.StepLemmas.{both_at, directory_fault, has_both, needs_split, window_fault, IsLevelOf}
 
-abbrev pub at_state : WalkState → Kept → List KeptTile → State → Snapshot
+abbrev pub at_state : WalkState → Kept → KeptTiles → State → Snapshot
 at_state w k ts t = record { walk = w; kept = k; tiles = ts; state = t }
 
 pub some_more : {X : Type 0} (o : Option X) (P Q : X → Type 0) → IsSomeAnd o P → ((x : X) → P x → Q x) → IsSomeAnd o Q
@@ -82,13 +82,14 @@ nothing_kept w kept.Nothing P keeps some v = tt
 nothing_kept w (kept.Offsets n o) P keeps some v = absurd (subst (λ x. IsSomeAnd x P) keeps.0 some)
 nothing_kept w (kept.Both n a) P keeps some v = absurd (subst (λ x. IsSomeAnd x P) keeps.0 some)
 
-pub accepts_directories : (complete : ℕ) (bytes : List ℕ) (w v : WalkState) (k : Kept) (ts : List KeptTile) → IsKeptOf w k → IsSomeAnd (walk.wanted w) (λ r. length bytes ≡ r.len) → AcceptsDirectoryRange bytes w v → Advances complete bytes (at_state w k ts Directories) (at_state v k ts Directories)
+pub accepts_directories : (complete : ℕ) (bytes : List ℕ) (w v : WalkState) (k : Kept) (ts : KeptTiles) → IsKeptOf w k → IsSomeAnd (walk.wanted w) (λ r. length bytes ≡ r.len) → AcceptsDirectoryRange bytes w v → Advances complete bytes (at_state w k ts Directories) (at_state v k ts Directories)
 accepts_directories complete bytes w v k ts keeps some on = record {
   kept = nothing_kept w k (λ r. length bytes ≡ r.len) keeps some v;
   state = tt;
   same = λ f q base here next of. (record { size = base.size; walked = on.agrees f base.walked next; kept = base.kept }, tt, of);
   come = λ f q base here. some_more (walk.wanted w) (λ r. walk.to_come w f ≡ r ∷ walk.to_come v f) _ (on.come f base.walked) (λ r e. ap (λ l. l ++ drop (own_given f q k Directories) (needs_of_query f q)) e);
   held = λ f q base here p one. one_less (walk.wanted w) (walk.to_come w f) (walk.to_come v f) (drop (own_given f p k Directories) (needs_of_query f p)) (on.come f base.walked);
+  most = refl;
   steps = (let given = on.given in let few = on.few in omega (arith, given, few));
 }
 
@@ -113,7 +114,7 @@ wanted_place w k r l P there some = at (next_array k r.level l) refl (rw there a
   at None is bad = absurd bad
   at (Some p) is good = (p, is, rw (there, is) refl, good)
 
-pub accepts_array : (complete : ℕ) (bytes : List ℕ) (w : WalkState) (k : Kept) (v : Kept) (ts : List KeptTile) (r : Rectangle) (l : Level) (o : Order) → HasEnded w → IsSomeAnd (slice_get (levels_of w) r.level) (λ m. IsSmall m r) → IsLevelOf w r.level l
+pub accepts_array : (complete : ℕ) (bytes : List ℕ) (w : WalkState) (k : Kept) (v : Kept) (ts : KeptTiles) (r : Rectangle) (l : Level) (o : Order) → HasEnded w → IsSomeAnd (slice_get (levels_of w) r.level) (λ m. IsSmall m r) → IsLevelOf w r.level l
     → IsSomeAnd (wanted_by w k (Reads r)) (λ x. length bytes ≡ x.len) → IsKeptOf w v → arrays_held v r.level ≡ arrays_held k r.level + 1 → ((f : List ℕ) → walk.WalkAgrees w f → order_of f ≡ Some o)
     → ((f : List ℕ) → order_of f ≡ Some o → level_layout f r.level ≡ Some (layout_of l) → KeptAgrees f k → IsSomeAnd (next_array k r.level l) (λ p. IsArrayOf f p bytes) → KeptAgrees f v)
     → ((f : List ℕ) → walk.WalkAgrees w f → walk.to_come w f ≡ []) → Advances complete bytes (at_state w k ts (Reads r)) (at_state w v ts (Reads r))
@@ -135,6 +136,7 @@ accepts_array complete bytes w k v ts r l o ended small of_level some keeps more
       held = λ f q base here p one.
           array_held (walk.to_come w f) (needs_of_query f p) k v r.level (rectangle f p) (over f base.walked) more
           (subst (λ o. IfSome o (λ a. IfSome (rectangle f p) (λ b. a.level ≡ b.level))) here.0 one);
+      most = refl;
       steps = elim (which_next k r.level l p next) [ inl h ↦ (let e = h.0 in omega (arith, e, more)) | inr h ↦ (let e = h.0 in omega (arith, e, more)) ];
     } where
       at : (f : List ℕ) (q : Query) (p : Place) → next_array k r.level l ≡ Some p → StateAgrees f q k (Reads r) → level_layout f r.level ≡ Some (layout_of l)
@@ -183,10 +185,10 @@ group_needed f q a m g u is = group_at f q a m g m.given u is
 next_group : (m : Mosaic) (g : Group) (bytes : List ℕ) (P : Extent → Type 0) → slice_get m.groups m.given ≡ Some g → P (extent_of_span g.span) → IsSomeAnd (slice_get m.groups m.given) (λ g. P (extent_of_span g.span))
 next_group m g bytes P is good = from_some (slice_get m.groups m.given) g (λ g. P (extent_of_span g.span)) is good
 
-pub accepts_group : (complete : ℕ) (bytes : List ℕ) (w : WalkState) (k : Kept) (ts us : List KeptTile) (n : ℕ) (a : Arrays) (m v : Mosaic) → HasEnded w → IsKeptOf w k → k ≡ kept.Both n a → IsPlan complete a v → v.groups ≡ m.groups → v.given ≡ m.given + 1
+pub accepts_group : (complete : ℕ) (bytes : List ℕ) (w : WalkState) (k : Kept) (ts us : KeptTiles) (n : ℕ) (a : Arrays) (m v : Mosaic) → HasEnded w → IsKeptOf w k → k ≡ kept.Both n a → IsPlan complete a v → v.groups ≡ m.groups → v.given ≡ m.given + 1
     → IsSomeAnd (slice_get m.groups m.given) (λ g. length bytes ≡ (extent_of_span g.span).len)
-    → ((f : List ℕ) (q : Query) → IsUnderway f q a m → IsWantedGroup f m bytes → AreTilesOf f ts → IsUnderway f q a v × AreTilesOf f us) → Advances complete bytes (at_state w k ts (Tiles m)) (at_state w k us (Tiles v))
-accepts_group complete bytes w k ts us n a m v ended keeps is plan same more some underway = record {
+    → us.most ≡ ts.most → ((f : List ℕ) (q : Query) → IsUnderway f q a m → IsWantedGroup f m bytes → AreTilesOf f ts → IsUnderway f q a v × AreTilesOf f us) → Advances complete bytes (at_state w k ts (Tiles m)) (at_state w k us (Tiles v))
+accepts_group complete bytes w k ts us n a m v ended keeps is plan same more some most underway = record {
   kept = keeps;
   state = (ended, has_both k n a (λ b. IsPlan complete b v) is plan);
   same = λ f q base here next of. (
@@ -203,6 +205,7 @@ accepts_group complete bytes w k ts us n a m v ended keeps is plan same more som
       ∙ (let e : 2 + m.given + 1 ≡ 2 + v.given = omega (arith, more) in ap (λ i. extent_of_span g.span ∷ drop i (needs_of_query f q)) e))
       );
   held = λ f q base here p one. same_end (unread_by f w k p);
+  most = most;
   steps = (
       let (g, there, len) = the_group m some in
       let less = slice_get_within m.groups m.given g there in
@@ -211,10 +214,10 @@ accepts_group complete bytes w k ts us n a m v ended keeps is plan same more som
       );
 }
 
-pub tells_group : (complete : ℕ) (bytes : List ℕ) (w : WalkState) (k : Kept) (ts us : List KeptTile) (n : ℕ) (a : Arrays) (m v : Mosaic) (fault : FileFault) → k ≡ kept.Both n a
+pub tells_group : (complete : ℕ) (bytes : List ℕ) (w : WalkState) (k : Kept) (ts us : KeptTiles) (n : ℕ) (a : Arrays) (m v : Mosaic) (fault : FileFault) → k ≡ kept.Both n a
     → ((f : List ℕ) (q : Query) → IsUnderway f q a m → IsWantedGroup f m bytes → IsFaultOfWindow f q fault)
-    → ((f : List ℕ) (q : Query) → IsUnderway f q a m → IsWantedGroup f m bytes → AreTilesOf f ts → AreTilesOf f us) → TellsFault complete bytes (at_state w k ts (Tiles m)) (at_state w k us (Tiles v)) fault
-tells_group complete bytes w k ts us n a m v fault is damaged tiles = record {
+    → ((f : List ℕ) (q : Query) → IsUnderway f q a m → IsWantedGroup f m bytes → AreTilesOf f ts → AreTilesOf f us) → us.most ≡ ts.most → TellsFault complete bytes (at_state w k ts (Tiles m)) (at_state w k us (Tiles v)) fault
+tells_group complete bytes w k ts us n a m v fault is damaged tiles most = record {
   walk = refl;
   kept = refl;
   stands = λ f q base here next. (
@@ -226,6 +229,7 @@ tells_group complete bytes w k ts us n a m v fault is damaged tiles = record {
       let (g, there, wants, given) = wanted_group w k m (λ r. bytes ≡ bytes_in f r) next in
       tiles f q (both_at k n a (λ b. IsUnderway f q b m) is here.0) (next_group m g bytes (λ r. bytes ≡ bytes_in f r) there given)
       );
+  most = most;
 }
 
 pub wanted_len : (w : WalkState) (k : Kept) (m : Mosaic) (len : ℕ) → IsSomeAnd (wanted_by w k (Tiles m)) (λ r. len ≡ r.len) → IsSomeAnd (slice_get m.groups m.given) (λ g. len ≡ (extent_of_span g.span).len)
@@ -249,7 +253,7 @@ wanted_field w k x P some = at (slice_get (present_in x.places) x.given) refl so
 pub field_len : (w : WalkState) (k : Kept) (x : Fields) (len : ℕ) → IsSomeAnd (wanted_by w k (Geo x)) (λ r. len ≡ r.len) → IsSomeAnd (slice_get (present_in x.places) x.given) (λ p. len ≡ p.len)
 field_len w k x len some = (let (p, there, wants, good) = wanted_field w k x (λ r. len ≡ r.len) some in from_some (slice_get (present_in x.places) x.given) p (λ p. len ≡ p.len) there good)
 
-pub accepts_field : (complete : ℕ) (bytes : List ℕ) (w : WalkState) (k : Kept) (ts : List KeptTile) (x v : Fields) → HasEnded w → IsKeptOf w k → IsSomeAnd (wanted_by w k (Geo x)) (λ r. length bytes ≡ r.len) → v.places ≡ x.places → v.given ≡ x.given + 1
+pub accepts_field : (complete : ℕ) (bytes : List ℕ) (w : WalkState) (k : Kept) (ts : KeptTiles) (x v : Fields) → HasEnded w → IsKeptOf w k → IsSomeAnd (wanted_by w k (Geo x)) (λ r. length bytes ≡ r.len) → v.places ≡ x.places → v.given ≡ x.given + 1
     → ((f : List ℕ) → IsReadOf f x → IsSomeAnd (slice_get (present_in x.places) x.given) (λ p. IsArrayOf f p bytes) → IsReadOf f v) → Advances complete bytes (at_state w k ts (Geo x)) (at_state w k ts (Geo v))
 unfolding needs_of_query
 accepts_field complete bytes w k ts x v ended keeps some places more read = record {
@@ -273,6 +277,7 @@ accepts_field complete bytes w k ts x v ended keeps some places more read = reco
       from_some (wanted_by w k (Geo x)) (extent_of_place p) _ wants (next_of (needs_of_query f q) x.given (extent_of_place p) is ∙ ap (λ i. extent_of_place p ∷ drop i (needs_of_query f q)) (sym more))
       );
   held = λ f q base here p one. same_end (unread_by f w k p);
+  most = refl;
   steps = (
       let (p, there, wants, len) = wanted_field w k x (λ r. length bytes ≡ r.len) some in
       let less = slice_get_within (present_in x.places) x.given p there in
@@ -283,13 +288,14 @@ accepts_field complete bytes w k ts x v ended keeps some places more read = reco
 
 -- ---- directories, with or without a fault
 
-pub directories_told : (complete : ℕ) (bytes : List ℕ) (w v : WalkState) (k : Kept) (ts : List KeptTile) (o : Option FileFault) → IsKeptOf w k → IsSomeAnd (walk.wanted w) (λ r. length bytes ≡ r.len) → AcceptsDirectories bytes w v o → AcceptsRange complete bytes (at_state w k ts Directories) (at_state v k ts Directories) o
+pub directories_told : (complete : ℕ) (bytes : List ℕ) (w v : WalkState) (k : Kept) (ts : KeptTiles) (o : Option FileFault) → IsKeptOf w k → IsSomeAnd (walk.wanted w) (λ r. length bytes ≡ r.len) → AcceptsDirectories bytes w v o → AcceptsRange complete bytes (at_state w k ts Directories) (at_state v k ts Directories) o
 directories_told complete bytes w v k ts None keeps some on = accepts_directories complete bytes w v k ts keeps some on
 directories_told complete bytes w v k ts (Some fault) keeps some told = record {
   walk = told.0;
   kept = refl;
   stands = λ f q base here next. directory_fault f q fault (told.1 f base.walked next);
   tiles = λ f q base here next of. of;
+  most = refl;
 }
 
 -- ---- a fault answers the query
@@ -319,6 +325,7 @@ gives_on complete bytes q old new on = record {
   same = λ f base here next of. on.same f q base here next of;
   come = λ f base here. inr (on.come f q base here);
   held = λ f base here. on.held f q base here;
+  most = on.most;
   steps = on.steps;
 }
 
@@ -340,5 +347,6 @@ gives_fault complete bytes q old new fault keeps some told = record {
   held = λ f base here p one.
       let same : unread_by f old.walk old.kept p ≡ unread_by f new.walk new.kept p = ap (λ w. unread_by f w old.kept p) (sym told.walk) ∙ ap (λ k. unread_by f new.walk k p) (sym told.kept) in
       subst (λ rs. IsEndOf (unread_by f new.walk new.kept p) rs) (sym same) (same_end (unread_by f new.walk new.kept p));
+  most = told.most;
   steps = some_steps old.walk old.kept old.state (λ r. length bytes ≡ r.len) some;
 }

@@ -1,18 +1,20 @@
--- Tiles that are kept stay the file's.
-use Rattle.std.proofs.Common.{◌≡◌, ◌⊎◌, ℕ, List, Option, Some, None, Contains, inl, inr, sym, subst, get_or, length, nat_eq}
+-- Tiles that are kept stay the file's, and have no more bytes together than they may.
+use Rattle.std.proofs.Common.{◌≡◌, ◌≤◌, ◌⊎◌, ℕ, List, Option, Some, None, Contains, inl, inr, sym, subst, get_or, length, nat_eq, arith}
 use Rattle.std.specs.List.{All}
 use Rattle.std.specs.Map.{lookup}
 use Rattle.std.specs.Prelude.{IfSome, OnErr, OnOk, Result, Ok, Err}
 use Rattle.std.specs.Borrow.{Bor}
 use Rattle.std.proofs.lemmas.Bool.{eqb-true}
 use Rattle.std.proofs.lemmas.List.Elements.{All-contains, Contains-get_or}
+use Rattle.std.proofs.Math.Nat.{mul-le-mul_right}
+use Rattle.std.proofs.lemmas.List.Sums.{sum_by-le}
 use Rattle.std.proofs.lemmas.Map.Views.{IfSome-lookup}
 use Rattle.lru.specs.LruCache.{LruCache, lru_cache, promoted, put_entries}
 use Rattle.lru.proofs.CallerLemmas.{Contains-promoted, Contains-put_entries, IsPut}
 use Rattle.tiff_dir.specs.Needs.{bytes_in}
 use Rattle.tiff_dir.specs.Packets.{Packs}
 use Rattle.cog_reader.specs.declared.unpacked.Tile.{Tile}
-use Rattle.cog_reader.specs.Unpacked.{KeptTile, IsTileOf}
+use Rattle.cog_reader.specs.Unpacked.{size_of_tile, size_of_tiles, KeptTile, IsStore, IsTileOf}
 
 pub all_promoted : (P : KeptTile → Type 0) (first : ℕ) (es : List KeptTile) → All P es → All P (promoted (nat_eq first) es)
 all_promoted P first es all = λ k d less.
@@ -46,3 +48,23 @@ pub kept_put : {A E : Type 0} (f : List ℕ) (old new : LruCache ℕ Tile) (firs
     → All (IsTileOf f) old.entries → IsTileOf f (first, tile) → All (IsTileOf f) new.entries
 kept_put f old new first tile (Ok x) put same all one = subst (λ (c : LruCache ℕ Tile). All (IsTileOf f) c.entries) (sym put) (all_put (IsTileOf f) old first tile all one)
 kept_put f old new first tile (Err e) put same all one = subst (λ (c : LruCache ℕ Tile). All (IsTileOf f) c.entries) (sym same) all
+
+-- ---- how many bytes they have
+
+pub store_promoted : (most size first : ℕ) (old new : LruCache ℕ Tile) → new ≡ lru_cache (promoted (nat_eq first) old.entries) old.cap → IsStore most size old → IsStore most size new
+store_promoted most size first old new is store =
+    subst (IsStore most size) (sym is) (record { few = store.few; alike = all_promoted (λ t. size_of_tile t ≡ size) first old.entries store.alike })
+
+pub store_put : {A E : Type 0} (most size : ℕ) (old new : LruCache ℕ Tile) (first : ℕ) (tile : Tile) (r : Result A E) → OnOk r (new ≡ lru_cache (put_entries nat_eq old first tile) old.cap) → OnErr r (new ≡ old)
+    → IsStore most size old → length tile.plain.items ≡ size → IsStore most size new
+store_put most size old new first tile (Ok x) put same store one =
+    subst (IsStore most size) (sym put) (record { few = store.few; alike = all_put (λ t. size_of_tile t ≡ size) old first tile store.alike one })
+store_put most size old new first tile (Err e) put same store one = subst (IsStore most size) (sym same) store
+
+-- no more than its most
+pub few_bytes : (most size : ℕ) (store : LruCache ℕ Tile) → IsStore most size store → length store.entries ≤ store.cap → size_of_tiles store.entries ≤ most
+few_bytes most size store is few =
+    let all = sum_by-le size_of_tile size store.entries (λ k d less. (let same = is.alike k d less in omega (arith, same))) in
+    let fits = mul-le-mul_right size few in
+    let room = is.few in
+    omega (arith, all, fits, room)

@@ -12,7 +12,7 @@ use Rattle.cog_reader.specs.declared.state.State.{State}
 use Rattle.cog_reader.specs.Kept.{IsKeptOf}
 use Rattle.cog_reader.specs.Reader.{come_by, outcome_in, steps_by, unread_by, wanted_by, AreOfOneLevel, IsState, StateAgrees}
 use Rattle.cog_reader.specs.Step.{IsBase}
-use Rattle.cog_reader.specs.Unpacked.{KeptTile, AreTilesOf}
+use Rattle.cog_reader.specs.Unpacked.{KeptTiles, AreTilesOf}
 
 -- the bytes lead a walk on, after which one range less is to come
 pub record AcceptsDirectoryRange (bytes : List ℕ) (old new : WalkState) : Type 0 where
@@ -32,7 +32,7 @@ AcceptsDirectories bytes old new (Some fault) =
 pub record Snapshot : Type 0 where
   pub walk : WalkState
   pub kept : Kept
-  pub tiles : List KeptTile
+  pub tiles : KeptTiles
   pub state : State
 
 -- the range that is wanted next, and all that are still to come
@@ -63,6 +63,7 @@ pub record Advances (complete : ℕ) (bytes : List ℕ) (old new : Snapshot) : T
   pub come : (f : List ℕ) (q : Query) → IsBase f complete old.walk old.kept → StateAgrees f q old.kept old.state
       → IsSomeAnd (wanted_in old) (λ r. come_in f q old ≡ r ∷ come_in f q new)
   pub held : (f : List ℕ) (q : Query) → IsBase f complete old.walk old.kept → StateAgrees f q old.kept old.state → KeepsHeld f q old new
+  pub most : new.tiles.most ≡ old.tiles.most
   pub steps : steps_by new.walk new.kept new.state < steps_by old.walk old.kept old.state
 
 -- the bytes tell a fault, which stands in the file for the query; the walk and the arrays are as they were
@@ -73,6 +74,7 @@ pub record TellsFault (complete : ℕ) (bytes : List ℕ) (old new : Snapshot) (
       → AreWantedBytes f old bytes → IsFaulty f q fault
   pub tiles : (f : List ℕ) (q : Query) → IsBase f complete old.walk old.kept → StateAgrees f q old.kept old.state
       → AreWantedBytes f old bytes → AreTilesOf f old.tiles → AreTilesOf f new.tiles
+  pub most : new.tiles.most ≡ old.tiles.most
 
 abbrev pub AcceptsRange : ℕ → List ℕ → Snapshot → Snapshot → Option FileFault → Type 0
 AcceptsRange complete bytes old new None = Advances complete bytes old new
@@ -88,4 +90,5 @@ pub record Gives (complete : ℕ) (bytes : List ℕ) (q : Query) (old new : Snap
       → (IsSome (outcome_in new.state) × (come_in f q new ≡ []))
       ⊎ IsSomeAnd (wanted_in old) (λ r. come_in f q old ≡ r ∷ come_in f q new)
   pub held : (f : List ℕ) → IsBase f complete old.walk old.kept → StateAgrees f q old.kept old.state → KeepsHeld f q old new
+  pub most : new.tiles.most ≡ old.tiles.most
   pub steps : steps_by new.walk new.kept new.state < steps_by old.walk old.kept old.state

@@ -26,14 +26,14 @@ use Rattle.cog_reader.specs.Fields.{present_in, IsReadOf}
 use Rattle.cog_reader.specs.Kept.{array_after, arrays_held, next_array, HasBoth, IsKeptOf, KeptAgrees}
 use Rattle.cog_reader.specs.Mosaic.{HasPlan, IsGroupLen, IsPlan, IsUnderway}
 use Rattle.cog_reader.specs.Outcome.{IsTrueOf}
-use Rattle.cog_reader.specs.Unpacked.{KeptTile, AreTilesOf}
+use Rattle.cog_reader.specs.Unpacked.{KeptTiles, AreTilesOf}
 
 -- the length of the file, the walk over its directories, the arrays and the tiles that are kept, and the query with what is done for it
 pub record ReaderState : Type 0 where
   pub complete : ℕ
   pub walk : WalkState
   pub kept : Kept
-  pub tiles : List KeptTile
+  pub tiles : KeptTiles
   pub pending : Option PendingQuery
 
 -- ---- what it wants
@@ -94,8 +94,8 @@ query_of r = option_map (λ (a : PendingQuery). a.query) r.pending
 unfoldable pub complete_of : ReaderState → ℕ
 complete_of r = r.complete
 
--- The tiles that are kept unpacked.
-unfoldable pub tiles_of : ReaderState → List KeptTile
+-- The tiles that are kept unpacked, and how many bytes they may have together.
+unfoldable pub tiles_of : ReaderState → KeptTiles
 tiles_of r = r.tiles
 
 -- All directories of the file are read.
@@ -216,11 +216,12 @@ KeepsHeld f old new =
     IfSome (query_of old) (λ asked. (q : Query) → AreOfOneLevel f asked q → IsEndOf (unread new f q) (unread old f q))
 
 -- The reader took these bytes for the range that is wanted: one range less is to come, or none, where they tell a fault. What is held of
--- the file stays, but for the arrays of another level than the query's.
+-- the file stays, but for the arrays of another level than the query's. The tiles that are kept may have as many bytes as before.
 pub record Takes (bytes : List ℕ) (old new : ReaderState) : Type 0 where
   pub agrees : (f : List ℕ) → ReaderAgrees old f → IsWantedOf f old bytes → ReaderAgrees new f
   pub come : (f : List ℕ) → ReaderAgrees old f → IsWantedOf f old bytes → AcceptsFirstRange f old new
   pub held : (f : List ℕ) → ReaderAgrees old f → KeepsHeld f old new
+  pub most : (tiles_of new).most ≡ (tiles_of old).most
   pub steps : steps_of new < steps_of old
   pub complete : complete_of new ≡ complete_of old
   pub query : query_of new ≡ query_of old

@@ -44,6 +44,7 @@ fn unpack_parts<B: Bytes>(
     ensures kept { (f : List ℕ) (n first : ℕ) → AreArraysOf f n arrays.now → AreBytesOf f first (B.bytes bytes.now)
         → Adjoin (tile_extent arrays.now) first tiles.now (first + length (B.bytes bytes.now)) → AreTilesOf f unpacked.old
         → AreTilesOf f unpacked.new }
+    ensures most { unpacked.new.most ≡ unpacked.old.most }
     ensures damaged { (f : List ℕ) (n first : ℕ) → AreArraysOf f n arrays.now → AreBytesOf f first (B.bytes bytes.now)
         → Adjoin (tile_extent arrays.now) first tiles.now (first + length (B.bytes bytes.now))
         → IfErr result (HasDamage f n arrays.now.level tiles.now) }
@@ -208,6 +209,7 @@ impl Mosaic {
             → AreTilesOf f unpacked.old → OnOk result (IsUnderway f q arrays.now self.new) }
         ensures kept { (f : List ℕ) (q : Query) → IsUnderway f q arrays.now self.old → IsWantedGroup f self.old bytes.now
             → AreTilesOf f unpacked.old → AreTilesOf f unpacked.new }
+        ensures most { unpacked.new.most ≡ unpacked.old.most }
         ensures damaged { (f : List ℕ) (q : Query) → IsUnderway f q arrays.now self.old → IsWantedGroup f self.old bytes.now
             → IfErr result (IsFaultOfWindow f q) }
     {
@@ -239,6 +241,7 @@ impl Mosaic {
             → AreTilesOf f unpacked.old → OnOk result (IsUnderway f q arrays.now self.new) }
         ensures kept { (f : List ℕ) (q : Query) → IsUnderway f q arrays.now self.old → IsWantedGroup f self.old (B.bytes bytes.now)
             → AreTilesOf f unpacked.old → AreTilesOf f unpacked.new }
+        ensures most { unpacked.new.most ≡ unpacked.old.most }
         ensures damaged { (f : List ℕ) (q : Query) → IsUnderway f q arrays.now self.old → IsWantedGroup f self.old (B.bytes bytes.now)
             → IfErr result (IsFaultOfWindow f q) }
     {

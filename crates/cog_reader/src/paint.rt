@@ -32,6 +32,7 @@ pub fn paint_packed<B: Bytes>(
         → AreTilesOf f unpacked.old → OnOk result (IsPaint tile (B.bytes bytes.now) canvas.old canvas.new) }
     ensures kept { (f : List ℕ) → B.bytes bytes.now ≡ bytes_in f (record { first = first; len = length (B.bytes bytes.now) })
         → AreTilesOf f unpacked.old → AreTilesOf f unpacked.new }
+    ensures most { unpacked.new.most ≡ unpacked.old.most }
     ensures plain { length plain.new.items ≡ length plain.old.items }
     ensures bad { IfErr result (IsBad (B.bytes bytes.now) canvas.old) }
     ensures level { canvas.new.level ≡ canvas.old.level }

@@ -33,13 +33,14 @@ impl Model for Reader {
 
 #[tactic(auto, unfolding(crate::specs::Reader::wanted, crate::specs::Reader::tiles_wanted, crate::specs::Reader::outcome_of, crate::specs::Reader::query_of, crate::specs::Reader::complete_of, crate::specs::Reader::to_come, crate::specs::Reader::unread, crate::specs::Reader::upcoming, crate::specs::Reader::steps_of, crate::specs::Reader::tiles_of, crate::specs::Reader::AreDirectoriesRead, crate::specs::Reader::ReaderAgrees))]
 impl Reader {
-    ghost use Rattle.std.specs.Prelude.{◌≡◌, ◌+◌, ◌≤◌, ℕ, List, None, Some, IfOk, IfSome, IsOk, IsSome, IsSomeAnd, MatchOption, OnErr, OnOk, length, slice_get, ◌⊎◌};
+    ghost use Rattle.std.specs.Prelude.{◌≡◌, ◌+◌, ◌≤◌, ℕ, List, [], None, Some, IfOk, IfSome, IsOk, IsSome, IsSomeAnd, MatchOption, OnErr, OnOk, length, slice_get, ◌⊎◌};
     ghost use Rattle.tiff_dir.specs.declared.level.Compression.TheVariants.{PackBits, Plain};
     ghost use Rattle.tiff_dir.specs.Described.{AreLevels};
     ghost use Rattle.tiff_dir.specs.Walk.{extent_of_span};
     ghost use Rattle.tiff_dir.specs.declared.query.Query.{Query};
     ghost use Rattle.cog_reader.specs.Outcome.{IsTrueOf};
     ghost use Rattle.cog_reader.specs.Reader.{complete_of, outcome_of, query_of, steps_of, tiles_of, tiles_wanted, to_come, unread, wanted, AreDirectoriesRead, ReaderAgrees, IsUpcoming, IsWanted, Takes, Wants};
+    ghost use Rattle.cog_reader.specs.Unpacked.{size_of_tiles};
 
     /// A reader of a file of `complete` bytes, of which nothing is known yet, and nothing asked. It takes no memory.
     ///
@@ -53,6 +54,7 @@ impl Reader {
     /// ```
     pub fn new(alloc: Global, complete: u64) -> Reader
         ensures agrees { (f : List ℕ) → length f ≡ complete → ReaderAgrees result f }
+        ensures tiles { tiles_of result ≡ record { most = 0; tiles = [] } }
         ensures complete { complete_of result ≡ complete }
         ensures query { query_of result ≡ None }
         ensures outcome { outcome_of result ≡ None }
@@ -64,6 +66,7 @@ impl Reader {
     /// there is no memory for a tile, that is unpacked again.
     pub fn keeping(alloc: Global, complete: u64, bytes: usize) -> Reader
         ensures agrees { (f : List ℕ) → length f ≡ complete → ReaderAgrees result f }
+        ensures tiles { tiles_of result ≡ record { most = bytes; tiles = [] } }
         ensures complete { complete_of result ≡ complete }
         ensures query { query_of result ≡ None }
         ensures outcome { outcome_of result ≡ None }
@@ -76,6 +79,13 @@ impl Reader {
             unpacked: Unpacked::new(alloc, bytes),
             pending: None,
         }
+    }
+
+    /// The tiles that are kept have no more bytes together than they may. It does nothing: its contract is the law.
+    pub fn no_more_is_kept(&self)
+        ensures { size_of_tiles (tiles_of self.now).tiles ≤ (tiles_of self.now).most }
+    {
+        self.unpacked.no_more_is_kept();
     }
 
     /// Asks a query, in the place of the one before, whose state goes. It takes no memory.

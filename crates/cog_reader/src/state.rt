@@ -212,7 +212,7 @@ impl PendingQuery {
     ghost use Rattle.tiff_dir.specs.declared.level.Compression.TheVariants.{PackBits, Plain};
     ghost use Rattle.std.specs.Prelude.{List};
     ghost use Rattle.tiff_dir.specs.WalkState.{WalkState};
-    ghost use Rattle.cog_reader.specs.Unpacked.{KeptTile};
+    ghost use Rattle.cog_reader.specs.Unpacked.{KeptTiles};
 
     /// How the tiles are stored that are wanted, none where no tiles are.
     pub fn tiles_wanted(&self, kept: &Kept) -> Option<Compression>
@@ -231,7 +231,7 @@ impl PendingQuery {
     pub fn paint<B: Bytes>(&mut self, kept: &Kept, bytes: &B)
         requires { AreTiles Plain kept.now self.old.state (length (B.bytes bytes.now)) }
         ensures query { self.new.query ≡ self.old.query }
-        ensures gives { (complete : ℕ) (w : WalkState) (tiles : List KeptTile) → IsKeptOf w kept.now
+        ensures gives { (complete : ℕ) (w : WalkState) (tiles : KeptTiles) → IsKeptOf w kept.now
             → IsState complete w kept.now self.old.state → Gives complete (B.bytes bytes.now) self.old.query
             (record { walk = w; kept = kept.now; tiles = tiles; state = self.old.state })
             (record { walk = w; kept = kept.now; tiles = tiles; state = self.new.state }) }

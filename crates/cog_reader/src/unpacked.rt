@@ -3,7 +3,7 @@ ghost use Rattle.std.specs.Prelude.{◌≡◌, ℕ, List, IfOk, length};
 ghost use Rattle.std.specs.List.{All};
 ghost use Rattle.tiff_dir.specs.Needs.{bytes_in};
 ghost use Rattle.tiff_dir.specs.Packets.{Packs};
-ghost use Rattle.cog_reader.specs.Unpacked.{IsTileOf};
+ghost use Rattle.cog_reader.specs.Unpacked.{IsStore, IsTileOf};
 
 use lru::LruCache;
 use std::alloc::Global;
@@ -38,6 +38,7 @@ impl Tile {
 fn room_for(tiles: &mut LruCache<u32, Tile>, alloc: Global, size: usize) -> Result<Vec<u8>, Memory>
     ensures size { IfOk result (λ room. length room.items ≡ size) }
     ensures of { (f : List ℕ) → All (IsTileOf f) tiles.old.entries → All (IsTileOf f) tiles.new.entries }
+    ensures store { (most each : ℕ) → IsStore most each tiles.old → IsStore most each tiles.new }
 {
     if tiles.len() >= tiles.cap().get() {
         if let Some((_, tile)) = tiles.pop_lru() {
@@ -60,6 +61,7 @@ fn put(
 )
     ensures of { (f : List ℕ) → All (IsTileOf f) tiles.old.entries → Packs row (bytes_in f (record { first = first; len = len })) plain.old.items
         → All (IsTileOf f) tiles.new.entries }
+    ensures store { (most : ℕ) → IsStore most (length plain.old.items) tiles.old → IsStore most (length plain.old.items) tiles.new }
     ensures size { length plain.new.items ≡ length plain.old.items }
 {
     let Ok(room) = room_for(tiles, alloc, plain.len()) else {
@@ -85,24 +87,26 @@ pub struct Unpacked {
 }
 
 impl Model for Unpacked {
-    ghost use Rattle.std.specs.Prelude.{List};
-    ghost use Rattle.cog_reader.specs.Unpacked.{KeptTile, tiles_in};
+    ghost use Rattle.std.specs.Prelude.{IfSome};
+    ghost use Rattle.cog_reader.specs.Unpacked.{tiles_in, IsStore, KeptTiles};
 
-    ghost Value = { List KeptTile };
+    ghost Value = { KeptTiles };
 
-    ghost view = { λ u. tiles_in u.tiles };
+    ghost view = { λ u. record { most = u.most; tiles = tiles_in u.tiles } };
+
+    ghost invariant = { λ u. IfSome u.tiles (IsStore u.most u.size) };
 }
 
 #[tactic(auto, unfolding(crate::specs::Unpacked::AreTilesOf))]
 impl Unpacked {
-    ghost use Rattle.std.specs.Prelude.{◌≡◌, ℕ, List, [], IfOk, IfSome, length};
+    ghost use Rattle.std.specs.Prelude.{◌≡◌, ◌≤◌, ℕ, List, [], IfOk, IfSome, length};
     ghost use Rattle.tiff_dir.specs.Needs.{bytes_in};
     ghost use Rattle.tiff_dir.specs.Packets.{Packs};
-    ghost use Rattle.cog_reader.specs.Unpacked.{AreTilesOf};
+    ghost use Rattle.cog_reader.specs.Unpacked.{size_of_tiles, AreTilesOf};
 
     /// None yet, of at most so many bytes in all. It takes no memory.
     pub fn new(alloc: Global, most: usize) -> Unpacked
-        ensures none { result ≡ [] }
+        ensures none { result ≡ record { most = most; tiles = [] } }
         ensures of { (f : List ℕ) → AreTilesOf f result }
     {
         Unpacked {
@@ -111,6 +115,16 @@ impl Unpacked {
             size: 0,
             tiles: None,
             room: Vec::new(alloc),
+        }
+    }
+
+    /// The tiles that are kept have no more bytes together than they may. It does nothing: its contract is the law.
+    pub fn no_more_is_kept(&self)
+        ensures { size_of_tiles self.now.tiles ≤ self.now.most }
+    {
+        if let Some(tiles) = &self.tiles {
+            // The length is read for its bound alone.
+            let _len = tiles.len();
         }
     }
 
@@ -136,7 +150,8 @@ impl Unpacked {
 
     /// Notes that the tile at this place is used.
     pub fn promote(&mut self, first: u32)
-        ensures { (f : List ℕ) → AreTilesOf f self.old → AreTilesOf f self.new }
+        ensures of { (f : List ℕ) → AreTilesOf f self.old → AreTilesOf f self.new }
+        ensures most { self.new.most ≡ self.old.most }
     {
         if let Some(tiles) = &mut self.tiles {
             tiles.promote(&first);
@@ -156,29 +171,34 @@ impl Unpacked {
 
     /// Keeps what the packed bytes of the tile at this place stand for, which are so many, in the place of the tile that was used longest
     /// ago where no more may be kept. Its room is taken, and other room of that size stands in its place. It isn't kept where no memory is
-    /// left.
+    /// left, or where not one of its size may be kept.
     pub fn keep(&mut self, first: u32, len: usize, row: usize, plain: &mut Vec<u8>)
         ensures of { (f : List ℕ) → AreTilesOf f self.old → Packs row (bytes_in f (record { first = first; len = len })) plain.old.items
             → AreTilesOf f self.new }
+        ensures most { self.new.most ≡ self.old.most }
         ensures size { length plain.new.items ≡ length plain.old.items }
     {
         self.fit(plain.len());
+        if self.size != plain.len() {
+            return;
+        }
         if let Some(tiles) = &mut self.tiles {
             put(tiles, self.alloc, first, len, row, plain);
         }
     }
 
-    /// May keep tiles of this size, in the place of those of another one, where one at least may be kept and there is memory.
+    /// May keep tiles of this size, in the place of those of another one, where there is memory. Where not one may be kept, those of
+    /// another size stay.
     fn fit(&mut self, size: usize)
-        ensures { (f : List ℕ) → AreTilesOf f self.old → AreTilesOf f self.new }
+        ensures of { (f : List ℕ) → AreTilesOf f self.old → AreTilesOf f self.new }
+        ensures most { self.new.most ≡ self.old.most }
     {
         if self.size == size && self.tiles.is_some() {
             return;
         }
-        self.size = size;
-        self.tiles = match NonZeroUsize::new(self.most.checked_div(size).unwrap_or(0)) {
-            Some(most) => LruCache::sparse(self.alloc, most).ok(),
-            None => None,
-        };
+        if let Some(count) = NonZeroUsize::new(self.most.checked_div(size).unwrap_or(0)) {
+            self.size = size;
+            self.tiles = LruCache::sparse(self.alloc, count).ok();
+        }
     }
 }

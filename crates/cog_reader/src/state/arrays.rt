@@ -8,7 +8,7 @@ ghost use Rattle.cog_reader.specs.Give.{Advances};
 ghost use Rattle.cog_reader.specs.Kept.{IsKeptOf};
 ghost use Rattle.cog_reader.specs.Reader.{wanted_by, IsState};
 ghost use Rattle.cog_reader.specs.Step.{ComesLater, IsStep};
-ghost use Rattle.cog_reader.specs.Unpacked.{KeptTile};
+ghost use Rattle.cog_reader.specs.Unpacked.{KeptTiles};
 
 use crate::Outcome;
 use crate::kept::{Kept, NextArray};
@@ -74,7 +74,7 @@ pub fn accept(
     requires state { IsState 0 walk.now kept.old (state.Arrays rect) }
     requires kept { IsKeptOf walk.now kept.old }
     requires wanted { IsSomeAnd (wanted_by walk.now kept.old (state.Arrays rect)) (λ r. length bytes.now ≡ r.len) }
-    ensures on { OnOk result ((complete : ℕ) (tiles : List KeptTile) → Advances complete bytes.now
+    ensures on { OnOk result ((complete : ℕ) (tiles : KeptTiles) → Advances complete bytes.now
         (record { walk = walk.now; kept = kept.old; tiles = tiles; state = state.Arrays rect })
         (record { walk = walk.now; kept = kept.new; tiles = tiles; state = state.Arrays rect })) }
     ensures err { OnErr result (kept.new ≡ kept.old) }

@@ -11,7 +11,7 @@ ghost use Rattle.cog_reader.specs.Give.{AcceptsRange, Advances};
 ghost use Rattle.cog_reader.specs.Kept.{HasBoth, IsKeptOf};
 ghost use Rattle.cog_reader.specs.Mosaic.{HasPlan, IsGroupLen, IsPlan};
 ghost use Rattle.cog_reader.specs.Step.{ComesLater, IsStep};
-ghost use Rattle.cog_reader.specs.Unpacked.{KeptTile};
+ghost use Rattle.cog_reader.specs.Unpacked.{KeptTiles};
 
 use crate::Outcome;
 use crate::arrays::Arrays;
@@ -65,7 +65,7 @@ pub fn accept(
 pub fn paint<B: Bytes>(kept: &Kept, mosaic: &mut Mosaic, bytes: &B)
     requires plan { HasBoth kept.now (λ a. (a.level.compression ≡ Plain) × HasPlan a mosaic.old) }
     requires wanted { IsGroupLen mosaic.old (length (B.bytes bytes.now)) }
-    ensures { (complete : ℕ) (w : WalkState) (tiles : List KeptTile) → HasEnded w → HasBoth kept.now (λ a. IsPlan complete a mosaic.old)
+    ensures { (complete : ℕ) (w : WalkState) (tiles : KeptTiles) → HasEnded w → HasBoth kept.now (λ a. IsPlan complete a mosaic.old)
         → IsKeptOf w kept.now → Advances complete (B.bytes bytes.now)
         (record { walk = w; kept = kept.now; tiles = tiles; state = state.Tiles mosaic.old })
         (record { walk = w; kept = kept.now; tiles = tiles; state = state.Tiles mosaic.new }) }

@@ -40,6 +40,7 @@ loop-tile-preserved g c =
       size = c.paint_packed.ensures.size ∙ c.loop-tile.invariant.size;
       room = c.paint_packed.auto.room ∙ c.loop-tile.invariant.room;
       plain = c.paint_packed.ensures.plain ∙ c.loop-tile.invariant.plain;
+      most = c.paint_packed.ensures.most ∙ c.loop-tile.invariant.most;
       kept = λ f n first arrays bytes_of adjoin tiles.
           c.paint_packed.ensures.kept f
           (tile_bytes f first at c.place_of-first.result.0 len c.new.result.first c.new.result.len (tile_extent a) ts i bytes (g.B.Bytes.bytes c.new.result.of.now) bytes_of.are (c.loop-tile.invariant.rest first adjoin) less

@@ -19,4 +19,5 @@ invariant-loop-tile g l = record {
       → AreTilesOf f l.fn.unpacked → All (IsPainted f n l.fn.canvas) done → All (IsPainted f n l.canvas) (done ++ take l.tile-index l.tiles);
   kept : (f : List ℕ) (n first : ℕ) → AreArraysOf f n l.arrays → AreBytesOf f first (g.B.Bytes.bytes l.bytes) → Adjoin (tile_extent l.arrays) first l.tiles (first + length (g.B.Bytes.bytes l.bytes))
       → AreTilesOf f l.fn.unpacked → AreTilesOf f l.unpacked;
+  most : l.unpacked.most ≡ l.fn.unpacked.most;
 }

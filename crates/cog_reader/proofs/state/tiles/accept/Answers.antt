@@ -10,8 +10,8 @@ pub returns-in-Ok : goal.returns-in-Ok
 returns-in-Ok c complete w ended plan keeps =
     let old = both_at c.args.kept.now c.both.ensures.0 c.both.result.now (λ a. IsPlan complete a c.args.mosaic.now) c.both.ensures.1 plan in
     accepts_group complete c.args.bytes.now w c.args.kept.now c.args.unpacked.now c.give.new.unpacked c.both.ensures.0 c.both.result.now c.args.mosaic.now c.give.new.self ended keeps c.both.ensures.1 (c.in-Ok.ensures.plan complete old) c.in-Ok.ensures.given.0 c.in-Ok.ensures.given.1
-    c.requires.wanted (λ f q u next of. (c.in-Ok.ensures.underway f q u next of, c.give.ensures.kept f q u next of))
+    c.requires.wanted c.give.ensures.most (λ f q u next of. (c.in-Ok.ensures.underway f q u next of, c.give.ensures.kept f q u next of))
 
 pub returns-in-Err : goal.returns-in-Err
 returns-in-Err c complete w ended plan keeps =
-    tells_group complete c.args.bytes.now w c.args.kept.now c.args.unpacked.now c.give.new.unpacked c.both.ensures.0 c.both.result.now c.args.mosaic.now c.give.new.self c.in-Err.fault c.both.ensures.1 (λ f q u next. c.in-Err.ensures.damaged f q u next) (λ f q u next of. c.give.ensures.kept f q u next of)
+    tells_group complete c.args.bytes.now w c.args.kept.now c.args.unpacked.now c.give.new.unpacked c.both.ensures.0 c.both.result.now c.args.mosaic.now c.give.new.self c.in-Err.fault c.both.ensures.1 (λ f q u next. c.in-Err.ensures.damaged f q u next) (λ f q u next of. c.give.ensures.kept f q u next of) c.give.ensures.most

@@ -1,4 +1,4 @@
-use Rattle.std.proofs.Common.{◌≡◌}
+use Rattle.std.proofs.Common.{◌≡◌, refl}
 use Rattle.tiff_dir.specs.declared.level.Compression.TheVariants.{Plain}
 use Rattle.cog_reader.specs.Mosaic.{HasPlan, IsPlan}
 use Rattle.cog_reader.proofs.StepLemmas.{both_at}
@@ -17,4 +17,4 @@ pub returns : goal.returns
 returns g c complete w tiles ended plan keeps =
     let old = both_at c.args.kept.now c.both.ensures.0 c.both.result.now (λ a. IsPlan complete a c.args.mosaic.now) c.both.ensures.1 plan in
     accepts_group complete (g.B.Bytes.bytes c.args.bytes.now) w c.args.kept.now tiles tiles c.both.ensures.0 c.both.result.now c.args.mosaic.now c.paint.new.self ended keeps c.both.ensures.1 (c.paint.ensures.plan complete old) c.paint.ensures.given.0 c.paint.ensures.given.1
-    c.requires.wanted (λ f q u next of. (c.paint.ensures.underway f q u next, of))
+    c.requires.wanted refl (λ f q u next of. (c.paint.ensures.underway f q u next, of))
