@@ -65,7 +65,7 @@ fn round<R: Files + Clock + Print + Eprint + AllocGlobal>(
     files: &mut [Watched<'_>],
     serving: &mut Serving,
 ) -> Result<(), ServeError<'static>>
-    // Who has a place had it, and went on from there by its own bytes, and by answers from what was published before, or starts now.
+    // Who has a place had it, and went on from there by events of its own, each answer from what was published before, or starts now.
     ensures went { (now : ℕ) × AllWentOnOrStart server.old.catalogue now (places_of serving.old) (places_of serving.new) }
     ensures others { KeepsOthersThan (names files.old) server.old server.new }
     ensures names { names files.new ≡ names files.old }

@@ -29,11 +29,11 @@ pub record WentOn (catalogue : Catalogue) (now : ℕ) (old new : Timed) : Type 0
   pub connection : new.connection ≡ (run events (since old.connection)).status
   pub progress : new.progress ≡ (if list_any is_progress events then now else old.progress)
 
--- who has a place had it, and went on from there by its own bytes, and by answers from this catalogue
+-- who has a place had it, and went on from there by events of its own, each answer from this catalogue
 pub record AllWentOn (catalogue : Catalogue) (now : ℕ) (old new : Table) : Type 0 where
   pub each : (k : ℕ) (p : Timed) → timed_at k new ≡ Some p → IsSomeAnd (timed_at k old) (λ before. WentOn catalogue now before p)
 
--- or it starts at this moment
+-- who has a place went on so, or starts at this moment
 pub record AllWentOnOrStart (catalogue : Catalogue) (now : ℕ) (old new : Table) : Type 0 where
   pub each : (k : ℕ) (p : Timed) → timed_at k new ≡ Some p
       → IsSomeAnd (timed_at k old) (λ before. WentOn catalogue now before p) ⊎ HasStartedAt k now new

@@ -161,7 +161,7 @@ impl Serving {
     #[tactic(auto, using(crate::proofs::HeldLemmas::nobody_yet, crate::proofs::GoingLemmas::all_on, crate::proofs::HeldLemmas::went_still))]
     pub fn turns<A: Audience>(&mut self, server: &Server, now: u64, audience: &mut A)
         ensures nobody { NobodyComes self.old self.new }
-        // Who has a place had it, and went on from there by its own bytes, and by answers from this catalogue.
+        // Who has a place had it, and went on from there by events of its own, each answer from this catalogue.
         ensures went { AllWentOn server.now.catalogue now (places_of self.old) (places_of self.new) }
         // No drain is left first in its queue whose moment has come.
         ensures over { IfSome (slice_get self.new.drains.items 0) (λ drain. now < drain.ends) }

@@ -158,7 +158,7 @@ pub fn serve_turn<A: Audience>(
 #[tactic(auto, using(crate::proofs::TurnLemmas::keeps_on, crate::proofs::GoingLemmas::all_still))]
 pub fn drain_turn(connections: &mut Connections, socket: &Socket, buffer: &mut [u8]) -> Turn
     ensures kept { KeepsPlaces socket.now.number connections.old connections.new }
-    // No message is answered, from whatever catalogue.
+    // Nothing is answered, from whatever catalogue.
     ensures went { (catalogue : Catalogue) (now : ℕ) → AllWentOn catalogue now connections.old.table.entries connections.new.table.entries }
     ensures ended { result ≡ Ended → IsDrainedAt socket.now.number connections.new.table.entries }
 {
