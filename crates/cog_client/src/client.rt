@@ -311,7 +311,6 @@ impl Client {
             &mut source.reader,
             &mut self.cache,
             &mut self.buffer,
-            source.complete,
             self.how.ahead,
         )?;
         match missing {
