@@ -145,7 +145,7 @@ impl Reader {
         self.complete
     }
 
-    /// The range that is wanted next, as far as it is known and ends in the file: `need` may go on to another one. It takes no memory.
+    /// The range that is wanted next, as far as it is known before `need` goes on, and ends in the file. It takes no memory.
     pub fn wanted(&self) -> Option<Span>
         ensures known { IsNext self.now result }
         // It is the first of the ranges that are still to come.

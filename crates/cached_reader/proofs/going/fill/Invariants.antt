@@ -1,4 +1,4 @@
-use Rattle.std.proofs.Common.{◌≡◌, ◌≤◌, length}
+use Rattle.std.proofs.Common.{◌≤◌, length}
 use Rattle.std.specs.Prelude.{max}
 use Rattle.tiff_dir.specs.declared.limits.TheConstants.{MAX_RANGE_BYTES}
 use Rattle.cog_reader.specs.Reader.{steps_of}
