@@ -14,7 +14,7 @@ use Rattle.lru.proofs.CallerLemmas.{Contains-promoted, Contains-put_entries, IsP
 use Rattle.tiff_dir.specs.Needs.{bytes_in}
 use Rattle.tiff_dir.specs.Packets.{Packs}
 use Rattle.cog_reader.specs.declared.unpacked.Tile.{Tile}
-use Rattle.cog_reader.specs.Unpacked.{size_of_tile, size_of_tiles, tiles_in, KeptTile, IsStore, IsTileOf}
+use Rattle.cog_reader.specs.Unpacked.{size_of_tile, size_of_tiles, KeptTile, IsStore, IsTileOf}
 
 pub all_promoted : (P : KeptTile → Type 0) (first : ℕ) (es : List KeptTile) → All P es → All P (promoted (nat_eq first) es)
 all_promoted P first es all = λ k d less.

@@ -224,7 +224,7 @@ KeepsHeld f old new =
     IfSome (query_of old) (λ asked. (q : Query) → AreOfOneLevel f asked q → IsEndOf (unread new f q) (unread old f q))
 
 -- The reader took these bytes for the range that is wanted: one range less is to come, or none, where they tell a fault. What is held of
--- the file stays, but for the arrays of another level than the query's.
+-- the file stays, but for the arrays of another level than the query's. The tiles that are kept may have as many bytes as before.
 pub record Takes (bytes : List ℕ) (old new : ReaderState) : Type 0 where
   pub agrees : (f : List ℕ) → ReaderAgrees old f → IsWantedOf f old bytes → ReaderAgrees new f
   pub come : (f : List ℕ) → ReaderAgrees old f → IsWantedOf f old bytes → AcceptsFirstRange f old new
