@@ -8,11 +8,10 @@ use Rattle.std.proofs.lemmas.List.Elements.{All-push}
 use Rattle.std.proofs.lemmas.List.Quantifiers.{all_pairs_push}
 use Rattle.tiff_dir.specs.declared.span.Span.{Span}
 use Rattle.cached_reader.specs.Early.{AreApart, BeginsIn, IsSeenTo, LeavesNothing}
-use Rattle.cached_reader.specs.Going.{CachedReader, Touches}
+use Rattle.cached_reader.specs.Going.{CachedReader, known_at, Touches}
 use Rattle.cached_reader.proofs.AheadLemmas.{touched}
 use Rattle.tiff_dir.specs.Needs.{Extent}
 use Rattle.tiff_dir.specs.Walk.{extent_of_span}
-use Rattle.cog_reader.specs.Reader.{upcoming}
 
 -- all of them end before a position
 abbrev pub AreBefore : ℕ → List Span → Type 0
@@ -41,17 +40,17 @@ same_value : (a b : Extent) → Some a ≡ Some b → a ≡ b
 same_value a b same = ap (λ (o : Option Extent). unwrap_or o a) same
 
 -- the blocks of the range that is wanted at a place
-pub place_blocks : (w : CachedReader) (i place : ℕ) (r : Extent) (range : Span) (k : ℕ) → i ≡ place → upcoming w.reader place ≡ Some (extent_of_span range)
-    → upcoming w.reader i ≡ Some r → Touches r k → (range.first / 16384 ≤ k) × (k < range.last / 16384 + 1)
+pub place_blocks : (w : CachedReader) (i place : ℕ) (r : Extent) (range : Span) (k : ℕ) → i ≡ place → known_at w.reader place ≡ Some (extent_of_span range)
+    → known_at w.reader i ≡ Some r → Touches r k → (range.first / 16384 ≤ k) × (k < range.last / 16384 + 1)
 place_blocks w i place r range k same known is touches =
-    let one : Some r ≡ Some (extent_of_span range) = sym is ∙ ap (upcoming w.reader) same ∙ known in
+    let one : Some r ≡ Some (extent_of_span range) = sym is ∙ ap (known_at w.reader) same ∙ known in
     let t = subst (λ x. Touches x k) (same_value r (extent_of_span range) one) touches in
     (t.0, omega (arith, t.0, t.1, touched range, range.ascending))
 
 -- all blocks of the ranges before a place are seen to, and those from one number up to another
 abbrev pub ArePassedBy : CachedReader → Span → List Span → ℕ → Type 0
 ArePassedBy w asked spans index =
-    (i : ℕ) (r : Extent) (k : ℕ) → i < index → upcoming w.reader i ≡ Some r → Touches r k → asked.last < k * 16384 → IsSeenTo w spans k
+    (i : ℕ) (r : Extent) (k : ℕ) → i < index → known_at w.reader i ≡ Some r → Touches r k → asked.last < k * 16384 → IsSeenTo w spans k
 
 abbrev pub AreSeenTo : CachedReader → Span → List Span → ℕ → ℕ → Type 0
 AreSeenTo w asked spans least to = (k : ℕ) → least ≤ k → k < to → asked.last < k * 16384 → IsSeenTo w spans k
@@ -67,7 +66,7 @@ last_leaves w asked span spans index least from to (r, known, first, touches) at
     | inl old ↦ passed i x k old is t behind
     | inr more ↦
         let place : i ≡ index = omega (arith, le, more) in
-        let same : x ≡ r = same_value x r (sym is ∙ ap (upcoming w.reader) place ∙ known) in
+        let same : x ≡ r = same_value x r (sym is ∙ ap (known_at w.reader) place ∙ known) in
         let low = (subst (λ y. Touches y k) same t).0 in
         seen k (omega (arith, low, first)) (omega (arith, before, at, some)) behind
   ];

@@ -7,9 +7,9 @@ use Rattle.tiff_dir.specs.Needs.{Extent}
 use Rattle.tiff_dir.specs.Block.{end_of, first_block, blocks}
 use Rattle.range_cache.specs.Cache.{Blocks, numbers}
 use Rattle.range_cache.specs.Numbers.{has, missing as absent}
-use Rattle.cog_reader.specs.Reader.{ReaderAgrees, complete_of, to_come, upcoming}
+use Rattle.cog_reader.specs.Reader.{ReaderAgrees, complete_of, to_come}
 use Rattle.cached_reader.specs.declared.ahead.TheConstants.{MAX_BLOCKS}
-use Rattle.cached_reader.specs.Going.{CachedReader, IsWantedLater, OneTouches, Touches}
+use Rattle.cached_reader.specs.Going.{CachedReader, known_at, IsWantedFromNow, OneTouches, Touches}
 
 -- The blocks from one number up to another begin in a range, with blocks of it that aren't there, and go on behind these by at most so
 -- many more. They have room beside the blocks of the range that are there then: all before them, and those of the others that are there.
@@ -24,19 +24,19 @@ pub record IsRunIn (b : Blocks) (r : Extent) (ahead from to : ℕ) : Type 0 wher
   pub room : blocks r.first r.len - absent (numbers b.entries) from (first_block r.first + blocks r.first r.len - from) + (to - from) ≤ b.capacity
 
 -- The blocks from one number up to another begin in the file, and are 65 at most. None of them is there. Each touches a range that the
--- reader wants later, as far as it knows it, and one that is still to come, of whatever file is read (the present range counts among
--- these). They begin in a range that it wants later, and go on behind that one's first missing blocks among them by at most so many.
+-- reader wants from now on, as far as it knows it, and one that is still to come, of whatever file is read. They begin in a range that it
+-- wants from now on, and go on behind that one's first missing blocks among them by at most so many.
 pub record AreNeededLater (w : CachedReader) (ahead from to : ℕ) : Type 0 where
   pub some : from < to
   pub few : to ≤ from + MAX_BLOCKS
   pub inside : to * BLOCK_SIZE < complete_of w.reader + BLOCK_SIZE
   pub gone : (k : ℕ) → from ≤ k → k < to → has k (numbers w.cache.entries) ≡ false
   pub needed : (f : List ℕ) → ReaderAgrees w.reader f → (k : ℕ) → from ≤ k → k < to → OneTouches (to_come w.reader f) k
-  pub wanted : (k : ℕ) → from ≤ k → k < to → IsWantedLater w.reader k
+  pub wanted : (k : ℕ) → from ≤ k → k < to → IsWantedFromNow w.reader k
   pub range : Extent
   pub index : ℕ
-  pub known : upcoming w.reader index ≡ Some range
-  pub comes : (f : List ℕ) → ReaderAgrees w.reader f → slice_get (to_come w.reader f) (index + 1) ≡ Some range
+  pub known : known_at w.reader index ≡ Some range
+  pub comes : (f : List ℕ) → ReaderAgrees w.reader f → slice_get (to_come w.reader f) index ≡ Some range
   pub run : IsRunIn w.cache range ahead from to
 
 -- The span is of such blocks, behind what is asked for now.
@@ -53,23 +53,23 @@ abbrev pub IsSeenTo : CachedReader → List Span → ℕ → Type 0
 IsSeenTo w spans k =
     (has k (numbers w.cache.entries) ≡ true) ⊎ Any (λ (s : Span). (s.first ≤ k * BLOCK_SIZE) × (k * BLOCK_SIZE ≤ s.last)) spans
 
--- The span begins in a range that the reader wants later. Of that one and those that it wants before, as far as it knows them, nothing is
--- left out: each of their blocks behind what is asked for now and before the span is there, or in one of these spans.
+-- The span begins in a range that the reader wants from now on. Of that one and those that it wants before, as far as it knows them,
+-- nothing is left out: each of their blocks behind what is asked for now and before the span is there, or in one of these spans.
 pub record LeavesNothing (w : CachedReader) (asked : Span) (spans : List Span) (span : Span) : Type 0 where
   pub index : ℕ
   pub range : Extent
-  pub known : upcoming w.reader index ≡ Some range
+  pub known : known_at w.reader index ≡ Some range
   pub begins : Touches range (span.first / BLOCK_SIZE)
-  pub before : (i : ℕ) (r : Extent) (k : ℕ) → i ≤ index → upcoming w.reader i ≡ Some r → Touches r k → asked.last < k * BLOCK_SIZE → k * BLOCK_SIZE < span.first → IsSeenTo w spans k
+  pub before : (i : ℕ) (r : Extent) (k : ℕ) → i ≤ index → known_at w.reader i ≡ Some r → Touches r k → asked.last < k * BLOCK_SIZE → k * BLOCK_SIZE < span.first → IsSeenTo w spans k
 
 -- The ranges that the reader wants from one place up to another have no block before one number, and no missing one from another on.
 abbrev pub ArePassed : CachedReader → ℕ → ℕ → ℕ → ℕ → Type 0
 ArePassed w place next least to =
-    (i : ℕ) (r : Extent) (k : ℕ) → place ≤ i → i < next → upcoming w.reader i ≡ Some r → Touches r k → (least ≤ k) × (to ≤ k → has k (numbers w.cache.entries) ≡ true)
+    (i : ℕ) (r : Extent) (k : ℕ) → place ≤ i → i < next → known_at w.reader i ≡ Some r → Touches r k → (least ≤ k) × (to ≤ k → has k (numbers w.cache.entries) ≡ true)
 
 -- the range at a place begins in one block, and touches another one
 abbrev pub BeginsIn : CachedReader → ℕ → ℕ → ℕ → Type 0
-BeginsIn w place first k = (r : Extent) × (upcoming w.reader place ≡ Some r) × (first_block r.first ≡ first) × Touches r k
+BeginsIn w place first k = (r : Extent) × (known_at w.reader place ≡ Some r) × (first_block r.first ≡ first) × Touches r k
 
 -- Each span lies behind all those before it.
 abbrev pub AreApart : List Span → Type 0

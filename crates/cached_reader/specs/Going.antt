@@ -1,6 +1,6 @@
 -- Going on: the reader is given what the cache has, and what is missing then.
 use Rattle.cached_reader.specs.declared.ahead.TheConstants.{MAX_BLOCKS}
-use Rattle.std.specs.Prelude.{◌≡◌, ℕ, ◌+◌, ◌-◌, ◌*◌, ◌<◌, ◌≤◌, false, List, Option, Some, None, IsSome, IsSomeAnd, ◌⊎◌, slice_get}
+use Rattle.std.specs.Prelude.{◌≡◌, ℕ, zero, suc, ◌+◌, ◌-◌, ◌*◌, ◌<◌, ◌≤◌, false, List, Option, Some, None, IsSome, IsSomeAnd, ◌⊎◌, slice_get}
 use Rattle.tiff_dir.specs.declared.query.Query.{Query}
 use Rattle.tiff_dir.specs.declared.span.Span.{Span}
 use Rattle.tiff_dir.specs.declared.limits.TheConstants.{BLOCK_SIZE, MAX_RANGE_BYTES}
@@ -54,6 +54,15 @@ OneTouches rs k = (place : ℕ) × IsSomeAnd (slice_get rs place) (λ r. Touches
 -- each block that begins in the span is touched by one of these ranges
 abbrev pub AreTouched : List Extent → Span → Type 0
 AreTouched rs s = (k : ℕ) → s.first ≤ k * BLOCK_SIZE → k * BLOCK_SIZE ≤ s.last → OneTouches rs k
+
+-- the ranges that the reader wants from now on, as far as it knows them, the next one first
+abbrev pub known_at : ReaderState → ℕ → Option Extent
+known_at r zero = wanted r
+known_at r (suc index) = upcoming r index
+
+-- a range that the reader wants from now on, as far as it knows it, touches block k
+abbrev pub IsWantedFromNow : ReaderState → ℕ → Type 0
+IsWantedFromNow r k = (index : ℕ) × IsSomeAnd (known_at r index) (λ x. Touches x k)
 
 -- a range that the reader wants later, as far as it knows it, touches block k
 abbrev pub IsWantedLater : ReaderState → ℕ → Type 0

@@ -73,19 +73,11 @@ pub(crate) fn span_of_blocks(from: u64, to: u64, complete: u64) -> Span
 }
 
 /// What to ask for: the first unbroken run of missing blocks of the range that is needed next, `missing`, and behind it at most `ahead`
-/// blocks that are needed later. All have room beside the blocks of the range that are there. `complete` is the length of the file.
-pub fn extend(
-    reader: &Reader,
-    cache: &Cache,
-    complete: u64,
-    range: Span,
-    missing: Span,
-    ahead: u32,
-) -> Span
+/// blocks that are needed later. All have room beside the blocks of the range that are there.
+pub fn extend(reader: &Reader, cache: &Cache, range: Span, missing: Span, ahead: u32) -> Span
     requires missing { IsMissingWithRoom cache.now (complete_of reader.now) (extent_of_span range) 0 missing }
     requires wanted { wanted reader.now ≡ Some (extent_of_span range) }
     requires next { (f : List ℕ) → ReaderAgrees reader.now f → slice_get (to_come reader.now f) 0 ≡ Some (extent_of_span range) }
-    requires complete { complete_of reader.now ≡ complete }
     ensures { IsStopped (work reader.now cache.now) ahead result }
 {
     missing_is_exact();
@@ -95,5 +87,5 @@ pub fn extend(
     let room = u64::from(cache.capacity()) - present;
     let limit = (from + room.min(MAX_BLOCKS)).min(end + u64::from(ahead));
     let end = reach(reader, cache, end, limit);
-    span_of_blocks(from, end, complete)
+    span_of_blocks(from, end, reader.complete())
 }

@@ -5,8 +5,8 @@ ghost use Rattle.tiff_dir.specs.declared.limits.TheConstants.{BLOCK_SIZE};
 ghost use Rattle.tiff_dir.specs.Walk.{extent_of_span};
 ghost use Rattle.range_cache.specs.Cache.{numbers};
 ghost use Rattle.range_cache.specs.Numbers.{has};
-ghost use Rattle.cog_reader.specs.Reader.{complete_of, to_come, upcoming, ReaderAgrees};
-ghost use Rattle.cached_reader.specs.Going.{work};
+ghost use Rattle.cog_reader.specs.Reader.{complete_of, to_come, IsRangeIn, ReaderAgrees};
+ghost use Rattle.cached_reader.specs.Going.{known_at, work};
 ghost use Rattle.cached_reader.specs.Early.{AreApart, AreNeededLater, ArePassed, BeginsIn, IsEarly, LeavesNothing};
 
 use crate::ahead::{MAX_BLOCKS, reach, span_of_blocks};
@@ -16,8 +16,8 @@ use std::alloc::Global;
 use tiff_dir::limits::BLOCK_SIZE;
 use tiff_dir::{Memory, Span};
 
-/// The blocks that one request asks for, and how to go on behind them: the first of the upcoming ranges that may lack more, and the
-/// block that neither it nor a later one may begin before.
+/// The blocks that one request asks for, and how to go on behind them: the first of the ranges wanted from now on that may lack more, and
+/// the block that neither it nor a later one may begin before.
 #[derive(Clone, Copy)]
 struct Run {
     from: u64,
@@ -26,7 +26,20 @@ struct Run {
     least: u64,
 }
 
-/// The run of blocks that is asked for in an upcoming range of which those before `from` are there then, and behind it: as `extend` does.
+/// The range that is wanted next, or the one that is wanted after `index` others, as far as it is known and ends in the file.
+fn range_at(reader: &Reader, index: u32) -> Option<Span>
+    ensures known { IsRangeIn (complete_of reader.now) (known_at reader.now index) result }
+    ensures comes { (f : List ℕ) → ReaderAgrees reader.now f
+        → IfSome result (λ range. slice_get (to_come reader.now f) index ≡ Some (extent_of_span range)) }
+{
+    match index.checked_sub(1) {
+        None => reader.wanted(),
+        Some(later) => reader.upcoming(later),
+    }
+}
+
+/// The run of blocks that is asked for in one of these ranges, of which those before `from` are there then, and behind it: as `extend`
+/// does.
 fn run_in(
     reader: &Reader,
     cache: &Cache,
@@ -35,11 +48,11 @@ fn run_in(
     ahead: u32,
     index: u32,
 ) -> Option<Run>
-    requires known { upcoming reader.now index ≡ Some (extent_of_span range) }
+    requires known { known_at reader.now index ≡ Some (extent_of_span range) }
     requires within { range.last < complete_of reader.now }
     requires begins { range.first / BLOCK_SIZE ≤ from }
     requires ends { from ≤ range.last / BLOCK_SIZE }
-    requires comes { (f : List ℕ) → ReaderAgrees reader.now f → slice_get (to_come reader.now f) (index + 1) ≡ Some (extent_of_span range) }
+    requires comes { (f : List ℕ) → ReaderAgrees reader.now f → slice_get (to_come reader.now f) index ≡ Some (extent_of_span range) }
     ensures needed { IfSome result (λ run. AreNeededLater (work reader.now cache.now) ahead run.from run.to) }
     ensures from { IfSome result (λ run. run.from ≡ from) }
     ensures index { IfSome result (λ run. run.index ≡ index) }
@@ -88,8 +101,7 @@ fn first_gap(cache: &Cache, from: u64, to: u64) -> Option<u64>
     None
 }
 
-/// The run of blocks that is asked for after another one, where its answer comes whole, nothing of the present range is missing behind it,
-/// and the ranges stand in the order of the file.
+/// The run of blocks that is asked for after another one, where its answer comes whole, and the ranges stand in the order of the file.
 fn next_run(reader: &Reader, cache: &Cache, last: Run, ahead: u32) -> Option<Run>
     requires { last.to < 2 ^ 60 }
     ensures needed { IfSome result (λ run. AreNeededLater (work reader.now cache.now) ahead run.from run.to) }
@@ -101,7 +113,7 @@ fn next_run(reader: &Reader, cache: &Cache, last: Run, ahead: u32) -> Option<Run
     ensures before { IfSome result (λ run. (k : ℕ) → run.least ≤ k → last.to ≤ k → k < run.from → has k (numbers cache.now.entries) ≡ true) }
 {
     for index in last.index..u32::MAX {
-        let Some(range) = reader.upcoming(index) else {
+        let Some(range) = range_at(reader, index) else {
             return None;
         };
         let first = range.first / BLOCK_SIZE;
@@ -117,38 +129,38 @@ fn next_run(reader: &Reader, cache: &Cache, last: Run, ahead: u32) -> Option<Run
     None
 }
 
-/// What is asked for behind `asked`, one request after another, as far as it is known: at most `most`. `complete` is the length of the
-/// file, and each request asks for at most `ahead` blocks behind the run of missing blocks that it begins with in a range. `Memory` is the
-/// only error.
+/// What is asked for behind `asked`, one request after another, as far as it is known: at most `most`. Each request asks for at most
+/// `ahead` blocks behind the run of missing blocks that it begins with in a range. `Memory` is the only error.
 pub fn early_spans(
     alloc: Global,
     reader: &Reader,
     cache: &Cache,
-    complete: u64,
     asked: Span,
     ahead: u32,
     most: u32,
 ) -> Result<Vec<Span>, Memory>
-    requires { complete_of reader.now ≡ complete }
     ensures early { IfOk result (λ spans. All (IsEarly (work reader.now cache.now) ahead asked) spans.items) }
     ensures apart { IfOk result (λ spans. AreApart spans.items) }
     ensures few { IfOk result (λ spans. length spans.items ≤ most) }
-    // Before each of them nothing that is missing is left out, of the ranges that are wanted after the present one, up to the one that it
-    // begins in, as far as they are known.
+    // Before each of them nothing that is missing is left out, of the ranges that are wanted from now on, as far as they are known, up to
+    // the one that it begins in.
     ensures order { IfOk result (λ spans. All (LeavesNothing (work reader.now cache.now) asked spans.items) spans.items) }
 {
     let mut spans = Vec::new(alloc);
+    let Some(range) = reader.wanted() else {
+        return Ok(spans);
+    };
     let mut last = Run {
         from: asked.first / BLOCK_SIZE,
         to: asked.last / BLOCK_SIZE + 1,
         index: 0,
-        least: asked.first / BLOCK_SIZE,
+        least: range.first / BLOCK_SIZE,
     };
     for _ in 0..most {
         let Some(run) = next_run(reader, cache, last, ahead) else {
             break;
         };
-        spans.push(span_of_blocks(run.from, run.to, complete))?;
+        spans.push(span_of_blocks(run.from, run.to, reader.complete()))?;
         last = run;
     }
     Ok(spans)

@@ -78,13 +78,11 @@ fn give_next(
     reader: &mut Reader,
     cache: &mut Cache,
     buffer: &mut Vec<u8>,
-    complete: u64,
     span: Span,
 ) -> Result<Option<Span>, Memory>
     requires wanted { wanted reader.old ≡ Some (extent_of_span span) }
-    requires inside { span.last < complete }
+    requires inside { span.last < complete_of reader.old }
     requires small { span.last + 1 ≤ span.first + MAX_RANGE_BYTES }
-    requires complete { complete_of reader.old ≡ complete }
     ensures goes { ReaderGoesOn (work reader.old cache.old) (work reader.new cache.new) }
     ensures given { IfOk result (IsGiven (extent_of_span span) (work reader.old cache.old) (work reader.new cache.new)) }
     ensures room { length buffer.new.items ≤ max (length buffer.old.items) MAX_RANGE_BYTES }
@@ -92,7 +90,7 @@ fn give_next(
     lengths_are_known();
     missing_is_exact();
     let len = (span.last - span.first) as usize + 1;
-    match cache.touch(complete, span.first, len) {
+    match cache.touch(reader.complete(), span.first, len) {
         Ok(()) => {
             give_held(reader, cache, buffer, span.first, len)?;
             Ok(None)
@@ -104,25 +102,23 @@ fn give_next(
 /// Gives the reader one range after another, as far as the cache has them, and says what to ask for then: the first unbroken run of
 /// missing blocks of the next range, and at most `ahead` blocks behind it that are needed later.
 ///
-/// `complete` is the length of the file. `buffer` is room for what has to stand in one piece: it may hold anything, and gets no longer than
-/// 1,048,576 bytes, if it wasn't. After a refusal (`Memory`, the only error) the reader has taken the ranges that it was given until then,
-/// the same blocks are there, and it may be called again.
+/// `buffer` is room for what has to stand in one piece: it may hold anything, and gets no longer than 1,048,576 bytes, if it wasn't. After
+/// a refusal (`Memory`, the only error) the reader has taken the ranges that it was given until then, the same blocks are there, and it may
+/// be called again.
 pub fn fill(
     reader: &mut Reader,
     cache: &mut Cache,
     buffer: &mut Vec<u8>,
-    complete: u64,
     ahead: u32,
 ) -> Result<Option<Span>, Memory>
-    requires { complete_of reader.old ≡ complete }
     ensures goes { ReaderGoesOn (work reader.old cache.old) (work reader.new cache.new) }
     ensures filled { IfOk result (IsFilled (work reader.new cache.new) ahead) }
     ensures room { length buffer.new.items ≤ max (length buffer.old.items) MAX_RANGE_BYTES }
 {
     nothing_comes();
     while let Some(span) = reader.need()? {
-        if let Some(missing) = give_next(reader, cache, buffer, complete, span)? {
-            let asked = extend(reader, cache, complete, span, missing, ahead);
+        if let Some(missing) = give_next(reader, cache, buffer, span)? {
+            let asked = extend(reader, cache, span, missing, ahead);
             return Ok(Some(asked));
         }
     }

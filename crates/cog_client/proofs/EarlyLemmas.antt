@@ -37,7 +37,7 @@ module _ (e : Feed) (how : Asking) (h n : List ℕ) (q : Option Query) (asked : 
         gone = l.gone;
         needed = λ f knows. l.needed f knows.reader;
         range = l.range;
-        place = l.index + 1;
+        place = l.index;
         comes = λ f knows. l.comes f knows.reader;
         run = l.run;
       }

@@ -304,16 +304,15 @@ impl Client {
         ensures err { OnErr result (report_of self.new ≡ None) }
         ensures feed { feed_of self.new ≡ feed_of self.old }
     {
-        let Some(source) = &mut self.source else {
-            unreachable!()
+        let missing = match &mut self.source {
+            None => unreachable!(),
+            Some(source) => fill(
+                &mut source.reader,
+                &mut self.cache,
+                &mut self.buffer,
+                self.how.ahead,
+            )?,
         };
-        let missing = fill(
-            &mut source.reader,
-            &mut self.cache,
-            &mut self.buffer,
-            source.complete,
-            self.how.ahead,
-        )?;
         match missing {
             Some(_) => Ok(missing),
             None => {

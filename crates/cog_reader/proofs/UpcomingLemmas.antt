@@ -1,10 +1,10 @@
--- The ranges that are known after the one that is wanted.
-use Rattle.std.proofs.Common.{◌≡◌, ℕ, ◌+◌, ◌<◌, ◌≤◌, List, Option, Some, None, refl, sym, subst, ap, ◌∙◌, arith}
+-- The range that is wanted, and those that are known after it.
+use Rattle.std.proofs.Common.{◌≡◌, ℕ, ◌+◌, ◌<◌, ◌≤◌, List, Option, Some, None, length, refl, sym, subst, ap, ◌∙◌, arith}
 use Rattle.std.specs.Prelude.{slice_get, IfSome, IsSomeAnd, MatchOption, if◌then◌else◌}
 use Rattle.std.specs.Option.{option_map}
 use Rattle.std.proofs.lemmas.Bool.Decides.{eqb_tells}
 use Rattle.std.proofs.Common.{inl, inr}
-use Rattle.std.proofs.lemmas.Option.{none-some, same_Some, slice_get-map}
+use Rattle.std.proofs.lemmas.Option.{none-some, same_Some, slice_get-map, slice_get_past}
 use Rattle.tiff_dir.specs.declared.level.Level.{Level}
 use Rattle.tiff_dir.specs.declared.level.Place.{Place}
 use Rattle.tiff_dir.specs.declared.query.Query.{Query}
@@ -14,21 +14,24 @@ use Rattle.tiff_dir.specs.Geo.{geo_ranges}
 use Rattle.tiff_dir.specs.WalkState.{WalkState}
 use Rattle.tiff_dir.specs.Needs.{Extent, extent_of_place}
 use Rattle.tiff_dir.specs.Query.{needs_of_query}
+use Rattle.tiff_dir.specs.Walk as walk
 use Rattle.tiff_dir.specs.Walk.{extent_of_span}
 use Rattle.tile_plan.specs.declared.asked.Rectangle.{Rectangle}
 use Rattle.tile_plan.specs.declared.plan.Group.{Group}
 use Rattle.cog_reader.specs.declared.fields.Fields.{Fields}
+use Rattle.cog_reader.specs.declared.arrays.Arrays.{Arrays}
 use Rattle.cog_reader.specs.declared.kept.Kept.{Kept}
+use Rattle.cog_reader.specs.declared.kept.Kept.TheVariants.{Both}
 use Rattle.cog_reader.specs.declared.mosaic.Mosaic.{Mosaic}
 use Rattle.cog_reader.specs.declared.state.State.{State}
-use Rattle.cog_reader.specs.declared.state.State.TheVariants.{Arrays as Reads, Tiles, Fields as Geo}
+use Rattle.cog_reader.specs.declared.state.State.TheVariants.{Directories, Arrays as Reads, Tiles, Fields as Geo}
 use Rattle.cog_reader.specs.Fields.{present_in}
-use Rattle.cog_reader.specs.Kept.{array_after, arrays_held, HasBoth}
+use Rattle.cog_reader.specs.Kept.{array_after, arrays_held, next_array, HasBoth}
 use Rattle.cog_reader.specs.Mosaic.{IsPlan, IsUnderway}
-use Rattle.cog_reader.specs.Reader.{come_by, upcoming_by, StateAgrees}
-use Rattle.cog_reader.specs.Step.{ComesLater, IsBase}
+use Rattle.cog_reader.specs.Reader.{come_by, upcoming_by, wanted_by, StateAgrees}
+use Rattle.cog_reader.specs.Step.{ComesAt, ComesLater, ComesNext, IsBase, IsWantedBy}
 use Rattle.cog_reader.proofs.FieldLemmas.{geo_ranges_are}
-use Rattle.cog_reader.proofs.FirstLemmas.{get_of_drop, some_both}
+use Rattle.cog_reader.proofs.FirstLemmas.{first_array, first_field, first_of_directories, get_of_drop, some_both, tiles_wanted}
 use Rattle.cog_reader.proofs.GiveLemmas.{group_at}
 use Rattle.cog_reader.proofs.SoundLemmas.{array_some}
 use Rattle.cog_reader.proofs.StepLemmas.{fair_group_at, needs_split, IsLevelOf}
@@ -63,12 +66,12 @@ later_group complete w k m i (Some span) both is = at (slice_get m.groups (m.giv
 
 -- ---- a place, whose bytes may end after the file
 
-placed : (complete : ℕ) (w : WalkState) (k : Kept) (state : State) (i : ℕ) (p : Place) (o : Option Span) → upcoming_by w k state i ≡ Some (extent_of_place p)
-    → ((f : List ℕ) (q : Query) → IsBase f complete w k → StateAgrees f q k state → slice_get (come_by f w k q state) (i + 1) ≡ Some (extent_of_place p))
+placed : (complete : ℕ) (w : WalkState) (k : Kept) (state : State) (place : ℕ) (range : Option Extent) (p : Place) (o : Option Span) → range ≡ Some (extent_of_place p)
+    → ((f : List ℕ) (q : Query) → IsBase f complete w k → StateAgrees f q k state → slice_get (come_by f w k q state) place ≡ Some (extent_of_place p))
     → MatchOption o (complete < p.first + p.len) (λ span. (extent_of_span span ≡ extent_of_place p) × (p.first + p.len ≤ complete))
-    → ComesLater complete w k state i o
-placed complete w k state i p None is come past = subst (λ x. IfSome x (λ r. complete < r.first + r.len)) (sym is) past
-placed complete w k state i p (Some span) is come within =
+    → ComesAt complete w k state place range o
+placed complete w k state place range p None is come past = subst (λ x. IfSome x (λ r. complete < r.first + r.len)) (sym is) past
+placed complete w k state place range p (Some span) is come within =
     let up = span.ascending in
     let first = ap (λ (r : Extent). r.first) within.0 in
     let len = ap (λ (r : Extent). r.len) within.0 in
@@ -78,19 +81,19 @@ placed complete w k state i p (Some span) is come within =
       λ f q base here. come f q base here ∙ ap Some (sym within.0),
     )
 
-none_placed : (complete : ℕ) (w : WalkState) (k : Kept) (state : State) (i : ℕ) → upcoming_by w k state i ≡ None → ComesLater complete w k state i None
-none_placed complete w k state i none = subst (λ x. IfSome x (λ r. complete < r.first + r.len)) (sym none) tt
+none_placed : (complete : ℕ) (w : WalkState) (k : Kept) (state : State) (place : ℕ) (range : Option Extent) → range ≡ None → ComesAt complete w k state place range None
+none_placed complete w k state place range none = subst (λ x. IfSome x (λ r. complete < r.first + r.len)) (sym none) tt
 
 -- ---- a geo field
 
 pub no_later_field : (complete : ℕ) (w : WalkState) (k : Kept) (x : Fields) (i : ℕ) → slice_get (present_in x.places) (x.given + 1 + i) ≡ None → ComesLater complete w k (Geo x) i None
-no_later_field complete w k x i none = none_placed complete w k (Geo x) i (ap (option_map extent_of_place) none)
+no_later_field complete w k x i none = none_placed complete w k (Geo x) (i + 1) (upcoming_by w k (Geo x) i) (ap (option_map extent_of_place) none)
 
 pub later_field : (complete : ℕ) (w : WalkState) (k : Kept) (x : Fields) (i : ℕ) (p : Place) (o : Option Span) → slice_get (present_in x.places) (x.given + 1 + i) ≡ Some p
     → MatchOption o (complete < p.first + p.len) (λ span. (extent_of_span span ≡ extent_of_place p) × (p.first + p.len ≤ complete))
     → ComesLater complete w k (Geo x) i o
 unfolding needs_of_query
-later_field complete w k x i p o is placed_at = placed complete w k (Geo x) i p o (ap (option_map extent_of_place) is) come placed_at
+later_field complete w k x i p o is placed_at = placed complete w k (Geo x) (i + 1) (upcoming_by w k (Geo x) i) p o (ap (option_map extent_of_place) is) come placed_at
   where
     come : (f : List ℕ) (q : Query) → IsBase f complete w k → StateAgrees f q k (Geo x) → slice_get (come_by f w k q (Geo x)) (i + 1) ≡ Some (extent_of_place p)
     come f q base here =
@@ -111,13 +114,13 @@ after_is k n l p is = elim (eqb_tells (arrays_held k n) 0) [
 
 pub no_later_array : (complete : ℕ) (w : WalkState) (k : Kept) (r : Rectangle) (l : Level) → IsLevelOf w r.level l → array_after k r.level l ≡ None → ComesLater complete w k (Reads r) 0 None
 no_later_array complete w k r l of_level none =
-    none_placed complete w k (Reads r) 0 (ap (λ o. o >>= λ l. option_map extent_of_place (array_after k r.level l)) of_level.there ∙ ap (option_map extent_of_place) none)
+    none_placed complete w k (Reads r) 1 (upcoming_by w k (Reads r) 0) (ap (λ o. o >>= λ l. option_map extent_of_place (array_after k r.level l)) of_level.there ∙ ap (option_map extent_of_place) none)
 
 pub later_array : (complete : ℕ) (w : WalkState) (k : Kept) (r : Rectangle) (l : Level) (p : Place) (o : Option Span) → IsLevelOf w r.level l → array_after k r.level l ≡ Some p
     → MatchOption o (complete < p.first + p.len) (λ span. (extent_of_span span ≡ extent_of_place p) × (p.first + p.len ≤ complete))
     → ComesLater complete w k (Reads r) 0 o
 later_array complete w k r l p o of_level is placed_at =
-    placed complete w k (Reads r) 0 p o (ap (λ o. o >>= λ l. option_map extent_of_place (array_after k r.level l)) of_level.there ∙ ap (option_map extent_of_place) is) come placed_at
+    placed complete w k (Reads r) 1 (upcoming_by w k (Reads r) 0) p o (ap (λ o. o >>= λ l. option_map extent_of_place (array_after k r.level l)) of_level.there ∙ ap (option_map extent_of_place) is) come placed_at
   where
     come : (f : List ℕ) (q : Query) → IsBase f complete w k → StateAgrees f q k (Reads r) → slice_get (come_by f w k q (Reads r)) (0 + 1) ≡ Some (extent_of_place p)
     come f q base here =
@@ -132,3 +135,56 @@ some_later k n l p is =
     let some = (array_some l).1 in
     let len = ap (λ (y : Place). y.len) (after_is k n l p is).1 in
     omega (arith, some, len)
+
+-- ---- what is wanted next
+
+-- the directories
+pub next_directories : (complete : ℕ) (w : WalkState) (k : Kept) (o : Option Span) → walk.Wants w complete o → ((f : List ℕ) → walk.WalkAgrees w f → slice_get (walk.to_come w f) 0 ≡ walk.wanted w)
+    → ComesNext complete w k Directories o
+next_directories complete w k None ended first = none_placed complete w k Directories 0 (walk.wanted w) ended
+next_directories complete w k (Some span) wants first =
+    (wants.0, wants.1, λ f q base here. first_of_directories complete w k (extent_of_span span) wants.0 first f q base)
+
+pub past_directories : (complete : ℕ) (w : WalkState) (k : Kept) → IsSomeAnd (walk.wanted w) (λ r. complete < r.first + r.len) → ComesNext complete w k Directories None
+past_directories complete w k past = at (walk.wanted w) past where
+  at : (o : Option Extent) → IsSomeAnd o (λ r. complete < r.first + r.len) → IfSome o (λ r. complete < r.first + r.len)
+  at None bad = tt
+  at (Some r) past = past
+
+-- an array
+pub no_next_array : (complete : ℕ) (w : WalkState) (k : Kept) (r : Rectangle) (l : Level) (a : Arrays) → IsLevelOf w r.level l → k ≡ Both r.level a → ComesNext complete w k (Reads r) None
+no_next_array complete w k r l a of_level both =
+    none_placed complete w k (Reads r) 0 (wanted_by w k (Reads r))
+    (ap (λ o. o >>= λ l. option_map extent_of_place (next_array k r.level l)) of_level.there ∙ ap (λ k. option_map extent_of_place (next_array k r.level l)) both ∙ same)
+  where
+    same : option_map extent_of_place (next_array (Both r.level a) r.level l) ≡ None
+    same = elim (eqb_tells r.level r.level) [
+      | inl e ↦ ap (λ t. option_map extent_of_place (if t then None else Some l.offsets)) e.0
+      | inr e ↦ absurd (e.1 refl)
+    ]
+
+pub next_array_comes : (complete : ℕ) (w : WalkState) (k : Kept) (r : Rectangle) (l : Level) (p : Place) (o : Option Span) → IsLevelOf w r.level l → next_array k r.level l ≡ Some p
+    → MatchOption o (complete < p.first + p.len) (λ span. (extent_of_span span ≡ extent_of_place p) × (p.first + p.len ≤ complete))
+    → ComesNext complete w k (Reads r) o
+next_array_comes complete w k r l p o of_level is placed_at =
+    placed complete w k (Reads r) 0 (wanted_by w k (Reads r)) p o (ap (λ o. o >>= λ l. option_map extent_of_place (next_array k r.level l)) of_level.there ∙ ap (option_map extent_of_place) is)
+    (λ f q base here. first_array complete w k r l p of_level is f q base here) placed_at
+
+-- a group
+pub next_group : (complete : ℕ) (w : WalkState) (k : Kept) (m : Mosaic) (o : Option Span) → HasBoth k (λ a. IsPlan complete a m)
+    → MatchOption o (m.given ≡ length m.groups) (λ span. IsSomeAnd (slice_get m.groups m.given) (λ g. g.span ≡ span))
+    → ComesNext complete w k (Tiles m) o
+next_group complete w k m None both end =
+    none_placed complete w k (Tiles m) 0 (wanted_by w k (Tiles m)) (ap (option_map (λ (g : Group). extent_of_span g.span)) (slice_get_past m.groups m.given (omega (arith, end))))
+next_group complete w k m (Some span) both is =
+    let wants : IsWantedBy complete w k (Tiles m) (extent_of_span span) =
+    some_both k (λ a. IsPlan complete a m) (IsWantedBy complete w k (Tiles m) (extent_of_span span)) both (λ a plan. tiles_wanted complete w k a m span plan is) in
+    let up = span.ascending in
+    (wants.is, omega (arith, up, wants.fair.inside), wants.first)
+
+-- a geo field
+pub next_field : (complete : ℕ) (w : WalkState) (k : Kept) (x : Fields) (p : Place) (o : Option Span) → slice_get (present_in x.places) x.given ≡ Some p
+    → MatchOption o (complete < p.first + p.len) (λ span. (extent_of_span span ≡ extent_of_place p) × (p.first + p.len ≤ complete))
+    → ComesNext complete w k (Geo x) o
+next_field complete w k x p o is placed_at =
+    placed complete w k (Geo x) 0 (wanted_by w k (Geo x)) p o (ap (option_map extent_of_place) is) (λ f q base here. first_field complete w k x p is f q here) placed_at

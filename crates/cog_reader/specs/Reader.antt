@@ -198,10 +198,18 @@ Wants r (Some span) =
     (wanted r ≡ Some (extent_of_span span)) × (span.last < complete_of r) × (span.last + 1 ≤ span.first + MAX_RANGE_BYTES)
     × (outcome_of r ≡ None)
 
--- No such range is known that ends in the file, or it is this one.
+-- There is no such range that ends in a file of so many bytes, or it is this one.
+abbrev pub IsRangeIn : ℕ → Option Extent → Option Span → Type 0
+IsRangeIn complete range None = IfSome range (λ r. complete < r.first + r.len)
+IsRangeIn complete range (Some span) = (range ≡ Some (extent_of_span span)) × (span.last < complete)
+
+-- No next range is known that ends in the file, or it is this one.
+abbrev pub IsNext : ReaderState → Option Span → Type 0
+IsNext r span = IsRangeIn (complete_of r) (wanted r) span
+
+-- The same of the range after the next one and i more.
 abbrev pub IsUpcoming : ReaderState → ℕ → Option Span → Type 0
-IsUpcoming r i None = IfSome (upcoming r i) (λ x. complete_of r < x.first + x.len)
-IsUpcoming r i (Some span) = (upcoming r i ≡ Some (extent_of_span span)) × (span.last < complete_of r)
+IsUpcoming r i span = IsRangeIn (complete_of r) (upcoming r i) span
 
 -- What is to come after the wanted range was given: the ranges but for it, or none where the query is answered.
 abbrev pub AcceptsFirstRange : List ℕ → ReaderState → ReaderState → Type 0

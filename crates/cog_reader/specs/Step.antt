@@ -49,14 +49,21 @@ pub record IsWantedBy (complete : ℕ) (w : WalkState) (k : Kept) (state : State
   pub first : (f : List ℕ) (q : Query) → IsBase f complete w k → StateAgrees f q k state
       → slice_get (come_by f w k q state) 0 ≡ Some r
 
--- No range is known that the state wants after the next one and i more and that ends in the file, or it is this one, and stands
--- at its place among those that are still to come.
-abbrev pub ComesLater : ℕ → WalkState → Kept → State → ℕ → Option Span → Type 0
-ComesLater complete w k state i None = IfSome (upcoming_by w k state i) (λ r. complete < r.first + r.len)
-ComesLater complete w k state i (Some span) =
-    (upcoming_by w k state i ≡ Some (extent_of_span span)) × (span.last < complete)
+-- There is no such range that ends in the file, or it is this one, and stands at this place among those that are still to come.
+abbrev pub ComesAt : ℕ → WalkState → Kept → State → ℕ → Option Extent → Option Span → Type 0
+ComesAt complete w k state place range None = IfSome range (λ r. complete < r.first + r.len)
+ComesAt complete w k state place range (Some span) =
+    (range ≡ Some (extent_of_span span)) × (span.last < complete)
     × ((f : List ℕ) (q : Query) → IsBase f complete w k → StateAgrees f q k state
-    → slice_get (come_by f w k q state) (i + 1) ≡ Some (extent_of_span span))
+    → slice_get (come_by f w k q state) place ≡ Some (extent_of_span span))
+
+-- it is the range that the state wants next
+abbrev pub ComesNext : ℕ → WalkState → Kept → State → Option Span → Type 0
+ComesNext complete w k state span = ComesAt complete w k state 0 (wanted_by w k state) span
+
+-- it is the range that the state wants after the next one and i more
+abbrev pub ComesLater : ℕ → WalkState → Kept → State → ℕ → Option Span → Type 0
+ComesLater complete w k state i span = ComesAt complete w k state (i + 1) (upcoming_by w k state i) span
 
 -- the step leads from a state to a range that is wanted in a state, or to an outcome
 abbrev pub IsStep : ℕ → WalkState → Kept → Query → State → Step → Type 0

@@ -39,7 +39,7 @@ impl Reader {
     ghost use Rattle.tiff_dir.specs.Walk.{extent_of_span};
     ghost use Rattle.tiff_dir.specs.declared.query.Query.{Query};
     ghost use Rattle.cog_reader.specs.Outcome.{IsTrueOf};
-    ghost use Rattle.cog_reader.specs.Reader.{complete_of, outcome_of, query_of, steps_of, tiles_of, tiles_wanted, to_come, unread, wanted, AreDirectoriesRead, ReaderAgrees, IsUpcoming, IsWanted, Takes, Wants};
+    ghost use Rattle.cog_reader.specs.Reader.{complete_of, outcome_of, query_of, steps_of, tiles_of, tiles_wanted, to_come, unread, wanted, AreDirectoriesRead, ReaderAgrees, IsNext, IsUpcoming, IsWanted, Takes, Wants};
     ghost use Rattle.cog_reader.specs.Unpacked.{size_of_tiles};
 
     /// A reader of a file of `complete` bytes, of which nothing is known yet, and nothing asked. It takes no memory.
@@ -136,6 +136,24 @@ impl Reader {
             &self.kept,
             &mut self.unpacked,
         )
+    }
+
+    /// The length of the file.
+    pub fn complete(&self) -> u64
+        ensures { result ≡ complete_of self.now }
+    {
+        self.complete
+    }
+
+    /// The range that is wanted next, as far as it is known before `need` goes on, and ends in the file. It takes no memory.
+    pub fn wanted(&self) -> Option<Span>
+        ensures known { IsNext self.now result }
+        // It is the first of the ranges that are still to come.
+        ensures comes { (f : List ℕ) → ReaderAgrees self.now f
+            → IfSome result (λ span. slice_get (to_come self.now f) 0 ≡ Some (extent_of_span span)) }
+    {
+        let pending = self.pending.as_ref()?;
+        pending.wanted(self.complete, &self.walk, &self.kept)
     }
 
     /// The range that is wanted after the next one and `index` more, as far as it is known and ends in the file: the other array

@@ -10,7 +10,7 @@ ghost use Rattle.cog_reader.specs.Kept.{IsKeptOf};
 ghost use Rattle.cog_reader.specs.Mosaic.{MosaicState};
 ghost use Rattle.cog_reader.specs.Reader.{outcome_in, wanted_by, tiles_wanted_by, AreTiles, IsState};
 ghost use Rattle.cog_reader.specs.Give.{AcceptsRange, Gives};
-ghost use Rattle.cog_reader.specs.Step.{Becomes, ComesLater, IsStep, IsWantedBy};
+ghost use Rattle.cog_reader.specs.Step.{Becomes, ComesLater, ComesNext, IsStep, IsWantedBy};
 
 mod arrays;
 mod directories;
@@ -164,6 +164,20 @@ impl PendingQuery {
                 self.state = state;
                 Err(Memory)
             }
+        }
+    }
+
+    /// The range that is wanted next, as far as it is known and ends in the file.
+    pub fn wanted(&self, complete: u64, walk: &Walk, kept: &Kept) -> Option<Span>
+        requires { IsState complete walk.now kept.now self.now.state }
+        ensures { ComesNext complete walk.now kept.now self.now.state result }
+    {
+        match &self.state {
+            State::Directories => directories::wanted(complete, walk),
+            State::Arrays(rect) => arrays::wanted(complete, walk, kept, *rect),
+            State::Tiles(mosaic) => tiles::wanted(mosaic),
+            State::Fields(fields) => fields::wanted(complete, fields),
+            State::Answered(_) => None,
         }
     }
 

@@ -43,14 +43,6 @@ impl Client {
         if self.how.closes || ahead == 0 {
             return Ok(Vec::new(self.alloc));
         }
-        early_spans(
-            self.alloc,
-            &source.reader,
-            &self.cache,
-            source.complete,
-            asked,
-            ahead,
-            most,
-        )
+        early_spans(self.alloc, &source.reader, &self.cache, asked, ahead, most)
     }
 }

@@ -7,7 +7,7 @@ ghost use Rattle.cog_reader.specs.declared.state.State.TheVariants as state;
 ghost use Rattle.cog_reader.specs.Give.{Advances};
 ghost use Rattle.cog_reader.specs.Kept.{IsKeptOf};
 ghost use Rattle.cog_reader.specs.Reader.{wanted_by, IsState};
-ghost use Rattle.cog_reader.specs.Step.{ComesLater, IsStep};
+ghost use Rattle.cog_reader.specs.Step.{ComesLater, ComesNext, IsStep};
 ghost use Rattle.cog_reader.specs.Unpacked.{KeptTiles};
 
 use crate::Outcome;
@@ -47,6 +47,21 @@ pub fn next(
             Err(PlanError::File(fault)) => Ok(Step::Answer(Outcome::Fault(fault))),
             Err(PlanError::Memory) => Err(Memory),
         },
+    }
+}
+
+/// The bytes of the next array.
+pub fn wanted(complete: u64, walk: &Walk, kept: &Kept, rect: Rectangle) -> Option<Span>
+    requires ended { HasEnded walk.now }
+    requires small { IsSomeAnd (slice_get (levels_of walk.now) rect.level) (λ l. IsSmall l rect) }
+    ensures { ComesNext complete walk.now kept.now (state.Arrays rect) result }
+{
+    what_comes();
+    levels_are_described();
+    let level = &walk.levels()[rect.level];
+    match kept.next(rect.level, level) {
+        NextArray::Read(place) => span_of(place, complete),
+        NextArray::Both(_) => None,
     }
 }
 

@@ -7,7 +7,7 @@ ghost use Rattle.cog_reader.specs.declared.kept.Kept.{Kept as Keeps};
 ghost use Rattle.cog_reader.specs.declared.state.State.TheVariants as state;
 ghost use Rattle.cog_reader.specs.Give.{AcceptsDirectories};
 ghost use Rattle.cog_reader.specs.Kept.{IsKeptOf};
-ghost use Rattle.cog_reader.specs.Step.{IsStep};
+ghost use Rattle.cog_reader.specs.Step.{ComesNext, IsStep};
 
 use crate::Outcome;
 use crate::fields::Fields;
@@ -15,7 +15,7 @@ use crate::kept::Kept;
 use crate::state::{State, Step, arrays, fields};
 use crate::unpacked::Unpacked;
 use std::alloc::Global;
-use tiff_dir::{FileFault, Memory, Query, Walk, WalkError, levels_are_described, what_comes};
+use tiff_dir::{FileFault, Memory, Query, Span, Walk, WalkError, levels_are_described, what_comes};
 use tile_plan::rect;
 
 /// What comes next: a range of the directories, or, where all are read, what the query needs of its own.
@@ -38,6 +38,16 @@ pub fn next(
             Query::Info => begin_info(alloc, complete, walk),
             Query::Window { .. } => begin_window(alloc, complete, walk, kept, unpacked, query),
         },
+    }
+}
+
+/// The next range of the directories.
+pub fn wanted(complete: u64, walk: &Walk) -> Option<Span>
+    ensures { (k : Keeps) → ComesNext complete walk.now k state.Directories result }
+{
+    match walk.need(complete) {
+        Ok(span) => span,
+        Err(_past) => None,
     }
 }
 

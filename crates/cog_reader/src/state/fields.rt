@@ -5,7 +5,7 @@ ghost use Rattle.tiff_dir.specs.Walk.{HasEnded};
 ghost use Rattle.tiff_dir.specs.WalkState.{WalkState};
 ghost use Rattle.cog_reader.specs.declared.kept.Kept.{Kept as Keeps};
 ghost use Rattle.cog_reader.specs.declared.state.State.TheVariants as state;
-ghost use Rattle.cog_reader.specs.Step.{ComesLater, IsStep};
+ghost use Rattle.cog_reader.specs.Step.{ComesLater, ComesNext, IsStep};
 
 use crate::Outcome;
 use crate::fields::Fields;
@@ -33,6 +33,14 @@ pub fn next(alloc: Global, complete: u64, walk: &Walk, fields: Fields) -> Result
             Err(GeoError::Memory) => Err(fields),
         },
     }
+}
+
+/// The bytes of the next field.
+pub fn wanted(complete: u64, fields: &Fields) -> Option<Span>
+    ensures { (w : WalkState) (k : Keeps) → ComesNext complete w k (state.Fields fields.now) result }
+{
+    let place = fields.next()?;
+    span_of(place, complete)
 }
 
 /// The bytes of the field after the next one and `index` more.

@@ -10,7 +10,7 @@ ghost use Rattle.cog_reader.specs.declared.state.State.TheVariants as state;
 ghost use Rattle.cog_reader.specs.Give.{AcceptsRange, Advances};
 ghost use Rattle.cog_reader.specs.Kept.{HasBoth, IsKeptOf};
 ghost use Rattle.cog_reader.specs.Mosaic.{HasPlan, IsGroupLen, IsPlan};
-ghost use Rattle.cog_reader.specs.Step.{ComesLater, IsStep};
+ghost use Rattle.cog_reader.specs.Step.{ComesLater, ComesNext, IsStep};
 ghost use Rattle.cog_reader.specs.Unpacked.{KeptTiles};
 
 use crate::Outcome;
@@ -32,6 +32,14 @@ pub fn next(arrays: &Arrays, unpacked: &mut Unpacked, mosaic: Mosaic) -> Step
         Some(span) => Step::Read(State::Tiles(mosaic), span),
         None => Step::Answer(Outcome::Window(mosaic.into_window(arrays, unpacked))),
     }
+}
+
+/// The bytes of the next group.
+pub fn wanted(mosaic: &Mosaic) -> Option<Span>
+    ensures { (complete : ℕ) (w : WalkState) (k : Keeps) → HasBoth k (λ a. IsPlan complete a mosaic.now)
+        → ComesNext complete w k (state.Tiles mosaic.now) result }
+{
+    mosaic.need()
 }
 
 /// The bytes of the group after the next one and `index` more.

@@ -1,4 +1,4 @@
-use Rattle.std.proofs.Common.{arith}
+use Rattle.std.proofs.Common.{arith, sym}
 use Rattle.cog_reader.specs.Reader.{complete_of}
 use Rattle.cached_reader.specs.Going.{work}
 use Rattle.cached_reader.proofs.AheadLemmas.{lies, looks_ahead}
@@ -19,5 +19,5 @@ returns c =
     let least = c.capacity.ensures.sound.least in
     let exact = c.capacity.ensures.exact in
     let r = c.reach-end.ensures in
-    looks_ahead (work a.reader.now a.cache.now) a.complete a.range a.missing _ a.ahead c.present-present.result c.capacity.result c.min-limit.result c.reach-end.result
-    c.requires.complete c.requires.missing.0 c.requires.missing.1 l c.requires.wanted c.requires.next exact (omega (arith, l.fits, l.small, least, exact)) (omega arith) r.low r.high r.inside r.gone r.wanted r.needed (omega (arith, c.span_of_blocks.ensures.first, c.requires.missing.0.first, c.requires.missing.0.lacks.first_is)) c.span_of_blocks.ensures.last
+    looks_ahead (work a.reader.now a.cache.now) c.complete.result a.range a.missing _ a.ahead c.present-present.result c.capacity.result c.min-limit.result c.reach-end.result
+    (sym c.complete.ensures) c.requires.missing.0 c.requires.missing.1 l c.requires.wanted c.requires.next exact (omega (arith, l.fits, l.small, least, exact)) (omega arith) r.low r.high r.inside r.gone r.wanted r.needed (omega (arith, c.span_of_blocks.ensures.first, c.requires.missing.0.first, c.requires.missing.0.lacks.first_is)) c.span_of_blocks.ensures.last

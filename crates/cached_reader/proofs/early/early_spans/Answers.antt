@@ -15,22 +15,21 @@ pub loop-preserved : goal.loop-preserved
 loop-preserved c =
     let l = c.loop in
     let spans = l.spans.items in
-    let run = c.in-Some.run' in
+    let run = c.in-Some-next_run.run' in
     let span = c.span_of_blocks.result in
     let first = c.span_of_blocks.ensures.first in
     let last = c.span_of_blocks.ensures.last in
-    let blocks = c.in-Some.ensures.needed in
+    let blocks = c.in-Some-next_run.ensures.needed in
     let some = blocks.some in
     let inside = blocks.inside in
-    let later = c.in-Some.ensures.behind in
-    let complete = c.requires in
-    let fits = c.ranges.complete.fits in
+    let later = c.in-Some-next_run.ensures.behind in
+    let complete = c.complete.ensures in
     let behind = l.invariant.behind in
     let few = l.invariant.few in
     let pushed = c.in_ok-push.ensures.items in
     let w = work c.args.reader.now c.args.cache.now in
     let asked = c.args.asked in
-    let e = c.in-Some.ensures in
+    let e = c.in-Some-next_run.ensures in
     let more = spans ++ span ∷ [] in
     let seen : AreSeenTo w asked more run.least run.to = λ k low high past. elim (cases_lt k l.last.to) [
       | inl old ↦ seen_more w spans span k (l.invariant.seen k (omega (arith, low, e.least)) old past)
@@ -59,7 +58,7 @@ loop-preserved c =
       to = run.to;
       blocks = blocks;
       first = first;
-      last = last ∙ ap (λ n. end_of n (run.to - 1)) (sym complete);
+      last = last ∙ ap (λ n. end_of n (run.to - 1)) complete;
       behind = omega (arith, behind, later, first);
     } in
     record {
@@ -72,5 +71,5 @@ loop-preserved c =
       order = subst (λ xs. All (LeavesNothing w asked xs) xs) (sym pushed) order;
       passed = subst (λ xs. ArePassedBy w asked xs run.index) (sym pushed) passed;
       seen = subst (λ xs. AreSeenTo w asked xs run.least run.to) (sym pushed) seen;
-      small = omega (arith, inside, complete, fits);
+      small = omega (arith, inside, complete);
     }

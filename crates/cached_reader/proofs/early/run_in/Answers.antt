@@ -1,4 +1,4 @@
-use Rattle.std.proofs.Common.{◌≡◌, ◌+◌, ◌-◌, ◌/◌, arith, inl, inr, sym, subst}
+use Rattle.std.proofs.Common.{◌≡◌, suc, ◌+◌, ◌-◌, ◌/◌, arith, inl, inr, sym, subst}
 use Rattle.std.specs.Prelude.{IsSomeAnd}
 use Rattle.std.proofs.lemmas.Bool.{cases_lt}
 use Rattle.tiff_dir.specs.Walk.{extent_of_span}
@@ -36,12 +36,12 @@ returns-clause-needed c =
       inside = r.inside;
       gone = λ k from_k k_to. elim (cases_lt k end) [ inl old ↦ run.gone k from_k old | inr new ↦ r.gone k new k_to ];
       needed = λ f agrees k from_k k_to. elim (cases_lt k end) [
-        | inl old ↦ (a.index + 1, subst (λ o. IsSomeAnd o (λ e. Touches e k)) (sym (c.requires.comes f agrees)) (touches_in a.range k (omega (arith, begins, from_k)) (omega (arith, old, within))))
+        | inl old ↦ (a.index, subst (λ o. IsSomeAnd o (λ e. Touches e k)) (sym (c.requires.comes f agrees)) (touches_in a.range k (omega (arith, begins, from_k)) (omega (arith, old, within))))
         | inr new ↦ r.needed f agrees k new k_to
       ];
       wanted = λ k from_k k_to. elim (cases_lt k end) [
         | inl old ↦ (a.index, subst (λ o. IsSomeAnd o (λ e. Touches e k)) (sym c.requires.known) (touches_in a.range k (omega (arith, begins, from_k)) (omega (arith, old, within))))
-        | inr new ↦ r.wanted k new k_to
+        | inr new ↦ let later = r.wanted k new k_to in (suc later.0, later.1)
       ];
       range = extent_of_span a.range;
       index = a.index;

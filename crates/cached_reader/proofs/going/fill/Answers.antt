@@ -1,4 +1,4 @@
-use Rattle.std.proofs.Common.{arith, ◌∙◌}
+use Rattle.std.proofs.Common.{arith}
 use Rattle.cached_reader.specs.Going.{work}
 use Rattle.cached_reader.proofs.GoingLemmas.{goes_trans, needed}
 use Rattle.cached_reader.proofs.going.fill.Goals as goal
@@ -22,7 +22,6 @@ loop-span-preserved c =
           (goes_trans (work c.args.reader.now c.args.cache.now) (work l.reader l.cache) (work c.need.new.self l.cache) l.invariant.goes
           (needed l.reader c.need.new.self l.cache e.complete e.query e.agrees e.come (c.nothing_comes.ensures.answered c.need.new.self) e.held))
           c.in_ok-missing.ensures.goes;
-      complete = c.in_ok-missing.ensures.goes.complete ∙ e.complete ∙ l.invariant.complete;
       room = omega (arith, c.in_ok-missing.ensures.room, l.invariant.room);
     }
 

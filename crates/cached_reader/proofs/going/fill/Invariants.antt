@@ -1,14 +1,13 @@
-use Rattle.std.proofs.Common.{◌≡◌, ◌≤◌, length}
+use Rattle.std.proofs.Common.{◌≤◌, length}
 use Rattle.std.specs.Prelude.{max}
 use Rattle.tiff_dir.specs.declared.limits.TheConstants.{MAX_RANGE_BYTES}
-use Rattle.cog_reader.specs.Reader.{complete_of, steps_of}
+use Rattle.cog_reader.specs.Reader.{steps_of}
 use Rattle.cached_reader.specs.Going.{work, ReaderGoesOn}
 use Rattle.cached_reader.proofs.going.fill.Given as goal
 
 abbrev pub invariant-loop-span : goal.invariant-loop-span
 invariant-loop-span l = record {
   goes : ReaderGoesOn (work l.fn.reader l.fn.cache) (work l.reader l.cache);
-  complete : complete_of l.reader ≡ l.fn.complete;
   room : length l.buffer.items ≤ max (length l.fn.buffer.items) MAX_RANGE_BYTES;
 }
 

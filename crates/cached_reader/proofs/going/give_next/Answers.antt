@@ -17,7 +17,7 @@ returns-in_ok-give_held-in-Ok-clause-goes c =
     let size : len ≡ a.span.last + 1 - a.span.first = omega arith in
     given old c.give_held.new.reader a.cache.now c.touch.new.self (extent_of_span a.span) (bytes_at c.touch.new.self a.span.first len) c.requires.wanted
     (λ f agrees holds.
-    let known : length f ≡ a.complete = c.lengths_are_known.ensures old f agrees ∙ c.requires.complete in
+    let known : length f ≡ c.complete.result = c.lengths_are_known.ensures old f agrees ∙ sym c.complete.ensures in
     let inside = c.requires.inside in
     e.bytes f (omega arith) holds ∙ ap (λ n. slice_range f a.span.first (a.span.first + n)) size)
     t (read old a.cache.now c.touch.new.self (ap (λ (b : Blocks). b.capacity) e.entries) e.kept e.holds)
@@ -29,10 +29,10 @@ returns-in-Err-clause-given c =
     let some = a.span.ascending in
     let inside = c.requires.inside in
     let small = c.requires.small in
-    let complete = c.requires.complete in
+    let complete = c.complete.ensures in
     let len : ℕ = a.span.last - a.span.first + 1 in (
       refl,
-      subst (λ n. IsMissingWithRoom c.touch.new.self n (extent_of_span a.span) 0 c.span_of.result) (sym complete)
-          (lacking c.missing_is_exact.ensures.run c.missing_is_exact.ensures.few a.cache.now c.touch.new.self a.complete len (extent_of_span a.span) c.in-Err.missing c.span_of.result
+      subst (λ n. IsMissingWithRoom c.touch.new.self n (extent_of_span a.span) 0 c.span_of.result) complete
+          (lacking c.missing_is_exact.ensures.run c.missing_is_exact.ensures.few a.cache.now c.touch.new.self c.complete.result len (extent_of_span a.span) c.in-Err.missing c.span_of.result
           (omega arith) (omega arith) (omega arith) (omega arith) (omega (arith, e.sound.least, ap (λ (b : Blocks). b.capacity) e.entries)) e.same e.exact e.led c.span_of.ensures.first c.span_of.ensures.last),
     )

@@ -7,9 +7,9 @@ use Rattle.cog_client.specs.Keeps.{GoesOnKeeping, Misses}
 use Rattle.cog_client.proofs.ClientLemmas.{gone, goes_trans, known}
 use Rattle.cog_client.proofs.client.Client.go_on.Goals as goal
 
-pub returns-in_err-missing-clause-goes : goal.returns-in_err-missing-clause-goes
+pub returns-in_err-missing-in-Some-clause-goes : goal.returns-in_err-missing-in-Some-clause-goes
 unfolding report_of
-returns-in_err-missing-clause-goes c =
+returns-in_err-missing-in-Some-clause-goes c =
     let i = c.self.inside in
     let s = c.in-Some.source in
     let is : known i.arrival i.how i.host.items i.name.items i.query i.asked i.source i.cache i.report ≡ known i.arrival i.how i.host.items i.name.items i.query i.asked (Some s) i.cache i.report =
@@ -17,7 +17,7 @@ returns-in_err-missing-clause-goes c =
     let mid : ClientState = known i.arrival i.how i.host.items i.name.items i.query i.asked (Some (record s { reader = c.fill.new.reader })) c.fill.new.cache i.report in
     subst (λ k. GoesOnKeeping k mid) (sym is ∙ c.self.view_is)
     (gone i.arrival i.how i.host.items i.name.items i.query i.asked s i.cache i.report (record s { reader = c.fill.new.reader }) c.fill.new.cache
-    (subst (λ (k : ClientState). report_of k ≡ None) (sym c.self.view_is) c.requires.report) refl refl (subst IsClient is c.self.invariant) c.in_err-missing.ensures.goes)
+    (subst (λ (k : ClientState). report_of k ≡ None) (sym c.self.view_is) c.requires.report) refl refl (subst IsClient is c.self.invariant) c.in_err-missing-in-Some.ensures.goes)
 
 pub returns-in-Some-missing-clause-goes : goal.returns-in-Some-missing-clause-goes
 unfolding report_of
@@ -29,11 +29,11 @@ returns-in-Some-missing-clause-goes c =
     let mid : ClientState = known i.arrival i.how i.host.items i.name.items i.query i.asked (Some (record s { reader = c.fill.new.reader })) c.fill.new.cache i.report in
     subst (λ k. GoesOnKeeping k mid) (sym is ∙ c.self.view_is)
     (gone i.arrival i.how i.host.items i.name.items i.query i.asked s i.cache i.report (record s { reader = c.fill.new.reader }) c.fill.new.cache
-    (subst (λ (k : ClientState). report_of k ≡ None) (sym c.self.view_is) c.requires.report) refl refl (subst IsClient is c.self.invariant) c.in_ok-missing.ensures.goes)
+    (subst (λ (k : ClientState). report_of k ≡ None) (sym c.self.view_is) c.requires.report) refl refl (subst IsClient is c.self.invariant) c.in_ok-missing-in-Some.ensures.goes)
 
-pub returns-in-None-clause-goes : goal.returns-in-None-clause-goes
+pub returns-in-None-missing-clause-goes : goal.returns-in-None-missing-clause-goes
 unfolding report_of
-returns-in-None-clause-goes c =
+returns-in-None-missing-clause-goes c =
     let i = c.self.inside in
     let s = c.in-Some.source in
     let is : known i.arrival i.how i.host.items i.name.items i.query i.asked i.source i.cache i.report ≡ known i.arrival i.how i.host.items i.name.items i.query i.asked (Some s) i.cache i.report =
@@ -41,7 +41,7 @@ returns-in-None-clause-goes c =
     let mid : ClientState = known i.arrival i.how i.host.items i.name.items i.query i.asked (Some (record s { reader = c.fill.new.reader })) c.fill.new.cache i.report in
     goes_trans c.args.self.now mid c.stand.new.self
     (subst (λ k. GoesOnKeeping k mid) (sym is ∙ c.self.view_is)
-    (gone i.arrival i.how i.host.items i.name.items i.query i.asked s i.cache i.report (record s { reader = c.fill.new.reader }) c.fill.new.cache (subst (λ (k : ClientState). report_of k ≡ None) (sym c.self.view_is) c.requires.report) refl refl (subst IsClient is c.self.invariant) c.in_ok-missing.ensures.goes))
+    (gone i.arrival i.how i.host.items i.name.items i.query i.asked s i.cache i.report (record s { reader = c.fill.new.reader }) c.fill.new.cache (subst (λ (k : ClientState). report_of k ≡ None) (sym c.self.view_is) c.requires.report) refl refl (subst IsClient is c.self.invariant) c.in_ok-missing-in-Some.ensures.goes))
     c.stand.ensures.goes
 
 pub returns-in-Some-missing-clause-ok : goal.returns-in-Some-missing-clause-ok
@@ -52,8 +52,8 @@ returns-in-Some-missing-clause-ok c =
     let w : CachedReader = work c.fill.new.reader c.fill.new.cache in
     let new : ClientState = known i.arrival i.how i.host.items i.name.items i.query i.asked (Some (record s { reader = w.reader })) w.cache i.report in
     let reading : IsReadingOf i.query i.report s = subst (λ o. IfSome o (IsReadingOf i.query i.report)) c.in-Some.is c.self.invariant.reading in
-    let complete : complete_of w.reader ≡ s.complete = c.in_ok-missing.ensures.goes.complete ∙ sym reading.0 in
-    let l : IsStopped w i.how.ahead c.in-Some-missing.field-0 = subst (IsFilled w i.how.ahead) c.in-Some-missing.is c.in_ok-missing.ensures.filled in
+    let complete : complete_of w.reader ≡ s.complete = c.in_ok-missing-in-Some.ensures.goes.complete ∙ sym reading.0 in
+    let l : IsStopped w i.how.ahead c.in-Some-missing.field-0 = subst (IsFilled w i.how.ahead) c.in-Some-missing.is c.in_ok-missing-in-Some.ensures.filled in
     let missing : IsMissingWithRoom w.cache s.complete l.range i.how.ahead c.in-Some-missing.field-0 =
     subst (λ n. IsMissingWithRoom w.cache n l.range i.how.ahead c.in-Some-missing.field-0) complete (l.missing, l.room) in
     subst (Misses new) (sym c.in-Some-missing.is)
