@@ -36,7 +36,6 @@ fn first_span() -> Span
 /// A client of one file of a host, by its name. It answers one query after another, by ranges of one revision of the file,
 /// which it keeps from one query to the next: its directories, the tile arrays of the level last read, blocks of 16,384
 /// bytes in a bounded cache, and of packed tiles what they stand for.
-#[derive(Drop)]
 pub struct Client {
     alloc: Global,
     how: Asking,
@@ -49,6 +48,25 @@ pub struct Client {
     buffer: Vec<u8>,
     report: Option<Report>,
     arrival: Arrival,
+}
+
+// Written out, it is one call wherever a client is let go; derived, each such place would be proved field by field.
+impl Drop for Client {
+    fn drop(self) {
+        let Client {
+            alloc: _,
+            how: _,
+            host: _,
+            name: _,
+            query: _,
+            asked: _,
+            source: _,
+            cache: _,
+            buffer: _,
+            report: _,
+            arrival: _,
+        } = self;
+    }
 }
 
 impl Model for Client {

@@ -188,12 +188,23 @@ fn hears(client: &Client, kinds: &[Kind<'_>]) -> bool {
 
 /// A client, the publications that its answers are of, its query, and the size of the pieces in which answers come, none where they
 /// come whole.
-#[derive(Drop)]
 pub struct Session<'a> {
     pub client: Client,
     files: &'a [Publication<'a>],
     query: Option<Query>,
     piece: Option<usize>,
+}
+
+// Written out, it is one call wherever a session is let go; derived, each such place would be proved field by field.
+impl<'a> Drop for Session<'a> {
+    fn drop(self) {
+        let Session {
+            client: _,
+            files: _,
+            query: _,
+            piece: _,
+        } = self;
+    }
 }
 
 impl<'a> Session<'a> {

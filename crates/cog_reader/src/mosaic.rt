@@ -91,13 +91,24 @@ fn paint_parts<B: Bytes>(canvas: &mut Canvas, arrays: &Arrays, tiles: &[u32], by
 }
 
 /// A window of a level, put together from its tiles as their groups come.
-#[derive(Drop)]
 pub struct Mosaic {
     rect: Rectangle,
     groups: Vec<Group>,
     given: usize,
     canvas: Canvas,
     plain: Vec<u8>,
+}
+
+impl Drop for Mosaic {
+    fn drop(self) {
+        let Mosaic {
+            rect: _,
+            groups: _,
+            given: _,
+            canvas: _,
+            plain: _,
+        } = self;
+    }
 }
 
 impl Model for Mosaic {
@@ -290,7 +301,13 @@ impl Mosaic {
             → ((fault : Fault) → IsFaultOfDirectories f fault → ⊥) → IsWindow f q (samples_in arrays.now.level.bits result.items) }
     {
         tiles_cover();
-        let Mosaic { canvas, plain, .. } = self;
+        let Mosaic {
+            rect: _,
+            groups: _,
+            given: _,
+            canvas,
+            plain,
+        } = self;
         unpacked.give_room(plain);
         let mut bytes = canvas.into_data();
         big_first(arrays.order, arrays.level.bits, &mut bytes);

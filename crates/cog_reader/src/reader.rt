@@ -11,7 +11,6 @@ use tile_plan::Bytes;
 /// A reader of one TIFF file of a known length, which answers one query after another. It says which bytes it needs next, and is
 /// given them, until the query is answered. The directories, and the tile arrays of the level last read, are kept from one
 /// query to the next; and tiles unpacked, where it is made by `keeping`.
-#[derive(Drop)]
 pub struct Reader {
     alloc: Global,
     complete: u64,
@@ -19,6 +18,20 @@ pub struct Reader {
     kept: Kept,
     unpacked: Unpacked,
     pending: Option<PendingQuery>,
+}
+
+// Written out, it is one call wherever a reader is let go; derived, each such place would be proved field by field.
+impl Drop for Reader {
+    fn drop(self) {
+        let Reader {
+            alloc: _,
+            complete: _,
+            walk: _,
+            kept: _,
+            unpacked: _,
+            pending: _,
+        } = self;
+    }
 }
 
 impl Model for Reader {

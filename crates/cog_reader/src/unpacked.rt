@@ -77,13 +77,24 @@ fn put(
 
 /// Tiles of one file that were unpacked, by where their packed bytes begin in it: those that were used last, as many as have room. Beside
 /// them it keeps the room for one tile of the window before, for the next window.
-#[derive(Drop)]
 pub struct Unpacked {
     alloc: Global,
     most: usize,
     size: usize,
     tiles: Option<LruCache<u32, Tile>>,
     room: Vec<u8>,
+}
+
+impl Drop for Unpacked {
+    fn drop(self) {
+        let Unpacked {
+            alloc: _,
+            most: _,
+            size: _,
+            tiles: _,
+            room: _,
+        } = self;
+    }
 }
 
 impl Model for Unpacked {

@@ -34,12 +34,23 @@ pub struct Answer {
 }
 
 /// The files of one epoch, the last publication of each name.
-#[derive(Drop)]
 pub struct Server {
     alloc: Global,
     epoch: u32,
     count: u32,
     files: Vec<Published>,
+}
+
+// Written out, it is one call wherever a server is let go; derived, each such place would be proved field by field.
+impl Drop for Server {
+    fn drop(self) {
+        let Server {
+            alloc: _,
+            epoch: _,
+            count: _,
+            files: _,
+        } = self;
+    }
 }
 
 impl Model for Server {
