@@ -6,7 +6,7 @@ use http_range::FILE_LIMIT;
 use std::alloc::Global;
 use std::fs::File;
 use std::io;
-use std::io::Read;
+use std::io::{Read, Seek};
 use std::rt::Files;
 
 /// One byte more than a published file may have: what comes after it isn't read.
@@ -48,9 +48,15 @@ fn gives_just<R: Read>(reader: &mut R, piece: &mut [u8], bytes: &[u8]) -> io::Re
     Ok(false)
 }
 
-/// Whether the file at a path has just these bytes. No more of it is held than a piece.
-pub fn has_bytes<R: Files + AllocGlobal>(rt: &R, path: &str, bytes: &[u8]) -> io::Result<bool> {
-    let mut file = File::open(rt, path)?;
-    let mut piece = vec![in rt.alloc(); 0u8; PIECE]?;
-    gives_just(&mut file, &mut piece, bytes)
+/// Whether an open file has just these bytes, from its first one. No more of it is held than a piece.
+pub fn has_bytes<F: Read + Seek>(alloc: Global, file: &mut F, bytes: &[u8]) -> io::Result<bool> {
+    file.rewind()?;
+    let mut piece = vec![in alloc; 0u8; PIECE]?;
+    gives_just(file, &mut piece, bytes)
+}
+
+/// The bytes of an open file from its first one, as far as they are enough to tell that it is too large to be published.
+pub fn bytes_of<F: Read + Seek + Drop>(alloc: Global, mut file: F) -> io::Result<Vec<u8>> {
+    file.rewind()?;
+    enough_of(alloc, file)
 }

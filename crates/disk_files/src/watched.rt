@@ -5,12 +5,14 @@ ghost use Rattle.cog_server.specs.Server.{IsRefusal, ServerState, refusal_of};
 ghost use Rattle.disk_files.specs.Published.{HasOther, IsFileOf, IsPublished};
 ghost use Rattle.disk_files.specs.Watching.{IsRefusedBy, MayPass, seen_of};
 
-use crate::reading::{has_bytes, read_file};
+use crate::reading::{bytes_of, has_bytes};
 use crate::stamp::{Stamp, is_unchanged, stamp_of};
 use cog_server::{PublishError, Server};
 use http_range::{Tag, publications_replace};
+use std::fs::{self, File, Metadata, OpenFile};
+use std::io;
 use std::rt::{Clock, Files};
-use std::{fs, io};
+use std::time::Duration;
 use thiserror::Error;
 
 /// Why a file of the disk isn't published.
@@ -35,19 +37,37 @@ pub struct Watched<'a> {
     seen: Option<Stamp>,
 }
 
-/// Looks at a path, which is to be a file's: to open a pipe might wait for its writer.
-fn look<R: Files + Clock>(rt: &R, path: &str) -> Result<Option<Stamp>, WatchError>
+/// What is remembered of what the disk says, if it is a file's.
+fn remembered(metadata: &Metadata, now: Option<Duration>) -> Result<Option<Stamp>, WatchError>
     ensures refused { (s : ServerState) (name : List ℕ) → IfErr result (IsRefusedBy s name) }
 {
-    let now = rt.since_1970();
-    let metadata = fs::metadata(rt, path).map_err(WatchError::CantRead)?;
     if !metadata.is_file() {
         return Err(WatchError::NotAFile);
     }
     match now {
-        Ok(now) => Ok(stamp_of(&metadata, now)),
-        Err(_) => Ok(None),
+        Some(now) => Ok(stamp_of(metadata, now)),
+        None => Ok(None),
     }
+}
+
+/// Looks at a path, which is to be a file's: to open a pipe might wait for its writer.
+fn look<R: Files + Clock>(rt: &R, path: &str) -> Result<Option<Stamp>, WatchError>
+    ensures refused { (s : ServerState) (name : List ℕ) → IfErr result (IsRefusedBy s name) }
+{
+    let now = rt.since_1970().ok();
+    let metadata = fs::metadata(rt, path).map_err(WatchError::CantRead)?;
+    remembered(&metadata, now)
+}
+
+/// Opens the file that a path leads to by now, which may be another one than was looked at, and looks at what is open.
+fn open<R: Files + Clock>(rt: &R, path: &str) -> Result<(R::File, Option<Stamp>), WatchError>
+    ensures refused { (s : ServerState) (name : List ℕ) → IfErr result (IsRefusedBy s name) }
+{
+    let now = rt.since_1970().ok();
+    let file = File::open(rt, path).map_err(WatchError::CantRead)?;
+    let metadata = file.metadata().map_err(WatchError::CantRead)?;
+    let seen = remembered(&metadata, now)?;
+    Ok((file, seen))
 }
 
 /// Publishes a file, unless the one under its name has the same bytes.
@@ -101,8 +121,9 @@ impl<'a> Watched<'a> {
         ensures name { self.new.name ≡ self.old.name }
         ensures path { self.new.path ≡ self.old.path }
     {
-        let seen = look(rt, self.path)?;
-        let bytes = read_file(rt, self.path).map_err(WatchError::CantRead)?;
+        look(rt, self.path)?;
+        let (file, seen) = open(rt, self.path)?;
+        let bytes = bytes_of(rt.alloc(), file).map_err(WatchError::CantRead)?;
         match server.publish(self.name.as_bytes(), bytes) {
             Ok(tag) => {
                 self.seen = seen;
@@ -136,13 +157,15 @@ impl<'a> Watched<'a> {
         if is_unchanged(seen, self.seen) {
             return Ok(None);
         }
+        // What is remembered is of the file whose bytes are read: the path may lead elsewhere by now.
+        let (mut file, seen) = open(rt, self.path)?;
         if let Some(old) = server.file(self.name.as_bytes())
-            && has_bytes(rt, self.path, old).map_err(WatchError::CantRead)?
+            && has_bytes(rt.alloc(), &mut file, old).map_err(WatchError::CantRead)?
         {
             self.seen = seen;
             return Ok(None);
         }
-        let bytes = read_file(rt, self.path).map_err(WatchError::CantRead)?;
+        let bytes = bytes_of(rt.alloc(), file).map_err(WatchError::CantRead)?;
         match publish_other(server, self.name.as_bytes(), bytes) {
             Ok(tag) => {
                 self.seen = seen;

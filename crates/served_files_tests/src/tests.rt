@@ -1,4 +1,5 @@
 //! Tests of files that are served over sockets of one process.
+mod elsewhere;
 mod large;
 mod lines;
 mod logs;

@@ -3,4 +3,10 @@ use Rattle.disk_files.proofs.watched.Watched.publish_changed.Goals as goal
 
 pub returns-in_err-seen-clause-refused : goal.returns-in_err-seen-clause-refused
 returns-in_err-seen-clause-refused g c =
-    handed_on c.from_residual.result _ _ (c.in_err-seen.ensures.refused c.args.server.now c.args.self.now.name.now) c.from_residual.ensures.1
+    handed_on c.from_residual.result _ _ (c.in_err-seen.ensures.refused c.args.server.now c.args.self.now.name.now)
+    c.from_residual.ensures.1
+
+pub returns-in_err-file-clause-refused : goal.returns-in_err-file-clause-refused
+returns-in_err-file-clause-refused g c =
+    handed_on c.from_residual-in_err-file.result _ _ (c.in_err-file.ensures.refused c.args.server.now c.args.self.now.name.now)
+    c.from_residual-in_err-file.ensures.1
