@@ -1,4 +1,5 @@
 //! Tests of a client, answer by answer.
+use assertion_support::assert_eq;
 use cog_client_support::{OLD, Publication, Revisions, Step};
 use std::process::Abort;
 use std::test::Fail;

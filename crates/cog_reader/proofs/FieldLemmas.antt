@@ -17,7 +17,7 @@ use Rattle.tiff_dir.specs.Geo.{geo_place, geo_ranges}
 use Rattle.tiff_dir.specs.Needs.{ends_past, field_range, extent_of_place}
 use Rattle.tiff_dir.specs.Walk.{AreGeoPlaces, AreTyped, IsArrayOf, IsGeoFieldAt, IsGeoPlace, bytes_in}
 use Rattle.cog_reader.specs.Fields.{len_of_field, present_in, total, AreFieldParts, AreFields, IsReadOf, FieldsState}
-use Rattle.cog_reader.proofs.SoundLemmas.{inside_array}
+use Rattle.cog_reader.proofs.ArrayLemmas.{inside_array}
 
 -- ---- the ranges of the fields
 

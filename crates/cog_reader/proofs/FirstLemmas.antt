@@ -15,15 +15,15 @@ use Rattle.tiff_dir.specs.Walk as walk
 use Rattle.tiff_dir.specs.Walk.{extent_of_span}
 use Rattle.tile_plan.specs.declared.asked.Rectangle.{Rectangle}
 use Rattle.tile_plan.specs.declared.plan.Group.{Group}
-use Rattle.cog_reader.specs.declared.arrays.Arrays.{Arrays}
+use Rattle.tile_mosaic.specs.declared.arrays.Arrays.{Arrays}
 use Rattle.cog_reader.specs.declared.fields.Fields.{Fields}
 use Rattle.cog_reader.specs.declared.kept.Kept.{Kept}
 use Rattle.cog_reader.specs.declared.kept.Kept.TheVariants as kept
-use Rattle.cog_reader.specs.declared.mosaic.Mosaic.{Mosaic}
+use Rattle.tile_mosaic.specs.declared.mosaic.Mosaic.{Mosaic}
 use Rattle.cog_reader.specs.declared.state.State.TheVariants.{Directories, Arrays as Reads, Tiles, Fields as Geo}
 use Rattle.cog_reader.specs.Fields.{present_in}
 use Rattle.cog_reader.specs.Kept.{arrays_held, next_array, HasBoth}
-use Rattle.cog_reader.specs.Mosaic.{IsPlan, IsUnderway}
+use Rattle.tile_mosaic.specs.Mosaic.{IsPlan, IsUnderway}
 use Rattle.cog_reader.specs.Reader.{come_by, own_given, StateAgrees}
 use Rattle.cog_reader.specs.Step.{IsBase, IsFair, IsWantedBy}
 use Rattle.cog_reader.proofs.FieldLemmas.{geo_ranges_are}

@@ -23,20 +23,20 @@ use Rattle.tiff_dir.specs.Walk.{levels_of, extent_of_span, HasEnded, IsArrayOf}
 use Rattle.tile_plan.specs.declared.asked.Rectangle.{Rectangle}
 use Rattle.tile_plan.specs.declared.plan.Group.{Group}
 use Rattle.tile_plan.specs.Levels.{rectangle_of, IsSmall}
-use Rattle.cog_reader.specs.declared.arrays.Arrays.{Arrays}
+use Rattle.tile_mosaic.specs.declared.arrays.Arrays.{Arrays}
 use Rattle.cog_reader.specs.declared.fields.Fields.{Fields}
 use Rattle.cog_reader.specs.declared.kept.Kept.{Kept}
 use Rattle.cog_reader.specs.declared.kept.Kept.TheVariants as kept
-use Rattle.cog_reader.specs.declared.mosaic.Mosaic.{Mosaic}
+use Rattle.tile_mosaic.specs.declared.mosaic.Mosaic.{Mosaic}
 use Rattle.cog_reader.specs.declared.outcome.Outcome.TheVariants.{Fault}
 use Rattle.cog_reader.specs.declared.state.State.{State}
 use Rattle.cog_reader.specs.declared.state.State.TheVariants.{Directories, Arrays as Reads, Tiles, Fields as Geo, Answered}
 use Rattle.cog_reader.specs.Fields.{present_in, IsReadOf}
 use Rattle.cog_reader.specs.Kept.{arrays_held, next_array, KeptAgrees, IsKeptOf}
-use Rattle.cog_reader.specs.Mosaic.{IsWantedGroup, IsPlan, IsUnderway}
+use Rattle.tile_mosaic.specs.Mosaic.{IsWantedGroup, IsPlan, IsUnderway}
 use Rattle.cog_reader.specs.Reader.{own_given, steps_by, unread_by, wanted_by, StateAgrees}
 use Rattle.cog_reader.specs.Give.{Gives, AcceptsDirectoryRange, Snapshot, AcceptsRange, AcceptsDirectories, Advances, TellsFault}
-use Rattle.cog_reader.specs.Unpacked.{KeptTiles, AreTilesOf}
+use Rattle.tile_mosaic.specs.Unpacked.{KeptTiles, AreTilesOf}
 use Rattle.cog_reader.proofs.FieldLemmas.{geo_ranges_are}
 use Rattle.cog_reader.proofs.KeptLemmas.{some_at, from_some}
 use Rattle.cog_reader.proofs.StepLemmas.{both_at, directory_fault, has_both, needs_split, window_fault, IsLevelOf}

@@ -1,6 +1,6 @@
 -- What the bytes of the geo fields tell of the file.
-use Rattle.std.proofs.Common.{◌≡◌, ℕ, ◌+◌, ◌-◌, ◌*◌, ◌/◌, ◌<◌, ◌≤◌, ◌++◌, ◌∷◌, [], inl, inr, Bool, true, false, if◌then◌else◌, List, length, take, drop, map, get_or, Option, Some, None, refl, sym, ap, ◌∙◌, arith, append-nil, zero-mul, mul-one, length-take, length-drop}
-use Rattle.std.specs.Prelude.{◌||◌, ◌==◌, nat_le, nat_lt, IfSome}
+use Rattle.std.proofs.Common.{◌≡◌, ℕ, suc, ◌+◌, ◌-◌, ◌*◌, ◌/◌, ◌<◌, ◌≤◌, ◌++◌, ◌∷◌, [], inl, inr, Bool, true, false, if◌then◌else◌, List, length, take, drop, map, get_or, Option, Some, None, refl, sym, subst, ap, ◌∙◌, arith, append-nil, zero-mul, mul-one, length-take, length-drop}
+use Rattle.std.specs.Prelude.{◌||◌, ◌==◌, nat_le, nat_lt, IfErr, IfSome, IsErrAnd, Result, Ok, Err}
 use Rattle.std.specs.Option.{option_map, option_map_or}
 use Rattle.std.specs.List.{cons_option, flat_map, list_any}
 use Rattle.std.proofs.Math.Path.{fun_ext}
@@ -16,6 +16,7 @@ use Rattle.tiff_dir.specs.declared.level.Kind.TheVariants as kind
 use Rattle.tiff_dir.specs.declared.level.Level.{Level}
 use Rattle.tiff_dir.specs.declared.level.Place.{Place}
 use Rattle.tiff_dir.specs.declared.order.Order.{Order}
+use Rattle.tiff_dir.specs.declared.order.Order.TheVariants.{Little, Big}
 use Rattle.tiff_dir.specs.declared.query.Query.TheVariants.{Info}
 use Rattle.tiff_dir.specs.File.{◌>>=◌, Field, kind_of, size_of, order_of, number, field, field_value, value, values_at, default_of, has_all_tags}
 use Rattle.tiff_dir.specs.Level.{Grid, Layout, compression_of, grid_at, depth_at, layout_at, layouts, level_directories, place_of}
@@ -39,7 +40,10 @@ use Rattle.geokeys.specs.Keys as keys
 use Rattle.geokeys.specs.Keys.{number_at}
 use Rattle.cog_reader.specs.Fields.{geo_bytes, len_of_field, present_in, AreFieldParts, IsReadOf, FieldsState}
 use Rattle.cog_reader.proofs.FieldLemmas.{geo_ranges_are}
-use Rattle.cog_reader.proofs.SampleLemmas.{same_number}
+
+pub passed_on : {A E : Type 0} (result : Result A E) (error : E) (P : E → Type 0) → IsErrAnd result (λ e. e ≡ error) → P error → IfErr result P
+passed_on (Ok a) error P bad good = absurd bad
+passed_on (Err e) error P is good = subst P (sym is) good
 
 -- ---- the bytes of a field
 
@@ -182,12 +186,19 @@ count_at f tag p is = of_field (field f 0 tag) refl is where
 -- ---- what keys are read from
 
 -- a number of the directory, in its bytes and in the file
+two_bytes : (order : Order) (at to : ℕ) (xs ys : List ℕ) → get_or xs at 0 ≡ get_or ys to 0 → get_or xs (suc at) 0 ≡ get_or ys (suc to) 0 → number_in order at 2 xs ≡ number_in order to 2 ys
+unfolding number_in
+two_bytes Little at to xs ys first second = rw (first, second) refl
+two_bytes Big at to xs ys first second = rw (first, second) refl
+
 number_same : (f : List ℕ) (order : Order) (p : Place) (i : ℕ) → p.first + p.len ≤ length f → p.len ≡ p.count * 2 → i < p.count → number_in order (2 * i) 2 (bytes_in f (extent_of_place p)) ≡ number_in order (p.first + i * 2) 2 f
 number_same f order p i inside len less =
-    same_number order 2 (2 * i) (p.first + i * 2) (bytes_in f (extent_of_place p)) f (λ b two.
-    get_or-take (p.first + p.len - p.first) (drop p.first f) (2 * i + b) 0 (omega (arith, len, less, two)) ∙ get_or-drop p.first f (2 * i + b) 0 ∙ ap (λ k. get_or f k 0) (place i b)) where
-      place : (i b : ℕ) → p.first + (2 * i + b) ≡ p.first + i * 2 + b
-      place i b = omega arith
+    let even : p.first + 2 * i ≡ p.first + i * 2 = omega arith in
+    let odd : p.first + suc (2 * i) ≡ suc (p.first + i * 2) = omega arith in
+    two_bytes order (2 * i) (p.first + i * 2) (bytes_in f (extent_of_place p)) f (byte (2 * i) (omega (arith, len, less)) ∙ ap (λ k. get_or f k 0) even)
+    (byte (suc (2 * i)) (omega (arith, len, less)) ∙ ap (λ k. get_or f k 0) odd) where
+      byte : (k : ℕ) → k < p.first + p.len - p.first → get_or (bytes_in f (extent_of_place p)) k 0 ≡ get_or f (p.first + k) 0
+      byte k less = get_or-take (p.first + p.len - p.first) (drop p.first f) k 0 less ∙ get_or-drop p.first f k 0
 
 number_there : (f : List ℕ) (order : Order) (at : ℕ) → order_of f ≡ Some order → at + 2 ≤ length f → number f at 2 ≡ Some (number_in order at 2 f)
 unfolding number

@@ -11,11 +11,11 @@ use Rattle.tiff_dir.specs.Described.{layout_of}
 use Rattle.tiff_dir.specs.Needs.{extent_of_place}
 use Rattle.tiff_dir.specs.Query.{array_range}
 use Rattle.tiff_dir.specs.Walk.{bytes_in, IsArrayOf}
-use Rattle.cog_reader.specs.declared.arrays.Arrays.{Arrays}
+use Rattle.tile_mosaic.specs.declared.arrays.Arrays.{Arrays}
 use Rattle.cog_reader.specs.declared.kept.Kept.{Kept}
 use Rattle.cog_reader.specs.declared.kept.Kept.TheVariants.{Nothing, Offsets, Both}
 use Rattle.cog_reader.specs.Kept.{arrays_held, next_array, KeptAgrees}
-use Rattle.cog_reader.proofs.SoundLemmas.{ranges_are}
+use Rattle.cog_reader.proofs.ArrayLemmas.{ranges_are}
 
 -- the place that was wanted, where it is known
 pub some_at : {X : Type 0} (o : Option X) (x : X) (P : X → Type 0) → o ≡ Some x → IsSomeAnd o P → P x

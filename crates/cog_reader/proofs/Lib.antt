@@ -1,16 +1,12 @@
+pub mod ArrayLemmas
 pub mod EndLemmas
 pub mod FieldLemmas
 pub mod FirstLemmas
 pub mod GiveLemmas
 pub mod InfoLemmas
 pub mod KeptLemmas
-pub mod MosaicLemmas
-pub mod PaintLemmas
 pub mod PlaceLemmas
 pub mod ReaderLemmas
-pub mod SampleLemmas
 pub mod SoundLemmas
 pub mod StepLemmas
-pub mod UnpackedLemmas
 pub mod UpcomingLemmas
-pub mod WindowSamples

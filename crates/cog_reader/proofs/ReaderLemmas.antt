@@ -6,7 +6,7 @@ use Rattle.cog_reader.specs.declared.kept.Kept.{Kept}
 use Rattle.cog_reader.specs.declared.state.PendingQuery.{PendingQuery}
 use Rattle.cog_reader.specs.Reader.{come_by, complete_of, outcome_of, query_of, steps_of, tiles_of, to_come, unread, wanted, wanted_by, ReaderAgrees, AcceptsFirstRange, KeepsHeld, ReaderState, IsReader, StateAgrees, IsWantedOf, Takes}
 use Rattle.cog_reader.specs.Give.{Gives}
-use Rattle.cog_reader.specs.Unpacked.{KeptTiles}
+use Rattle.tile_mosaic.specs.Unpacked.{KeptTiles}
 use Rattle.cog_reader.proofs.GiveLemmas.{at_state}
 
 abbrev pub holding : ℕ → WalkState → Kept → KeptTiles → PendingQuery → ReaderState

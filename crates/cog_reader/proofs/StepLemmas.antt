@@ -31,13 +31,13 @@ use Rattle.tiff_dir.specs.Query.{array_ranges, joined_after, joins, is_refused, 
 use Rattle.tiff_dir.specs.Walk as walk
 use Rattle.tiff_dir.specs.Walk.{levels_of, extent_of_span, AreGeoPlaces, AreTyped, HasEnded, IsDescribed}
 use Rattle.tile_plan.specs.declared.asked.Rectangle.{Rectangle}
-use Rattle.cog_reader.specs.declared.mosaic.Mosaic.{Mosaic}
+use Rattle.tile_mosaic.specs.declared.mosaic.Mosaic.{Mosaic}
 use Rattle.tile_plan.specs.declared.plan.Group.{Group}
 use Rattle.tile_plan.specs.Groups as groups
 use Rattle.tile_plan.specs.Groups.{with_tile, alone, grouped_after, grouped}
 use Rattle.tile_plan.specs.Levels.{rectangle_of, HasLevels, IsAsked, IsSmall}
 use Rattle.tile_plan.specs.Plan.{group_of, tiles_of, IsGroup, IsPlanned}
-use Rattle.cog_reader.specs.declared.arrays.Arrays.{Arrays}
+use Rattle.tile_mosaic.specs.declared.arrays.Arrays.{Arrays}
 use Rattle.cog_reader.specs.declared.fields.Fields.{Fields}
 use Rattle.cog_reader.specs.declared.kept.Kept.{Kept}
 use Rattle.cog_reader.specs.declared.kept.Kept.TheVariants as kept
@@ -50,12 +50,12 @@ use Rattle.cog_reader.specs.declared.state.Step.TheVariants.{Read, Answer}
 use Rattle.cog_reader.specs.declared.state.State.TheVariants.{Directories, Arrays as Reads, Tiles, Fields as Geo, Answered}
 use Rattle.cog_reader.specs.Fields.{present_in, IsReadOf, FieldsState}
 use Rattle.cog_reader.specs.Kept.{arrays_held, next_array, HasBoth, KeptAgrees}
-use Rattle.cog_reader.specs.Mosaic.{tile_extent, IsPlan, IsUnderway, MosaicState, AreArraysOf}
+use Rattle.tile_mosaic.specs.Mosaic.{tile_extent, IsPlan, IsUnderway, MosaicState, AreArraysOf}
 use Rattle.cog_reader.specs.Outcome.{IsTrueOf, IsWindowOf}
 use Rattle.cog_reader.specs.Reader.{outcome_in, own_given, IsClean, IsState, StateAgrees}
 use Rattle.cog_reader.specs.Step.{Becomes, IsBase, IsFair, IsStep}
 use Rattle.cog_reader.proofs.FieldLemmas.{geo_ranges_are, few_bytes, some_bytes}
-use Rattle.cog_reader.proofs.SoundLemmas.{ranges_are, array_some}
+use Rattle.cog_reader.proofs.ArrayLemmas.{ranges_are, array_some}
 
 -- nothing of the directories is still to come
 abbrev pub IsOver : WalkState → Type 0

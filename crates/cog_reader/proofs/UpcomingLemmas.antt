@@ -19,21 +19,21 @@ use Rattle.tiff_dir.specs.Walk.{extent_of_span}
 use Rattle.tile_plan.specs.declared.asked.Rectangle.{Rectangle}
 use Rattle.tile_plan.specs.declared.plan.Group.{Group}
 use Rattle.cog_reader.specs.declared.fields.Fields.{Fields}
-use Rattle.cog_reader.specs.declared.arrays.Arrays.{Arrays}
+use Rattle.tile_mosaic.specs.declared.arrays.Arrays.{Arrays}
 use Rattle.cog_reader.specs.declared.kept.Kept.{Kept}
 use Rattle.cog_reader.specs.declared.kept.Kept.TheVariants.{Both}
-use Rattle.cog_reader.specs.declared.mosaic.Mosaic.{Mosaic}
+use Rattle.tile_mosaic.specs.declared.mosaic.Mosaic.{Mosaic}
 use Rattle.cog_reader.specs.declared.state.State.{State}
 use Rattle.cog_reader.specs.declared.state.State.TheVariants.{Directories, Arrays as Reads, Tiles, Fields as Geo}
 use Rattle.cog_reader.specs.Fields.{present_in}
 use Rattle.cog_reader.specs.Kept.{array_after, arrays_held, next_array, HasBoth}
-use Rattle.cog_reader.specs.Mosaic.{IsPlan, IsUnderway}
+use Rattle.tile_mosaic.specs.Mosaic.{IsPlan, IsUnderway}
 use Rattle.cog_reader.specs.Reader.{come_by, upcoming_by, wanted_by, StateAgrees}
 use Rattle.cog_reader.specs.Step.{ComesAt, ComesLater, ComesNext, IsBase, IsWantedBy}
 use Rattle.cog_reader.proofs.FieldLemmas.{geo_ranges_are}
 use Rattle.cog_reader.proofs.FirstLemmas.{first_array, first_field, first_of_directories, get_of_drop, some_both, tiles_wanted}
 use Rattle.cog_reader.proofs.GiveLemmas.{group_at}
-use Rattle.cog_reader.proofs.SoundLemmas.{array_some}
+use Rattle.cog_reader.proofs.ArrayLemmas.{array_some}
 use Rattle.cog_reader.proofs.StepLemmas.{fair_group_at, needs_split, IsLevelOf}
 
 -- ---- a group

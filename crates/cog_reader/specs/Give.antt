@@ -12,7 +12,7 @@ use Rattle.cog_reader.specs.declared.state.State.{State}
 use Rattle.cog_reader.specs.Kept.{IsKeptOf}
 use Rattle.cog_reader.specs.Reader.{come_by, outcome_in, steps_by, unread_by, wanted_by, AreOfOneLevel, IsState, StateAgrees}
 use Rattle.cog_reader.specs.Step.{IsBase}
-use Rattle.cog_reader.specs.Unpacked.{KeptTiles, AreTilesOf}
+use Rattle.tile_mosaic.specs.Unpacked.{KeptTiles, AreTilesOf}
 
 -- the bytes lead a walk on, after which one range less is to come
 pub record AcceptsDirectoryRange (bytes : List ℕ) (old new : WalkState) : Type 0 where

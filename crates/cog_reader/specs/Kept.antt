@@ -6,10 +6,10 @@ use Rattle.tiff_dir.specs.declared.level.Place.{Place}
 use Rattle.tiff_dir.specs.WalkState.{WalkState}
 use Rattle.tiff_dir.specs.Query.{array_range}
 use Rattle.tiff_dir.specs.Walk.{levels_of, HasEnded, bytes_in}
-use Rattle.cog_reader.specs.declared.arrays.Arrays.{Arrays}
+use Rattle.tile_mosaic.specs.declared.arrays.Arrays.{Arrays}
 use Rattle.cog_reader.specs.declared.kept.Kept.{Kept}
 use Rattle.cog_reader.specs.declared.kept.Kept.TheVariants.{Nothing, Offsets, Both}
-use Rattle.cog_reader.specs.Mosaic.{AreArraysOf}
+use Rattle.tile_mosaic.specs.Mosaic.{AreArraysOf}
 
 -- how many arrays of level n are kept
 abbrev pub arrays_held : Kept → ℕ → ℕ

@@ -1,11 +1,7 @@
 pub mod Fields
 pub mod Give
 pub mod Kept
-pub mod Mosaic
 pub mod NextArray
 pub mod Outcome
-pub mod Paint
 pub mod Reader
-pub mod Samples
 pub mod Step
-pub mod Unpacked

@@ -23,7 +23,7 @@ use Rattle.cog_reader.specs.declared.outcome.Outcome.{Outcome}
 use Rattle.cog_reader.specs.declared.outcome.Outcome.TheVariants as outcome
 use Rattle.cog_reader.specs.declared.outcome.Window.{Window}
 use Rattle.cog_reader.specs.Fields.{geo_bytes}
-use Rattle.cog_reader.specs.Samples.{samples_in}
+use Rattle.tile_mosaic.specs.Samples.{samples_in}
 
 -- the width and the length of a level
 abbrev pub level_sides : Level → ℕ × ℕ

@@ -24,9 +24,9 @@ use Rattle.cog_reader.specs.declared.state.State.{State}
 use Rattle.cog_reader.specs.declared.state.State.TheVariants.{Directories, Arrays as Reads, Tiles, Fields, Answered}
 use Rattle.cog_reader.specs.Fields.{present_in, IsReadOf}
 use Rattle.cog_reader.specs.Kept.{array_after, arrays_held, next_array, HasBoth, IsKeptOf, KeptAgrees}
-use Rattle.cog_reader.specs.Mosaic.{HasPlan, IsGroupLen, IsPlan, IsUnderway}
+use Rattle.tile_mosaic.specs.Mosaic.{HasPlan, IsGroupLen, IsPlan, IsUnderway}
 use Rattle.cog_reader.specs.Outcome.{IsTrueOf}
-use Rattle.cog_reader.specs.Unpacked.{KeptTiles, AreTilesOf}
+use Rattle.tile_mosaic.specs.Unpacked.{KeptTiles, AreTilesOf}
 
 -- the length of the file, the walk over its directories, the arrays and the tiles that are kept, and the query with what is done for it
 pub record ReaderState : Type 0 where

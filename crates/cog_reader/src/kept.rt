@@ -8,10 +8,10 @@ ghost use Rattle.tiff_dir.specs.Walk.{levels_of, HasEnded, IsArrayOf};
 ghost use Rattle.cog_reader.specs.Kept.{array_after, arrays_held, next_array, HasBoth, HoldsOffsets, IsKeptOf, KeptAgrees};
 ghost use Rattle.cog_reader.specs.declared.kept.Kept.TheVariants as kept;
 
-use crate::arrays::Arrays;
 use std::alloc::Global;
 use std::mem;
 use tiff_dir::{Level, Memory, Order, Place};
+use tile_mosaic::Arrays;
 
 /// The arrays of the level last read, as far as they were read, with the level's number.
 #[derive(Drop)]

@@ -1,19 +1,14 @@
 //! One query answered from one file, range by range.
 #![tactic(auto)]
 
-mod arrays;
 mod fields;
 mod file;
 mod info;
 mod kept;
 mod laws;
-mod mosaic;
 mod outcome;
-mod paint;
 mod reader;
-mod samples;
 mod state;
-mod unpacked;
 
 pub use file::read_file;
 pub use laws::{end_is_wanted, lengths_are_known, nothing_comes};

@@ -2,10 +2,10 @@
 use crate::Outcome;
 use crate::kept::Kept;
 use crate::state::{PendingQuery, State};
-use crate::unpacked::Unpacked;
 use std::alloc::Global;
 use std::marker::Model;
 use tiff_dir::{Compression, Level, Memory, Query, Span, Walk};
+use tile_mosaic::Unpacked;
 use tile_plan::Bytes;
 
 /// A reader of one TIFF file of a known length, which answers one query after another. It says which bytes it needs next, and is
@@ -53,7 +53,7 @@ impl Reader {
     ghost use Rattle.tiff_dir.specs.declared.query.Query.{Query};
     ghost use Rattle.cog_reader.specs.Outcome.{IsTrueOf};
     ghost use Rattle.cog_reader.specs.Reader.{complete_of, outcome_of, query_of, steps_of, tiles_of, tiles_wanted, to_come, unread, wanted, AreDirectoriesRead, ReaderAgrees, IsNext, IsUpcoming, IsWanted, Takes, Wants};
-    ghost use Rattle.cog_reader.specs.Unpacked.{size_of_tiles};
+    ghost use Rattle.tile_mosaic.specs.Unpacked.{size_of_tiles};
 
     /// A reader of a file of `complete` bytes, of which nothing is known yet, and nothing asked. It takes no memory.
     ///

@@ -7,7 +7,7 @@ ghost use Rattle.cog_reader.specs.declared.outcome.Outcome.{Outcome as Answer};
 ghost use Rattle.cog_reader.specs.declared.state.State.TheVariants as states;
 ghost use Rattle.cog_reader.specs.declared.state.Step.TheVariants as steps;
 ghost use Rattle.cog_reader.specs.Kept.{IsKeptOf};
-ghost use Rattle.cog_reader.specs.Mosaic.{MosaicState};
+ghost use Rattle.tile_mosaic.specs.Mosaic.{MosaicState};
 ghost use Rattle.cog_reader.specs.Reader.{outcome_in, wanted_by, tiles_wanted_by, AreTiles, IsState};
 ghost use Rattle.cog_reader.specs.Give.{AcceptsRange, Gives};
 ghost use Rattle.cog_reader.specs.Step.{Becomes, ComesLater, ComesNext, IsStep, IsWantedBy};
@@ -20,11 +20,10 @@ mod tiles;
 use crate::Outcome;
 use crate::fields::Fields;
 use crate::kept::Kept;
-use crate::mosaic::Mosaic;
-use crate::unpacked::Unpacked;
 use std::alloc::Global;
 use std::mem;
 use tiff_dir::{Compression, FileFault, Memory, Place, Query, Span, Walk};
+use tile_mosaic::{Mosaic, Unpacked};
 use tile_plan::{Bytes, Rectangle};
 
 /// How far a query has come. The directories come first, then for a window the arrays and the tiles, for Info the fields.
@@ -226,7 +225,7 @@ impl PendingQuery {
     ghost use Rattle.tiff_dir.specs.declared.level.Compression.TheVariants.{PackBits, Plain};
     ghost use Rattle.std.specs.Prelude.{List};
     ghost use Rattle.tiff_dir.specs.WalkState.{WalkState};
-    ghost use Rattle.cog_reader.specs.Unpacked.{KeptTiles};
+    ghost use Rattle.tile_mosaic.specs.Unpacked.{KeptTiles};
 
     /// How the tiles are stored that are wanted, none where no tiles are.
     pub fn tiles_wanted(&self, kept: &Kept) -> Option<Compression>

@@ -6,6 +6,7 @@ mod read_faults;
 mod serves;
 mod worlds;
 
+use assertion_support::assert_eq;
 use programs_support::{tell, words_of};
 use std::alloc::AllocError;
 use std::convert::AsStr;

@@ -6,6 +6,7 @@ mod script_lines;
 mod scripts_and_logs;
 mod windows;
 
+use assertion_support::assert_eq;
 use fixtures_support::{f1, f1m, f2, f2b, f3, f4, f6, f6m};
 use scripts::{Loaded, ScriptError, log_text, script};
 use std::alloc::Global;

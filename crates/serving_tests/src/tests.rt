@@ -1,4 +1,5 @@
 //! Who has a place at a server of few places, and who gets one; each moment is handed in.
+use assertion_support::assert_eq;
 use cog_server::Server;
 use fixtures_support::f1;
 use serving::{Limits, Nobody, Serving};

@@ -22,7 +22,7 @@ use Rattle.cog_reader.specs.declared.outcome.Outcome.TheVariants as outcomes
 use Rattle.cog_reader.specs.declared.outcome.Window.{Window}
 use Rattle.cog_reader.specs.Fields.{geo_bytes}
 use Rattle.cog_reader.specs.Outcome.{IsInfoOf, IsTrueOf, IsWindowOf, items_of}
-use Rattle.cog_reader.specs.Samples.{samples_in}
+use Rattle.tile_mosaic.specs.Samples.{samples_in}
 use Rattle.cog_server.specs.declared.error.PublishError.{PublishError}
 use Rattle.cog_server.specs.declared.server.Answer.{Answer}
 use Rattle.cog_server.specs.Server.{ServerState}

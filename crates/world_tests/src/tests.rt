@@ -4,6 +4,7 @@ mod faithful_stretches;
 mod random_schedules;
 mod whole_windows;
 
+use assertion_support::assert_eq;
 use fixtures_support::{f1, f1m, f2, f2b, f3, f5};
 use scripts::{Loaded, log_text, script};
 use std::alloc::Global;

@@ -1,5 +1,6 @@
 //! Windows by requests that look ahead: the same as without, by fewer requests where a gap between tiles is smaller than a block,
 //! and by no byte more.
+use assertion_support::assert_eq;
 use cog_client::{Client, Query};
 use cog_client_support::{AHEAD, NotDone, OLD, Publication, client_of_a, cog};
 use cog_reader_support::{Fixture, Plain, WINDOWS, Want, is_wanted, of_level, window};

@@ -1,4 +1,5 @@
 //! The requests that a client tells early are those that it makes then, where answers come whole.
+use assertion_support::assert_eq;
 use cog_client::{Client, Query};
 use cog_client_support::{AHEAD, NotDone, OLD, Publication, client_of_a, cog};
 use cog_reader_support::{Fixture, WINDOWS, of_level, window};

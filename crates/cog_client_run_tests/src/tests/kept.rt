@@ -1,4 +1,5 @@
 //! What a client keeps from one query to the next.
+use assertion_support::assert_eq;
 use cog_client_support::Answer::{Part, PartOf, Whole};
 use cog_client_support::Step::{
     Asks, AsksNothing, Forgets, Ignores, IsSilent, Open, Opens, Reads, Reports, Stands, Takes,

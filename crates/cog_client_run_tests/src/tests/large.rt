@@ -1,4 +1,5 @@
 //! Windows that need several requests, blocks that leave a full cache, and a file that is replaced meanwhile.
+use assertion_support::assert_eq;
 use cog_client_support::Answer::{Part, Whole};
 use cog_client_support::Step::{
     Asks, AsksNothing, Ignores, IsSilent, Opens, Reports, Restarts, Stands, Takes, TakesMore,

@@ -1,4 +1,5 @@
 //! Clients that are made, and those that aren't.
+use assertion_support::assert_eq;
 use cog_client::{Client, ClientError};
 use cog_reader_support::of_level;
 use std::alloc::{AllocError, Global};

@@ -1,6 +1,7 @@
 //! What an answer does to a client, case by case.
 use super::exchanges::OF_ONES;
 use super::expect;
+use assertion_support::assert_eq;
 use cog_client_support::Answer::{
     self, Bytes, CutPart, CutWhole, Part, PartOf, ShortWhole, Text, Whole, WholeOf,
 };

@@ -1,5 +1,6 @@
 //! Every front of an answer, each to a new client: whole, by single bytes, and in pieces of 171 bytes.
 use super::only;
+use assertion_support::assert_eq;
 use cog_client_support::Answer::{Part, Text};
 use cog_client_support::Step::{Ignores, IsSilent, Stands, Takes};
 use cog_client_support::{ASKS_FRONT, FIRST, NotDone, OLD, Publication, otherwise_by};

@@ -1,5 +1,6 @@
 //! Answers that no server of ours sends.
 use super::expect;
+use assertion_support::assert_eq;
 use cog_client_support::Answer::{self, Bytes, LongPart, Part, PartOf, Text, WholeOf};
 use cog_client_support::Step::{Asks, Ignores, IsSilent, Opens, Refuses, Reports, Stands, Takes};
 use cog_client_support::{

@@ -1,5 +1,6 @@
 //! Reports of each kind after one exchange, and their copies.
 use super::{expect, only};
+use assertion_support::assert_eq;
 use cog_client_support::Answer::Part;
 use cog_client_support::Step::{Asks, AsksNothing, Copies, IsSilent, Open, Opens, Reports, Takes};
 use cog_client_support::{F2_TWICE, FIRST, NotDone, OLD, Revisions, Step, otherwise};

@@ -1,5 +1,6 @@
 //! Where memory is refused, that is what is told: this connection and the other are as they were, and the same call succeeds later.
 use super::driving::{ASKS_A, ASKS_B, give_at, take_at};
+use assertion_support::assert_eq;
 use cog_connections::Connections;
 use cog_server::{PublishError, Server};
 use http_range::Memory;

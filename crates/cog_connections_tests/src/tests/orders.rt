@@ -1,5 +1,6 @@
 //! Two connections, in every order of what happens to them: each is answered as if it were alone.
 use super::driving::{ASKS_A, ASKS_B, CLOSES, give_at, server_of_two, take_at};
+use assertion_support::assert_eq;
 use cog_connections::Connections;
 use cog_server::{AfterBytes, AfterPieces, ScriptedInlet, ScriptedOutlet, Server};
 use std::alloc::Global;

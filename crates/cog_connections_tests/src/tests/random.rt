@@ -1,5 +1,6 @@
 //! Fifty connections at random, with publications between, beside the plain answer to each message.
 use super::driving::{ASKS_A, ASKS_B, give_at, publish, server_of_two, take_at};
+use assertion_support::assert_eq;
 use cog_connections::Connections;
 use cog_server::Server;
 use fixtures_support::Numbers;

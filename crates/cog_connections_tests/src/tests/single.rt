@@ -1,5 +1,6 @@
 //! One connection: bytes one by one, short writes, the last answer, a file that is replaced, and what comes behind the last.
 use super::driving::{ASKS_A, ASKS_B, CLOSES, give, publish, server_of_two, take};
+use assertion_support::assert_eq;
 use cog_server::{Connection, Ended, Server};
 use std::alloc::Global;
 use std::process::Abort;

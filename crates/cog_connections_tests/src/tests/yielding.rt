@@ -1,5 +1,6 @@
 //! Whose place a newcomer takes.
 use super::driving::{ASKS_A, CLOSES, give_at, server_of_two, take_at};
+use assertion_support::assert_eq;
 use cog_connections::Connections;
 use cog_server::Server;
 use std::alloc::Global;

@@ -8,15 +8,14 @@ ghost use Rattle.cog_reader.specs.Give.{Advances};
 ghost use Rattle.cog_reader.specs.Kept.{IsKeptOf};
 ghost use Rattle.cog_reader.specs.Reader.{wanted_by, IsState};
 ghost use Rattle.cog_reader.specs.Step.{ComesLater, ComesNext, IsStep};
-ghost use Rattle.cog_reader.specs.Unpacked.{KeptTiles};
+ghost use Rattle.tile_mosaic.specs.Unpacked.{KeptTiles};
 
 use crate::Outcome;
 use crate::kept::{Kept, NextArray};
-use crate::mosaic::Mosaic;
 use crate::state::{State, Step, span_of, tiles};
-use crate::unpacked::Unpacked;
 use std::alloc::Global;
 use tiff_dir::{FileFault, Memory, Span, Walk, levels_are_described, what_comes};
+use tile_mosaic::{Mosaic, Unpacked};
 use tile_plan::{PlanError, Rectangle};
 
 /// What comes next: an array, or, where both are kept, the window's tiles.

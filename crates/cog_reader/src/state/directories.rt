@@ -13,9 +13,9 @@ use crate::Outcome;
 use crate::fields::Fields;
 use crate::kept::Kept;
 use crate::state::{State, Step, arrays, fields};
-use crate::unpacked::Unpacked;
 use std::alloc::Global;
 use tiff_dir::{FileFault, Memory, Query, Span, Walk, WalkError, levels_are_described, what_comes};
+use tile_mosaic::Unpacked;
 use tile_plan::rect;
 
 /// What comes next: a range of the directories, or, where all are read, what the query needs of its own.

@@ -9,18 +9,36 @@ ghost use Rattle.cog_reader.specs.declared.kept.Kept.TheVariants as kept;
 ghost use Rattle.cog_reader.specs.declared.state.State.TheVariants as state;
 ghost use Rattle.cog_reader.specs.Give.{AcceptsRange, Advances};
 ghost use Rattle.cog_reader.specs.Kept.{HasBoth, IsKeptOf};
-ghost use Rattle.cog_reader.specs.Mosaic.{HasPlan, IsGroupLen, IsPlan};
+ghost use Rattle.cog_reader.specs.Outcome.{IsWindowOf};
+ghost use Rattle.cog_reader.specs.Reader.{IsClean};
+ghost use Rattle.tile_mosaic.specs.Mosaic.{HasPlan, IsGroupLen, IsPlan, IsUnderway};
 ghost use Rattle.cog_reader.specs.Step.{ComesLater, ComesNext, IsStep};
-ghost use Rattle.cog_reader.specs.Unpacked.{KeptTiles};
+ghost use Rattle.tile_mosaic.specs.Unpacked.{KeptTiles};
 
-use crate::Outcome;
-use crate::arrays::Arrays;
 use crate::kept::Kept;
-use crate::mosaic::Mosaic;
 use crate::state::{State, Step};
-use crate::unpacked::Unpacked;
+use crate::{Outcome, Window};
 use tiff_dir::{FileFault, Span};
-use tile_plan::Bytes;
+use tile_mosaic::{Arrays, Mosaic, Unpacked, all_are_painted};
+use tile_plan::{Bytes, Rectangle};
+
+/// The window, when all groups were given. What is kept stays, and room for a tile is given back to it.
+fn into_window(arrays: &Arrays, unpacked: &mut Unpacked, mosaic: Mosaic) -> Window
+    ensures same { unpacked.new ≡ unpacked.old }
+    // Of a file whose directories are without fault: no other fault stands.
+    ensures window { (f : List ℕ) (q : Asks) → IsUnderway f q arrays.now mosaic → mosaic.given ≡ length mosaic.groups → IsClean f
+        → IsWindowOf f q result }
+{
+    all_are_painted();
+    let Rectangle { w, h, .. } = mosaic.rectangle();
+    Window {
+        w,
+        h,
+        samples: arrays.level.samples,
+        bits: arrays.level.bits,
+        pixels: mosaic.into_pixels(arrays, unpacked),
+    }
+}
 
 /// What comes next: a group, or, where all were given, the window.
 pub fn next(arrays: &Arrays, unpacked: &mut Unpacked, mosaic: Mosaic) -> Step
@@ -30,7 +48,7 @@ pub fn next(arrays: &Arrays, unpacked: &mut Unpacked, mosaic: Mosaic) -> Step
 {
     match mosaic.need() {
         Some(span) => Step::Read(State::Tiles(mosaic), span),
-        None => Step::Answer(Outcome::Window(mosaic.into_window(arrays, unpacked))),
+        None => Step::Answer(Outcome::Window(into_window(arrays, unpacked, mosaic))),
     }
 }
 

@@ -1,4 +1,5 @@
 //! The reader beside the plain program's faults: it tells one that stands, and a window or Info exactly where none does.
+use assertion_support::assert_eq;
 use cog_reader::{Outcome, read_file};
 use cog_reader_support::Fixture;
 use faults_support::{faults, faults_of_directories};

@@ -1,5 +1,6 @@
 //! Worked windows of the fixtures.
 use super::image::{Answer, Image};
+use assertion_support::assert_eq;
 use cog_reader::{Outcome, Window, read_file};
 use cog_reader_support::{
     CHANGED, Fixture, Numbers, WINDOWS, WindowRow, change, is_wanted, window,

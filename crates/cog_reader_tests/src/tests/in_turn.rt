@@ -1,6 +1,7 @@
 //! Queries in turn on one reader: only what isn't kept is wanted again.
 use super::image::{Answer, Image};
 use super::{Range, are_ranges};
+use assertion_support::assert_eq;
 use cog_reader::{Outcome, read_file};
 use cog_reader_support::{Fixture, Numbers, Want, change, is_wanted, window};
 use std::alloc::{AllocError, Global};

@@ -1,6 +1,7 @@
 //! What Info says.
 use super::image::{Answer, Image};
 use super::{Range, are_ranges};
+use assertion_support::assert_eq;
 use cog_reader::read_file;
 use cog_reader_support::{FACTS_OF_F3, Facts, Fixture, NO_FACTS, Value, Want, change, is_wanted};
 use fixtures_support::{

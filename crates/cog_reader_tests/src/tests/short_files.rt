@@ -1,4 +1,5 @@
 //! Files that end early.
+use assertion_support::assert_eq;
 use cog_reader::{Outcome, read_file};
 use cog_reader_support::{Fixture, Want, is_wanted, of_level};
 use std::process::Abort;

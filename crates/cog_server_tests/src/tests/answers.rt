@@ -1,5 +1,6 @@
 //! Answers to requests for ranges of f1, which is published as `a` in epoch 1.
 use super::streams::expect_served;
+use assertion_support::assert_eq;
 use cog_server::{Answer, Ended, Served, Server};
 use fixtures_support::f1;
 use std::alloc::Global;

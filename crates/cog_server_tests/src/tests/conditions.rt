@@ -1,6 +1,7 @@
 //! Answers to requests on conditions, with and without a range.
 use super::answers::{FIRST, Row, WHOLE, Want, expect_answer, server_of_f1};
 use super::refusals::{BARE, UNKNOWN, expect_answers};
+use assertion_support::assert_eq;
 use std::test::Fail;
 
 const FAILED: Want = Want {

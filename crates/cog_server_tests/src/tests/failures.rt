@@ -1,6 +1,7 @@
 //! Readers and writers that fail: what was written by then, and which failure is told.
 use super::answers::{FIRST, publish, server_of_f1, text_of};
 use super::streams::{ASKS_FIRST, two_messages};
+use assertion_support::assert_eq;
 use cog_server::{
     AfterBytes, AfterPieces, Ended, Inlet, Outlet, ScriptedInlet, ScriptedOutlet, ServeError,
     Served, Server,

@@ -1,5 +1,6 @@
 //! Where memory is refused, that is what is told; nothing has changed, and the same call succeeds later. Each test passes with
 //! ample memory, and wherever one allocation is refused.
+use assertion_support::assert_eq;
 use cog_server::{Inlet, Outlet, PublishError, ServeError, Served, Server, Stream};
 use http_range::{Memory, publication_tag};
 use std::alloc::Global;

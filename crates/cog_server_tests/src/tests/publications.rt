@@ -1,4 +1,5 @@
 //! Publications, their refusals, and the files that are there.
+use assertion_support::assert_eq;
 use cog_server::{PublishError, Server};
 use fixtures_support::f1;
 use http_range::publication_tag;

@@ -1,6 +1,7 @@
 //! Streams of messages, cut in every way, and what ends their answers.
 use super::answers::{FIRST, LAST, Want, server_of_f1, text_of};
 use super::refusals::BAD;
+use assertion_support::assert_eq;
 use cog_server::{
     AfterBytes, AfterPieces, Ended, ScriptedInlet, ScriptedOutlet, Served, Server, Stream,
 };

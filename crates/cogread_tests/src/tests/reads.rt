@@ -1,6 +1,7 @@
 //! `cogread` over a server in memory: what it prints, and the lines of its faults.
 ghost use Rattle.std.specs.Prelude.{◌+◌, ◌^◌, ◌<◌};
 
+use assertion_support::assert_eq;
 use cog_client::{Client, Pieces, Query};
 use cog_server::Server;
 use exchange_notes::{Noted, NotedNet};

@@ -2,6 +2,7 @@
 //! how far the exchanges have come.
 ghost use Rattle.std.specs.Prelude.{◌+◌, ◌^◌, ◌<◌};
 
+use assertion_support::assert_eq;
 use cog_client::{Client, Lost, Pieces, Query, Transport};
 use cog_server::Server;
 use exchange_notes::{Noted, NotedNet};

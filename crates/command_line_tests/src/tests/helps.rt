@@ -1,4 +1,5 @@
 //! Help, and faults of the form of a line.
+use assertion_support::assert_eq;
 use programs_support::{Capture, Told, tell, tell_line, tell_on, words_of};
 use std::alloc::{AllocError, Global};
 use std::test::Fail;

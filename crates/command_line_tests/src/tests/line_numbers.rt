@@ -1,4 +1,5 @@
 //! Numbers of command lines.
+use assertion_support::assert_eq;
 use command_lines::number_from;
 
 /// A word, the least and the greatest number of its range, and the number that it writes.

@@ -1,4 +1,5 @@
 //! The words of `cogread`, `cogserve` and `cogworld`, and the lines that they are.
+use assertion_support::assert_eq;
 use clap::Error;
 use clap::error::ErrorKind;
 use command_lines::{AskedWords, ReadLine, WindowWords, read_line, serve_line, world_line};

@@ -1,5 +1,6 @@
 //! What keys say of the coordinate system and of pixels (GeoTIFF 1.1, OGC 19-008, annex A).
 use super::places::info;
+use assertion_support::assert_eq;
 use cog_client::Info;
 use describing::{CoordinateSystem, RasterType};
 use geokeys::{Key, KeyValue};

@@ -1,4 +1,5 @@
 //! Where columns and rows lie, by each form of the fields, with the numbers that gdalinfo tells of such a file.
+use assertion_support::assert_eq;
 use cog_client::Info;
 use describing::{Corners, Placement};
 use geokeys::Geo;

@@ -1,4 +1,5 @@
 //! The two examples of the README: a window of a file in memory, and the same window by ranges, over a transport of one's own.
+use assertion_support::assert_eq;
 use cog_client::{Client, Lost, Outcome, Report, Transport};
 use cog_fetch::fetch;
 use cog_reader::read_file;

@@ -1,4 +1,5 @@
 //! What the transports bring.
+use assertion_support::assert_eq;
 use cog_client::{Lost, Transport};
 use fixtures_support::{f1, f2};
 use std::process::Abort;

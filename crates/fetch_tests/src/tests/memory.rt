@@ -1,6 +1,7 @@
 //! The test passes with ample memory, and wherever one allocation is refused.
 use super::LAST_TILE;
 use super::fetched::is_last_tile;
+use assertion_support::assert_eq;
 use cog_client::{Client, ClientError};
 use cog_fetch::fetch;
 use cog_server::Server;

@@ -1,6 +1,7 @@
 //! Worked rows of fetching.
 use super::fetched::{fetch_by, fetch_pieces_by};
 use super::{LAST_TILE, window};
+use assertion_support::assert_eq;
 use cog_client::{Client, Outcome, Query, Report, Transport};
 use cog_fetch::fetch;
 use cog_server::Server;

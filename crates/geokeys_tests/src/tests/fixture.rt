@@ -1,5 +1,6 @@
 //! The keys of a file of two levels.
 use super::{Value, is_wanted};
+use assertion_support::assert_eq;
 use fixtures_support::f3;
 use geokeys::Geo;
 use std::test::Fail;

@@ -1,4 +1,5 @@
 //! Items of eight bytes.
+use assertion_support::assert_eq;
 use geokeys::doubles;
 use std::test::Fail;
 use tiff_dir::Order;

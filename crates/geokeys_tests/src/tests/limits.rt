@@ -1,5 +1,6 @@
 //! Values beside each limit.
 use super::{Value, Want, is_wanted, read};
+use assertion_support::assert_eq;
 use std::test::Fail;
 use tiff_dir::{FileFault, Order};
 

@@ -1,5 +1,6 @@
 //! The heads of answers, as they are written.
 use super::tags::tag_1;
+use assertion_support::assert_eq;
 use http_range::{Reply, write_head};
 use std::alloc::Global;
 use std::process::Abort;

@@ -2,6 +2,7 @@
 use super::answer_heads::FIRST_HEAD;
 use super::fronts::told_of_head;
 use super::tags::LONGEST_TAG;
+use assertion_support::assert_eq;
 use http_range::{Memory, Piece, Reading, Why, read_answer, read_request};
 use std::alloc::Global;
 use std::process::Abort;

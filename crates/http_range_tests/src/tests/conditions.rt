@@ -1,6 +1,7 @@
 //! Conditions of requests, and checks.
 use super::requests::request_of;
 use super::tags::tag_1;
+use assertion_support::assert_eq;
 use http_range::{CheckReading, Request, Tag, any_match, read_check, write_check};
 use std::process::Abort;
 use std::test::Fail;

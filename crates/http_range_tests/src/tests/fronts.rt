@@ -1,6 +1,7 @@
 //! What a client reads of the head at the front of an answer that arrives in pieces.
 use super::answer_heads::FIRST_HEAD;
 use super::answers::{padded, told};
+use assertion_support::assert_eq;
 use http_range::{Head, HeadReading, Memory, read_head};
 use std::alloc::Global;
 use std::process::Abort;

@@ -1,4 +1,5 @@
 //! Values of Range, and the parts of a content that they name (RFC 9110, section 14.2).
+use assertion_support::assert_eq;
 use http_range::{RangeSpec, Resolved, read_range, resolve};
 use std::process::Abort;
 

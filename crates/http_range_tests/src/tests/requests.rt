@@ -1,5 +1,6 @@
 //! Requests of a client, and what is read of requests.
 use super::tags::tag_1;
+use assertion_support::assert_eq;
 use http_range::{Request, Span, Tag, read_request, write_open_request, write_request};
 use std::process::Abort;
 use std::test::Fail;

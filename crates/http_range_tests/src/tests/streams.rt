@@ -1,6 +1,7 @@
 //! The length of the first message of a stream.
 ghost use Rattle.std.specs.Prelude.{◌≤◌, length};
 
+use assertion_support::assert_eq;
 use http_range::{message_length, messages_stay};
 
 /// The length of the first message, where the bytes come in two pieces.

@@ -1,4 +1,5 @@
 //! Entity tags.
+use assertion_support::assert_eq;
 use http_range::{Memory, Tag, publication_tag};
 use std::alloc::Global;
 use std::test::Fail;

@@ -1,4 +1,5 @@
 //! Files of the disk.
+use assertion_support::assert_eq;
 use programs::Disk;
 use scripts::{LoadError, Source};
 use std::fs;

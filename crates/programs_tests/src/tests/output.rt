@@ -1,5 +1,6 @@
 //! `cogread --output`: the file is there whole, or as it was.
 use super::{FaultRow, expect_faults};
+use assertion_support::assert_eq;
 use disk_files::replace_file;
 use std::fs;
 use std::os::unix::fs::symlink;

@@ -3,6 +3,7 @@
 ghost use Rattle.std.specs.Prelude.{◌≡◌, IfOk, vec_len};
 
 use super::piece::{piece, put, read};
+use assertion_support::assert_eq;
 use range_cache::{Cache, CacheError};
 use std::alloc::{AllocError, Global};
 use std::process::Abort;

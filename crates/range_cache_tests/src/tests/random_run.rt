@@ -3,6 +3,7 @@ ghost use Rattle.std.specs.Prelude.{◌<◌, ◌+◌, ◌^◌};
 
 use super::model::{BLOCK, Model};
 use super::piece::{piece, put, read};
+use assertion_support::assert_eq;
 use fixtures_support::Numbers;
 use range_cache::Cache;
 use std::process::Abort;

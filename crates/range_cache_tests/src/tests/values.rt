@@ -1,5 +1,6 @@
 //! Worked values.
 use super::piece::{piece, put, read};
+use assertion_support::assert_eq;
 use range_cache::{Cache, CacheError, Missing};
 use std::test::Fail;
 use tiff_dir::Span;

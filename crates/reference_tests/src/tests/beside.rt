@@ -1,4 +1,5 @@
 //! A walk over a file, beside the plain program's answers.
+use assertion_support::assert_eq;
 use faults_support::faults_of_directories;
 use reference_support::{Extent, Grid, Level as PlainLevel, level_of, needs_of_directories};
 use std::process::Abort;

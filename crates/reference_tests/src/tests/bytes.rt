@@ -1,4 +1,5 @@
 //! The fixtures byte by byte, as their tables say.
+use assertion_support::assert_eq;
 use fixtures_support::{f1, f1m, f2, f2b, f3, f4, f5, f6, f6m};
 use std::process::Abort;
 use std::test::Fail;

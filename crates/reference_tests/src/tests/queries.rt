@@ -1,4 +1,5 @@
 //! What queries on the fixtures ask for, by the plain program: ranges, tiles and rectangles.
+use assertion_support::assert_eq;
 use fixtures_support::{f1, f1m, f2, f3, f5};
 use reference_support::{
     Extent, asked_rectangle, cost, is_outside, is_refused, is_too_large, needs,

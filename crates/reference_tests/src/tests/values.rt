@@ -1,5 +1,6 @@
 //! Levels, values and samples of the fixtures, by the plain program, with worked values.
 use super::queries::{expect_needs, window};
+use assertion_support::assert_eq;
 use fixtures_support::{f1, f1m, f2, f2b, f3, f4, f5, f6, f6m};
 use reference_support::{
     Grid, Level, level_of, level_samples, level_sides, number, order_of, sample, unpack, value,

@@ -1,4 +1,5 @@
 //! Faults of a file, and reasons why an answer isn't used, as sentences.
+use assertion_support::assert_eq;
 use cog_client::Why;
 use report_text::{FaultSentence, WhySentence};
 use std::test::Fail;

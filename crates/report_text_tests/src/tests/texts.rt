@@ -1,4 +1,5 @@
 //! Windows as P5 and P6, and the text of Info, of the fixtures and of values by hand.
+use assertion_support::assert_eq;
 use cog_client::{Client, Info, Outcome, Query, Report};
 use cog_fetch::fetch;
 use fixtures_support::{f1, f3, f4, f6, f6m};

@@ -1,4 +1,5 @@
 //! The lines of each kind of entry of a log.
+use assertion_support::assert_eq;
 use http_range::{Span, Tag, Why, publication_tag};
 use scripts::log_text;
 use std::alloc::Global;

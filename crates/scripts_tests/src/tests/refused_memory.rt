@@ -3,6 +3,7 @@
 use super::larger_files::{INFO, LEVELS, REPLACED_BETWEEN, TWO_EXCHANGES, tile_texts};
 use super::scripts_and_logs::ONE_WINDOW;
 use super::{events, texts_after};
+use assertion_support::assert_eq;
 use scripts::{ScriptError, log_text};
 use std::alloc::Global;
 use std::process::Abort;

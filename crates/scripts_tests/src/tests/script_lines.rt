@@ -1,4 +1,5 @@
 //! The events of the lines of a script, and the lines that are none.
+use assertion_support::assert_eq;
 use scripts::{Loaded, ScriptError, script};
 use std::alloc::Global;
 use std::process::Abort;

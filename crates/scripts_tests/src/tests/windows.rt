@@ -1,4 +1,5 @@
 //! Windows of f1 after one exchange: their samples by themselves and beside the plain program, and windows outside the level.
+use assertion_support::assert_eq;
 use fixtures_support::{f1, f1m};
 use reference_support::sample;
 use std::alloc::Global;

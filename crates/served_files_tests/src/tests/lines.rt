@@ -1,4 +1,5 @@
 //! Connections of `cogserve` with the lines that it prints: the file of the disk is written anew between them.
+use assertion_support::assert_eq;
 use cog_server::Server;
 use disk_files::Watched;
 use fixtures_support::f1;

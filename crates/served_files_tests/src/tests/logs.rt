@@ -1,5 +1,6 @@
 //! The log of `cogserve`: a line for each answer, why a file isn't taken anew, and where it listens.
 use super::lines::{connect, limits};
+use assertion_support::assert_eq;
 use cog_server::Server;
 use disk_files::Watched;
 use fixtures_support::f1;

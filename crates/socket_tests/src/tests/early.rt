@@ -1,6 +1,7 @@
 //! Requests that are sent early on a connection that is kept: each has its turn once, and behind anything else the connection is made
 //! anew.
 use super::peer::{Peer, expect, request, send, send_text};
+use assertion_support::assert_eq;
 use cog_client::Pieces;
 use fixtures_support::f5;
 use sockets::Socket;

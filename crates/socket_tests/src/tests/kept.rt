@@ -2,6 +2,7 @@
 ghost use Rattle.std.specs.Prelude.{◌<◌, length};
 
 use super::peer::{Peer, request, send, send_text};
+use assertion_support::assert_eq;
 use cog_client::Pieces;
 use fixtures_support::f1;
 use sockets::Socket;

@@ -1,5 +1,6 @@
 //! A client and a server over sockets of one process: a request is sent, the connection is served, and the answer received.
 use super::peer::{Peer, arrived, send_text};
+use assertion_support::assert_eq;
 use cog_client::{Client, Delivered, Lost, Outcome, Pieces, Query, Report};
 use cog_server::Stream;
 use fixtures_support::{f1, f3};

@@ -1,5 +1,6 @@
 //! Chains of directories: levels and those that are passed over.
 use super::{Entry, begun, course_of, end_of, fault_of, fields, file_with, put_directory};
+use assertion_support::assert_eq;
 use std::process::Abort;
 use std::test::Fail;
 use tiff_dir::{FileFault, Order};

@@ -1,5 +1,6 @@
 //! Bits of a sample.
 use super::{end_of, fault_of, file_with};
+use assertion_support::assert_eq;
 use fixtures_support::{f6, f6m};
 use std::test::Fail;
 use tiff_dir::{FileFault, Order};

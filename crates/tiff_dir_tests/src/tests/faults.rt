@@ -1,5 +1,6 @@
 //! The faults of headers, tables and levels, in the order in which they are told.
 use super::{Entry, begun, fault_of, fields, file_with, put_directory};
+use assertion_support::assert_eq;
 use std::process::Abort;
 use std::test::Fail;
 use tiff_dir::FileFault::{

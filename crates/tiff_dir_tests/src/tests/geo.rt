@@ -1,5 +1,6 @@
 //! The fields that georeference the image.
 use super::{Entry, begun, end_of, fields, place, put_directory};
+use assertion_support::assert_eq;
 use fixtures_support::f3;
 use std::test::Fail;
 use tiff_dir::{FileFault, GeoPlaces, Kind, Order};

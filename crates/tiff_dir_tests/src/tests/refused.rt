@@ -2,6 +2,7 @@
 ghost use Rattle.std.specs.Prelude.{IsTrue};
 ghost use Rattle.tiff_dir.specs.Walk.{HasEnded};
 
+use assertion_support::assert_eq;
 use fixtures_support::f1;
 use std::test::Fail;
 use tiff_dir::{FileFault, Memory, Walk};

@@ -1,5 +1,6 @@
 //! Where tiles stand, by the arrays of their level.
 use super::{Entry, begun, end_of, fields, put_directory, put_long, put_short};
+use assertion_support::assert_eq;
 use fixtures_support::{f1, f1m, f3, f4};
 use std::process::Abort;
 use std::test::Fail;
@@ -35,7 +36,8 @@ fn expect_tiles<R: Abort + AllocGlobal>(
     match end_of(rt, file)? {
         Ok(walk) => {
             let level = walk.levels().get(n).ok_or("no level")?;
-            assert_eq!(rt; level.offsets.count as usize, want.len());
+            // The one of `std`, by which it is known below that they are equal.
+            std::assert_eq!(rt; level.offsets.count as usize, want.len());
             for (t, place) in want.iter().enumerate() {
                 assert_eq!(rt;
                     tile(file, walk.order(), level, t as u32),

@@ -1,5 +1,6 @@
 //! Walks over the fixtures: the ranges that they take, and the levels that they end with.
 use super::{course_of, fault_of, place};
+use assertion_support::assert_eq;
 use fixtures_support::{f1, f1m, f2, f3, f4, f5};
 use std::process::Abort;
 use std::test::Fail;

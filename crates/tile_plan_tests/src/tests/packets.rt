@@ -1,6 +1,7 @@
 //! Random packets by a fixed generator, beside the plain program's unpacking.
 ghost use Rattle.std.specs.Prelude.{◌<◌, ◌≤◌, IfOk};
 
+use assertion_support::assert_eq;
 use fixtures_support::Numbers;
 use packbits::unpack;
 use std::alloc::{AllocError, Global};

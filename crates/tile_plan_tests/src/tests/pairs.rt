@@ -1,4 +1,5 @@
 //! Exchanged pairs.
+use assertion_support::assert_eq;
 use std::alloc::{AllocError, Global};
 use std::test::Fail;
 use tile_plan::swap_pairs;

@@ -1,6 +1,7 @@
 //! The groups of windows.
 use crate::tests::image::{Image, change};
 use crate::tests::of_level;
+use assertion_support::assert_eq;
 use fixtures_support::{f3, f5};
 use std::alloc::Global;
 use std::process::Abort;

@@ -1,5 +1,6 @@
 //! The rectangles of window queries.
 use crate::tests::image::Image;
+use assertion_support::assert_eq;
 use fixtures_support::{Field, FieldType, Order, Values, f3, push_directory, push_header};
 use std::process::Abort;
 use std::test::Fail;

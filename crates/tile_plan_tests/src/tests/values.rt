@@ -1,4 +1,5 @@
 //! Worked values.
+use assertion_support::assert_eq;
 use packbits::{pack_row, unpack};
 use std::process::Abort;
 use std::test::Fail;

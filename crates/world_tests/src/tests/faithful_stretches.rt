@@ -1,6 +1,7 @@
 //! Faithful stretches: whatever was before, a client that opens a query and then exchanges, with nothing between, has its
 //! report by the exchange after as many as the query costs.
 use super::log_of;
+use assertion_support::assert_eq;
 use fixtures_support::{f1, f1m, f2, f2b, f3, f4, f6, f6m};
 use reference_support::cost;
 use std::alloc::Global;

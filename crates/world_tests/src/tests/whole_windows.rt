@@ -1,5 +1,6 @@
 //! Whole windows beside the plain program: of a file that is replaced between requests, and of one larger than a small cache.
 use super::log_however_cut;
+use assertion_support::assert_eq;
 use cog_reader_support::Plain;
 use fixtures_support::{f2b, f5};
 use std::alloc::Global;

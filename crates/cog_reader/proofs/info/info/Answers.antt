@@ -8,8 +8,7 @@ use Rattle.geokeys.specs.Doubles.{doubles_in}
 use Rattle.geokeys.specs.Keys.{AreKeys, IsKeyError}
 use Rattle.cog_reader.specs.Fields.{geo_bytes, IsReadOf}
 use Rattle.cog_reader.specs.Step.{IsInfoError}
-use Rattle.cog_reader.proofs.PaintLemmas.{passed_on}
-use Rattle.cog_reader.proofs.InfoLemmas.{file_parts, info_error, info_sound, items_are, parts_source, sides_told}
+use Rattle.cog_reader.proofs.InfoLemmas.{file_parts, info_error, info_sound, items_are, parts_source, passed_on, sides_told}
 use Rattle.cog_reader.proofs.info.info.Goals as goal
 
 pub returns-in_err-geo-clause-refused : goal.returns-in_err-geo-clause-refused

@@ -2,7 +2,7 @@ use Rattle.std.proofs.Common.{sym, subst}
 use Rattle.cog_reader.specs.declared.kept.Kept.{Kept}
 use Rattle.cog_reader.specs.declared.state.State.{State}
 use Rattle.cog_reader.specs.declared.state.State.TheVariants.{Tiles}
-use Rattle.cog_reader.specs.Mosaic.{IsPlan}
+use Rattle.tile_mosaic.specs.Mosaic.{IsPlan}
 use Rattle.cog_reader.specs.Reader.{IsState}
 use Rattle.cog_reader.specs.Step.{IsStep}
 use Rattle.cog_reader.proofs.StepLemmas.{both_at}

@@ -1,4 +1,4 @@
-use Rattle.cog_reader.specs.Mosaic.{HasPlan, IsPlan}
+use Rattle.tile_mosaic.specs.Mosaic.{HasPlan, IsPlan}
 use Rattle.cog_reader.proofs.StepLemmas.{both_at}
 use Rattle.cog_reader.proofs.GiveLemmas.{accepts_group, tells_group}
 use Rattle.cog_reader.proofs.state.tiles.accept.Goals as goal

@@ -1,6 +1,6 @@
 use Rattle.std.proofs.Common.{◌≡◌, refl}
 use Rattle.tiff_dir.specs.declared.level.Compression.TheVariants.{Plain}
-use Rattle.cog_reader.specs.Mosaic.{HasPlan, IsPlan}
+use Rattle.tile_mosaic.specs.Mosaic.{HasPlan, IsPlan}
 use Rattle.cog_reader.proofs.StepLemmas.{both_at}
 use Rattle.cog_reader.proofs.GiveLemmas.{accepts_group}
 use Rattle.cog_reader.proofs.state.tiles.paint.Goals as goal

@@ -1,0 +1,31 @@
+//! Aids of tests: `assert_eq` as a call. That of `std` is written out where it stands, and proved there each time.
+#![tactic(auto)]
+
+use std::fmt::{Debug, Display};
+use std::process::Abort;
+
+/// Ends the test where the two aren't equal, and prints both.
+pub fn check_equal<R: Abort, T: PartialEq + Debug>(rt: &R, left: &T, right: &T) {
+    std::assert_eq!(rt; *left, *right);
+}
+
+/// The same, with a note.
+pub fn check_equal_at<R: Abort, T: PartialEq + Debug, D: Display + Drop>(
+    rt: &R,
+    left: &T,
+    right: &T,
+    note: D,
+) {
+    std::assert_eq!(rt; *left, *right, "{note}");
+}
+
+/// As `assert_eq` of `std`, but that nothing is known behind it.
+#[macro_export]
+macro_rules! assert_eq {
+    ($rt:expr; $left:expr, $right:expr $(,)?) => {
+        $crate::check_equal(&$rt, &$left, &$right)
+    };
+    ($rt:expr; $left:expr, $right:expr, $($note:tt)+) => {
+        $crate::check_equal_at(&$rt, &$left, &$right, format_args!($($note)+))
+    };
+}

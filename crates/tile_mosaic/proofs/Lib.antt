@@ -1,0 +1,5 @@
+pub mod MosaicLemmas
+pub mod PaintLemmas
+pub mod SampleLemmas
+pub mod UnpackedLemmas
+pub mod WindowSamples

@@ -1,0 +1,70 @@
+-- Tiles that are kept stay the file's, and have no more bytes together than they may.
+use Rattle.std.proofs.Common.{◌≡◌, ◌≤◌, ◌⊎◌, ℕ, List, Option, Some, None, Contains, inl, inr, sym, subst, get_or, length, nat_eq, arith}
+use Rattle.std.specs.List.{All}
+use Rattle.std.specs.Map.{lookup}
+use Rattle.std.specs.Prelude.{IfSome, OnErr, OnOk, Result, Ok, Err}
+use Rattle.std.specs.Borrow.{Bor}
+use Rattle.std.proofs.lemmas.Bool.{eqb-true}
+use Rattle.std.proofs.lemmas.List.Elements.{All-contains, Contains-get_or}
+use Rattle.std.proofs.Math.Nat.{mul-le-mul_right}
+use Rattle.std.proofs.lemmas.List.Sums.{sum_by-le}
+use Rattle.std.proofs.lemmas.Map.Views.{IfSome-lookup}
+use Rattle.lru.specs.LruCache.{LruCache, lru_cache, promoted, put_entries}
+use Rattle.lru.proofs.CallerLemmas.{Contains-promoted, Contains-put_entries, IsPut}
+use Rattle.tiff_dir.specs.Needs.{bytes_in}
+use Rattle.tiff_dir.specs.Packets.{Packs}
+use Rattle.tile_mosaic.specs.declared.unpacked.Tile.{Tile}
+use Rattle.tile_mosaic.specs.Unpacked.{size_of_tile, size_of_tiles, KeptTile, IsStore, IsTileOf}
+
+pub all_promoted : (P : KeptTile → Type 0) (first : ℕ) (es : List KeptTile) → All P es → All P (promoted (nat_eq first) es)
+all_promoted P first es all = λ k d less.
+    All-contains P es _ all (Contains-promoted (nat_eq first) es _ (Contains-get_or (promoted (nat_eq first) es) k d less))
+
+-- a key that is there stays, and it is the same number
+pub all_put : (P : KeptTile → Type 0) (c : LruCache ℕ Tile) (first : ℕ) (tile : Tile) → All P c.entries → P (first, tile) → All P (put_entries nat_eq c first tile)
+all_put P c first tile all one = λ k d less. by (get_or (put_entries nat_eq c first tile) k d) (Contains-put_entries nat_eq c first tile _ (Contains-get_or (put_entries nat_eq c first tile) k d less))
+  where
+    by : (e : KeptTile) → Contains c.entries e ⊎ IsPut nat_eq c first tile e → P e
+    by e (inl was) = All-contains P c.entries e all was
+    by (n, v) (inr (same, inl here)) = subst (λ m. P (m, v)) (sym here) (subst (λ w. P (first, w)) (sym same) one)
+    by (n, v) (inr (same, inr key)) = subst (λ m. P (m, v)) (eqb-true first n key.2) (subst (λ w. P (first, w)) (sym same) one)
+
+-- what is looked up is the tile at that place
+pub all_found : (P : KeptTile → Type 0) (first : ℕ) (es : List KeptTile) (tile : Tile) → lookup (nat_eq first) es ≡ Some tile → All P es → P (first, tile)
+all_found P first es tile found all =
+    All-contains P es (first, tile) all (subst (λ o. IfSome o (λ v. Contains es (first, v))) found (IfSome-lookup eqb-true first es))
+
+-- and what it stands for is what bytes stand for that are as many as its own
+pub stands_for : (f : List ℕ) (first len row size : ℕ) (t : Tile) (o : Option (Bor (List ℕ))) → IfSome o (λ plain. (len ≡ t.len) × (row ≡ t.row) × (size ≡ length plain.now) × (plain.now ≡ t.plain.items)) → IsTileOf f (first, t)
+    → IfSome o (λ plain. Packs row (bytes_in f (record { first = first; len = len })) plain.now)
+stands_for f first len row size t None told is = tt
+stands_for f first len row size t (Some plain) told is =
+    subst (λ n. Packs row (bytes_in f (record { first = first; len = n })) plain.now) (sym told.0)
+    (subst (λ r. Packs r (bytes_in f (record { first = first; len = t.len })) plain.now) (sym told.1)
+    (subst (Packs t.row (bytes_in f (record { first = first; len = t.len }))) (sym told.3) is))
+
+-- a tile of the file that is put among its tiles is one of them, if it is put
+pub kept_put : {A E : Type 0} (f : List ℕ) (old new : LruCache ℕ Tile) (first : ℕ) (tile : Tile) (r : Result A E) → OnOk r (new ≡ lru_cache (put_entries nat_eq old first tile) old.cap) → OnErr r (new ≡ old)
+    → All (IsTileOf f) old.entries → IsTileOf f (first, tile) → All (IsTileOf f) new.entries
+kept_put f old new first tile (Ok x) put same all one = subst (λ (c : LruCache ℕ Tile). All (IsTileOf f) c.entries) (sym put) (all_put (IsTileOf f) old first tile all one)
+kept_put f old new first tile (Err e) put same all one = subst (λ (c : LruCache ℕ Tile). All (IsTileOf f) c.entries) (sym same) all
+
+-- ---- how many bytes they have
+
+pub store_promoted : (most size first : ℕ) (old new : LruCache ℕ Tile) → new ≡ lru_cache (promoted (nat_eq first) old.entries) old.cap → IsStore most size old → IsStore most size new
+store_promoted most size first old new is store =
+    subst (IsStore most size) (sym is) (record { few = store.few; alike = all_promoted (λ t. size_of_tile t ≡ size) first old.entries store.alike })
+
+pub store_put : {A E : Type 0} (most size : ℕ) (old new : LruCache ℕ Tile) (first : ℕ) (tile : Tile) (r : Result A E) → OnOk r (new ≡ lru_cache (put_entries nat_eq old first tile) old.cap) → OnErr r (new ≡ old)
+    → IsStore most size old → length tile.plain.items ≡ size → IsStore most size new
+store_put most size old new first tile (Ok x) put same store one =
+    subst (IsStore most size) (sym put) (record { few = store.few; alike = all_put (λ t. size_of_tile t ≡ size) old first tile store.alike one })
+store_put most size old new first tile (Err e) put same store one = subst (IsStore most size) (sym same) store
+
+-- no more than its most
+pub few_bytes : (most size : ℕ) (store : LruCache ℕ Tile) → IsStore most size store → length store.entries ≤ store.cap → size_of_tiles store.entries ≤ most
+few_bytes most size store is few =
+    let all = sum_by-le size_of_tile size store.entries (λ k d less. (let same = is.alike k d less in omega (arith, same))) in
+    let fits = mul-le-mul_right size few in
+    let room = is.few in
+    omega (arith, all, fits, room)

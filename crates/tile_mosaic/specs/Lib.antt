@@ -1,0 +1,4 @@
+pub mod Mosaic
+pub mod Paint
+pub mod Samples
+pub mod Unpacked
