@@ -1,4 +1,4 @@
-//! Aids of tests: `assert_eq` as a call. That of `std` is written out where it stands, and proved there each time.
+//! Aids of tests: `expect_eq`, a call in the place of `assert_eq`, which is written out where it stands, and proved there each time.
 #![tactic(auto)]
 
 use std::fmt::{Debug, Display};
@@ -6,7 +6,7 @@ use std::process::Abort;
 
 /// Ends the test where the two aren't equal, and prints both.
 pub fn check_equal<R: Abort, T: PartialEq + Debug>(rt: &R, left: &T, right: &T) {
-    std::assert_eq!(rt; *left, *right);
+    assert_eq!(rt; *left, *right);
 }
 
 /// The same, with a note.
@@ -16,12 +16,12 @@ pub fn check_equal_at<R: Abort, T: PartialEq + Debug, D: Display + Drop>(
     right: &T,
     note: D,
 ) {
-    std::assert_eq!(rt; *left, *right, "{note}");
+    assert_eq!(rt; *left, *right, "{note}");
 }
 
-/// As `assert_eq` of `std`, but that nothing is known behind it.
+/// As `assert_eq`, but that nothing is known behind it.
 #[macro_export]
-macro_rules! assert_eq {
+macro_rules! expect_eq {
     ($rt:expr; $left:expr, $right:expr $(,)?) => {
         $crate::check_equal(&$rt, &$left, &$right)
     };

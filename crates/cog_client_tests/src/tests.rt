@@ -1,5 +1,5 @@
 //! Tests of a client, answer by answer.
-use assertion_support::assert_eq;
+use assertion_support::expect_eq;
 use cog_client_support::{OLD, Publication, Revisions, Step};
 use std::process::Abort;
 use std::test::Fail;
@@ -18,7 +18,7 @@ fn expect(
     revisions: &Revisions<'_>,
     parts: &[&[Step<'_>]],
 ) -> Result<(), Fail> {
-    assert_eq!(rt; revisions.otherwise(rt.alloc(), parts)?, None);
+    expect_eq!(rt; revisions.otherwise(rt.alloc(), parts)?, None);
     Ok(())
 }
 

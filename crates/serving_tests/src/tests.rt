@@ -1,5 +1,5 @@
 //! Who has a place at a server of few places, and who gets one; each moment is handed in.
-use assertion_support::assert_eq;
+use assertion_support::expect_eq;
 use cog_server::Server;
 use fixtures_support::f1;
 use serving::{Limits, Nobody, Serving};
@@ -63,7 +63,7 @@ fn turn(serving: &mut Serving, server: &Server, now: u64) -> Result<(u32, u32), 
 fn read_answer<R: Abort>(rt: &R, client: &mut TcpStream) -> Result<(), Fail> {
     let mut answer = [0u8; ANSWER.len()];
     client.read_exact(&mut answer)?;
-    assert_eq!(rt; str::from_utf8(&answer), Ok(ANSWER));
+    expect_eq!(rt; str::from_utf8(&answer), Ok(ANSWER));
     Ok(())
 }
 
@@ -100,7 +100,7 @@ fn expect_turn<R: Abort>(
     now: u64,
     want: (u32, u32),
 ) -> Result<(), Fail> {
-    assert_eq!(rt; turn(serving, server, now)?, want);
+    expect_eq!(rt; turn(serving, server, now)?, want);
     Ok(())
 }
 
@@ -142,7 +142,7 @@ fn expect_instead_of_idle<R: Abort>(
 ) -> Result<(), Fail> {
     serving.wait(20)?;
     expect_turn(rt, serving, server, 20, (1, 1))?;
-    assert_eq!(rt; idle.read(&mut [0])?, 0);
+    expect_eq!(rt; idle.read(&mut [0])?, 0);
     Ok(())
 }
 

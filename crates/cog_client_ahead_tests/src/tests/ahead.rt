@@ -1,6 +1,6 @@
 //! Windows by requests that look ahead: the same as without, by fewer requests where a gap between tiles is smaller than a block,
 //! and by no byte more.
-use assertion_support::assert_eq;
+use assertion_support::expect_eq;
 use cog_client::{Client, Query};
 use cog_client_support::{AHEAD, NotDone, OLD, Publication, client_of_a, cog};
 use cog_reader_support::{Fixture, Plain, WINDOWS, Want, is_wanted, of_level, window};
@@ -98,7 +98,7 @@ fn reads_the_windows_of_the_tables_however_far_it_looks(rt: HostRuntime) -> Resu
     for blocks in CAPACITIES {
         for ahead in AHEAD {
             let wrong = wrong_row(rt.alloc(), blocks, ahead)?;
-            assert_eq!(rt; wrong, None, "{blocks} {ahead}");
+            expect_eq!(rt; wrong, None, "{blocks} {ahead}");
         }
     }
     Ok(())
@@ -154,7 +154,7 @@ fn expect_right(
     for blocks in CAPACITIES {
         for ahead in AHEAD {
             let wrong = wrong_window(rt.alloc(), plain, places, (blocks, ahead))?;
-            assert_eq!(rt; wrong, None, "{blocks} {ahead}");
+            expect_eq!(rt; wrong, None, "{blocks} {ahead}");
         }
     }
     Ok(())
@@ -192,7 +192,7 @@ fn expect_requests(
     let first = measured(rt.alloc(), file, query_at(place), 0)?;
     let then = measured(rt.alloc(), file, query_at(place), 64)?;
     let requests = (first.requests, then.requests);
-    assert_eq!(rt; (requests, first.bytes), (wanted, then.bytes), "{place:?}");
+    expect_eq!(rt; (requests, first.bytes), (wanted, then.bytes), "{place:?}");
     Ok(())
 }
 

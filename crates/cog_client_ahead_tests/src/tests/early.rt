@@ -1,5 +1,5 @@
 //! The requests that a client tells early are those that it makes then, where answers come whole.
-use assertion_support::assert_eq;
+use assertion_support::expect_eq;
 use cog_client::{Client, Query};
 use cog_client_support::{AHEAD, NotDone, OLD, Publication, client_of_a, cog};
 use cog_reader_support::{Fixture, WINDOWS, of_level, window};
@@ -125,7 +125,7 @@ fn tells_each_row_of_tiles_but_the_first(rt: HostRuntime) -> Result<(), Fail> {
     let file = cog(rt.alloc(), 8, false)?;
     for (place, wanted) in ROWS {
         let count = told_to_new(rt.alloc(), &file, place)?;
-        assert_eq!(rt; count, Some(wanted), "{place:?}");
+        expect_eq!(rt; count, Some(wanted), "{place:?}");
     }
     Ok(())
 }
@@ -161,7 +161,7 @@ fn tells_nothing_else_of_the_windows_of_the_tables(rt: HostRuntime) -> Result<()
     for blocks in [66, 4096] {
         for ahead in AHEAD {
             let wrong = wrong_row(rt.alloc(), blocks, ahead)?;
-            assert_eq!(rt; wrong, None, "{blocks} {ahead}");
+            expect_eq!(rt; wrong, None, "{blocks} {ahead}");
         }
     }
     Ok(())
@@ -178,7 +178,7 @@ fn told_to_closing(alloc: Global, file: &[u8]) -> Result<Option<u32>, NotDone> {
 #[test]
 fn tells_nothing_where_connections_are_closed(rt: HostRuntime) -> Result<(), Fail> {
     let file = cog(rt.alloc(), 8, false)?;
-    assert_eq!(rt; told_to_closing(rt.alloc(), &file)?, Some(0));
+    expect_eq!(rt; told_to_closing(rt.alloc(), &file)?, Some(0));
     Ok(())
 }
 
@@ -225,7 +225,7 @@ fn made_behind(alloc: Global, query: Query) -> Result<Option<usize>, NotDone> {
 #[test]
 fn tells_what_a_row_lacks_behind_a_tile_that_is_there(rt: HostRuntime) -> Result<(), Fail> {
     let query = of_level(0, 0, 1000, 500, 0);
-    assert_eq!(rt; made_behind(rt.alloc(), query)?, Some(2));
+    expect_eq!(rt; made_behind(rt.alloc(), query)?, Some(2));
     Ok(())
 }
 
@@ -233,6 +233,6 @@ fn tells_what_a_row_lacks_behind_a_tile_that_is_there(rt: HostRuntime) -> Result
 #[test]
 fn tells_what_the_present_row_lacks_behind_a_tile(rt: HostRuntime) -> Result<(), Fail> {
     let query = of_level(0, 300, 1000, 100, 0);
-    assert_eq!(rt; made_behind(rt.alloc(), query)?, Some(1));
+    expect_eq!(rt; made_behind(rt.alloc(), query)?, Some(1));
     Ok(())
 }

@@ -1,5 +1,5 @@
 //! What a client keeps from one query to the next.
-use assertion_support::assert_eq;
+use assertion_support::expect_eq;
 use cog_client_support::Answer::{Part, PartOf, Whole};
 use cog_client_support::Step::{
     Asks, AsksNothing, Forgets, Ignores, IsSilent, Open, Opens, Reads, Reports, Stands, Takes,
@@ -106,7 +106,7 @@ fn expect(
     revisions: &Revisions<'_>,
     parts: &[&[Step<'_>]],
 ) -> Result<(), Fail> {
-    assert_eq!(rt; revisions.otherwise(rt.alloc(), parts)?, None);
+    expect_eq!(rt; revisions.otherwise(rt.alloc(), parts)?, None);
     Ok(())
 }
 

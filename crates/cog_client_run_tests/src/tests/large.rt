@@ -1,5 +1,5 @@
 //! Windows that need several requests, blocks that leave a full cache, and a file that is replaced meanwhile.
-use assertion_support::assert_eq;
+use assertion_support::expect_eq;
 use cog_client_support::Answer::{Part, Whole};
 use cog_client_support::Step::{
     Asks, AsksNothing, Ignores, IsSilent, Opens, Reports, Restarts, Stands, Takes, TakesMore,
@@ -251,7 +251,7 @@ fn reads_a_large_image_by_several_requests(rt: HostRuntime) -> Result<(), Fail> 
     let (old, new) = revisions_of_f5(rt.alloc())?;
     let files = Publication::in_turn(OLD, &old, NEW, &new);
     let found = reading_otherwise(rt.alloc(), &files, &READINGS)?;
-    assert_eq!(rt; found, None);
+    expect_eq!(rt; found, None);
     Ok(())
 }
 
@@ -281,6 +281,6 @@ fn reads_windows_of_two_revisions(rt: HostRuntime) -> Result<(), Fail> {
     let (old, new) = revisions_of_f5(rt.alloc())?;
     let files = Publication::in_turn(OLD, &old, NEW, &new);
     let found = otherwise(rt.alloc(), &files, &[&TWO_REVISIONS])?;
-    assert_eq!(rt; found, None);
+    expect_eq!(rt; found, None);
     Ok(())
 }

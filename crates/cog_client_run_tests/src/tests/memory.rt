@@ -1,6 +1,6 @@
 //! Each test passes with ample memory, and wherever one allocation is refused. The call that finds no memory is made again, and goes
 //! on to the same report; an answer that found none begins again.
-use assertion_support::assert_eq;
+use assertion_support::expect_eq;
 use cog_client::{Client, ClientError, Delivered, Query, Tag};
 use cog_client_support::Answer::{Part, Whole};
 use cog_client_support::Step::{Asks, AsksNothing, Checks, Copies, Open, Opens, Reports, Uses};
@@ -93,7 +93,7 @@ fn expect(
     steps: &[Step<'_>],
 ) -> Result<(), Fail> {
     for piece in [None, Some(1_000)] {
-        assert_eq!(rt;
+        expect_eq!(rt;
             otherwise(rt.alloc(), revisions, steps, piece)?,
             None,
             "by {piece:?}"

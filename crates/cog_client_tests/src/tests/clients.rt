@@ -1,5 +1,5 @@
 //! Clients that are made, and those that aren't.
-use assertion_support::assert_eq;
+use assertion_support::expect_eq;
 use cog_client::{Client, ClientError};
 use cog_reader_support::of_level;
 use std::alloc::{AllocError, Global};
@@ -64,7 +64,7 @@ fn refuses_hosts_names_and_caches(rt: HostRuntime) -> Result<(), Fail> {
     let found = REFUSED
         .iter()
         .position(|row| refusal(rt.alloc(), row.0, row.1, row.2) != row.3);
-    assert_eq!(rt; found, None);
+    expect_eq!(rt; found, None);
     Ok(())
 }
 
@@ -109,7 +109,7 @@ fn first_unmade(alloc: Global) -> Result<Option<usize>, AllocError> {
 
 #[test]
 fn makes_clients_within_the_limits(rt: HostRuntime) -> Result<(), Fail> {
-    assert_eq!(rt; first_unmade(rt.alloc())?, None);
+    expect_eq!(rt; first_unmade(rt.alloc())?, None);
     Ok(())
 }
 
@@ -121,6 +121,6 @@ fn numbers_its_refusals(rt: HostRuntime) {
         (ClientError::Blocks, 3),
         (ClientError::Memory, 4),
     ] {
-        assert_eq!(rt; refusal.number(), number);
+        expect_eq!(rt; refusal.number(), number);
     }
 }

@@ -1,7 +1,7 @@
 //! What an answer does to a client, case by case.
 use super::exchanges::OF_ONES;
 use super::expect;
-use assertion_support::assert_eq;
+use assertion_support::expect_eq;
 use cog_client_support::Answer::{
     self, Bytes, CutPart, CutWhole, Part, PartOf, ShortWhole, Text, Whole, WholeOf,
 };
@@ -235,7 +235,7 @@ fn takes_a_cut_answer_from_its_first_byte_that_is_asked(rt: HostRuntime) -> Resu
     for (cut, longer) in CUTS {
         let steps = [Ignores(cut, 12), TakesMore(longer, 0), Asks(END, Some(OLD))];
         let found = F2_TWICE.otherwise(rt.alloc(), &[&ASKS_END, &steps])?;
-        assert_eq!(rt; found, None, "{cut:?}");
+        expect_eq!(rt; found, None, "{cut:?}");
     }
     Ok(())
 }
@@ -250,7 +250,7 @@ fn restarts_with_a_front_of_another_revision(rt: HostRuntime) -> Result<(), Fail
             Asks(positions, Some(NEW)),
         ];
         let found = F2_REPLACED.otherwise(rt.alloc(), &[&ASKS_END, &steps])?;
-        assert_eq!(rt; found, None, "{lost} bytes are lost");
+        expect_eq!(rt; found, None, "{lost} bytes are lost");
     }
     Ok(())
 }

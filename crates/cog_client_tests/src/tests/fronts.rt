@@ -1,6 +1,6 @@
 //! Every front of an answer, each to a new client: whole, by single bytes, and in pieces of 171 bytes.
 use super::only;
-use assertion_support::assert_eq;
+use assertion_support::expect_eq;
 use cog_client_support::Answer::{Part, Text};
 use cog_client_support::Step::{Ignores, IsSilent, Stands, Takes};
 use cog_client_support::{ASKS_FRONT, FIRST, NotDone, OLD, Publication, otherwise_by};
@@ -53,8 +53,8 @@ fn expect_fronts(rt: &(impl Abort + AllocGlobal), lens: Range<u32>) -> Result<()
     let file = f2(rt.alloc())?;
     let files = only(&file);
     let answer = Part(0, 0, 65535).text(rt.alloc(), &files)?;
-    assert_eq!(rt; answer.len(), 65707);
-    assert_eq!(rt; len_otherwise(rt.alloc(), &files, &answer, lens)?, None);
+    expect_eq!(rt; answer.len(), 65707);
+    expect_eq!(rt; len_otherwise(rt.alloc(), &files, &answer, lens)?, None);
     Ok(())
 }
 

@@ -1,6 +1,6 @@
 //! Answers that no server of ours sends.
 use super::expect;
-use assertion_support::assert_eq;
+use assertion_support::expect_eq;
 use cog_client_support::Answer::{self, Bytes, LongPart, Part, PartOf, Text, WholeOf};
 use cog_client_support::Step::{Asks, Ignores, IsSilent, Opens, Refuses, Reports, Stands, Takes};
 use cog_client_support::{
@@ -159,7 +159,7 @@ fn adopts_a_revision_of_which_it_gets_no_block(rt: HostRuntime) -> Result<(), Fa
             Asks((0, 16383), Some(OLD)),
         ];
         let found = F2_TWICE.otherwise(rt.alloc(), &[&ASKS_FRONT, &steps])?;
-        assert_eq!(rt; found, None, "{answer:?}");
+        expect_eq!(rt; found, None, "{answer:?}");
     }
     Ok(())
 }
@@ -208,6 +208,6 @@ fn line_otherwise(alloc: Global) -> Result<Option<usize>, NotDone> {
 
 #[test]
 fn reads_heads_of_at_most_4096_bytes(rt: HostRuntime) -> Result<(), Fail> {
-    assert_eq!(rt; line_otherwise(rt.alloc())?, None);
+    expect_eq!(rt; line_otherwise(rt.alloc())?, None);
     Ok(())
 }

@@ -1,6 +1,6 @@
 //! Reports of each kind after one exchange, and their copies.
 use super::{expect, only};
-use assertion_support::assert_eq;
+use assertion_support::expect_eq;
 use cog_client_support::Answer::Part;
 use cog_client_support::Step::{Asks, AsksNothing, Copies, IsSilent, Open, Opens, Reports, Takes};
 use cog_client_support::{F2_TWICE, FIRST, NotDone, OLD, Revisions, Step, otherwise};
@@ -73,7 +73,7 @@ fn expect_report(
     change(&mut file, place, bytes);
     if file.len() <= 16384 {
         let found = exchange_otherwise(rt.alloc(), &file, query, want)?;
-        assert_eq!(rt; found, None, "{fixture:?} {place} {bytes:?} {query:?}");
+        expect_eq!(rt; found, None, "{fixture:?} {place} {bytes:?} {query:?}");
     }
     Ok(())
 }
@@ -145,7 +145,7 @@ fn picks_the_least_level_of_so_many_columns(rt: HostRuntime) -> Result<(), Fail>
         (17, Want::Window(32, 32, 1, 8, &large)),
     ] {
         let found = level_otherwise(rt.alloc(), columns, want)?;
-        assert_eq!(rt; found, None, "{columns} columns");
+        expect_eq!(rt; found, None, "{columns} columns");
     }
     Ok(())
 }
@@ -181,14 +181,14 @@ fn front_of_f3_otherwise(alloc: Global) -> Result<Option<usize>, NotDone> {
 
 #[test]
 fn reports_a_fault_of_a_file_that_ends_early(rt: HostRuntime) -> Result<(), Fail> {
-    assert_eq!(rt; front_of_f1_otherwise(rt.alloc())?, None);
-    assert_eq!(rt; front_of_f3_otherwise(rt.alloc())?, None);
+    expect_eq!(rt; front_of_f1_otherwise(rt.alloc())?, None);
+    expect_eq!(rt; front_of_f3_otherwise(rt.alloc())?, None);
     Ok(())
 }
 
 #[test]
 fn reports_a_fault_where_the_last_byte_lacks(rt: HostRuntime) -> Result<(), Fail> {
-    assert_eq!(rt; short_otherwise(rt.alloc())?, None);
+    expect_eq!(rt; short_otherwise(rt.alloc())?, None);
     Ok(())
 }
 

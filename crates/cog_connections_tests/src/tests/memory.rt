@@ -1,6 +1,6 @@
 //! Where memory is refused, that is what is told: this connection and the other are as they were, and the same call succeeds later.
 use super::driving::{ASKS_A, ASKS_B, give_at, take_at};
-use assertion_support::assert_eq;
+use assertion_support::expect_eq;
 use cog_connections::Connections;
 use cog_server::{PublishError, Server};
 use http_range::Memory;
@@ -35,7 +35,7 @@ fn accept(rt: &impl Abort, connections: &mut Connections) -> Result<u64, Fail> {
     match connections.accept(0) {
         Ok(number) => Ok(number),
         Err(Memory) => {
-            assert_eq!(rt; state(connections), before);
+            expect_eq!(rt; state(connections), before);
             Ok(connections.accept(0)?)
         }
     }
@@ -52,7 +52,7 @@ fn give(
     match give_at(connections, number, message) {
         Ok(count) => Ok(count),
         Err(Memory) => {
-            assert_eq!(rt; state(connections), before);
+            expect_eq!(rt; state(connections), before);
             Ok(give_at(connections, number, message)?)
         }
     }
@@ -69,7 +69,7 @@ fn go_on(
     match connections.go_on(number, server, 0) {
         Ok(went) => Ok(went),
         Err(Memory) => {
-            assert_eq!(rt; state(connections), before);
+            expect_eq!(rt; state(connections), before);
             Ok(connections.go_on(number, server, 0)?)
         }
     }
@@ -101,7 +101,7 @@ fn publish(
     count: usize,
 ) -> Result<(), Fail> {
     if let Some(refusal) = refusal_of(server, name, file_of(rt.alloc(), byte, count)?) {
-        assert_eq!(rt; refusal.number(), 6);
+        expect_eq!(rt; refusal.number(), 6);
         let again = refusal_of(server, name, file_of(rt.alloc(), byte, count)?);
         assert!(rt; again.is_none());
     }
@@ -150,7 +150,7 @@ fn goes_on_after_refused_memory(rt: HostRuntime) -> Result<(), Fail> {
 /// Accepts the two connections, numbered from 0.
 fn accept_both(rt: &impl Abort, connections: &mut Connections) -> Result<(), Fail> {
     for number in 0..2 {
-        assert_eq!(rt; accept(rt, connections)?, number);
+        expect_eq!(rt; accept(rt, connections)?, number);
     }
     Ok(())
 }
@@ -164,9 +164,9 @@ fn expect_answered(
 ) -> Result<(), Fail> {
     let count = give(rt, connections, number, message)?;
     let went = go_on(rt, connections, number, server)?;
-    assert_eq!(rt; (count, went), (message.len(), true));
+    expect_eq!(rt; (count, went), (message.len(), true));
     let text = taken(rt.alloc(), connections, number)?;
     let want = answer_to(server, message)?;
-    assert_eq!(rt; text.as_slice(), want.as_slice());
+    expect_eq!(rt; text.as_slice(), want.as_slice());
     Ok(())
 }

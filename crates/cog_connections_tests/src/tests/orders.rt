@@ -1,6 +1,6 @@
 //! Two connections, in every order of what happens to them: each is answered as if it were alone.
 use super::driving::{ASKS_A, ASKS_B, CLOSES, give_at, server_of_two, take_at};
-use assertion_support::assert_eq;
+use assertion_support::expect_eq;
 use cog_connections::Connections;
 use cog_server::{AfterBytes, AfterPieces, ScriptedInlet, ScriptedOutlet, Server};
 use std::alloc::Global;
@@ -93,7 +93,7 @@ fn answers_each_as_if_it_were_alone(rt: HostRuntime) -> Result<(), Fail> {
             orders = orders.saturating_add(1);
         }
     }
-    assert_eq!(rt; orders, 924);
+    expect_eq!(rt; orders, 924);
     Ok(())
 }
 
@@ -105,7 +105,7 @@ fn expect_order(
     wants: (&[u8], &[u8]),
 ) -> Result<(), Fail> {
     let [first, second] = run(rt.alloc(), server, order)?;
-    assert_eq!(rt;
+    expect_eq!(rt;
         (first.as_slice(), second.as_slice()),
         wants,
         "order {order}"

@@ -1,6 +1,6 @@
 //! One connection: bytes one by one, short writes, the last answer, a file that is replaced, and what comes behind the last.
 use super::driving::{ASKS_A, ASKS_B, CLOSES, give, publish, server_of_two, take};
-use assertion_support::assert_eq;
+use assertion_support::expect_eq;
 use cog_server::{Connection, Ended, Server};
 use std::alloc::Global;
 use std::process::Abort;
@@ -27,7 +27,7 @@ fn answers_single_bytes_by_writes_of_one(rt: HostRuntime) -> Result<(), Fail> {
     for message in messages {
         expect_single_bytes(&rt, &mut connection, &server, message, &mut text)?;
     }
-    assert_eq!(rt;
+    expect_eq!(rt;
         (text.as_slice(), connection.ended(), connection.answers()),
         (want.as_slice(), Some(Ended::Closed), 3)
     );
@@ -44,7 +44,7 @@ fn expect_single_bytes(
 ) -> Result<(), Fail> {
     for byte in message {
         let count = give(connection, &[*byte])?;
-        assert_eq!(rt; (count, connection.ended()), (1, None));
+        expect_eq!(rt; (count, connection.ended()), (1, None));
         connection.go_on(server)?;
         take_single_bytes(connection, text)?;
     }
@@ -70,7 +70,7 @@ fn ends_with_the_hundredth_answer(rt: HostRuntime) -> Result<(), Fail> {
         expect_first_of_two(&rt, &mut connection, &server, &want)?;
     }
     let went = connection.go_on(&server)?;
-    assert_eq!(rt;
+    expect_eq!(rt;
         (went, connection.ended(), connection.answers()),
         (false, Some(Ended::Limit), 100)
     );
@@ -88,7 +88,7 @@ fn expect_first_of_two(
     assert!(rt; !connection.go_on(server)?);
     let mut text = Vec::new(rt.alloc());
     take(connection, usize::MAX, &mut text)?;
-    assert_eq!(rt; text.as_slice(), want);
+    expect_eq!(rt; text.as_slice(), want);
     Ok(())
 }
 
@@ -114,11 +114,11 @@ fn sends_a_replaced_file_as_it_was(rt: HostRuntime) -> Result<(), Fail> {
     let mut connection = Connection::new(alloc);
     let mut text = Vec::new(alloc);
     give_two_and_answer(&rt, &mut connection, &server)?;
-    assert_eq!(rt; take(&mut connection, 300, &mut text)?, 300);
+    expect_eq!(rt; take(&mut connection, 300, &mut text)?, 300);
     publish(alloc, &mut server, b"a", 2, 30)?;
     expect_second_behind_the_first(&rt, &mut connection, &server, &mut text)?;
     want.extend_from_slice(&answers(alloc, &server, &[ASKS_A])?)?;
-    assert_eq!(rt; text.as_slice(), want.as_slice());
+    expect_eq!(rt; text.as_slice(), want.as_slice());
     Ok(())
 }
 
@@ -150,7 +150,7 @@ fn drops_what_comes_behind_the_last_message(rt: HostRuntime) -> Result<(), Fail>
     expect_dropped(&rt, &mut connection, (&zeros[..8191], 8191, false))?;
     expect_dropped(&rt, &mut connection, (&zeros, 1, true))?;
     let went = connection.go_on(&server)?;
-    assert_eq!(rt; (connection.room(), went), (0, false));
+    expect_eq!(rt; (connection.room(), went), (0, false));
     Ok(())
 }
 
@@ -162,7 +162,7 @@ fn expect_draining(
 ) -> Result<(), Fail> {
     give(connection, CLOSES)?;
     let went = connection.go_on(server)?;
-    assert_eq!(rt; (went, connection.is_draining()), (true, false));
+    expect_eq!(rt; (went, connection.is_draining()), (true, false));
     take(connection, usize::MAX, &mut Vec::new(rt.alloc()))?;
     assert!(rt; connection.is_draining());
     Ok(())
@@ -175,6 +175,6 @@ fn expect_dropped(
     (bytes, count, is_drained): (&[u8], usize, bool),
 ) -> Result<(), Fail> {
     let dropped = give(connection, bytes)?;
-    assert_eq!(rt; (dropped, connection.is_drained()), (count, is_drained));
+    expect_eq!(rt; (dropped, connection.is_drained()), (count, is_drained));
     Ok(())
 }

@@ -1,6 +1,6 @@
 //! Whose place a newcomer takes.
 use super::driving::{ASKS_A, CLOSES, give_at, server_of_two, take_at};
-use assertion_support::assert_eq;
+use assertion_support::expect_eq;
 use cog_connections::Connections;
 use cog_server::Server;
 use std::alloc::Global;
@@ -74,7 +74,7 @@ fn table_of(alloc: Global, rows: &[(Doing, u64)]) -> Result<Connections, Fail> {
 fn expect(rt: &(impl Abort + AllocGlobal), rows: &[Row<'_>]) -> Result<(), Fail> {
     for (table, yields, wakes) in rows {
         let connections = table_of(rt.alloc(), table)?;
-        assert_eq!(rt;
+        expect_eq!(rt;
             (connections.yields(100, 30), connections.wakes_at(30)),
             (*yields, *wakes),
             "{table:?}"

@@ -1,5 +1,5 @@
 //! The reader beside the plain program's faults: it tells one that stands, and a window or Info exactly where none does.
-use assertion_support::assert_eq;
+use assertion_support::expect_eq;
 use cog_reader::{Outcome, read_file};
 use cog_reader_support::Fixture;
 use faults_support::{faults, faults_of_directories};
@@ -135,6 +135,6 @@ fn answers_each_query_of_a_fixture_or_is_outside(rt: HostRuntime) -> Result<(), 
         }
     }
     // f3 answers all four queries, f4 all but its level 1, the others all but that and the window of 17 by 17.
-    assert_eq!(rt; answered, 4 + 3 + 4 * 2);
+    expect_eq!(rt; answered, 4 + 3 + 4 * 2);
     Ok(())
 }

@@ -1,6 +1,6 @@
 //! Worked windows of the fixtures.
 use super::image::{Answer, Image};
-use assertion_support::assert_eq;
+use assertion_support::expect_eq;
 use cog_reader::{Outcome, Window, read_file};
 use cog_reader_support::{
     CHANGED, Fixture, Numbers, WINDOWS, WindowRow, change, is_wanted, window,
@@ -72,15 +72,15 @@ fn pixels_of_f3(rt: &impl AllocGlobal, numbers: Numbers) -> Result<Window, Fail>
 #[test]
 fn reads_whole_levels(rt: HostRuntime) -> Result<(), Fail> {
     let small = pixels_of_f3(&rt, (0, 0, 32, 32, Pick::Columns(16)))?;
-    assert_eq!(rt; (small.w, small.h, small.pixels.len()), (16, 16, 256));
+    expect_eq!(rt; (small.w, small.h, small.pixels.len()), (16, 16, 256));
     for (i, byte) in small.pixels.iter().enumerate() {
-        assert_eq!(rt; usize::from(*byte), i / 16, "at {i}");
+        expect_eq!(rt; usize::from(*byte), i / 16, "at {i}");
     }
     let large = pixels_of_f3(&rt, (0, 0, 32, 32, Pick::Columns(17)))?;
-    assert_eq!(rt; (large.w, large.h, large.pixels.len()), (32, 32, 1024));
+    expect_eq!(rt; (large.w, large.h, large.pixels.len()), (32, 32, 1024));
     for (i, byte) in large.pixels.iter().enumerate() {
         let tile = i / 512 * 2 + i % 32 / 16;
-        assert_eq!(rt; usize::from(*byte), 16 + tile, "at {i}");
+        expect_eq!(rt; usize::from(*byte), 16 + tile, "at {i}");
     }
     Ok(())
 }

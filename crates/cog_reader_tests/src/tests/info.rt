@@ -1,7 +1,7 @@
 //! What Info says.
 use super::image::{Answer, Image};
 use super::{Range, are_ranges};
-use assertion_support::assert_eq;
+use assertion_support::expect_eq;
 use cog_reader::read_file;
 use cog_reader_support::{FACTS_OF_F3, Facts, Fixture, NO_FACTS, Value, Want, change, is_wanted};
 use fixtures_support::{
@@ -182,7 +182,7 @@ fn tells_all_geo_fields(rt: HostRuntime) -> Result<(), Fail> {
     };
     for order in [Order::Little, Order::Big] {
         let file = file_of_all(rt.alloc(), order)?;
-        assert_eq!(rt; file.len(), 434);
+        expect_eq!(rt; file.len(), 434);
         let told = is_told(rt.alloc(), file, &ALL_RANGES, facts);
         assert!(rt; told.ok().ok_or("no memory")?, "{order:?}");
     }

@@ -1,5 +1,5 @@
 //! Files that end early.
-use assertion_support::assert_eq;
+use assertion_support::expect_eq;
 use cog_reader::{Outcome, read_file};
 use cog_reader_support::{Fixture, Want, is_wanted, of_level};
 use std::process::Abort;
@@ -9,7 +9,7 @@ use tiff_dir::{FileFault, Query};
 #[test]
 fn tells_past_end_of_every_front(rt: HostRuntime) -> Result<(), Fail> {
     let file = Fixture::F1.file(rt.alloc())?;
-    assert_eq!(rt; file.len(), 378);
+    expect_eq!(rt; file.len(), 378);
     for len in 0..file.len() {
         for query in [of_level(2, 1, 3, 2, 0), of_level(0, 0, 1, 1, 0)] {
             let outcome = read_file(rt.alloc(), &file[..len], query);
@@ -38,7 +38,7 @@ fn expect_info(rt: &(impl Abort + AllocGlobal), front: &[u8], whole: &Outcome) -
 #[test]
 fn tells_info_without_the_tiles(rt: HostRuntime) -> Result<(), Fail> {
     let file = Fixture::F3.file(rt.alloc())?;
-    assert_eq!(rt; file.len(), 1456);
+    expect_eq!(rt; file.len(), 1456);
     let whole = read_file(rt.alloc(), &file, Query::Info);
     let whole = whole.ok().ok_or("no memory")?;
     assert!(rt; matches!(&whole, Outcome::Info(_)), "{whole:?}");

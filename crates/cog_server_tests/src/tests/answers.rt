@@ -1,6 +1,6 @@
 //! Answers to requests for ranges of f1, which is published as `a` in epoch 1.
 use super::streams::expect_served;
-use assertion_support::assert_eq;
+use assertion_support::expect_eq;
 use cog_server::{Answer, Ended, Served, Server};
 use fixtures_support::f1;
 use std::alloc::Global;
@@ -77,7 +77,7 @@ fn expect_text(
 ) {
     let is_begun = answer.text.starts_with(want.head);
     let rest = answer.text.get(want.head.len()..);
-    assert_eq!(rt; (is_begun, rest), (true, Some(body)), "to {message:?}");
+    expect_eq!(rt; (is_begun, rest), (true, Some(body)), "to {message:?}");
 }
 
 /// Expects all of an answer but its text, with so many bytes of body.
@@ -88,7 +88,7 @@ fn expect_values(
     body: u64,
 ) {
     let named = if want.named { NAME_OF_F1 } else { None };
-    assert_eq!(rt;
+    expect_eq!(rt;
         (answer.status, answer.close, answer.body, name_of(answer)),
         (want.status, want.close, body, named),
         "to {message:?}"
@@ -257,7 +257,7 @@ fn expect_the_third_whole(rt: &(impl Abort + AllocGlobal), server: &Server) -> R
         b"GET /a HTTP/1.1\r\nHost: h\r\nRange: bytes=0-0\r\nIf-Range: \"1-1\"\r\n\r\n",
     )?;
     let front = b"HTTP/1.1 200 OK\r\nETag: \"1-3\"\r\n";
-    assert_eq!(rt;
+    expect_eq!(rt;
         (answer.status, answer.text.starts_with(front)),
         (200, true)
     );

@@ -1,7 +1,7 @@
 //! Answers to requests on conditions, with and without a range.
 use super::answers::{FIRST, Row, WHOLE, Want, expect_answer, server_of_f1};
 use super::refusals::{BARE, UNKNOWN, expect_answers};
-use assertion_support::assert_eq;
+use assertion_support::expect_eq;
 use std::test::Fail;
 
 const FAILED: Want = Want {
@@ -97,6 +97,6 @@ fn answers_a_check_of_the_same_revision_in_61_bytes(rt: HostRuntime) -> Result<(
     let check =
         "HEAD /a HTTP/1.1\r\nHost: h\r\nIf-None-Match: \"1-1\"\r\nConnection: close\r\n\r\n";
     let answer = server.answer(check.as_bytes())?;
-    assert_eq!(rt; answer.text.len(), 61, "to {check:?}");
+    expect_eq!(rt; answer.text.len(), 61, "to {check:?}");
     expect_answer(&rt, &server, (check, UNMODIFIED_AND_CLOSED))
 }

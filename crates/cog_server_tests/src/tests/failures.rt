@@ -1,7 +1,7 @@
 //! Readers and writers that fail: what was written by then, and which failure is told.
 use super::answers::{FIRST, publish, server_of_f1, text_of};
 use super::streams::{ASKS_FIRST, two_messages};
-use assertion_support::assert_eq;
+use assertion_support::expect_eq;
 use cog_server::{
     AfterBytes, AfterPieces, Ended, Inlet, Outlet, ScriptedInlet, ScriptedOutlet, ServeError,
     Served, Server,
@@ -16,9 +16,9 @@ const LONG_HEAD: &[u8] =
 
 #[test]
 fn numbers_the_failures_of_a_stream(rt: HostRuntime) {
-    assert_eq!(rt; ServeError::Read.number(), 1);
-    assert_eq!(rt; ServeError::Write.number(), 2);
-    assert_eq!(rt; ServeError::Memory.number(), 3);
+    expect_eq!(rt; ServeError::Read.number(), 1);
+    expect_eq!(rt; ServeError::Write.number(), 2);
+    expect_eq!(rt; ServeError::Memory.number(), 3);
 }
 
 /// What serving a stream tells, and the reader and the writer after it.
@@ -63,8 +63,8 @@ fn expect_run(
     (told, text): (Told, &[u8]),
     (after, count): (AfterPieces, usize),
 ) {
-    assert_eq!(rt; outlet.taken(), text, "{after:?} after {count}");
-    assert_eq!(rt;
+    expect_eq!(rt; outlet.taken(), text, "{after:?} after {count}");
+    expect_eq!(rt;
         (*served, inlet.failed(), outlet.failed()),
         told,
         "{after:?} after {count}"
@@ -75,7 +75,7 @@ fn expect_run(
 fn answers_the_whole_messages_before_a_failed_read(rt: HostRuntime) -> Result<(), Fail> {
     let server = server_of_f1(rt.alloc())?;
     let first = text_of(rt.alloc(), &FIRST)?;
-    assert_eq!(rt; first.len(), 143);
+    expect_eq!(rt; first.len(), 143);
     expect_read_failure(&rt, &server, ASKS_FIRST, &first)?;
     let (stream, text) = two_messages(rt.alloc())?;
     expect_read_failure(&rt, &server, &stream, &text)?;

@@ -1,6 +1,6 @@
 //! Where memory is refused, that is what is told; nothing has changed, and the same call succeeds later. Each test passes with
 //! ample memory, and wherever one allocation is refused.
-use assertion_support::assert_eq;
+use assertion_support::expect_eq;
 use cog_server::{Inlet, Outlet, PublishError, ServeError, Served, Server, Stream};
 use http_range::{Memory, publication_tag};
 use std::alloc::Global;
@@ -38,7 +38,7 @@ fn publish_after(
     refusal: PublishError,
     (name, number): (&[u8], u32),
 ) -> Result<(), Fail> {
-    assert_eq!(rt; refusal.number(), 6);
+    expect_eq!(rt; refusal.number(), 6);
     let file = file_again(rt.alloc())?;
     let tag = server.publish(name, file).map_err(|_| "refused twice")?;
     assert!(rt; tag == publication_tag(1, number));
@@ -61,7 +61,7 @@ fn answers_again_after_refused_memory(rt: HostRuntime) -> Result<(), Fail> {
         Ok(answer) => answer,
         Err(Memory) => server.answer(REQUEST)?,
     };
-    assert_eq!(rt; (answer.text.as_slice(), answer.body), (TEXT, 2));
+    expect_eq!(rt; (answer.text.as_slice(), answer.body), (TEXT, 2));
     Ok(())
 }
 
@@ -104,7 +104,7 @@ fn expect_answers_of_two(
     want: (&[u8], &[u8]),
 ) -> Result<(), Fail> {
     let (a, b) = answers_of_two(server)?;
-    assert_eq!(rt; (a.as_slice(), b.as_slice()), want);
+    expect_eq!(rt; (a.as_slice(), b.as_slice()), want);
     Ok(())
 }
 
@@ -115,7 +115,7 @@ fn serves_again_after_refused_memory(rt: HostRuntime) -> Result<(), Fail> {
     publish(&rt, &mut server)?;
     let mut room = [0u8; 512];
     let served = serve_again(&rt, &server, room.as_mut_slice())?;
-    assert_eq!(rt;
+    expect_eq!(rt;
         (
             served.answers,
             room.starts_with(TEXT),
@@ -139,7 +139,7 @@ fn serve_again(
     match result {
         Ok(served) => Ok(served),
         Err(failure) => {
-            assert_eq!(rt; (failure, failed), (ServeError::Memory, (false, false)));
+            expect_eq!(rt; (failure, failed), (ServeError::Memory, (false, false)));
             let mut outlet = Stream::new(room);
             Ok(server.serve(&mut Stream::new(REQUEST), &mut outlet)?)
         }
@@ -159,11 +159,11 @@ fn serves_whole_answers_alone_before_refused_memory(rt: HostRuntime) -> Result<(
     let result = serve_twice(&rt, &server, room.as_mut_slice());
     let answers = match result {
         Ok(served) => {
-            assert_eq!(rt; served.answers, 2);
+            expect_eq!(rt; served.answers, 2);
             2
         }
         Err(failure) => {
-            assert_eq!(rt; failure, ServeError::Memory);
+            expect_eq!(rt; failure, ServeError::Memory);
             usize::from(room.starts_with(b"HTTP"))
         }
     };
@@ -180,7 +180,7 @@ fn serve_twice(
     let mut inlet = Stream::new(TWICE);
     let mut outlet = Stream::new(room);
     let result = server.serve(&mut inlet, &mut outlet);
-    assert_eq!(rt; (inlet.failed(), outlet.failed()), (false, false));
+    expect_eq!(rt; (inlet.failed(), outlet.failed()), (false, false));
     result
 }
 

@@ -1,5 +1,5 @@
 //! Publications, their refusals, and the files that are there.
-use assertion_support::assert_eq;
+use assertion_support::expect_eq;
 use cog_server::{PublishError, Server};
 use fixtures_support::f1;
 use http_range::publication_tag;
@@ -24,7 +24,7 @@ fn expect_refused(
         Ok(_) => None,
         Err(refusal) => Some(refusal.number()),
     };
-    assert_eq!(rt; number, Some(want), "{count} bytes of {name:?}");
+    expect_eq!(rt; number, Some(want), "{count} bytes of {name:?}");
     Ok(())
 }
 
@@ -61,7 +61,7 @@ fn expect_length(
         Some(file) => Some(file.len()),
         None => None,
     };
-    assert_eq!(rt; length, want, "{name:?}");
+    expect_eq!(rt; length, want, "{name:?}");
 }
 
 /// So many bytes 0.
@@ -82,7 +82,7 @@ fn numbers_the_refusals_of_a_publication(rt: HostRuntime) {
         (PublishError::Memory, 6),
     ];
     for (refusal, want) in table {
-        assert_eq!(rt; refusal.number(), want, "{refusal:?}");
+        expect_eq!(rt; refusal.number(), want, "{refusal:?}");
     }
 }
 
@@ -131,7 +131,7 @@ fn refuses_the_65th_name(rt: HostRuntime) -> Result<(), Fail> {
 #[test]
 fn gives_the_last_file_of_each_name(rt: HostRuntime) -> Result<(), Fail> {
     let mut server = Server::new(rt.alloc(), 1);
-    assert_eq!(rt; (server.epoch(), server.file(b"a")), (1, None));
+    expect_eq!(rt; (server.epoch(), server.file(b"a")), (1, None));
     expect_published(&rt, &mut server, b"a", f1(rt.alloc())?, 1)?;
     expect_zeros_published(&rt, &mut server, (b"b", 3, 2))?;
     let file = f1(rt.alloc())?;
@@ -144,5 +144,5 @@ fn gives_the_last_file_of_each_name(rt: HostRuntime) -> Result<(), Fail> {
 
 /// Expects these files of two names.
 fn expect_files(rt: &(impl Abort + AllocGlobal), server: &Server, a: &[u8], b: &[u8]) {
-    assert_eq!(rt; (server.file(b"a"), server.file(b"b")), (Some(a), Some(b)));
+    expect_eq!(rt; (server.file(b"a"), server.file(b"b")), (Some(a), Some(b)));
 }

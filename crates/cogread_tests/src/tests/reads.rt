@@ -1,7 +1,7 @@
 //! `cogread` over a server in memory: what it prints, and the lines of its faults.
 ghost use Rattle.std.specs.Prelude.{◌+◌, ◌^◌, ◌<◌};
 
-use assertion_support::assert_eq;
+use assertion_support::expect_eq;
 use cog_client::{Client, Pieces, Query};
 use cog_server::Server;
 use exchange_notes::{Noted, NotedNet};
@@ -105,9 +105,9 @@ fn reads_the_whole_of_a_level(rt: HostRuntime) -> Result<(), Fail> {
     for sample in 0..=u8::MAX {
         want.push(sample)?;
     }
-    assert_eq!(rt; told.out, want);
+    expect_eq!(rt; told.out, want);
     assert!(rt; told.err.is_empty());
-    assert_eq!(rt; told.status, 0);
+    expect_eq!(rt; told.status, 0);
     Ok(())
 }
 
@@ -150,7 +150,7 @@ fn reads_the_whole_of_a_file_that_is_replaced(rt: HostRuntime) -> Result<(), Fai
             told.err,
             told.status
         );
-        assert_eq!(rt; told.status, 0);
+        expect_eq!(rt; told.status, 0);
     }
     let told = told_of_replaced(&rt, 2)?;
     assert!(rt; told.is("", "cogread: no report\n", 4), "{told:?}");

@@ -2,7 +2,7 @@
 //! how far the exchanges have come.
 ghost use Rattle.std.specs.Prelude.{◌+◌, ◌^◌, ◌<◌};
 
-use assertion_support::assert_eq;
+use assertion_support::expect_eq;
 use cog_client::{Client, Lost, Pieces, Query, Transport};
 use cog_server::Server;
 use exchange_notes::{Noted, NotedNet};
@@ -119,7 +119,7 @@ fn tells_each_exchange(rt: HostRuntime) -> Result<(), Fail> {
     let server = server_of_one(rt.alloc(), 1, b"a", f1(rt.alloc())?)?;
     for (fates, x, want) in TOLD {
         let told = told_of(Capture::new(&rt), &server, pixel(x), fates, Telling::Each)?;
-        assert_eq!(rt; told.as_str(), want);
+        expect_eq!(rt; told.as_str(), want);
     }
     Ok(())
 }
@@ -231,7 +231,7 @@ fn draws_how_far_the_exchanges_have_come(rt: HostRuntime) -> Result<(), Fail> {
             fates,
             Telling::Progress,
         )?;
-        assert_eq!(rt; told.as_str(), want);
+        expect_eq!(rt; told.as_str(), want);
     }
     Ok(())
 }
@@ -263,9 +263,9 @@ fn tells_why_no_connection_is_made(rt: HostRuntime) -> Result<(), Fail> {
     for (words, want, status) in NOWHERE {
         let told = tell(&rt, words)?;
         let err = without_times(rt.alloc(), str::from_utf8(&told.err).unwrap_or("?"))?;
-        assert_eq!(rt; err.as_str(), want);
+        expect_eq!(rt; err.as_str(), want);
         assert!(rt; told.out.is_empty());
-        assert_eq!(rt; told.status, status);
+        expect_eq!(rt; told.status, status);
     }
     Ok(())
 }

@@ -1,5 +1,5 @@
 //! Help, and faults of the form of a line.
-use assertion_support::assert_eq;
+use assertion_support::expect_eq;
 use programs_support::{Capture, Told, tell, tell_line, tell_on, words_of};
 use std::alloc::{AllocError, Global};
 use std::test::Fail;
@@ -113,9 +113,9 @@ fn missing_part(told: &Told, parts: &'static [&'static str]) -> Option<&'static 
 fn prints_each_word_with_its_unit_and_default(rt: HostRuntime) -> Result<(), Fail> {
     for (line, parts) in HELPS {
         let told = tell(&rt, &words_of(rt.alloc(), line)?)?;
-        assert_eq!(rt; missing_part(&told, parts), None, "{line:?}");
+        expect_eq!(rt; missing_part(&told, parts), None, "{line:?}");
         assert!(rt; told.err.is_empty(), "{line:?}");
-        assert_eq!(rt; told.status, 0, "{line:?}");
+        expect_eq!(rt; told.status, 0, "{line:?}");
     }
     Ok(())
 }
@@ -140,7 +140,7 @@ fn refuses_a_line_that_is_not_of_its_program(rt: HostRuntime) -> Result<(), Fail
         let told = tell(&rt, &words_of(rt.alloc(), line)?)?;
         assert!(rt; told.out.is_empty(), "{line:?}");
         assert!(rt; told.err.starts_with(b"error: "), "{line:?}");
-        assert_eq!(rt; told.status, 2, "{line:?}");
+        expect_eq!(rt; told.status, 2, "{line:?}");
     }
     Ok(())
 }
@@ -175,7 +175,7 @@ fn is_the_program_that_its_own_name_names(rt: HostRuntime) -> Result<(), Fail> {
             "{line:?}: {told:?}"
         );
         assert!(rt; told.err.is_empty(), "{line:?}");
-        assert_eq!(rt; told.status, 0, "{line:?}");
+        expect_eq!(rt; told.status, 0, "{line:?}");
     }
     Ok(())
 }

@@ -1,5 +1,5 @@
 //! Numbers of command lines.
-use assertion_support::assert_eq;
+use assertion_support::expect_eq;
 use command_lines::number_from;
 
 /// A word, the least and the greatest number of its range, and the number that it writes.
@@ -21,6 +21,6 @@ const NUMBERS: [(&str, u32, u32, Option<u32>); 12] = [
 #[test]
 fn reads_ten_digits_at_most_and_a_number_in_its_range(rt: HostRuntime) {
     for (word, least, greatest, want) in NUMBERS {
-        assert_eq!(rt; number_from(word, least, greatest), want, "{word:?}");
+        expect_eq!(rt; number_from(word, least, greatest), want, "{word:?}");
     }
 }

@@ -1,5 +1,5 @@
 //! The words of `cogread`, `cogserve` and `cogworld`, and the lines that they are.
-use assertion_support::assert_eq;
+use assertion_support::expect_eq;
 use clap::Error;
 use clap::error::ErrorKind;
 use command_lines::{AskedWords, ReadLine, WindowWords, read_line, serve_line, world_line};
@@ -227,7 +227,7 @@ fn refusal_of(alloc: Global, line: &str) -> Result<Option<ErrorKind>, AllocError
 #[test]
 fn refuses_words_of_another_form(rt: HostRuntime) -> Result<(), Fail> {
     for (line, want) in REFUSED {
-        assert_eq!(rt; refusal_of(rt.alloc(), line)?, Some(want), "{line:?}");
+        expect_eq!(rt; refusal_of(rt.alloc(), line)?, Some(want), "{line:?}");
     }
     Ok(())
 }

@@ -1,6 +1,6 @@
 //! What keys say of the coordinate system and of pixels (GeoTIFF 1.1, OGC 19-008, annex A).
 use super::places::info;
-use assertion_support::assert_eq;
+use assertion_support::expect_eq;
 use cog_client::Info;
 use describing::{CoordinateSystem, RasterType};
 use geokeys::{Key, KeyValue};
@@ -57,7 +57,7 @@ fn tells_the_number_of_a_system(rt: HostRuntime) -> Result<(), Fail> {
             Some(system) => system.number,
             None => None,
         };
-        assert_eq!(rt; number, want);
+        expect_eq!(rt; number, want);
     }
     Ok(())
 }
@@ -80,8 +80,8 @@ fn tells_the_text_of_a_system(rt: HostRuntime) -> Result<(), Fail> {
         let Some(system) = CoordinateSystem::of(alloc, &info)? else {
             return Err(Fail::new("no system"));
         };
-        assert_eq!(rt; system.name.as_deref(), Some(want));
-        assert_eq!(rt; system.number, None);
+        expect_eq!(rt; system.name.as_deref(), Some(want));
+        expect_eq!(rt; system.number, None);
     }
     Ok(())
 }
@@ -95,9 +95,9 @@ fn tells_what_a_pixel_is(rt: HostRuntime) -> Result<(), Fail> {
         (3, None),
     ] {
         let info = info_of(alloc, numbers(alloc, &[(1025, number)])?)?;
-        assert_eq!(rt; RasterType::of(&info), want);
+        expect_eq!(rt; RasterType::of(&info), want);
     }
     let info = info_of(alloc, numbers(alloc, &[(1024, 2)])?)?;
-    assert_eq!(rt; RasterType::of(&info), None);
+    expect_eq!(rt; RasterType::of(&info), None);
     Ok(())
 }

@@ -1,5 +1,5 @@
 //! Where columns and rows lie, by each form of the fields, with the numbers that gdalinfo tells of such a file.
-use assertion_support::assert_eq;
+use assertion_support::expect_eq;
 use cog_client::Info;
 use describing::{Corners, Placement};
 use geokeys::Geo;
@@ -68,11 +68,11 @@ fn places_columns_and_rows_as_gdalinfo_does(rt: HostRuntime) -> Result<(), Fail>
     let alloc = rt.alloc();
     let by_scale: [&[f64]; 3] = [&SCALE, &TIEPOINT, &[]];
     let want = [440720.0, 60.0, 0.0, 3751320.0, 0.0, -60.0];
-    assert_eq!(rt; numbers_of(alloc, by_scale, false)?, Some(want));
+    expect_eq!(rt; numbers_of(alloc, by_scale, false)?, Some(want));
     let inner: [&[f64]; 3] = [&SCALE, &INNER_TIEPOINT, &[]];
-    assert_eq!(rt; numbers_of(alloc, inner, false)?, Some(want));
+    expect_eq!(rt; numbers_of(alloc, inner, false)?, Some(want));
     let want = [440690.0, 60.0, 0.0, 3751350.0, 0.0, -60.0];
-    assert_eq!(rt; numbers_of(alloc, by_scale, true)?, Some(want));
+    expect_eq!(rt; numbers_of(alloc, by_scale, true)?, Some(want));
     Ok(())
 }
 
@@ -81,9 +81,9 @@ fn places_what_is_turned_as_gdalinfo_does(rt: HostRuntime) -> Result<(), Fail> {
     let alloc = rt.alloc();
     let turned: [&[f64]; 3] = [&[], &[], &TURNED];
     let want = [1000.0, 30.0, 40.0, 2000.0, 40.0, -30.0];
-    assert_eq!(rt; numbers_of(alloc, turned, false)?, Some(want));
+    expect_eq!(rt; numbers_of(alloc, turned, false)?, Some(want));
     let want = [965.0, 30.0, 40.0, 1995.0, 40.0, -30.0];
-    assert_eq!(rt; numbers_of(alloc, turned, true)?, Some(want));
+    expect_eq!(rt; numbers_of(alloc, turned, true)?, Some(want));
     Ok(())
 }
 
@@ -100,7 +100,7 @@ fn tells_corners_as_gdalinfo_does(rt: HostRuntime) -> Result<(), Fail> {
         upper_right: (441920.0, 3751320.0),
         center: (441320.0, 3750720.0),
     };
-    assert_eq!(rt; corners, want);
+    expect_eq!(rt; corners, want);
     Ok(())
 }
 
@@ -117,7 +117,7 @@ fn guesses_no_place(rt: HostRuntime) -> Result<(), Fail> {
         [&[], &[], &TURNED[..7]],
     ];
     for fields in rows {
-        assert_eq!(rt; placement_of(alloc, fields, false)?, None);
+        expect_eq!(rt; placement_of(alloc, fields, false)?, None);
     }
     Ok(())
 }

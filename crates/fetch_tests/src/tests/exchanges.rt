@@ -1,5 +1,5 @@
 //! What the transports bring.
-use assertion_support::assert_eq;
+use assertion_support::expect_eq;
 use cog_client::{Lost, Transport};
 use fixtures_support::{f1, f2};
 use std::process::Abort;
@@ -59,7 +59,7 @@ fn loses_and_cuts_answers_by_its_list(rt: HostRuntime) -> Result<(), Fail> {
     for length in LENGTHS {
         expect_front(&rt, &mut transport, length);
     }
-    assert_eq!(rt; transport.exchanges(), 7);
+    expect_eq!(rt; transport.exchanges(), 7);
     Ok(())
 }
 
@@ -74,7 +74,7 @@ const MESSAGES: [(&[u8], bool); 4] = [
 /// Expects that the answer to a message comes, or doesn't, by one exchange more, of four.
 fn expect_answer(rt: &impl Abort, transport: &mut InMemory<'_>, message: &[u8], comes: bool) {
     assert!(rt; transport.exchanges() < 4);
-    assert_eq!(rt; transport.exchange(message).is_ok(), comes, "{message:?}");
+    expect_eq!(rt; transport.exchange(message).is_ok(), comes, "{message:?}");
 }
 
 #[test]

@@ -1,7 +1,7 @@
 //! The test passes with ample memory, and wherever one allocation is refused.
 use super::LAST_TILE;
 use super::fetched::is_last_tile;
-use assertion_support::assert_eq;
+use assertion_support::expect_eq;
 use cog_client::{Client, ClientError};
 use cog_fetch::fetch;
 use cog_server::Server;
@@ -23,7 +23,7 @@ fn make_again(alloc: Global) -> Result<Client, ClientError> {
 fn fetch_again(rt: &impl Abort, server: &Server, client: &mut Client) -> Result<(), Fail> {
     let mut transport = InMemory::new(server, b"a");
     if let Err(refusal) = fetch(client, &mut transport, 3) {
-        assert_eq!(rt; refusal.number(), 1);
+        expect_eq!(rt; refusal.number(), 1);
     }
     let report = fetch(client, &mut transport, 3)?.ok_or("no report")?;
     assert!(rt; is_last_tile(report));

@@ -1,7 +1,7 @@
 //! Worked rows of fetching.
 use super::fetched::{fetch_by, fetch_pieces_by};
 use super::{LAST_TILE, window};
-use assertion_support::assert_eq;
+use assertion_support::expect_eq;
 use cog_client::{Client, Outcome, Query, Report, Transport};
 use cog_fetch::fetch;
 use cog_server::Server;
@@ -21,7 +21,7 @@ fn fetches_within_its_tries_alone(rt: HostRuntime) -> Result<(), Fail> {
     let server = server_of_one(rt.alloc(), 1, b"a", f2(rt.alloc())?)?;
     for (tries, exchanges, reports) in TRIES {
         let fetched = fetch_by(rt.alloc(), &server, LAST_TILE, &LOST_AND_CUT, tries)?;
-        assert_eq!(rt; fetched.found(), (exchanges, reports));
+        expect_eq!(rt; fetched.found(), (exchanges, reports));
     }
     Ok(())
 }
@@ -44,7 +44,7 @@ fn expect_in_pieces(
     let alloc = rt.alloc();
     for (tries, exchanges, reports) in TRIES {
         let fetched = fetch_pieces_by(alloc, server, LAST_TILE, &LOST_AND_CUT, sizes, tries)?;
-        assert_eq!(rt; fetched.found(), (exchanges, reports), "{sizes:?}");
+        expect_eq!(rt; fetched.found(), (exchanges, reports), "{sizes:?}");
     }
     Ok(())
 }
@@ -63,7 +63,7 @@ fn gives_nothing_where_every_answer_is_lost(rt: HostRuntime) -> Result<(), Fail>
     let server = server_of_one(rt.alloc(), 1, b"a", f1(rt.alloc())?)?;
     for tries in [0, 1, 3, 100] {
         let fetched = fetch_by(rt.alloc(), &server, window(0, 0, 1, 1), &[], tries)?;
-        assert_eq!(rt; fetched.found(), (u64::from(tries), None));
+        expect_eq!(rt; fetched.found(), (u64::from(tries), None));
     }
     Ok(())
 }
@@ -97,7 +97,7 @@ fn expect_samples(
 fn expect_one_exchange(rt: &impl Abort, client: &mut Client, server: &Server) -> Result<(), Fail> {
     let mut transport = InMemory::new(server, b"a");
     let is_silent = fetch(client, &mut transport, 3)?.is_none();
-    assert_eq!(rt; (is_silent, transport.exchanges()), (true, 0));
+    expect_eq!(rt; (is_silent, transport.exchanges()), (true, 0));
     for (query, samples) in [
         (
             window(2, 1, 3, 2),
@@ -107,7 +107,7 @@ fn expect_one_exchange(rt: &impl Abort, client: &mut Client, server: &Server) ->
     ] {
         expect_samples(rt, client, &mut transport, query, samples)?;
     }
-    assert_eq!(rt; transport.exchanges(), 1);
+    expect_eq!(rt; transport.exchanges(), 1);
     Ok(())
 }
 

@@ -1,6 +1,6 @@
 //! The keys of a file of two levels.
 use super::{Value, is_wanted};
-use assertion_support::assert_eq;
+use assertion_support::expect_eq;
 use fixtures_support::f3;
 use geokeys::Geo;
 use std::test::Fail;
@@ -37,7 +37,7 @@ fn reads_the_keys_of_f3(rt: HostRuntime) -> Result<(), Fail> {
     let directory = field(&file, places.directory).ok_or("no directory")?;
     let doubles = field(&file, places.doubles).ok_or("no doubles")?;
     let ascii = field(&file, places.ascii).ok_or("no text")?;
-    assert_eq!(rt; (directory.len(), doubles.len(), ascii.len()), (32, 8, 8));
+    expect_eq!(rt; (directory.len(), doubles.len(), ascii.len()), (32, 8, 8));
     assert!(rt; directory.len() == 32 && doubles.len() == 8);
     let found = Geo::read(rt.alloc(), order, directory, doubles, ascii);
     assert!(rt; is_wanted(&found, Ok((0, &KEYS))), "{found:?}");

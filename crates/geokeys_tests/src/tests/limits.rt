@@ -1,6 +1,6 @@
 //! Values beside each limit.
 use super::{Value, Want, is_wanted, read};
-use assertion_support::assert_eq;
+use assertion_support::expect_eq;
 use std::test::Fail;
 use tiff_dir::{FileFault, Order};
 
@@ -51,9 +51,9 @@ fn finds_values_up_to_the_end_of_their_field(rt: HostRuntime) -> Result<(), Fail
         match value {
             Some(value) => match &found {
                 Ok(geo) => {
-                    assert_eq!(rt; geo.keys.len(), 1);
+                    expect_eq!(rt; geo.keys.len(), 1);
                     for key in &geo.keys {
-                        assert_eq!(rt; key.id, 1024);
+                        expect_eq!(rt; key.id, 1024);
                         assert!(rt;
                             super::is_value(&key.value, value),
                             "{numbers:?}: {found:?}"

@@ -2,7 +2,7 @@
 use super::answer_heads::FIRST_HEAD;
 use super::fronts::told_of_head;
 use super::tags::LONGEST_TAG;
-use assertion_support::assert_eq;
+use assertion_support::expect_eq;
 use http_range::{Memory, Piece, Reading, Why, read_answer, read_request};
 use std::alloc::Global;
 use std::process::Abort;
@@ -30,9 +30,9 @@ fn expect_piece(
     (tag, body): (&[u8], &[u8]),
     numbers: (bool, u64, u64),
 ) {
-    assert_eq!(rt; piece.tag.as_bytes(), tag);
-    assert_eq!(rt; piece.body, body);
-    assert_eq!(rt; (piece.whole, piece.first, piece.complete), numbers);
+    expect_eq!(rt; piece.tag.as_bytes(), tag);
+    expect_eq!(rt; piece.body, body);
+    expect_eq!(rt; (piece.whole, piece.first, piece.complete), numbers);
 }
 
 /// The first head with the first bytes of the body.
@@ -45,7 +45,7 @@ fn first_answer(alloc: Global) -> Result<Vec<u8>, Memory> {
 /// Expects that a front of the first answer is told under this number.
 fn expect_told(rt: &impl Abort, text: &[u8], (cut, want): (usize, u8)) {
     assert!(rt; cut <= text.len(), "at {cut}");
-    assert_eq!(rt; told(&text[..cut]), want, "at {cut}");
+    expect_eq!(rt; told(&text[..cut]), want, "at {cut}");
 }
 
 /// Expects that a front of the first answer brings these bytes of the body.
@@ -139,14 +139,14 @@ const CHANGED_LINES: [(usize, &str, u8); 28] = [
 fn tells_why_an_answer_is_not_used(rt: HostRuntime) -> Result<(), Fail> {
     for (place, line, want) in CHANGED_LINES {
         let text = with_line(rt.alloc(), place, line.as_bytes())?;
-        assert_eq!(rt;
+        expect_eq!(rt;
             (told(&text), told_of_head(&text)),
             (want, want),
             "{line:?}"
         );
     }
     let same = with_line(rt.alloc(), 7, b"")?;
-    assert_eq!(rt; same.as_slice(), FIRST_HEAD);
+    expect_eq!(rt; same.as_slice(), FIRST_HEAD);
     Ok(())
 }
 
@@ -175,7 +175,7 @@ fn complete(bytes: &[u8]) -> Option<u64> {
 fn reads_lengths_of_64_bits(rt: HostRuntime) -> Result<(), Fail> {
     for (length, want) in LENGTHS {
         let text = with_length(rt.alloc(), length)?;
-        assert_eq!(rt; complete(text.as_bytes()), want, "{length}");
+        expect_eq!(rt; complete(text.as_bytes()), want, "{length}");
     }
     Ok(())
 }
@@ -192,12 +192,12 @@ fn with_tag(alloc: Global, tag: &[u8]) -> Result<Vec<u8>, Memory> {
 fn takes_tags_up_to_64_bytes(rt: HostRuntime) -> Result<(), Fail> {
     let text = with_tag(rt.alloc(), LONGEST_TAG)?;
     let whole = piece(text.as_slice())?;
-    assert_eq!(rt; whole.tag.as_bytes(), LONGEST_TAG);
+    expect_eq!(rt; whole.tag.as_bytes(), LONGEST_TAG);
     let text = with_tag(
         rt.alloc(),
         b"\"234567890123456789012345678901234567890123456789012345678901234\"",
     )?;
-    assert_eq!(rt; told(text.as_slice()), 6);
+    expect_eq!(rt; told(text.as_slice()), 6);
     Ok(())
 }
 
@@ -220,14 +220,14 @@ fn tells_a_status_that_is_not_used(rt: HostRuntime) {
         ),
     ] {
         let bytes = text.as_bytes();
-        assert_eq!(rt; (status(bytes), told(bytes)), (want, 3), "{text:?}");
+        expect_eq!(rt; (status(bytes), told(bytes)), (want, 3), "{text:?}");
     }
 }
 
 #[test]
 fn refuses_first_lines_of_another_form(rt: HostRuntime) {
     for text in ["HTP/1.1 200 OK", "HTTP/1.1 2000 OK\r\n\r\n"] {
-        assert_eq!(rt; told(text.as_bytes()), 2, "{text:?}");
+        expect_eq!(rt; told(text.as_bytes()), 2, "{text:?}");
     }
 }
 
@@ -271,7 +271,7 @@ fn takes_heads_of_8192_and_4096_bytes_and_no_more(rt: HostRuntime) -> Result<(),
     let front = b"GET /a HTTP/1.1\r\nA: ";
     for (n, want) in [(8188, true), (8189, false)] {
         let is_read = is_padded_request(rt.alloc(), front, n, b"\r\n\r\n")?;
-        assert_eq!(rt; is_read, want, "{n}");
+        expect_eq!(rt; is_read, want, "{n}");
     }
     let front = b"HTTP/1.1 200 OK\r\nETag: \"1\"\r\nContent-Length: 0\r\nA: ";
     for (n, back, want) in [
@@ -281,7 +281,7 @@ fn takes_heads_of_8192_and_4096_bytes_and_no_more(rt: HostRuntime) -> Result<(),
         (4096, b"", 2),
     ] {
         let told = told_of_padded(rt.alloc(), front, n, back)?;
-        assert_eq!(rt; told, want, "{n}");
+        expect_eq!(rt; told, want, "{n}");
     }
     Ok(())
 }
@@ -319,11 +319,11 @@ fn takes_32_fields_and_no_more(rt: HostRuntime) -> Result<(), Fail> {
         (31, b"\r\n", 2),
     ] {
         let told = told_of_many(rt.alloc(), fields, back)?;
-        assert_eq!(rt; told, want, "{fields}");
+        expect_eq!(rt; told, want, "{fields}");
     }
     for (fields, want) in [(32, true), (33, false)] {
         let is_read = is_request_of_many(rt.alloc(), fields)?;
-        assert_eq!(rt; is_read, want, "{fields}");
+        expect_eq!(rt; is_read, want, "{fields}");
     }
     Ok(())
 }

@@ -1,7 +1,7 @@
 //! What a client reads of the head at the front of an answer that arrives in pieces.
 use super::answer_heads::FIRST_HEAD;
 use super::answers::{padded, told};
-use assertion_support::assert_eq;
+use assertion_support::expect_eq;
 use http_range::{Head, HeadReading, Memory, read_head};
 use std::alloc::Global;
 use std::process::Abort;
@@ -46,7 +46,7 @@ fn first_answer(alloc: Global) -> Result<Vec<u8>, Memory> {
 fn expect_told(rt: &impl Abort, text: &[u8], (cut, want): (usize, u8)) {
     assert!(rt; cut <= text.len(), "at {cut}");
     let front = &text[..cut];
-    assert_eq!(rt;
+    expect_eq!(rt;
         (told_of_head(front), told(front)),
         (want, want),
         "at {cut}"
@@ -57,7 +57,7 @@ fn expect_told(rt: &impl Abort, text: &[u8], (cut, want): (usize, u8)) {
 fn expect_first_head(rt: &impl Abort, text: &[u8], cut: usize) -> Result<(), Fail> {
     assert!(rt; cut <= text.len(), "at {cut}");
     let head = head(&text[..cut])?;
-    assert_eq!(rt;
+    expect_eq!(rt;
         said(&head),
         (b"\"1-1\"".as_slice(), false, 0, 67706, 65536, 171),
         "at {cut}"
@@ -84,12 +84,12 @@ const LAST_PIECE: &[u8] =
 #[test]
 fn tells_the_length_of_the_body_and_not_what_follows(rt: HostRuntime) -> Result<(), Fail> {
     let part = head(LAST_PIECE)?;
-    assert_eq!(rt;
+    expect_eq!(rt;
         (part.first, part.complete, part.length, part.size),
         (5, 9, 3, 77)
     );
     let whole = head(b"HTTP/1.0 200\nETag: \"\"\nContent-Length: 4\n\n")?;
-    assert_eq!(rt; said(&whole), (b"\"\"".as_slice(), true, 0, 4, 4, 41));
+    expect_eq!(rt; said(&whole), (b"\"\"".as_slice(), true, 0, 4, 4, 41));
     Ok(())
 }
 
@@ -106,7 +106,7 @@ fn padded_answer(alloc: Global, n: usize) -> Result<Vec<u8>, Memory> {
 /// Expects that a front of an answer is told under this number, by its head.
 fn expect_told_of_head(rt: &impl Abort, text: &[u8], (cut, want): (usize, u8)) {
     assert!(rt; cut <= text.len(), "at {cut}");
-    assert_eq!(rt; told_of_head(&text[..cut]), want, "at {cut}");
+    expect_eq!(rt; told_of_head(&text[..cut]), want, "at {cut}");
 }
 
 /// The length of the head of an answer.
@@ -120,7 +120,7 @@ fn size(bytes: &[u8]) -> Option<usize> {
 #[test]
 fn settles_a_head_at_4096_bytes(rt: HostRuntime) -> Result<(), Fail> {
     let whole = padded_answer(rt.alloc(), 4092)?;
-    assert_eq!(rt; (whole.len(), size(&whole)), (4097, Some(4096)));
+    expect_eq!(rt; (whole.len(), size(&whole)), (4097, Some(4096)));
     for row in [(4095usize, 1u8), (4096, 0), (4097, 0)] {
         expect_told_of_head(&rt, &whole, row);
     }

@@ -1,5 +1,5 @@
 //! Values of Range, and the parts of a content that they name (RFC 9110, section 14.2).
-use assertion_support::assert_eq;
+use assertion_support::expect_eq;
 use http_range::{RangeSpec, Resolved, read_range, resolve};
 use std::process::Abort;
 
@@ -8,7 +8,7 @@ fn expect_all(rt: &impl Abort, rows: &[(&str, u64)], want: Resolved) {
     for row in rows {
         let (value, len) = *row;
         assert!(rt; len > 0, "{value}");
-        assert_eq!(rt;
+        expect_eq!(rt;
             resolve(read_range(value.as_bytes()), len),
             want,
             "{value} of {len}"
@@ -50,7 +50,7 @@ fn answers_a_range_with_the_positions_that_the_content_has(rt: HostRuntime) {
 
 #[test]
 fn answers_a_suffix_range_with_the_end_of_the_content(rt: HostRuntime) {
-    assert_eq!(rt; read_range(b"bytes=-7"), Some(RangeSpec::Suffix(7)));
+    expect_eq!(rt; read_range(b"bytes=-7"), Some(RangeSpec::Suffix(7)));
     for (value, len, first, last) in SUFFIXES {
         expect_all(&rt, &[(value, len)], Resolved::Part(first, last));
     }
@@ -91,5 +91,5 @@ const IGNORED: [(&str, u64); 11] = [
 #[test]
 fn ignores_a_value_that_is_not_one_range(rt: HostRuntime) {
     expect_all(&rt, &IGNORED, Resolved::Whole);
-    assert_eq!(rt; resolve(None, 378), Resolved::Whole);
+    expect_eq!(rt; resolve(None, 378), Resolved::Whole);
 }

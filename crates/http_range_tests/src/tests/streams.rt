@@ -1,7 +1,7 @@
 //! The length of the first message of a stream.
 ghost use Rattle.std.specs.Prelude.{◌≤◌, length};
 
-use assertion_support::assert_eq;
+use assertion_support::expect_eq;
 use http_range::{message_length, messages_stay};
 
 /// The length of the first message, where the bytes come in two pieces.
@@ -37,7 +37,7 @@ fn finds_the_end_of_the_first_message_wherever_it_is_cut(rt: HostRuntime) {
         let stream = text.as_bytes();
         for cut in 0..stream.len() + 1 {
             let got = length_in_pieces(stream, cut).unwrap_or(0);
-            assert_eq!(rt; got, want, "in {text:?} at {cut}");
+            expect_eq!(rt; got, want, "in {text:?} at {cut}");
         }
     }
 }
@@ -45,7 +45,7 @@ fn finds_the_end_of_the_first_message_wherever_it_is_cut(rt: HostRuntime) {
 #[test]
 fn ends_a_message_without_an_end_at_8192_bytes(rt: HostRuntime) {
     let long = [b'x'; 8200];
-    assert_eq!(rt; length_in_pieces(&long[..8191], 100), None);
-    assert_eq!(rt; length_in_pieces(&long[..8192], 100), Some(8192));
-    assert_eq!(rt; length_in_pieces(&long, 100), Some(8192));
+    expect_eq!(rt; length_in_pieces(&long[..8191], 100), None);
+    expect_eq!(rt; length_in_pieces(&long[..8192], 100), Some(8192));
+    expect_eq!(rt; length_in_pieces(&long, 100), Some(8192));
 }

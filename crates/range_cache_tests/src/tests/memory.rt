@@ -3,7 +3,7 @@
 ghost use Rattle.std.specs.Prelude.{◌≡◌, IfOk, vec_len};
 
 use super::piece::{piece, put, read};
-use assertion_support::assert_eq;
+use assertion_support::expect_eq;
 use range_cache::{Cache, CacheError};
 use std::alloc::{AllocError, Global};
 use std::process::Abort;
@@ -52,8 +52,8 @@ fn blocks_there<R: Abort>(rt: &R, cache: &mut Cache, file: &[u8]) -> usize {
     for (number, (first, len)) in BLOCKS.iter().copied().enumerate() {
         assert!(rt; first <= 65536 && 0 < len && len <= 16384 && first + len <= 67706);
         if read(cache, COMPLETE, first as u64, &mut room[..len]).is_ok() {
-            assert_eq!(rt; count, number);
-            assert_eq!(rt;
+            expect_eq!(rt; count, number);
+            expect_eq!(rt;
                 room.get(..len),
                 file.get(first..first + len),
                 "block {number}"
@@ -71,12 +71,12 @@ fn stores_a_beginning_of_the_blocks_where_memory_is_refused(rt: HostRuntime) -> 
     let stored = put(&mut cache, COMPLETE, 0, &file, ALL);
     let there = blocks_there(&rt, &mut cache, &file);
     match stored {
-        Ok(count) => assert_eq!(rt; (count, there), (5, 5)),
+        Ok(count) => expect_eq!(rt; (count, there), (5, 5)),
         Err(Memory) => {
             assert!(rt; there < 5);
             let count = put(&mut cache, COMPLETE, 0, &file, ALL)?;
-            assert_eq!(rt; there.saturating_add(count as usize), 5);
-            assert_eq!(rt; blocks_there(&rt, &mut cache, &file), 5);
+            expect_eq!(rt; there.saturating_add(count as usize), 5);
+            expect_eq!(rt; blocks_there(&rt, &mut cache, &file), 5);
         }
     }
     Ok(())

@@ -3,7 +3,7 @@ ghost use Rattle.std.specs.Prelude.{◌<◌, ◌+◌, ◌^◌};
 
 use super::model::{BLOCK, Model};
 use super::piece::{piece, put, read};
-use assertion_support::assert_eq;
+use assertion_support::expect_eq;
 use fixtures_support::Numbers;
 use range_cache::Cache;
 use std::process::Abort;
@@ -44,7 +44,7 @@ impl Trial {
             .ok()
             .ok_or("no memory")?;
         let want = self.model.put(complete, first, first + len, wanted)?;
-        assert_eq!(rt; count, want, "seed 2026: {len} bytes from {first}");
+        expect_eq!(rt; count, want, "seed 2026: {len} bytes from {first}");
         Ok(())
     }
 
@@ -57,13 +57,13 @@ impl Trial {
         let mut out = vec![in rt.alloc(); 0u8; len as usize]?;
         let gap = read(&mut self.cache, complete, first, &mut out).err();
         let want = self.model.read(complete, first, first + len)?;
-        assert_eq!(rt;
+        expect_eq!(rt;
             gap.map(|m| (m.first, m.last)),
             want,
             "seed 2026: {len} bytes from {first}"
         );
         if gap.is_none() {
-            assert_eq!(rt;
+            expect_eq!(rt;
                 out.as_slice(),
                 bytes.as_slice(),
                 "seed 2026: {len} bytes from {first}"
@@ -95,7 +95,7 @@ impl Trial {
         for n in 0..self.complete / BLOCK + 1 {
             let there = n * BLOCK >= self.complete || !self.cache.wants(self.complete, whole, n);
             let want = n * BLOCK >= self.complete || self.model.has(n);
-            assert_eq!(rt; there, want, "seed 2026: block {n}");
+            expect_eq!(rt; there, want, "seed 2026: block {n}");
         }
     }
 }

@@ -1,6 +1,6 @@
 //! Worked values.
 use super::piece::{piece, put, read};
-use assertion_support::assert_eq;
+use assertion_support::expect_eq;
 use range_cache::{Cache, CacheError, Missing};
 use std::test::Fail;
 use tiff_dir::Span;
@@ -53,9 +53,9 @@ fn stores_whole_wanted_blocks_alone(rt: HostRuntime) -> Result<(), Fail> {
         let mut cache = Cache::new(alloc, 66).ok().ok_or("no cache")?;
         let bytes = piece(alloc, first, len)?;
         let count = put(&mut cache, COMPLETE, first, &bytes, wanted).ok();
-        assert_eq!(rt; count, Some(stored), "{len} bytes from {first}");
+        expect_eq!(rt; count, Some(stored), "{len} bytes from {first}");
         let again = put(&mut cache, COMPLETE, first, &bytes, wanted).ok();
-        assert_eq!(rt; again, Some(0), "{len} bytes from {first} again");
+        expect_eq!(rt; again, Some(0), "{len} bytes from {first} again");
     }
     Ok(())
 }
@@ -66,10 +66,10 @@ fn tells_the_first_gap(rt: HostRuntime) -> Result<(), Fail> {
     let mut cache = Cache::new(alloc, 66).ok().ok_or("no cache")?;
     let mut out = vec![in alloc; 0u8; 49152]?;
     let mut end = vec![in alloc; 0u8; 7706]?;
-    assert_eq!(rt; (out.len(), end.len()), (49152, 7706));
+    expect_eq!(rt; (out.len(), end.len()), (49152, 7706));
 
     let gap = read(&mut cache, COMPLETE, 60000, &mut end).err();
-    assert_eq!(rt;
+    expect_eq!(rt;
         gap,
         Some(Missing {
             first: 49152,
@@ -82,7 +82,7 @@ fn tells_the_first_gap(rt: HostRuntime) -> Result<(), Fail> {
         last: 16383,
     };
     let count = put(&mut cache, COMPLETE, 0, &piece(alloc, 0, 16384)?, wanted);
-    assert_eq!(rt; count.ok(), Some(1));
+    expect_eq!(rt; count.ok(), Some(1));
     let wanted = Span {
         first: 32768,
         last: 49151,
@@ -94,9 +94,9 @@ fn tells_the_first_gap(rt: HostRuntime) -> Result<(), Fail> {
         &piece(alloc, 32768, 16384)?,
         wanted,
     );
-    assert_eq!(rt; count.ok(), Some(1));
+    expect_eq!(rt; count.ok(), Some(1));
     let gap = read(&mut cache, COMPLETE, 0, &mut out).err();
-    assert_eq!(rt;
+    expect_eq!(rt;
         gap,
         Some(Missing {
             first: 16384,
@@ -122,10 +122,10 @@ fn reads_until_it_is_cleared(rt: HostRuntime) -> Result<(), Fail> {
         last: 67705,
     };
     let bytes = piece(alloc, 0, 67706)?;
-    assert_eq!(rt; (out.len(), bytes.len()), (18707, 67706));
-    assert_eq!(rt; put(&mut cache, COMPLETE, 0, &bytes, whole).ok(), Some(5));
+    expect_eq!(rt; (out.len(), bytes.len()), (18707, 67706));
+    expect_eq!(rt; put(&mut cache, COMPLETE, 0, &bytes, whole).ok(), Some(5));
     assert!(rt; read(&mut cache, COMPLETE, 48999, &mut out).is_ok());
-    assert_eq!(rt; out.as_slice(), &bytes[48999..]);
+    expect_eq!(rt; out.as_slice(), &bytes[48999..]);
     assert!(rt; !cache.wants(COMPLETE, whole, 2));
     cache.clear();
     assert!(rt; cache.wants(COMPLETE, whole, 2));
@@ -142,22 +142,22 @@ fn copies_what_the_blocks_have(rt: HostRuntime) -> Result<(), Fail> {
         first: 16384,
         last: 67705,
     };
-    assert_eq!(rt; bytes.len(), 67706);
-    assert_eq!(rt; put(&mut cache, COMPLETE, 0, &bytes, wanted).ok(), Some(4));
+    expect_eq!(rt; bytes.len(), 67706);
+    expect_eq!(rt; put(&mut cache, COMPLETE, 0, &bytes, wanted).ok(), Some(4));
     assert!(rt; cache.touch(COMPLETE, 16384, 51322).is_ok());
     let mut out = [1u8; 300];
     cache.copy_at(32600, &mut out);
-    assert_eq!(rt; out.as_slice(), &bytes[32600..32900]);
+    expect_eq!(rt; out.as_slice(), &bytes[32600..32900]);
     cache.copy_at(16300, &mut out);
     let mut expected = vec![in alloc; 0u8; 84]?;
     expected.extend_from_slice(&bytes[16384..16600])?;
-    assert_eq!(rt; out.as_slice(), expected.as_slice());
+    expect_eq!(rt; out.as_slice(), expected.as_slice());
     cache.copy_at(67600, &mut out);
     let mut expected = Vec::from_slice(alloc, &bytes[67600..])?;
     expected.extend_from_slice(&[0u8; 194])?;
-    assert_eq!(rt; out.as_slice(), expected.as_slice());
+    expect_eq!(rt; out.as_slice(), expected.as_slice());
     let gap = cache.touch(COMPLETE, 16383, 2).err();
-    assert_eq!(rt;
+    expect_eq!(rt;
         gap,
         Some(Missing {
             first: 0,
@@ -176,13 +176,13 @@ fn wants_no_block_at_the_end(rt: HostRuntime) -> Result<(), Fail> {
     };
     for (complete, blocks) in [(0, 0), (1, 1), (16384, 1), (16385, 2), (32768, 2)] {
         for block in 0..4 {
-            assert_eq!(rt;
+            expect_eq!(rt;
                 cache.wants(complete, wanted, block),
                 block < blocks,
                 "{block} of {complete}"
             );
         }
-        assert_eq!(rt;
+        expect_eq!(rt;
             put(&mut cache, complete, complete, &[], wanted).ok(),
             Some(0)
         );

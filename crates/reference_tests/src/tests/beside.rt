@@ -1,5 +1,5 @@
 //! A walk over a file, beside the plain program's answers.
-use assertion_support::assert_eq;
+use assertion_support::expect_eq;
 use faults_support::faults_of_directories;
 use reference_support::{Extent, Grid, Level as PlainLevel, level_of, needs_of_directories};
 use std::process::Abort;
@@ -67,7 +67,7 @@ pub fn compare<R: Abort + AllocGlobal>(rt: &R, file: &[u8], name: &str) -> Resul
     match end {
         Ok(walk) => {
             assert!(rt; faults.is_empty(), "{name}: {faults:?} stand");
-            assert_eq!(rt; ranges.len(), needs.len(), "{name}");
+            expect_eq!(rt; ranges.len(), needs.len(), "{name}");
             compare_levels(rt, file, walk.levels(), name)?;
             Ok(true)
         }

@@ -1,5 +1,5 @@
 //! The fixtures byte by byte, as their tables say.
-use assertion_support::assert_eq;
+use assertion_support::expect_eq;
 use fixtures_support::{f1, f1m, f2, f2b, f3, f4, f5, f6, f6m};
 use std::process::Abort;
 use std::test::Fail;
@@ -16,7 +16,7 @@ fn stands(file: &[u8], at: usize, bytes: &[u8]) -> bool {
 }
 
 fn expect(rt: &impl Abort, file: &[u8], len: usize, parts: &[Part]) -> Result<(), Fail> {
-    assert_eq!(rt; file.len(), len);
+    expect_eq!(rt; file.len(), len);
     for (at, bytes) in parts {
         assert!(rt; stands(file, *at, bytes), "at {at}");
     }
@@ -36,7 +36,7 @@ fn expect_run(rt: &impl Abort, file: &[u8], at: usize, len: usize, byte: u8) -> 
 /// Expects every byte value once from 122 on, in order.
 fn expect_ramp(rt: &impl Abort, file: &[u8]) -> Result<(), Fail> {
     for sample in 0..=255u8 {
-        assert_eq!(rt; file.get(122 + usize::from(sample)).copied(), Some(sample));
+        expect_eq!(rt; file.get(122 + usize::from(sample)).copied(), Some(sample));
     }
     Ok(())
 }

@@ -1,5 +1,5 @@
 //! What queries on the fixtures ask for, by the plain program: ranges, tiles and rectangles.
-use assertion_support::assert_eq;
+use assertion_support::expect_eq;
 use fixtures_support::{f1, f1m, f2, f3, f5};
 use reference_support::{
     Extent, asked_rectangle, cost, is_outside, is_refused, is_too_large, needs,
@@ -31,10 +31,10 @@ fn columns(x: u32, y: u32, w: u32, h: u32, columns: u32) -> Query {
 }
 
 fn expect_ranges(rt: &impl Abort, ranges: &[Extent], want: &[(u64, u64)]) {
-    assert_eq!(rt; ranges.len(), want.len());
+    expect_eq!(rt; ranges.len(), want.len());
     for (range, (first, len)) in ranges.iter().zip(want.iter()) {
         let pair = (range.first, range.len);
-        assert_eq!(rt; pair, (*first, *len));
+        expect_eq!(rt; pair, (*first, *len));
     }
 }
 
@@ -50,7 +50,7 @@ pub fn expect_needs(
         Some(ranges) => expect_ranges(rt, &ranges, want),
         None => return Err(Fail::new("no ranges")),
     }
-    assert_eq!(rt; cost(alloc, file, query)?, Some(blocks));
+    expect_eq!(rt; cost(alloc, file, query)?, Some(blocks));
     Ok(())
 }
 
@@ -63,7 +63,7 @@ fn expect_tiles(
     want: &[u64],
 ) -> Result<(), Fail> {
     match window_tiles(alloc, file, query)? {
-        Some(tiles) => assert_eq!(rt; tiles.as_slice(), want),
+        Some(tiles) => expect_eq!(rt; tiles.as_slice(), want),
         None => return Err(Fail::new("no tiles")),
     }
     Ok(())
@@ -151,7 +151,7 @@ fn expect_outside(rt: &impl Abort, alloc: Global, file: &[u8], query: Query) -> 
         is_outside(alloc, file, query)?,
         is_refused(alloc, file, query)?,
     );
-    assert_eq!(rt; told, (true, true));
+    expect_eq!(rt; told, (true, true));
     expect_tiles(rt, alloc, file, query, &[])?;
     expect_needs(rt, alloc, file, query, &OF_ONE_TILE[..3], 3)
 }
@@ -163,13 +163,13 @@ fn expect_sizes(rt: &impl Abort, alloc: Global, file: &[u8]) -> Result<(), Fail>
         is_outside(alloc, file, whole)?,
         is_refused(alloc, file, whole)?,
     );
-    assert_eq!(rt; told, (false, false));
+    expect_eq!(rt; told, (false, false));
     let (most, more) = (window(0, 0, 4096, 1024, 0), window(0, 0, 4096, 1025, 0));
     let told = (
         is_too_large(alloc, file, most)?,
         is_too_large(alloc, file, more)?,
     );
-    assert_eq!(rt; told, (false, true));
+    expect_eq!(rt; told, (false, true));
     Ok(())
 }
 
@@ -212,8 +212,8 @@ fn expect_rectangle(
 ) -> Result<(), Fail> {
     match asked_rectangle(alloc, file, query)? {
         Some(r) => {
-            assert_eq!(rt; r.level, level);
-            assert_eq!(rt; [r.left, r.top, r.width, r.height], want);
+            expect_eq!(rt; r.level, level);
+            expect_eq!(rt; [r.left, r.top, r.width, r.height], want);
         }
         None => return Err(Fail::new("no rectangle")),
     }
@@ -255,7 +255,7 @@ fn finds_the_rectangle_of_a_query(rt: HostRuntime) -> Result<(), Fail> {
     let alloc = rt.alloc();
     let file = f3(alloc)?;
     expect_rectangles(&rt, alloc, &file)?;
-    assert_eq!(rt; asked_rectangle(alloc, &file, Query::Info)?, None);
+    expect_eq!(rt; asked_rectangle(alloc, &file, Query::Info)?, None);
     expect_columns_outside(&rt, alloc, &file)?;
     assert!(rt; !is_refused(alloc, &file, Query::Info)?);
     expect_tiles(&rt, alloc, &file, columns(5, 0, 3, 1, 1), &[0])

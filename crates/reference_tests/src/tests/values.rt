@@ -1,6 +1,6 @@
 //! Levels, values and samples of the fixtures, by the plain program, with worked values.
 use super::queries::{expect_needs, window};
-use assertion_support::assert_eq;
+use assertion_support::expect_eq;
 use fixtures_support::{f1, f1m, f2, f2b, f3, f4, f5, f6, f6m};
 use reference_support::{
     Grid, Level, level_of, level_samples, level_sides, number, order_of, sample, unpack, value,
@@ -48,7 +48,7 @@ fn expect_samples<R: Abort + AllocGlobal>(
 ) -> Result<(), Fail> {
     for ((level, x, y, c), want) in rows {
         let found = sample(rt.alloc(), file, *level, *x, *y, *c)?;
-        assert_eq!(rt; found, *want, "in level {level} at {x} {y}");
+        expect_eq!(rt; found, *want, "in level {level} at {x} {y}");
     }
     Ok(())
 }
@@ -109,9 +109,9 @@ fn describes_each_level(rt: HostRuntime) -> Result<(), Fail> {
         (f3(alloc)?, first, Some(second)),
     ];
     for (file, level_0, level_1) in rows {
-        assert_eq!(rt; level_of(alloc, &file, 0)?, Some(level_0));
-        assert_eq!(rt; level_of(alloc, &file, 1)?, level_1);
-        assert_eq!(rt; level_of(alloc, &file, 2)?, None);
+        expect_eq!(rt; level_of(alloc, &file, 0)?, Some(level_0));
+        expect_eq!(rt; level_of(alloc, &file, 1)?, level_1);
+        expect_eq!(rt; level_of(alloc, &file, 2)?, None);
     }
     Ok(())
 }
@@ -143,11 +143,11 @@ fn reads_numbers_and_values(rt: HostRuntime) -> Result<(), Fail> {
         order_of(&f1m(rt.alloc())?),
         order_of(b"IM"),
     ];
-    assert_eq!(rt; orders, [Some(Order::Little), Some(Order::Big), None]);
+    expect_eq!(rt; orders, [Some(Order::Little), Some(Order::Big), None]);
     let numbers = [number(&file, 384, 8), number(&file, 1449, 8)];
-    assert_eq!(rt; numbers, [Some(0x0102_0304_0506_0708), None]);
+    expect_eq!(rt; numbers, [Some(0x0102_0304_0506_0708), None]);
     for (k, tag, i, want) in VALUES {
-        assert_eq!(rt; value(&file, k, tag, i), want, "at {k} {tag} {i}");
+        expect_eq!(rt; value(&file, k, tag, i), want, "at {k} {tag} {i}");
     }
     Ok(())
 }
@@ -158,7 +158,7 @@ fn unpacks_the_example_of_the_standard(rt: HostRuntime) -> Result<(), Fail> {
     let want =
         b"\xaa\xaa\xaa\x80\x00\x2a\xaa\xaa\xaa\xaa\x80\x00\x2a\x22\xaa\xaa\xaa\xaa\xaa\xaa\xaa\xaa\xaa\xaa";
     match unpack(rt.alloc(), packed, 24)? {
-        Some(plain) => assert_eq!(rt; plain.as_slice(), want.as_slice()),
+        Some(plain) => expect_eq!(rt; plain.as_slice(), want.as_slice()),
         None => return Err(Fail::new("no packets")),
     }
     assert!(rt; unpack(rt.alloc(), packed, 12)?.is_none());
@@ -182,8 +182,8 @@ fn expect_values(
 ) -> Result<(), Fail> {
     let found = values(alloc, file, 0, tag)?;
     match &found {
-        Some(found) => assert_eq!(rt; Some(found.as_slice()), want, "of {tag}"),
-        None => assert_eq!(rt; None, want, "of {tag}"),
+        Some(found) => expect_eq!(rt; Some(found.as_slice()), want, "of {tag}"),
+        None => expect_eq!(rt; None, want, "of {tag}"),
     }
     Ok(())
 }
@@ -205,7 +205,7 @@ const PLACING: [(u16, Option<&[u64]>); 5] = [
 /// Expects the sides of two levels.
 fn expect_sides(rt: &impl Abort, alloc: Global, file: &[u8]) -> Result<(), Fail> {
     let sides = level_sides(alloc, file)?.ok_or("no sides")?;
-    assert_eq!(rt; sides.as_slice(), [(32, 32), (16, 16)].as_slice());
+    expect_eq!(rt; sides.as_slice(), [(32, 32), (16, 16)].as_slice());
     Ok(())
 }
 
@@ -214,7 +214,7 @@ fn reads_what_info_tells(rt: HostRuntime) -> Result<(), Fail> {
     let alloc = rt.alloc();
     let file = f3(alloc)?;
     expect_sides(&rt, alloc, &file)?;
-    assert_eq!(rt; value(&file, 0, 34735, 2), Some(0));
+    expect_eq!(rt; value(&file, 0, 34735, 2), Some(0));
     for (tag, want) in PLACING {
         expect_values(&rt, alloc, &file, tag, want)?;
     }
@@ -249,9 +249,9 @@ fn expect_row<R: Abort>(
     width: u16,
     cells: &Cells,
 ) -> Result<(), Fail> {
-    assert_eq!(rt; row.len(), usize::from(width));
+    expect_eq!(rt; row.len(), usize::from(width));
     for x in 0..width {
-        assert_eq!(rt;
+        expect_eq!(rt;
             row.get(usize::from(x)).copied(),
             cells.sample(x, y),
             "at {x} {y}"
@@ -269,7 +269,7 @@ fn expect_level<R: Abort + AllocGlobal>(
     cells: Cells,
 ) -> Result<(), Fail> {
     let rows = level_samples(rt.alloc(), file, n)?.ok_or("no samples")?;
-    assert_eq!(rt; rows.len(), usize::from(sides.1));
+    expect_eq!(rt; rows.len(), usize::from(sides.1));
     for y in 0..sides.1 {
         let row = rows.get(usize::from(y)).ok_or("no row")?;
         expect_row(rt, row, y, sides.0, &cells)?;
@@ -309,7 +309,7 @@ fn reads_all_samples_of_even_tiles(rt: HostRuntime) -> Result<(), Fail> {
 
 /// Expects a row of 20 pixels of f4.
 fn expect_pixels(rt: &impl Abort, row: &[u64], y: u16) -> Result<(), Fail> {
-    assert_eq!(rt; row.len(), 60);
+    expect_eq!(rt; row.len(), 60);
     for x in 0..20u16 {
         let first = 3 * usize::from(x);
         let pixel = row.get(first..first + 3).ok_or("no pixel")?;
@@ -318,7 +318,7 @@ fn expect_pixels(rt: &impl Abort, row: &[u64], y: u16) -> Result<(), Fail> {
         } else {
             [128; 3]
         };
-        assert_eq!(rt; pixel, want.as_slice(), "at {x} {y}");
+        expect_eq!(rt; pixel, want.as_slice(), "at {x} {y}");
     }
     Ok(())
 }
@@ -326,7 +326,7 @@ fn expect_pixels(rt: &impl Abort, row: &[u64], y: u16) -> Result<(), Fail> {
 #[test]
 fn reads_three_samples_of_a_pixel(rt: HostRuntime) -> Result<(), Fail> {
     let rows = level_samples(rt.alloc(), &f4(rt.alloc())?, 0)?.ok_or("no samples")?;
-    assert_eq!(rt; rows.len(), 18);
+    expect_eq!(rt; rows.len(), 18);
     for y in 0..18u16 {
         expect_pixels(&rt, rows.get(usize::from(y)).ok_or("no row")?, y)?;
     }

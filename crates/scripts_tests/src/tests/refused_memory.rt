@@ -3,7 +3,7 @@
 use super::larger_files::{INFO, LEVELS, REPLACED_BETWEEN, TWO_EXCHANGES, tile_texts};
 use super::scripts_and_logs::ONE_WINDOW;
 use super::{events, texts_after};
-use assertion_support::assert_eq;
+use assertion_support::expect_eq;
 use scripts::{ScriptError, log_text};
 use std::alloc::Global;
 use std::process::Abort;
@@ -68,7 +68,7 @@ fn expect_beginning(
     let text = log_text_again(rt.alloc(), log)?;
     assert!(rt; want.as_bytes().starts_with(&text));
     assert!(rt; text.is_empty() || text.ends_with(b"\n"));
-    assert_eq!(rt; ran.is_ok(), text.len() == want.len());
+    expect_eq!(rt; ran.is_ok(), text.len() == want.len());
     Ok(())
 }
 

@@ -1,5 +1,5 @@
 //! The events of the lines of a script, and the lines that are none.
-use assertion_support::assert_eq;
+use assertion_support::expect_eq;
 use scripts::{Loaded, ScriptError, script};
 use std::alloc::Global;
 use std::process::Abort;
@@ -81,7 +81,7 @@ fn is_event(n: usize, event: &Event) -> bool {
 
 /// Expects one event of each kind.
 fn expect_events(rt: &impl Abort, events: &[Event]) {
-    assert_eq!(rt; events.len(), 13);
+    expect_eq!(rt; events.len(), 13);
     for (n, event) in events.iter().enumerate() {
         assert!(rt; is_event(n, event), "event {n}");
     }
@@ -140,7 +140,7 @@ const NO_EVENTS: [&str; 36] = [
 fn expect_no_event(rt: &(impl Abort + AllocGlobal), line: &str) -> Result<(), Fail> {
     let text = format!(in rt.alloc(); "epoch 1\n#\n{line}\npublish a nowhere\n")?;
     let refusal = events(rt.alloc(), text.as_bytes()).err();
-    assert_eq!(rt; refusal, Some(ScriptError::NotAnEvent(3)), "{line:?}");
+    expect_eq!(rt; refusal, Some(ScriptError::NotAnEvent(3)), "{line:?}");
     Ok(())
 }
 
@@ -155,7 +155,7 @@ fn refuses_a_line_of_another_form(rt: HostRuntime) -> Result<(), Fail> {
 #[test]
 fn tells_the_first_line_that_fails(rt: HostRuntime) {
     let text = b"\n\npublish a nowhere\npublish a data/f\nno event\n";
-    assert_eq!(rt;
+    expect_eq!(rt;
         events(rt.alloc(), text).err(),
         Some(ScriptError::CantRead(3))
     );
@@ -164,7 +164,7 @@ fn tells_the_first_line_that_fails(rt: HostRuntime) {
 #[test]
 fn takes_comments_and_empty_lines_for_no_event(rt: HostRuntime) -> Result<(), Fail> {
     for text in ["", "\n", "\n\n# only this", "#\r\n"] {
-        assert_eq!(rt; events(rt.alloc(), text.as_bytes())?.len(), 0, "{text:?}");
+        expect_eq!(rt; events(rt.alloc(), text.as_bytes())?.len(), 0, "{text:?}");
     }
     Ok(())
 }

@@ -1,5 +1,5 @@
 //! Windows of f1 after one exchange: their samples by themselves and beside the plain program, and windows outside the level.
-use assertion_support::assert_eq;
+use assertion_support::expect_eq;
 use fixtures_support::{f1, f1m};
 use reference_support::sample;
 use std::alloc::Global;
@@ -107,7 +107,7 @@ fn expect_log(
     (name, sides): (&str, [u32; 4]),
     want: &[u8],
 ) -> Result<(), Fail> {
-    assert_eq!(rt; log.entries.len(), 5, "{sides:?} of {name}");
+    expect_eq!(rt; log.entries.len(), 5, "{sides:?} of {name}");
     let told = last_window(log);
     assert!(rt;
         is_window(told, sides, want),
@@ -158,7 +158,7 @@ fn expect_outside(
     sides: [u32; 4],
 ) -> Result<(), Fail> {
     let log = read(rt.alloc(), file, sides)?;
-    assert_eq!(rt; last_fault(&log), Some(FileFault::Outside), "{sides:?}");
+    expect_eq!(rt; last_fault(&log), Some(FileFault::Outside), "{sides:?}");
     Ok(())
 }
 

@@ -2,7 +2,7 @@
 ghost use Rattle.std.specs.Prelude.{◌<◌, length};
 
 use super::peer::{Peer, request, send, send_text};
-use assertion_support::assert_eq;
+use assertion_support::expect_eq;
 use cog_client::Pieces;
 use fixtures_support::f1;
 use sockets::Socket;
@@ -107,7 +107,7 @@ where
     send(rt.alloc(), socket, 9)?;
     let mut stream = peer.accept()?;
     peer.answer(&mut stream)?;
-    assert_eq!(rt; socket.next(&mut [0; 20]), Ok(20));
+    expect_eq!(rt; socket.next(&mut [0; 20]), Ok(20));
     Ok(stream)
 }
 
@@ -124,7 +124,7 @@ where
     let mut stream = peer.accept()?;
     stream.write_all(b"HTTP/1.1 200 OK\r\nETag: \"1-1\"\r\n\r\n")?;
     let read = (socket.next(&mut [0; 1000]), socket.next(&mut [0; 1000]));
-    assert_eq!(rt; read, (Ok(32), Ok(0)));
+    expect_eq!(rt; read, (Ok(32), Ok(0)));
     Ok(stream)
 }
 

@@ -1,6 +1,6 @@
 //! A client and a server over sockets of one process: a request is sent, the connection is served, and the answer received.
 use super::peer::{Peer, arrived, send_text};
-use assertion_support::assert_eq;
+use assertion_support::expect_eq;
 use cog_client::{Client, Delivered, Lost, Outcome, Pieces, Query, Report};
 use cog_server::Stream;
 use fixtures_support::{f1, f3};
@@ -108,7 +108,7 @@ where
 {
     let found = read(rt, peer, client, query)?;
     let found_text = text_of(rt.alloc(), client.report())?;
-    assert_eq!(rt; (found, found_text.as_slice()), (count, text));
+    expect_eq!(rt; (found, found_text.as_slice()), (count, text));
     Ok(())
 }
 
@@ -167,7 +167,7 @@ const REQUEST: &[u8] = b"GET / HTTP/1.1\r\n\r\n";
 fn loses_each_exchange_where_nobody_listens(rt: HostRuntime) {
     let mut socket = Socket::new(&rt, "127.0.0.1:1");
     let found = (socket.start(REQUEST), socket.next(&mut [0; 10]));
-    assert_eq!(rt; (found, socket.starts()), ((Err(Lost), Err(Lost)), 1));
+    expect_eq!(rt; (found, socket.starts()), ((Err(Lost), Err(Lost)), 1));
     let mut socket = Socket::new(&rt, "no address");
     assert!(rt; matches!(socket.send(REQUEST), Err(Lost)));
 }

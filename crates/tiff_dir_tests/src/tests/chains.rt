@@ -1,6 +1,6 @@
 //! Chains of directories: levels and those that are passed over.
 use super::{Entry, begun, course_of, end_of, fault_of, fields, file_with, put_directory};
-use assertion_support::assert_eq;
+use assertion_support::expect_eq;
 use std::process::Abort;
 use std::test::Fail;
 use tiff_dir::{FileFault, Order};
@@ -45,20 +45,20 @@ fn takes_up_to_16_directories(rt: HostRuntime) -> Result<(), Fail> {
         (1, 122, Some(FileFault::TooManyDirs)),
     ] {
         let file = followed_by(&rt, &passed, count, next)?;
-        assert_eq!(rt; fault_of(&rt, file.as_slice())?, want, "at {count} {next}");
+        expect_eq!(rt; fault_of(&rt, file.as_slice())?, want, "at {count} {next}");
     }
     let file = followed_by(&rt, &passed, 15, 0)?;
     match end_of(&rt, &file)? {
         Ok(walk) => {
-            assert_eq!(rt; walk.given(), 33);
-            assert_eq!(rt; walk.levels().len(), 1);
+            expect_eq!(rt; walk.given(), 33);
+            expect_eq!(rt; walk.levels().len(), 1);
         }
         Err(_) => return Err(Fail::new("a fault")),
     }
     let file = file_with(&rt, Order::Little, &[], 8, &[])?;
     let Course { ranges, end } = course_of(&rt, &file)?;
-    assert_eq!(rt; end.err(), Some(FileFault::TooManyDirs));
-    assert_eq!(rt; ranges.len(), 32);
+    expect_eq!(rt; end.err(), Some(FileFault::TooManyDirs));
+    expect_eq!(rt; ranges.len(), 32);
     Ok(())
 }
 
@@ -90,7 +90,7 @@ fn refuses_a_level_not_smaller_than_the_one_before(rt: HostRuntime) -> Result<()
             ],
         )?;
         let file = followed_by(&rt, entries.as_slice(), 1, 0)?;
-        assert_eq!(rt;
+        expect_eq!(rt;
             fault_of(&rt, file.as_slice())?,
             want,
             "at {width} {length}"
@@ -107,7 +107,7 @@ fn expect_second<R: Abort + AllocGlobal>(
     want: FileFault,
 ) -> Result<(), Fail> {
     let file = followed_by(rt, entries, 1, next)?;
-    assert_eq!(rt; fault_of(rt, &file)?, Some(want), "at {entries:?}");
+    expect_eq!(rt; fault_of(rt, &file)?, Some(want), "at {entries:?}");
     Ok(())
 }
 
@@ -126,9 +126,9 @@ fn checks_order_and_subfile_alone_of_other_directories(rt: HostRuntime) -> Resul
     expect_second(&rt, &[(254, 4, 1, 4); 257], 9, FileFault::DirCount)?;
     let mut file = followed_by(&rt, &double, 1, 0)?;
     file.pop();
-    assert_eq!(rt; fault_of(&rt, &file)?, Some(FileFault::PastEnd));
+    expect_eq!(rt; fault_of(&rt, &file)?, Some(FileFault::PastEnd));
     file.truncate(123);
-    assert_eq!(rt; fault_of(&rt, &file)?, Some(FileFault::PastEnd));
+    expect_eq!(rt; fault_of(&rt, &file)?, Some(FileFault::PastEnd));
     Ok(())
 }
 

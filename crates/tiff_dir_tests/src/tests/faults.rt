@@ -1,6 +1,6 @@
 //! The faults of headers, tables and levels, in the order in which they are told.
 use super::{Entry, begun, fault_of, fields, file_with, put_directory};
-use assertion_support::assert_eq;
+use assertion_support::expect_eq;
 use std::process::Abort;
 use std::test::Fail;
 use tiff_dir::FileFault::{
@@ -91,7 +91,7 @@ fn expect_fault(
 ) -> Result<(), Fail> {
     for order in [Order::Little, Order::Big] {
         let file = file_with(rt, order, changes, next, tail)?;
-        assert_eq!(rt;
+        expect_eq!(rt;
             fault_of(rt, &file)?,
             want,
             "at {changes:?} {next} in {order:?}"
@@ -139,7 +139,7 @@ fn tells_the_first_fault_of_outside_values(rt: HostRuntime) -> Result<(), Fail> 
             (339, 3, count, formats),
         ];
         let file = file_with(&rt, Order::Little, &changes, 0, tail)?;
-        assert_eq!(rt;
+        expect_eq!(rt;
             fault_of(&rt, file.as_slice())?,
             want,
             "at {bits} {formats}"
@@ -154,7 +154,7 @@ fn tells_a_wrong_count_before_its_values(rt: HostRuntime) -> Result<(), Fail> {
     for order in [Order::Little, Order::Big] {
         let changes = [(258, 3, 4, 400), (262, 3, 1, 2), (277, 3, 1, 3)];
         let file = file_with(&rt, order, &changes, 0, &[])?;
-        assert_eq!(rt; fault_of(&rt, &file)?, Some(FieldType(258)));
+        expect_eq!(rt; fault_of(&rt, &file)?, Some(FieldType(258)));
     }
     Ok(())
 }
@@ -174,7 +174,7 @@ fn tells_faults_of_headers_and_tables(rt: HostRuntime) -> Result<(), Fail> {
         (b"II*\0\x08\0\0\0\x02\0\x01\0\0\0", Some(PastEnd)),
     ];
     for (file, want) in rows {
-        assert_eq!(rt; fault_of(&rt, file)?, want, "at {file:?}");
+        expect_eq!(rt; fault_of(&rt, file)?, want, "at {file:?}");
     }
     for (first, second) in [(254, 254), (256, 254)] {
         let mut file = begun(&rt, Order::Little, 8)?;
@@ -184,12 +184,12 @@ fn tells_faults_of_headers_and_tables(rt: HostRuntime) -> Result<(), Fail> {
             &[(first, 3, 1, 1), (second, 3, 1, 1)],
             0,
         )?;
-        assert_eq!(rt; fault_of(&rt, file.as_slice())?, Some(TagOrder));
+        expect_eq!(rt; fault_of(&rt, file.as_slice())?, Some(TagOrder));
     }
     let mut file = begun(&rt, Order::Little, 8)?;
     let mut entries = fields(&rt, &[])?;
     entries.push((400, 255, 7, 7))?;
     put_directory(&mut file, Order::Little, entries.as_slice(), 0)?;
-    assert_eq!(rt; fault_of(&rt, file.as_slice())?, None);
+    expect_eq!(rt; fault_of(&rt, file.as_slice())?, None);
     Ok(())
 }

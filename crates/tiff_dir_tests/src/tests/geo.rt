@@ -1,6 +1,6 @@
 //! The fields that georeference the image.
 use super::{Entry, begun, end_of, fields, place, put_directory};
-use assertion_support::assert_eq;
+use assertion_support::expect_eq;
 use fixtures_support::f3;
 use std::test::Fail;
 use tiff_dir::{FileFault, GeoPlaces, Kind, Order};
@@ -44,7 +44,7 @@ fn finds_the_geo_fields(rt: HostRuntime) -> Result<(), Fail> {
         tiepoints: None,
         transformation: None,
     };
-    assert_eq!(rt; places_of(&rt, file.as_slice())?, Ok(want));
+    expect_eq!(rt; places_of(&rt, file.as_slice())?, Ok(want));
     Ok(())
 }
 
@@ -54,7 +54,7 @@ fn ignores_geo_fields_of_later_directories(rt: HostRuntime) -> Result<(), Fail> 
     put_directory(&mut file, Order::Big, fields(&rt, &[])?.as_slice(), 122)?;
     let second = [(254, 4, 1, 4), (33550, 12, 3, 328), (34735, 3, 16, 352)];
     put_directory(&mut file, Order::Big, &second, 0)?;
-    assert_eq!(rt; places_of(&rt, file.as_slice())?, Ok(NONE));
+    expect_eq!(rt; places_of(&rt, file.as_slice())?, Ok(NONE));
     Ok(())
 }
 
@@ -66,7 +66,7 @@ fn finds_geo_values_in_their_entry(rt: HostRuntime) -> Result<(), Fail> {
         ascii: Some(place(138, 4, 4, Kind::Ascii)),
         ..NONE
     };
-    assert_eq!(rt; places_of(&rt, file.as_slice())?, Ok(want));
+    expect_eq!(rt; places_of(&rt, file.as_slice())?, Ok(want));
     Ok(())
 }
 
@@ -101,7 +101,7 @@ fn tells_the_first_fault_of_geo_fields(rt: HostRuntime) -> Result<(), Fail> {
     for (geo, want) in GEO_ROWS {
         let file = with_geo(&rt, geo)?;
         let found = places_of(&rt, file.as_slice())?.err();
-        assert_eq!(rt; found, want, "at {geo:?}");
+        expect_eq!(rt; found, want, "at {geo:?}");
     }
     Ok(())
 }

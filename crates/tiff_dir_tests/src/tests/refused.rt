@@ -2,7 +2,7 @@
 ghost use Rattle.std.specs.Prelude.{IsTrue};
 ghost use Rattle.tiff_dir.specs.Walk.{HasEnded};
 
-use assertion_support::assert_eq;
+use assertion_support::expect_eq;
 use fixtures_support::f1;
 use std::test::Fail;
 use tiff_dir::{FileFault, Memory, Walk};
@@ -38,14 +38,14 @@ fn stays_as_before_after_a_fault(rt: HostRuntime) -> Result<(), Fail> {
     let (wanted, given) = (walk.need(378), walk.given());
     for _ in 0..2 {
         let answer = take_next(&mut walk, &damaged);
-        assert_eq!(rt; answer, Ok(Next::Refused(FileFault::Unsupported(259))));
-        assert_eq!(rt; walk.need(378), wanted);
-        assert_eq!(rt; walk.given(), given);
+        expect_eq!(rt; answer, Ok(Next::Refused(FileFault::Unsupported(259))));
+        expect_eq!(rt; walk.need(378), wanted);
+        expect_eq!(rt; walk.given(), given);
         assert!(rt; !has_ended(&walk));
     }
     assert!(rt; matches!(take_next(&mut walk, &file), Ok(Next::Went(_))));
-    assert_eq!(rt; take_next(&mut walk, &file), Ok(Next::Ended));
-    assert_eq!(rt; level_count(&walk), Some(1));
+    expect_eq!(rt; take_next(&mut walk, &file), Ok(Next::Ended));
+    expect_eq!(rt; level_count(&walk), Some(1));
     Ok(())
 }
 
@@ -59,15 +59,15 @@ fn goes_on_after_a_refusal_for_memory(rt: HostRuntime) -> Result<(), Fail> {
     for _ in 0..5 {
         let (wanted, given) = (walk.need(378), walk.given());
         match take_next(&mut walk, &file) {
-            Ok(Next::Went(_)) => assert_eq!(rt; Some(walk.given()), given.checked_add(1)),
+            Ok(Next::Went(_)) => expect_eq!(rt; Some(walk.given()), given.checked_add(1)),
             Ok(Next::Ended) => {}
             Ok(Next::Refused(_)) => return Err(Fail::new("a fault")),
             Err(Memory) => {
-                assert_eq!(rt; walk.given(), given);
-                assert_eq!(rt; walk.need(378), wanted);
+                expect_eq!(rt; walk.given(), given);
+                expect_eq!(rt; walk.need(378), wanted);
             }
         }
     }
-    assert_eq!(rt; level_count(&walk), Some(1));
+    expect_eq!(rt; level_count(&walk), Some(1));
     Ok(())
 }

@@ -1,6 +1,6 @@
 //! Where tiles stand, by the arrays of their level.
 use super::{Entry, begun, end_of, fields, put_directory, put_long, put_short};
-use assertion_support::assert_eq;
+use assertion_support::expect_eq;
 use fixtures_support::{f1, f1m, f3, f4};
 use std::process::Abort;
 use std::test::Fail;
@@ -36,10 +36,10 @@ fn expect_tiles<R: Abort + AllocGlobal>(
     match end_of(rt, file)? {
         Ok(walk) => {
             let level = walk.levels().get(n).ok_or("no level")?;
-            // The one of `std`, by which it is known below that they are equal.
-            std::assert_eq!(rt; level.offsets.count as usize, want.len());
+            // Not a call: below it is known that they are equal.
+            assert_eq!(rt; level.offsets.count as usize, want.len());
             for (t, place) in want.iter().enumerate() {
-                assert_eq!(rt;
+                expect_eq!(rt;
                     tile(file, walk.order(), level, t as u32),
                     Some(*place),
                     "tile {t}"

@@ -1,6 +1,6 @@
 //! Walks over the fixtures: the ranges that they take, and the levels that they end with.
 use super::{course_of, fault_of, place};
-use assertion_support::assert_eq;
+use assertion_support::expect_eq;
 use fixtures_support::{f1, f1m, f2, f3, f4, f5};
 use std::process::Abort;
 use std::test::Fail;
@@ -24,7 +24,7 @@ fn levels_of<R: Abort + AllocGlobal>(
     let Course { ranges, end } = course_of(rt, file)?;
     match end {
         Ok(walk) => {
-            assert_eq!(rt; walk.given() as usize, ranges.len());
+            expect_eq!(rt; walk.given() as usize, ranges.len());
             let order = walk.order();
             Ok((ranges, order, Vec::from_slice(rt.alloc(), walk.levels())?))
         }
@@ -34,7 +34,7 @@ fn levels_of<R: Abort + AllocGlobal>(
 
 #[test]
 fn walks_over_one_tile_in_both_orders(rt: HostRuntime) -> Result<(), Fail> {
-    assert_eq!(rt; Walk::new(rt.alloc()).given(), 0);
+    expect_eq!(rt; Walk::new(rt.alloc()).given(), 0);
     let files = [
         (f1(rt.alloc())?, Order::Little),
         (f1m(rt.alloc())?, Order::Big),
@@ -42,15 +42,15 @@ fn walks_over_one_tile_in_both_orders(rt: HostRuntime) -> Result<(), Fail> {
     for (file, want) in files {
         let (ranges, order, levels) = levels_of(&rt, &file)?;
         assert!(rt; are_ranges(&ranges, &[(0, 7), (8, 9), (10, 121)]));
-        assert_eq!(rt; order, want);
-        assert_eq!(rt; levels.len(), 1);
+        expect_eq!(rt; order, want);
+        expect_eq!(rt; levels.len(), 1);
         let first = levels.first().ok_or("no level")?;
-        assert_eq!(rt; (first.width, first.length), (16, 16));
-        assert_eq!(rt; (first.tile_width, first.tile_length), (16, 16));
-        assert_eq!(rt; (first.samples, first.bits), (1, 8));
-        assert_eq!(rt; first.compression, Compression::Plain);
-        assert_eq!(rt; first.offsets, place(102, 4, 1, Kind::Long));
-        assert_eq!(rt; first.counts, place(114, 4, 1, Kind::Long));
+        expect_eq!(rt; (first.width, first.length), (16, 16));
+        expect_eq!(rt; (first.tile_width, first.tile_length), (16, 16));
+        expect_eq!(rt; (first.samples, first.bits), (1, 8));
+        expect_eq!(rt; first.compression, Compression::Plain);
+        expect_eq!(rt; first.offsets, place(102, 4, 1, Kind::Long));
+        expect_eq!(rt; first.counts, place(114, 4, 1, Kind::Long));
     }
     Ok(())
 }
@@ -64,7 +64,7 @@ fn reads_a_width_of_type_long(rt: HostRuntime) -> Result<(), Fail> {
     }
     let (_ranges, _order, levels) = levels_of(&rt, &file)?;
     let (_ranges, _order, same) = levels_of(&rt, &long)?;
-    assert_eq!(rt; levels.as_slice(), same.as_slice());
+    expect_eq!(rt; levels.as_slice(), same.as_slice());
     Ok(())
 }
 
@@ -77,8 +77,8 @@ fn finds_the_arrays_of_many_tiles(rt: HostRuntime) -> Result<(), Fail> {
     for (file, count, len, counts) in rows {
         let (_ranges, _order, levels) = levels_of(&rt, &file)?;
         let first = levels.first().ok_or("no level")?;
-        assert_eq!(rt; first.offsets, place(122, len, count, Kind::Long));
-        assert_eq!(rt; first.counts, place(counts, len, count, Kind::Long));
+        expect_eq!(rt; first.offsets, place(122, len, count, Kind::Long));
+        expect_eq!(rt; first.counts, place(counts, len, count, Kind::Long));
     }
     Ok(())
 }
@@ -88,14 +88,14 @@ fn walks_over_two_levels(rt: HostRuntime) -> Result<(), Fail> {
     let (ranges, _order, levels) = levels_of(&rt, &f3(rt.alloc())?)?;
     let want = [(0, 7), (8, 9), (10, 169), (170, 171), (172, 295)];
     assert!(rt; are_ranges(&ranges, &want));
-    assert_eq!(rt; levels.len(), 2);
+    expect_eq!(rt; levels.len(), 2);
     let first = levels.first().ok_or("no level")?;
-    assert_eq!(rt; first.offsets, place(296, 16, 4, Kind::Long));
-    assert_eq!(rt; first.counts, place(312, 16, 4, Kind::Long));
+    expect_eq!(rt; first.offsets, place(296, 16, 4, Kind::Long));
+    expect_eq!(rt; first.counts, place(312, 16, 4, Kind::Long));
     let second = levels.last().ok_or("no level")?;
-    assert_eq!(rt; second.offsets, place(276, 4, 1, Kind::Long));
-    assert_eq!(rt; second.counts, place(288, 4, 1, Kind::Long));
-    assert_eq!(rt; second.compression, Compression::PackBits);
+    expect_eq!(rt; second.offsets, place(276, 4, 1, Kind::Long));
+    expect_eq!(rt; second.counts, place(288, 4, 1, Kind::Long));
+    expect_eq!(rt; second.compression, Compression::PackBits);
     Ok(())
 }
 
@@ -104,11 +104,11 @@ fn walks_over_values_outside_their_entries(rt: HostRuntime) -> Result<(), Fail> 
     let (ranges, _order, levels) = levels_of(&rt, &f4(rt.alloc())?)?;
     let want = [(0, 7), (8, 9), (10, 133), (134, 139)];
     assert!(rt; are_ranges(&ranges, &want));
-    assert_eq!(rt; levels.len(), 1);
+    expect_eq!(rt; levels.len(), 1);
     let first = levels.first().ok_or("no level")?;
-    assert_eq!(rt; first.samples, 3);
-    assert_eq!(rt; first.offsets, place(140, 16, 4, Kind::Long));
-    assert_eq!(rt; first.counts, place(156, 8, 4, Kind::Short));
+    expect_eq!(rt; first.samples, 3);
+    expect_eq!(rt; first.offsets, place(140, 16, 4, Kind::Long));
+    expect_eq!(rt; first.counts, place(156, 8, 4, Kind::Short));
     Ok(())
 }
 
@@ -120,6 +120,6 @@ fn refuses_a_directory_past_the_end(rt: HostRuntime) -> Result<(), Fail> {
             *place = byte;
         }
     }
-    assert_eq!(rt; fault_of(&rt, &file)?, Some(FileFault::PastEnd));
+    expect_eq!(rt; fault_of(&rt, &file)?, Some(FileFault::PastEnd));
     Ok(())
 }

@@ -1,7 +1,7 @@
 //! The groups of windows.
 use crate::tests::image::{Image, change};
 use crate::tests::of_level;
-use assertion_support::assert_eq;
+use assertion_support::expect_eq;
 use fixtures_support::{f3, f5};
 use std::alloc::Global;
 use std::process::Abort;
@@ -33,7 +33,7 @@ fn expect_shapes(
 ) -> Result<(), Fail> {
     let image = Image::new(rt.alloc(), file)?;
     let shapes = shapes(rt.alloc(), &image, window)?;
-    assert_eq!(rt; shapes.as_slice(), want);
+    expect_eq!(rt; shapes.as_slice(), want);
     Ok(())
 }
 
@@ -95,7 +95,7 @@ fn refusal(alloc: Global, changes: &[(usize, u8)]) -> Result<Option<PlanError>, 
 fn refuses_each_wrong_tile(rt: HostRuntime) -> Result<(), Fail> {
     for (place, byte, fault) in WRONG {
         let plan = refusal(rt.alloc(), &[(place, byte)])?;
-        assert_eq!(rt; plan, Some(PlanError::File(fault)), "{place}");
+        expect_eq!(rt; plan, Some(PlanError::File(fault)), "{place}");
     }
     Ok(())
 }
@@ -109,7 +109,7 @@ fn tells_the_fault_of_the_first_tile(rt: HostRuntime) -> Result<(), Fail> {
         ((310, 1), (325, 2), FileFault::TileSize),
     ] {
         let plan = refusal(rt.alloc(), &[first, second])?;
-        assert_eq!(rt; plan, Some(PlanError::File(fault)), "{first:?} {second:?}");
+        expect_eq!(rt; plan, Some(PlanError::File(fault)), "{first:?} {second:?}");
     }
     Ok(())
 }

@@ -1,6 +1,6 @@
 //! The rectangles of window queries.
 use crate::tests::image::Image;
-use assertion_support::assert_eq;
+use assertion_support::expect_eq;
 use fixtures_support::{Field, FieldType, Order, Values, f3, push_directory, push_header};
 use std::process::Abort;
 use std::test::Fail;
@@ -51,7 +51,7 @@ fn compare(rt: &impl Abort, levels: &[Level], rows: &[(Asked, Result<Numbers, Fi
         };
         let answer = rect(levels, query);
         let want = want.map(|(level, x, y, w, h)| Rectangle { level, x, y, w, h });
-        assert_eq!(rt; answer, want, "{query:?}");
+        expect_eq!(rt; answer, want, "{query:?}");
     }
 }
 
@@ -59,7 +59,7 @@ fn compare(rt: &impl Abort, levels: &[Level], rows: &[(Asked, Result<Numbers, Fi
 fn finds_rectangles_of_two_levels(rt: HostRuntime) -> Result<(), Fail> {
     let levels = Image::new(rt.alloc(), f3(rt.alloc())?)?.levels;
     compare(&rt, &levels, &TWO_LEVELS);
-    assert_eq!(rt; rect(&levels, Query::Info), Err(FileFault::Outside));
+    expect_eq!(rt; rect(&levels, Query::Info), Err(FileFault::Outside));
     Ok(())
 }
 

@@ -1,5 +1,5 @@
 //! Worked values.
-use assertion_support::assert_eq;
+use assertion_support::expect_eq;
 use packbits::{pack_row, unpack};
 use std::process::Abort;
 use std::test::Fail;
@@ -22,7 +22,7 @@ const ZEROS: [(&[u8], usize, bool); 9] = [
 fn expect_zeros(rt: &impl Abort, seg: &[u8], good: bool, out: &mut [u8]) {
     let answer = unpack(seg, 16, out);
     let want = if good { Ok(()) } else { Err(FileFault::Packet) };
-    assert_eq!(rt; answer, want, "{seg:?}");
+    expect_eq!(rt; answer, want, "{seg:?}");
     assert!(rt; !good || out.iter().all(|b| *b == 0), "{seg:?}");
 }
 
@@ -48,9 +48,9 @@ const TEXT: [u8; 24] = [
 #[test]
 fn unpacks_the_example_of_the_standard(rt: HostRuntime) {
     let mut out = [0u8; 24];
-    assert_eq!(rt; unpack(&EXAMPLE, 24, &mut out), Ok(()));
-    assert_eq!(rt; out.as_slice(), TEXT.as_slice());
-    assert_eq!(rt; unpack(&EXAMPLE, 12, &mut out), Err(FileFault::Packet));
+    expect_eq!(rt; unpack(&EXAMPLE, 24, &mut out), Ok(()));
+    expect_eq!(rt; out.as_slice(), TEXT.as_slice());
+    expect_eq!(rt; unpack(&EXAMPLE, 12, &mut out), Err(FileFault::Packet));
 }
 
 /// Expects a row of the packets that are made of it.
@@ -58,8 +58,8 @@ fn expect_row(rt: &(impl Abort + AllocGlobal), row: &[u8]) -> Result<(), Fail> {
     assert!(rt; !row.is_empty());
     let seg = pack_row(rt.alloc(), row).ok().ok_or("no memory")?;
     let mut out = vec![in rt.alloc(); 9u8; row.len()]?;
-    assert_eq!(rt; unpack(&seg, row.len(), &mut out), Ok(()));
-    assert_eq!(rt; out.as_slice(), row);
+    expect_eq!(rt; unpack(&seg, row.len(), &mut out), Ok(()));
+    expect_eq!(rt; out.as_slice(), row);
     Ok(())
 }
 

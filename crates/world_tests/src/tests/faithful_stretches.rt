@@ -1,7 +1,7 @@
 //! Faithful stretches: whatever was before, a client that opens a query and then exchanges, with nothing between, has its
 //! report by the exchange after as many as the query costs.
 use super::log_of;
-use assertion_support::assert_eq;
+use assertion_support::expect_eq;
 use fixtures_support::{f1, f1m, f2, f2b, f3, f4, f6, f6m};
 use reference_support::cost;
 use std::alloc::Global;
@@ -146,7 +146,7 @@ fn reports_each_window_within_its_cost(rt: HostRuntime) -> Result<(), Fail> {
         ("f6m", f6m(alloc)?),
     ];
     for (name, file) in &files {
-        assert_eq!(rt; unreached(alloc, file)?, None, "of {name:?}");
+        expect_eq!(rt; unreached(alloc, file)?, None, "of {name:?}");
     }
     Ok(())
 }
