@@ -1,31 +1,44 @@
-//! Aids of tests: `expect_eq`, a call in the place of `assert_eq`, which is written out where it stands, and proved there each time.
+//! Aids of tests: `expect_eq`, in the place of `assert_eq`, which is written out where it stands, and proved there each time.
 #![tactic(auto)]
 
-use std::fmt::{Debug, Display};
-use std::process::Abort;
+use std::fmt::{Debug, Display, Error, Formatter, Write};
 
-/// Ends the test where the two aren't equal, and prints both.
-pub fn check_equal<R: Abort, T: PartialEq + Debug>(rt: &R, left: &T, right: &T) {
-    assert_eq!(rt; *left, *right);
+/// Two values that are to be equal and aren't, as the end of a test shows them.
+#[derive(Drop)]
+pub struct Unequal<'a, T> {
+    left: &'a T,
+    right: &'a T,
 }
 
-/// The same, with a note.
-pub fn check_equal_at<R: Abort, T: PartialEq + Debug, D: Display + Drop>(
-    rt: &R,
-    left: &T,
-    right: &T,
-    note: D,
-) {
-    assert_eq!(rt; *left, *right, "{note}");
+impl<T: Debug> Display for Unequal<'_, T> {
+    fn fmt<W: Write>(&self, f: &mut Formatter<W>) -> Result<(), Error> {
+        write!(
+            f,
+            "not equal\n  left: {:?}\n right: {:?}",
+            self.left, self.right
+        )
+    }
+}
+
+/// The two values, where they aren't equal.
+pub fn difference<'a, T: PartialEq>(left: &'a T, right: &'a T) -> Option<Unequal<'a, T>> {
+    if *left == *right {
+        return None;
+    }
+    Some(Unequal { left, right })
 }
 
 /// As `assert_eq`, but that nothing is known behind it.
 #[macro_export]
 macro_rules! expect_eq {
     ($rt:expr; $left:expr, $right:expr $(,)?) => {
-        $crate::check_equal(&$rt, &$left, &$right)
+        if let Some(unequal) = $crate::difference(&$left, &$right) {
+            std::process::Abort::panic(&$rt, unequal)
+        }
     };
     ($rt:expr; $left:expr, $right:expr, $($note:tt)+) => {
-        $crate::check_equal_at(&$rt, &$left, &$right, format_args!($($note)+))
+        if let Some(unequal) = $crate::difference(&$left, &$right) {
+            std::process::Abort::panic(&$rt, format_args!("{unequal}\n at {}", format_args!($($note)+)))
+        }
     };
 }
