@@ -1,6 +1,7 @@
 //! A path that leads elsewhere while its file is looked at.
 use cog_server::Server;
 use disk_files::Watched;
+use std::alloc::Global;
 use std::cell::Cell;
 use std::fs::{Metadata, OpenOptions};
 use std::rt::{Clock, Files};
@@ -33,9 +34,9 @@ impl<R: Clock> Clock for Turning<'_, R> {
 }
 
 impl<R: AllocGlobal> Alloc for Turning<'_, R> {
-    type A = std::alloc::Global;
+    type A = Global;
 
-    fn alloc(&self) -> std::alloc::Global {
+    fn alloc(&self) -> Global {
         self.rt.alloc()
     }
 }
