@@ -6,7 +6,6 @@ mod read_faults;
 mod serves;
 mod worlds;
 
-use assertion_support::expect_eq;
 use programs_support::{tell, words_of};
 use std::alloc::AllocError;
 use std::convert::AsStr;
@@ -28,7 +27,7 @@ where
     R: Abort + Files + Clock + AllocGlobal + Net<Listener = TcpListener, Stream = TcpStream>,
 {
     let told = tell(rt, words)?;
-    expect_eq!(rt;
+    assert_eq!(rt;
         (
             str::from_utf8(&told.out),
             str::from_utf8(&told.err),

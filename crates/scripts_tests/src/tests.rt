@@ -6,7 +6,6 @@ mod script_lines;
 mod scripts_and_logs;
 mod windows;
 
-use assertion_support::expect_eq;
 use fixtures_support::{f1, f1m, f2, f2b, f3, f4, f6, f6m};
 use scripts::{Loaded, ScriptError, log_text, script};
 use std::alloc::Global;
@@ -101,7 +100,7 @@ fn expect_log(
     piece: Option<usize>,
 ) -> Result<(), Fail> {
     let found = text_of_run(rt.alloc(), events, piece)?;
-    expect_eq!(rt;
+    assert_eq!(rt;
         str::from_utf8(&found),
         Ok(want),
         "of the script {text:?} by {piece:?}"

@@ -63,7 +63,7 @@ fn turn(serving: &mut Serving, server: &Server, now: u64) -> Result<(u32, u32), 
 fn read_answer<R: Abort>(rt: &R, client: &mut TcpStream) -> Result<(), Fail> {
     let mut answer = [0u8; ANSWER.len()];
     client.read_exact(&mut answer)?;
-    expect_eq!(rt; str::from_utf8(&answer), Ok(ANSWER));
+    assert_eq!(rt; str::from_utf8(&answer), Ok(ANSWER));
     Ok(())
 }
 

@@ -4,7 +4,6 @@ mod faithful_stretches;
 mod random_schedules;
 mod whole_windows;
 
-use assertion_support::expect_eq;
 use fixtures_support::{f1, f1m, f2, f2b, f3, f5};
 use scripts::{Loaded, log_text, script};
 use std::alloc::Global;
@@ -74,7 +73,7 @@ fn log_however_cut(rt: &(impl Abort + AllocGlobal), text: &str) -> Result<Log, F
 fn expect(rt: &(impl Abort + AllocGlobal), text: &str, want: &str) -> Result<(), Fail> {
     let log = log_however_cut(rt, text)?;
     let found = log_text(rt.alloc(), &log)?;
-    expect_eq!(rt; str::from_utf8(&found), Ok(want), "of the script {text:?}");
+    assert_eq!(rt; str::from_utf8(&found), Ok(want), "of the script {text:?}");
     Ok(())
 }
 

@@ -167,6 +167,6 @@ fn expect_answered(
     expect_eq!(rt; (count, went), (message.len(), true));
     let text = taken(rt.alloc(), connections, number)?;
     let want = answer_to(server, message)?;
-    expect_eq!(rt; text.as_slice(), want.as_slice());
+    assert_eq!(rt; text.as_slice(), want.as_slice());
     Ok(())
 }

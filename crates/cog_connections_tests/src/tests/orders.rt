@@ -105,7 +105,7 @@ fn expect_order(
     wants: (&[u8], &[u8]),
 ) -> Result<(), Fail> {
     let [first, second] = run(rt.alloc(), server, order)?;
-    expect_eq!(rt;
+    assert_eq!(rt;
         (first.as_slice(), second.as_slice()),
         wants,
         "order {order}"

@@ -1,6 +1,5 @@
 //! Fifty connections at random, with publications between, beside the plain answer to each message.
 use super::driving::{ASKS_A, ASKS_B, give_at, publish, server_of_two, take_at};
-use assertion_support::expect_eq;
 use cog_connections::Connections;
 use cog_server::Server;
 use fixtures_support::Numbers;
@@ -140,7 +139,7 @@ fn expect_text(
     peer: &mut Peer,
 ) -> Result<usize, Fail> {
     take_at(connections, number, usize::MAX, 0, &mut peer.text)?;
-    expect_eq!(rt; peer.text.as_slice(), peer.want.as_slice(), "{number}");
+    assert_eq!(rt; peer.text.as_slice(), peer.want.as_slice(), "{number}");
     Ok(peer.want.len())
 }
 

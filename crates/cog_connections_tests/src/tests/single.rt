@@ -27,7 +27,7 @@ fn answers_single_bytes_by_writes_of_one(rt: HostRuntime) -> Result<(), Fail> {
     for message in messages {
         expect_single_bytes(&rt, &mut connection, &server, message, &mut text)?;
     }
-    expect_eq!(rt;
+    assert_eq!(rt;
         (text.as_slice(), connection.ended(), connection.answers()),
         (want.as_slice(), Some(Ended::Closed), 3)
     );
@@ -88,7 +88,7 @@ fn expect_first_of_two(
     assert!(rt; !connection.go_on(server)?);
     let mut text = Vec::new(rt.alloc());
     take(connection, usize::MAX, &mut text)?;
-    expect_eq!(rt; text.as_slice(), want);
+    assert_eq!(rt; text.as_slice(), want);
     Ok(())
 }
 
@@ -118,7 +118,7 @@ fn sends_a_replaced_file_as_it_was(rt: HostRuntime) -> Result<(), Fail> {
     publish(alloc, &mut server, b"a", 2, 30)?;
     expect_second_behind_the_first(&rt, &mut connection, &server, &mut text)?;
     want.extend_from_slice(&answers(alloc, &server, &[ASKS_A])?)?;
-    expect_eq!(rt; text.as_slice(), want.as_slice());
+    assert_eq!(rt; text.as_slice(), want.as_slice());
     Ok(())
 }
 

@@ -1,7 +1,6 @@
 //! Queries in turn on one reader: only what isn't kept is wanted again.
 use super::image::{Answer, Image};
 use super::{Range, are_ranges};
-use assertion_support::expect_eq;
 use cog_reader::{Outcome, read_file};
 use cog_reader_support::{Fixture, Numbers, Want, change, is_wanted, window};
 use std::alloc::{AllocError, Global};
@@ -210,7 +209,7 @@ fn wants_only_what_it_has_not_kept(rt: HostRuntime) -> Result<(), Fail> {
     for (name, steps) in COURSES {
         let file = Fixture::F3.file(rt.alloc())?;
         let found = otherwise(rt.alloc(), file, steps);
-        expect_eq!(rt;
+        assert_eq!(rt;
             found.ok().ok_or("no memory")?,
             None,
             "{name}, by its first other step"
@@ -236,7 +235,7 @@ fn left_after(alloc: Global, count: usize) -> Result<Option<usize>, Memory> {
 fn keeps_what_a_query_read_that_was_left(rt: HostRuntime) -> Result<(), Fail> {
     for count in 0..8usize {
         let found = left_after(rt.alloc(), count);
-        expect_eq!(rt; found.ok().ok_or("no memory")?, None, "{count}");
+        assert_eq!(rt; found.ok().ok_or("no memory")?, None, "{count}");
     }
     Ok(())
 }
@@ -253,6 +252,6 @@ fn keeps_the_arrays_after_a_fault(rt: HostRuntime) -> Result<(), Fail> {
     let mut file = Fixture::F3.file(rt.alloc())?;
     change(&mut file, 1454, &[0xf2]);
     let found = otherwise(rt.alloc(), file, &AFTER_A_FAULT);
-    expect_eq!(rt; found.ok().ok_or("no memory")?, None);
+    assert_eq!(rt; found.ok().ok_or("no memory")?, None);
     Ok(())
 }

@@ -88,7 +88,7 @@ fn expect_values(
     body: u64,
 ) {
     let named = if want.named { NAME_OF_F1 } else { None };
-    expect_eq!(rt;
+    assert_eq!(rt;
         (answer.status, answer.close, answer.body, name_of(answer)),
         (want.status, want.close, body, named),
         "to {message:?}"
@@ -257,7 +257,7 @@ fn expect_the_third_whole(rt: &(impl Abort + AllocGlobal), server: &Server) -> R
         b"GET /a HTTP/1.1\r\nHost: h\r\nRange: bytes=0-0\r\nIf-Range: \"1-1\"\r\n\r\n",
     )?;
     let front = b"HTTP/1.1 200 OK\r\nETag: \"1-3\"\r\n";
-    expect_eq!(rt;
+    assert_eq!(rt;
         (answer.status, answer.text.starts_with(front)),
         (200, true)
     );

@@ -63,7 +63,7 @@ fn expect_run(
     (told, text): (Told, &[u8]),
     (after, count): (AfterPieces, usize),
 ) {
-    expect_eq!(rt; outlet.taken(), text, "{after:?} after {count}");
+    assert_eq!(rt; outlet.taken(), text, "{after:?} after {count}");
     expect_eq!(rt;
         (*served, inlet.failed(), outlet.failed()),
         told,

@@ -61,7 +61,7 @@ fn answers_again_after_refused_memory(rt: HostRuntime) -> Result<(), Fail> {
         Ok(answer) => answer,
         Err(Memory) => server.answer(REQUEST)?,
     };
-    expect_eq!(rt; (answer.text.as_slice(), answer.body), (TEXT, 2));
+    assert_eq!(rt; (answer.text.as_slice(), answer.body), (TEXT, 2));
     Ok(())
 }
 
@@ -104,7 +104,7 @@ fn expect_answers_of_two(
     want: (&[u8], &[u8]),
 ) -> Result<(), Fail> {
     let (a, b) = answers_of_two(server)?;
-    expect_eq!(rt; (a.as_slice(), b.as_slice()), want);
+    assert_eq!(rt; (a.as_slice(), b.as_slice()), want);
     Ok(())
 }
 
@@ -115,7 +115,7 @@ fn serves_again_after_refused_memory(rt: HostRuntime) -> Result<(), Fail> {
     publish(&rt, &mut server)?;
     let mut room = [0u8; 512];
     let served = serve_again(&rt, &server, room.as_mut_slice())?;
-    expect_eq!(rt;
+    assert_eq!(rt;
         (
             served.answers,
             room.starts_with(TEXT),

@@ -131,7 +131,7 @@ fn refuses_the_65th_name(rt: HostRuntime) -> Result<(), Fail> {
 #[test]
 fn gives_the_last_file_of_each_name(rt: HostRuntime) -> Result<(), Fail> {
     let mut server = Server::new(rt.alloc(), 1);
-    expect_eq!(rt; (server.epoch(), server.file(b"a")), (1, None));
+    assert_eq!(rt; (server.epoch(), server.file(b"a")), (1, None));
     expect_published(&rt, &mut server, b"a", f1(rt.alloc())?, 1)?;
     expect_zeros_published(&rt, &mut server, (b"b", 3, 2))?;
     let file = f1(rt.alloc())?;
@@ -144,5 +144,5 @@ fn gives_the_last_file_of_each_name(rt: HostRuntime) -> Result<(), Fail> {
 
 /// Expects these files of two names.
 fn expect_files(rt: &(impl Abort + AllocGlobal), server: &Server, a: &[u8], b: &[u8]) {
-    expect_eq!(rt; (server.file(b"a"), server.file(b"b")), (Some(a), Some(b)));
+    assert_eq!(rt; (server.file(b"a"), server.file(b"b")), (Some(a), Some(b)));
 }

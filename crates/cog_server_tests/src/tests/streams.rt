@@ -1,7 +1,6 @@
 //! Streams of messages, cut in every way, and what ends their answers.
 use super::answers::{FIRST, LAST, Want, server_of_f1, text_of};
 use super::refusals::BAD;
-use assertion_support::expect_eq;
 use cog_server::{
     AfterBytes, AfterPieces, Ended, ScriptedInlet, ScriptedOutlet, Served, Server, Stream,
 };
@@ -36,7 +35,7 @@ pub fn expect_served(
     let mut outlet = ScriptedOutlet::new(alloc, Vec::new(alloc), AfterPieces::All);
     let served = server.serve(&mut inlet, &mut outlet)?;
     let name = (stream.len(), cuts.first());
-    expect_eq!(rt;
+    assert_eq!(rt;
         (outlet.taken(), served),
         (text, want),
         "bytes and first piece {name:?}"
@@ -170,7 +169,7 @@ fn serves_readers_and_writers_of_the_standard_library(rt: HostRuntime) -> Result
     let mut inlet = Stream::new(stream.as_slice());
     let mut outlet = Stream::new(&mut written);
     let result = server.serve(&mut inlet, &mut outlet)?;
-    expect_eq!(rt;
+    assert_eq!(rt;
         (result, written.as_slice()),
         (served(2, Ended::EndOfInput), text.as_slice())
     );

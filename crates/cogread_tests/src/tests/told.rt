@@ -119,7 +119,7 @@ fn tells_each_exchange(rt: HostRuntime) -> Result<(), Fail> {
     let server = server_of_one(rt.alloc(), 1, b"a", f1(rt.alloc())?)?;
     for (fates, x, want) in TOLD {
         let told = told_of(Capture::new(&rt), &server, pixel(x), fates, Telling::Each)?;
-        expect_eq!(rt; told.as_str(), want);
+        assert_eq!(rt; told.as_str(), want);
     }
     Ok(())
 }
@@ -231,7 +231,7 @@ fn draws_how_far_the_exchanges_have_come(rt: HostRuntime) -> Result<(), Fail> {
             fates,
             Telling::Progress,
         )?;
-        expect_eq!(rt; told.as_str(), want);
+        assert_eq!(rt; told.as_str(), want);
     }
     Ok(())
 }
@@ -263,7 +263,7 @@ fn tells_why_no_connection_is_made(rt: HostRuntime) -> Result<(), Fail> {
     for (words, want, status) in NOWHERE {
         let told = tell(&rt, words)?;
         let err = without_times(rt.alloc(), str::from_utf8(&told.err).unwrap_or("?"))?;
-        expect_eq!(rt; err.as_str(), want);
+        assert_eq!(rt; err.as_str(), want);
         assert!(rt; told.out.is_empty());
         expect_eq!(rt; told.status, status);
     }

@@ -113,7 +113,7 @@ fn missing_part(told: &Told, parts: &'static [&'static str]) -> Option<&'static 
 fn prints_each_word_with_its_unit_and_default(rt: HostRuntime) -> Result<(), Fail> {
     for (line, parts) in HELPS {
         let told = tell(&rt, &words_of(rt.alloc(), line)?)?;
-        expect_eq!(rt; missing_part(&told, parts), None, "{line:?}");
+        assert_eq!(rt; missing_part(&told, parts), None, "{line:?}");
         assert!(rt; told.err.is_empty(), "{line:?}");
         expect_eq!(rt; told.status, 0, "{line:?}");
     }

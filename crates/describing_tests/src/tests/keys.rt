@@ -80,7 +80,7 @@ fn tells_the_text_of_a_system(rt: HostRuntime) -> Result<(), Fail> {
         let Some(system) = CoordinateSystem::of(alloc, &info)? else {
             return Err(Fail::new("no system"));
         };
-        expect_eq!(rt; system.name.as_deref(), Some(want));
+        assert_eq!(rt; system.name.as_deref(), Some(want));
         expect_eq!(rt; system.number, None);
     }
     Ok(())

@@ -1,5 +1,4 @@
 //! The two examples of the README: a window of a file in memory, and the same window by ranges, over a transport of one's own.
-use assertion_support::expect_eq;
 use cog_client::{Client, Lost, Outcome, Report, Transport};
 use cog_fetch::fetch;
 use cog_reader::read_file;
@@ -73,7 +72,7 @@ fn report_of_server(alloc: Global, server: &Server) -> Result<Option<Report>, Fa
 fn reads_a_window_of_a_file_in_memory(rt: HostRuntime) -> Result<(), Fail> {
     let file = f1(rt.alloc())?;
     let samples = samples_of_file(rt.alloc(), &file)?.ok_or("no window")?;
-    expect_eq!(rt;
+    assert_eq!(rt;
         samples.as_slice(),
         [0x12, 0x13, 0x14, 0x22, 0x23, 0x24].as_slice()
     );
@@ -98,6 +97,6 @@ fn told(report: &Report) -> Option<(u32, u32, u16, u16, &[u8])> {
 fn reads_a_window_of_a_server_by_ranges(rt: HostRuntime) -> Result<(), Fail> {
     let server = server_of_one(rt.alloc(), 1, b"a", f1(rt.alloc())?)?;
     let report = report_of_server(rt.alloc(), &server)?.ok_or("no report")?;
-    expect_eq!(rt; told(&report), Some((3, 2, 1, 8, b"\"1-1\"".as_slice())));
+    assert_eq!(rt; told(&report), Some((3, 2, 1, 8, b"\"1-1\"".as_slice())));
     Ok(())
 }

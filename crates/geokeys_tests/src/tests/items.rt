@@ -1,5 +1,4 @@
 //! Items of eight bytes.
-use assertion_support::expect_eq;
 use geokeys::doubles;
 use std::test::Fail;
 use tiff_dir::Order;
@@ -24,7 +23,7 @@ fn reads_doubles_in_both_orders(rt: HostRuntime) -> Result<(), Fail> {
         for count in 0..3usize {
             let part = &bytes[..8 * count];
             let items = doubles(rt.alloc(), order, part).ok().ok_or("no memory")?;
-            expect_eq!(rt; items.as_slice(), &ITEMS[..count], "{order:?}");
+            assert_eq!(rt; items.as_slice(), &ITEMS[..count], "{order:?}");
         }
     }
     Ok(())

@@ -12,7 +12,7 @@ pub const FIRST_HEAD: &[u8] =
 #[test]
 fn writes_the_head_of_a_part(rt: HostRuntime) -> Result<(), Fail> {
     let text = write_head(rt.alloc(), &Reply::R206(tag_1()?, 0, 65535, 67706), true)?;
-    expect_eq!(rt; text.as_slice(), FIRST_HEAD);
+    assert_eq!(rt; text.as_slice(), FIRST_HEAD);
     expect_eq!(rt; FIRST_HEAD.len(), 171);
     Ok(())
 }
@@ -36,7 +36,7 @@ fn expect_head(
     let text = write_head(rt.alloc(), reply, close)?;
     let last = if close { "Connection: close\r\n" } else { "" };
     let want = head_text(rt.alloc(), status, fields, last)?;
-    expect_eq!(rt;
+    assert_eq!(rt;
         str::from_utf8(&text),
         Ok(want.as_str()),
         "{status} {last:?}"

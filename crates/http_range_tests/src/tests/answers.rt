@@ -30,8 +30,8 @@ fn expect_piece(
     (tag, body): (&[u8], &[u8]),
     numbers: (bool, u64, u64),
 ) {
-    expect_eq!(rt; piece.tag.as_bytes(), tag);
-    expect_eq!(rt; piece.body, body);
+    assert_eq!(rt; piece.tag.as_bytes(), tag);
+    assert_eq!(rt; piece.body, body);
     expect_eq!(rt; (piece.whole, piece.first, piece.complete), numbers);
 }
 
@@ -45,7 +45,7 @@ fn first_answer(alloc: Global) -> Result<Vec<u8>, Memory> {
 /// Expects that a front of the first answer is told under this number.
 fn expect_told(rt: &impl Abort, text: &[u8], (cut, want): (usize, u8)) {
     assert!(rt; cut <= text.len(), "at {cut}");
-    expect_eq!(rt; told(&text[..cut]), want, "at {cut}");
+    assert_eq!(rt; told(&text[..cut]), want, "at {cut}");
 }
 
 /// Expects that a front of the first answer brings these bytes of the body.
@@ -139,14 +139,14 @@ const CHANGED_LINES: [(usize, &str, u8); 28] = [
 fn tells_why_an_answer_is_not_used(rt: HostRuntime) -> Result<(), Fail> {
     for (place, line, want) in CHANGED_LINES {
         let text = with_line(rt.alloc(), place, line.as_bytes())?;
-        expect_eq!(rt;
+        assert_eq!(rt;
             (told(&text), told_of_head(&text)),
             (want, want),
             "{line:?}"
         );
     }
     let same = with_line(rt.alloc(), 7, b"")?;
-    expect_eq!(rt; same.as_slice(), FIRST_HEAD);
+    assert_eq!(rt; same.as_slice(), FIRST_HEAD);
     Ok(())
 }
 
@@ -175,7 +175,7 @@ fn complete(bytes: &[u8]) -> Option<u64> {
 fn reads_lengths_of_64_bits(rt: HostRuntime) -> Result<(), Fail> {
     for (length, want) in LENGTHS {
         let text = with_length(rt.alloc(), length)?;
-        expect_eq!(rt; complete(text.as_bytes()), want, "{length}");
+        assert_eq!(rt; complete(text.as_bytes()), want, "{length}");
     }
     Ok(())
 }
@@ -192,12 +192,12 @@ fn with_tag(alloc: Global, tag: &[u8]) -> Result<Vec<u8>, Memory> {
 fn takes_tags_up_to_64_bytes(rt: HostRuntime) -> Result<(), Fail> {
     let text = with_tag(rt.alloc(), LONGEST_TAG)?;
     let whole = piece(text.as_slice())?;
-    expect_eq!(rt; whole.tag.as_bytes(), LONGEST_TAG);
+    assert_eq!(rt; whole.tag.as_bytes(), LONGEST_TAG);
     let text = with_tag(
         rt.alloc(),
         b"\"234567890123456789012345678901234567890123456789012345678901234\"",
     )?;
-    expect_eq!(rt; told(text.as_slice()), 6);
+    assert_eq!(rt; told(text.as_slice()), 6);
     Ok(())
 }
 
@@ -220,14 +220,14 @@ fn tells_a_status_that_is_not_used(rt: HostRuntime) {
         ),
     ] {
         let bytes = text.as_bytes();
-        expect_eq!(rt; (status(bytes), told(bytes)), (want, 3), "{text:?}");
+        assert_eq!(rt; (status(bytes), told(bytes)), (want, 3), "{text:?}");
     }
 }
 
 #[test]
 fn refuses_first_lines_of_another_form(rt: HostRuntime) {
     for text in ["HTP/1.1 200 OK", "HTTP/1.1 2000 OK\r\n\r\n"] {
-        expect_eq!(rt; told(text.as_bytes()), 2, "{text:?}");
+        assert_eq!(rt; told(text.as_bytes()), 2, "{text:?}");
     }
 }
 

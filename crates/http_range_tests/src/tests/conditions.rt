@@ -48,7 +48,7 @@ fn expect_fields(rt: &impl Abort, request: &Request<'_>, tag: &Tag) {
     assert!(rt; !request.has_member(b"Host", b"close"));
     assert!(rt; request.has(b"if-MATCH"));
     assert!(rt; !request.has(b"If"));
-    expect_eq!(rt; request.only(b"host"), Some(b"h".as_slice()));
+    assert_eq!(rt; request.only(b"host"), Some(b"h".as_slice()));
     assert!(rt; request.only(b"If-Match").is_none());
     assert!(rt; request.only(b"If-Range").is_none());
     assert!(rt; !request.one_matches(b"If-Match", tag, true));
@@ -68,7 +68,7 @@ fn matches_a_condition_in_its_only_field(rt: HostRuntime) -> Result<(), Fail> {
 #[test]
 fn writes_a_check_as_a_head_request(rt: HostRuntime) -> Result<(), Fail> {
     let text = write_check(rt.alloc(), b"cog.test", b"a", &tag_1()?)?;
-    expect_eq!(rt;
+    assert_eq!(rt;
         text.as_slice(),
         b"HEAD /a HTTP/1.1\r\nHost: cog.test\r\nIf-None-Match: \"1-1\"\r\nConnection: close\r\n\r\n".as_slice()
     );
@@ -104,7 +104,7 @@ fn told_of_check(bytes: &[u8], tag: &Tag) -> Option<u8> {
 fn reads_the_tag_of_an_answer_to_a_check(rt: HostRuntime) -> Result<(), Fail> {
     let tag = tag_1()?;
     for (text, want) in ANSWERS {
-        expect_eq!(rt;
+        assert_eq!(rt;
             told_of_check(text.as_bytes(), &tag),
             Some(want),
             "{text:?}"

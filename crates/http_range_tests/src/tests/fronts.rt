@@ -46,7 +46,7 @@ fn first_answer(alloc: Global) -> Result<Vec<u8>, Memory> {
 fn expect_told(rt: &impl Abort, text: &[u8], (cut, want): (usize, u8)) {
     assert!(rt; cut <= text.len(), "at {cut}");
     let front = &text[..cut];
-    expect_eq!(rt;
+    assert_eq!(rt;
         (told_of_head(front), told(front)),
         (want, want),
         "at {cut}"
@@ -57,7 +57,7 @@ fn expect_told(rt: &impl Abort, text: &[u8], (cut, want): (usize, u8)) {
 fn expect_first_head(rt: &impl Abort, text: &[u8], cut: usize) -> Result<(), Fail> {
     assert!(rt; cut <= text.len(), "at {cut}");
     let head = head(&text[..cut])?;
-    expect_eq!(rt;
+    assert_eq!(rt;
         said(&head),
         (b"\"1-1\"".as_slice(), false, 0, 67706, 65536, 171),
         "at {cut}"
@@ -89,7 +89,7 @@ fn tells_the_length_of_the_body_and_not_what_follows(rt: HostRuntime) -> Result<
         (5, 9, 3, 77)
     );
     let whole = head(b"HTTP/1.0 200\nETag: \"\"\nContent-Length: 4\n\n")?;
-    expect_eq!(rt; said(&whole), (b"\"\"".as_slice(), true, 0, 4, 4, 41));
+    assert_eq!(rt; said(&whole), (b"\"\"".as_slice(), true, 0, 4, 4, 41));
     Ok(())
 }
 
@@ -106,7 +106,7 @@ fn padded_answer(alloc: Global, n: usize) -> Result<Vec<u8>, Memory> {
 /// Expects that a front of an answer is told under this number, by its head.
 fn expect_told_of_head(rt: &impl Abort, text: &[u8], (cut, want): (usize, u8)) {
     assert!(rt; cut <= text.len(), "at {cut}");
-    expect_eq!(rt; told_of_head(&text[..cut]), want, "at {cut}");
+    assert_eq!(rt; told_of_head(&text[..cut]), want, "at {cut}");
 }
 
 /// The length of the head of an answer.

@@ -8,7 +8,7 @@ fn expect_all(rt: &impl Abort, rows: &[(&str, u64)], want: Resolved) {
     for row in rows {
         let (value, len) = *row;
         assert!(rt; len > 0, "{value}");
-        expect_eq!(rt;
+        assert_eq!(rt;
             resolve(read_range(value.as_bytes()), len),
             want,
             "{value} of {len}"
@@ -50,7 +50,7 @@ fn answers_a_range_with_the_positions_that_the_content_has(rt: HostRuntime) {
 
 #[test]
 fn answers_a_suffix_range_with_the_end_of_the_content(rt: HostRuntime) {
-    expect_eq!(rt; read_range(b"bytes=-7"), Some(RangeSpec::Suffix(7)));
+    assert_eq!(rt; read_range(b"bytes=-7"), Some(RangeSpec::Suffix(7)));
     for (value, len, first, last) in SUFFIXES {
         expect_all(&rt, &[(value, len)], Resolved::Part(first, last));
     }

@@ -34,28 +34,28 @@ pub fn request_of(bytes: &[u8]) -> Result<Request<'_>, Fail> {
 /// Expects the text of a request for the first bytes.
 fn expect_first(rt: &(impl Abort + AllocGlobal)) -> Result<(), Fail> {
     let text = write_request(rt.alloc(), b"cog.test", b"a", FIRST, None)?;
-    expect_eq!(rt; (text.len(), text.as_slice()), (76, FIRST_REQUEST));
+    assert_eq!(rt; (text.len(), text.as_slice()), (76, FIRST_REQUEST));
     Ok(())
 }
 
 /// Expects the text of a request for the first bytes that leaves the connection open.
 fn expect_open(rt: &(impl Abort + AllocGlobal)) -> Result<(), Fail> {
     let text = write_open_request(rt.alloc(), b"cog.test", b"a", FIRST, None)?;
-    expect_eq!(rt; text.as_slice(), OPEN_REQUEST);
+    assert_eq!(rt; text.as_slice(), OPEN_REQUEST);
     Ok(())
 }
 
 /// Expects what the second request says, if the file still has this tag.
 fn expect_second(rt: &impl Abort, request: &Request<'_>, tag: &Tag) {
-    expect_eq!(rt; request.method(), b"GET".as_slice());
-    expect_eq!(rt; request.target(), b"/a".as_slice());
+    assert_eq!(rt; request.method(), b"GET".as_slice());
+    assert_eq!(rt; request.target(), b"/a".as_slice());
     expect_eq!(rt; request.minor(), 1);
-    expect_eq!(rt;
+    assert_eq!(rt;
         request.field(b"rANGE", 0),
         Some(b"bytes=65536-67705".as_slice())
     );
     assert!(rt; request.field(b"Range", 1).is_none());
-    expect_eq!(rt; request.field(b"If-Range", 0), Some(tag.as_bytes()));
+    assert_eq!(rt; request.field(b"If-Range", 0), Some(tag.as_bytes()));
 }
 
 #[test]
@@ -64,7 +64,7 @@ fn writes_a_request_and_reads_it_again(rt: HostRuntime) -> Result<(), Fail> {
     expect_open(&rt)?;
     let tag = tag_1()?;
     let text = write_request(rt.alloc(), b"cog.test", b"a", SECOND, Some(&tag))?;
-    expect_eq!(rt; (text.len(), text.as_slice()), (97, SECOND_REQUEST));
+    assert_eq!(rt; (text.len(), text.as_slice()), (97, SECOND_REQUEST));
     expect_second(&rt, &request_of(&text)?, &tag);
     Ok(())
 }
@@ -72,7 +72,7 @@ fn writes_a_request_and_reads_it_again(rt: HostRuntime) -> Result<(), Fail> {
 #[test]
 fn reads_fields_of_any_case_by_their_order(rt: HostRuntime) -> Result<(), Fail> {
     let request = request_of(b"PUT /a HTTP/1.0\r\nA: 1\r\nb:2\r\na: \t3 \r\n\r\nmore")?;
-    expect_eq!(rt;
+    assert_eq!(rt;
         (
             request.minor(),
             request.field(b"A", 0),

@@ -1,5 +1,4 @@
 //! Entity tags.
-use assertion_support::expect_eq;
 use http_range::{Memory, Tag, publication_tag};
 use std::alloc::Global;
 use std::test::Fail;
@@ -25,7 +24,7 @@ fn changed(alloc: Global, place: usize) -> Result<Vec<u8>, Memory> {
 #[test]
 fn tells_tags_apart_by_each_byte(rt: HostRuntime) -> Result<(), Fail> {
     let longest = Tag::new(LONGEST_TAG).ok_or("64")?;
-    expect_eq!(rt; longest.as_bytes().len(), 64);
+    assert_eq!(rt; longest.as_bytes().len(), 64);
     assert!(rt; longest == longest.copy());
     assert!(rt; longest != tag_1()?);
     for place in 1..63 {
@@ -64,7 +63,7 @@ fn names_a_publication_by_its_epoch_and_number(rt: HostRuntime) -> Result<(), Fa
         (1, 11, b"\"1-11\""),
         (4294967295, 4294967295, b"\"4294967295-4294967295\""),
     ] {
-        expect_eq!(rt;
+        assert_eq!(rt;
             publication_tag(epoch, number).as_bytes(),
             want,
             "{epoch} {number}"

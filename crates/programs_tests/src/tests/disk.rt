@@ -1,5 +1,4 @@
 //! Files of the disk.
-use assertion_support::expect_eq;
 use programs::Disk;
 use scripts::{LoadError, Source};
 use std::fs;
@@ -15,8 +14,8 @@ fn refused(rt: &HostRuntime, path: &[u8]) -> Option<LoadError> {
 
 #[test]
 fn reads_a_file_of_the_disk(rt: HostRuntime) -> Result<(), Fail> {
-    expect_eq!(rt; refused(&rt, PATH.as_bytes()), Some(LoadError::CantRead));
-    expect_eq!(rt;
+    assert_eq!(rt; refused(&rt, PATH.as_bytes()), Some(LoadError::CantRead));
+    assert_eq!(rt;
         refused(&rt, b"programs\xfftests"),
         Some(LoadError::CantRead)
     );
@@ -24,6 +23,6 @@ fn reads_a_file_of_the_disk(rt: HostRuntime) -> Result<(), Fail> {
     let mut disk = Disk { rt: &rt };
     let loaded = disk.load(PATH.as_bytes())?;
     fs::remove_file(&rt, PATH)?;
-    expect_eq!(rt; loaded.as_slice(), b"bytes".as_slice());
+    assert_eq!(rt; loaded.as_slice(), b"bytes".as_slice());
     Ok(())
 }

@@ -1,6 +1,5 @@
 //! `cogread --output`: the file is there whole, or as it was.
 use super::{FaultRow, expect_faults};
-use assertion_support::expect_eq;
 use disk_files::replace_file;
 use std::fs;
 use std::os::unix::fs::symlink;
@@ -16,7 +15,7 @@ const BESIDE: &str = "programs_tests_output.part";
 fn replaces_the_file(rt: HostRuntime) -> Result<(), Fail> {
     fs::write(&rt, PATH, "before")?;
     replace_file(&rt, PATH, b"af", b"ter")?;
-    expect_eq!(rt; fs::read(&rt, PATH)?.as_slice(), b"after".as_slice());
+    assert_eq!(rt; fs::read(&rt, PATH)?.as_slice(), b"after".as_slice());
     assert!(rt; fs::metadata(&rt, BESIDE).is_err());
     fs::remove_file(&rt, PATH)?;
     Ok(())
@@ -37,7 +36,7 @@ fn puts_another_file_in_its_place(rt: HostRuntime) -> Result<(), Fail> {
     fs::write(&rt, path, "before")?;
     fs::hard_link(&rt, path, name)?;
     replace_file(&rt, path, b"af", b"ter")?;
-    expect_eq!(rt;
+    assert_eq!(rt;
         (has(&rt, path, b"after"), has(&rt, name, b"before")),
         (true, true)
     );
@@ -69,7 +68,7 @@ fn expect_other_kept<R: Abort + Files + AllocGlobal>(
     symlink(rt, other, BESIDE_LINKED)?;
     replace_file(rt, path, b"af", b"ter")?;
     let is_file = fs::symlink_metadata(rt, path)?.is_file();
-    expect_eq!(rt;
+    assert_eq!(rt;
         (has(rt, path, b"after"), has(rt, other, b"other"), is_file),
         (true, true, true)
     );
@@ -87,7 +86,7 @@ fn expect_none_made<R: Abort + Files + AllocGlobal>(
     replace_file(rt, path, b"", b"last")?;
     let is_made = fs::symlink_metadata(rt, none).is_ok();
     let is_beside = fs::symlink_metadata(rt, BESIDE_LINKED).is_ok();
-    expect_eq!(rt;
+    assert_eq!(rt;
         (has(rt, path, b"last"), is_made, is_beside),
         (true, false, false)
     );
@@ -101,7 +100,7 @@ fn leaves_the_file_where_nothing_can_be_written(rt: HostRuntime) -> Result<(), F
     fs::write(&rt, path, "before")?;
     fs::create_dir(&rt, beside)?;
     let is_refused = replace_file(&rt, path, b"after", b"").is_err();
-    expect_eq!(rt; (is_refused, has(&rt, path, b"before")), (true, true));
+    assert_eq!(rt; (is_refused, has(&rt, path, b"before")), (true, true));
     fs::remove_dir(&rt, beside)?;
     fs::remove_file(&rt, path)?;
     Ok(())

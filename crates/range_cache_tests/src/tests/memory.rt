@@ -53,7 +53,7 @@ fn blocks_there<R: Abort>(rt: &R, cache: &mut Cache, file: &[u8]) -> usize {
         assert!(rt; first <= 65536 && 0 < len && len <= 16384 && first + len <= 67706);
         if read(cache, COMPLETE, first as u64, &mut room[..len]).is_ok() {
             expect_eq!(rt; count, number);
-            expect_eq!(rt;
+            assert_eq!(rt;
                 room.get(..len),
                 file.get(first..first + len),
                 "block {number}"

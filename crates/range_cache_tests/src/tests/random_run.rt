@@ -63,7 +63,7 @@ impl Trial {
             "seed 2026: {len} bytes from {first}"
         );
         if gap.is_none() {
-            expect_eq!(rt;
+            assert_eq!(rt;
                 out.as_slice(),
                 bytes.as_slice(),
                 "seed 2026: {len} bytes from {first}"

@@ -125,7 +125,7 @@ fn reads_until_it_is_cleared(rt: HostRuntime) -> Result<(), Fail> {
     expect_eq!(rt; (out.len(), bytes.len()), (18707, 67706));
     expect_eq!(rt; put(&mut cache, COMPLETE, 0, &bytes, whole).ok(), Some(5));
     assert!(rt; read(&mut cache, COMPLETE, 48999, &mut out).is_ok());
-    expect_eq!(rt; out.as_slice(), &bytes[48999..]);
+    assert_eq!(rt; out.as_slice(), &bytes[48999..]);
     assert!(rt; !cache.wants(COMPLETE, whole, 2));
     cache.clear();
     assert!(rt; cache.wants(COMPLETE, whole, 2));
@@ -147,15 +147,15 @@ fn copies_what_the_blocks_have(rt: HostRuntime) -> Result<(), Fail> {
     assert!(rt; cache.touch(COMPLETE, 16384, 51322).is_ok());
     let mut out = [1u8; 300];
     cache.copy_at(32600, &mut out);
-    expect_eq!(rt; out.as_slice(), &bytes[32600..32900]);
+    assert_eq!(rt; out.as_slice(), &bytes[32600..32900]);
     cache.copy_at(16300, &mut out);
     let mut expected = vec![in alloc; 0u8; 84]?;
     expected.extend_from_slice(&bytes[16384..16600])?;
-    expect_eq!(rt; out.as_slice(), expected.as_slice());
+    assert_eq!(rt; out.as_slice(), expected.as_slice());
     cache.copy_at(67600, &mut out);
     let mut expected = Vec::from_slice(alloc, &bytes[67600..])?;
     expected.extend_from_slice(&[0u8; 194])?;
-    expect_eq!(rt; out.as_slice(), expected.as_slice());
+    assert_eq!(rt; out.as_slice(), expected.as_slice());
     let gap = cache.touch(COMPLETE, 16383, 2).err();
     expect_eq!(rt;
         gap,

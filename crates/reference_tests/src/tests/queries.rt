@@ -63,7 +63,7 @@ fn expect_tiles(
     want: &[u64],
 ) -> Result<(), Fail> {
     match window_tiles(alloc, file, query)? {
-        Some(tiles) => expect_eq!(rt; tiles.as_slice(), want),
+        Some(tiles) => assert_eq!(rt; tiles.as_slice(), want),
         None => return Err(Fail::new("no tiles")),
     }
     Ok(())

@@ -158,7 +158,7 @@ fn unpacks_the_example_of_the_standard(rt: HostRuntime) -> Result<(), Fail> {
     let want =
         b"\xaa\xaa\xaa\x80\x00\x2a\xaa\xaa\xaa\xaa\x80\x00\x2a\x22\xaa\xaa\xaa\xaa\xaa\xaa\xaa\xaa\xaa\xaa";
     match unpack(rt.alloc(), packed, 24)? {
-        Some(plain) => expect_eq!(rt; plain.as_slice(), want.as_slice()),
+        Some(plain) => assert_eq!(rt; plain.as_slice(), want.as_slice()),
         None => return Err(Fail::new("no packets")),
     }
     assert!(rt; unpack(rt.alloc(), packed, 12)?.is_none());
@@ -182,8 +182,8 @@ fn expect_values(
 ) -> Result<(), Fail> {
     let found = values(alloc, file, 0, tag)?;
     match &found {
-        Some(found) => expect_eq!(rt; Some(found.as_slice()), want, "of {tag}"),
-        None => expect_eq!(rt; None, want, "of {tag}"),
+        Some(found) => assert_eq!(rt; Some(found.as_slice()), want, "of {tag}"),
+        None => assert_eq!(rt; None, want, "of {tag}"),
     }
     Ok(())
 }
@@ -205,7 +205,7 @@ const PLACING: [(u16, Option<&[u64]>); 5] = [
 /// Expects the sides of two levels.
 fn expect_sides(rt: &impl Abort, alloc: Global, file: &[u8]) -> Result<(), Fail> {
     let sides = level_sides(alloc, file)?.ok_or("no sides")?;
-    expect_eq!(rt; sides.as_slice(), [(32, 32), (16, 16)].as_slice());
+    assert_eq!(rt; sides.as_slice(), [(32, 32), (16, 16)].as_slice());
     Ok(())
 }
 
@@ -318,7 +318,7 @@ fn expect_pixels(rt: &impl Abort, row: &[u64], y: u16) -> Result<(), Fail> {
         } else {
             [128; 3]
         };
-        expect_eq!(rt; pixel, want.as_slice(), "at {x} {y}");
+        assert_eq!(rt; pixel, want.as_slice(), "at {x} {y}");
     }
     Ok(())
 }

@@ -1,5 +1,4 @@
 //! Faults of a file, and reasons why an answer isn't used, as sentences.
-use assertion_support::expect_eq;
 use cog_client::Why;
 use report_text::{FaultSentence, WhySentence};
 use std::test::Fail;
@@ -80,11 +79,11 @@ const REASONS: [(Why, &str); 19] = [
 fn tells_faults_as_sentences(rt: HostRuntime) -> Result<(), Fail> {
     for (fault, want) in FAULTS {
         let told = format!(in rt.alloc(); "{}", FaultSentence(fault))?;
-        expect_eq!(rt; told.as_str(), want);
+        assert_eq!(rt; told.as_str(), want);
     }
     for (fault, want) in FIELDS {
         let told = format!(in rt.alloc(); "{}", FaultSentence(fault))?;
-        expect_eq!(rt; told.as_str(), want);
+        assert_eq!(rt; told.as_str(), want);
     }
     Ok(())
 }
@@ -93,7 +92,7 @@ fn tells_faults_as_sentences(rt: HostRuntime) -> Result<(), Fail> {
 fn tells_reasons_as_sentences(rt: HostRuntime) -> Result<(), Fail> {
     for (why, want) in REASONS {
         let told = format!(in rt.alloc(); "{}", WhySentence(why))?;
-        expect_eq!(rt; told.as_str(), want);
+        assert_eq!(rt; told.as_str(), want);
     }
     Ok(())
 }

@@ -1,5 +1,4 @@
 //! Windows as P5 and P6, and the text of Info, of the fixtures and of values by hand.
-use assertion_support::expect_eq;
 use cog_client::{Client, Info, Outcome, Query, Report};
 use cog_fetch::fetch;
 use fixtures_support::{f1, f3, f4, f6, f6m};
@@ -48,11 +47,11 @@ fn writes_one_sample_to_a_pixel_as_p5(rt: HostRuntime) -> Result<(), Fail> {
     let alloc = rt.alloc();
     let found = picture_of(alloc, f1(alloc)?, (2, 1), (3, 2))?;
     let want = b"P5\n3 2\n255\n\x12\x13\x14\x22\x23\x24".as_slice();
-    expect_eq!(rt; found.as_slice(), want);
+    assert_eq!(rt; found.as_slice(), want);
     for (name, file) in [("f6", f6(alloc)?), ("f6m", f6m(alloc)?)] {
         let found = picture_of(alloc, file, (2, 1), (3, 2))?;
         let want = b"P5\n3 2\n65535\n\x80\x12\x80\x13\x80\x14\x80\x22\x80\x23\x80\x24".as_slice();
-        expect_eq!(rt; found.as_slice(), want, "of {name}");
+        assert_eq!(rt; found.as_slice(), want, "of {name}");
     }
     Ok(())
 }
@@ -64,7 +63,7 @@ fn writes_three_samples_to_a_pixel_as_p6(rt: HostRuntime) -> Result<(), Fail> {
     let want =
         b"P6\n3 3\n255\n\x80\x80\x80\x0f\x01\xff\x80\x80\x80\x80\x80\x80\x00\x03\xff\x80\x80\x80\
         \x80\x80\x80\x01\x03\xff\x80\x80\x80";
-    expect_eq!(rt; found.as_slice(), want.as_slice());
+    assert_eq!(rt; found.as_slice(), want.as_slice());
     Ok(())
 }
 
@@ -94,13 +93,13 @@ const SCALE_OF_F3: &str = "scale 3ff0000000000000 3ff0000000000000 3ff0000000000
 fn writes_levels_and_keys_and_scale(rt: HostRuntime) -> Result<(), Fail> {
     let alloc = rt.alloc();
     let found = text_of(alloc, f1(alloc)?)?;
-    expect_eq!(rt;
+    assert_eq!(rt;
         str::from_utf8(&found),
         Ok("tag \"1-1\"\nlevel 0 16 16\nminor 0\n")
     );
     let found = text_of(alloc, f3(alloc)?)?;
     let want = format!(in alloc; "{KEYS_OF_F3}{SCALE_OF_F3}")?;
-    expect_eq!(rt; str::from_utf8(&found), Ok(want.as_str()));
+    assert_eq!(rt; str::from_utf8(&found), Ok(want.as_str()));
     Ok(())
 }
 
@@ -115,7 +114,7 @@ fn leaves_out_a_scale_that_is_not_there(rt: HostRuntime) -> Result<(), Fail> {
         }
     }
     let found = text_of(alloc, file)?;
-    expect_eq!(rt; str::from_utf8(&found), Ok(KEYS_OF_F3));
+    assert_eq!(rt; str::from_utf8(&found), Ok(KEYS_OF_F3));
     Ok(())
 }
 
@@ -145,7 +144,7 @@ fn escapes_bytes_that_are_not_printable(rt: HostRuntime) -> Result<(), Fail> {
         transformation: Some(Vec::from_slice(alloc, &items[1..])?),
     };
     let found = info_text(alloc, &publication_tag(4294967295, 2), &info)?;
-    expect_eq!(rt;
+    assert_eq!(rt;
         str::from_utf8(&found),
         Ok(
             "tag \"4294967295-2\"\nlevel 0 4294967295 1\nminor 65535\n\

@@ -1,5 +1,4 @@
 //! The lines of each kind of entry of a log.
-use assertion_support::expect_eq;
 use http_range::{Span, Tag, Why, publication_tag};
 use scripts::log_text;
 use std::alloc::Global;
@@ -87,7 +86,7 @@ fn text_of(alloc: Global, entry: Entry) -> Result<Vec<u8>, Fail> {
 /// Expects the text of an entry.
 fn expect_text(rt: &(impl Abort + AllocGlobal), entry: Entry, want: &str) -> Result<(), Fail> {
     let text = text_of(rt.alloc(), entry)?;
-    expect_eq!(rt; str::from_utf8(&text), Ok(want));
+    assert_eq!(rt; str::from_utf8(&text), Ok(want));
     Ok(())
 }
 
@@ -221,7 +220,7 @@ fn expect_fault(
     (fault, want): (FileFault, &str),
 ) -> Result<(), Fail> {
     let text = text_of(rt.alloc(), opened(0, Outcome::Fault(fault)))?;
-    expect_eq!(rt; text.get(24..), Some(want.as_bytes()), "{want:?}");
+    assert_eq!(rt; text.get(24..), Some(want.as_bytes()), "{want:?}");
     Ok(())
 }
 

@@ -164,7 +164,7 @@ fn tells_the_first_line_that_fails(rt: HostRuntime) {
 #[test]
 fn takes_comments_and_empty_lines_for_no_event(rt: HostRuntime) -> Result<(), Fail> {
     for text in ["", "\n", "\n\n# only this", "#\r\n"] {
-        expect_eq!(rt; events(rt.alloc(), text.as_bytes())?.len(), 0, "{text:?}");
+        assert_eq!(rt; events(rt.alloc(), text.as_bytes())?.len(), 0, "{text:?}");
     }
     Ok(())
 }

@@ -117,12 +117,12 @@ where
         "HTTP/1.1 206 Partial Content\r\nETag: \"{tag}\"\r\nAccept-Ranges: bytes\r\n\
         Content-Type: image/tiff\r\nContent-Range: bytes 1-4/{length}\r\nContent-Length: 4\r\n\r\n{body}"
     )?;
-    expect_eq!(rt; answer.as_str(), want.as_str(), "with the file {file:?}");
+    assert_eq!(rt; answer.as_str(), want.as_str(), "with the file {file:?}");
     let line = format!(in rt.alloc(); "published a \"{tag}\"\n")?;
     let published = if is_new { line.as_str() } else { "" };
     let printed = format!(in rt.alloc(); "{published}served 1\n")?;
     let (out, err) = capture.into_texts();
-    expect_eq!(rt;
+    assert_eq!(rt;
         str::from_utf8(&out),
         Ok(printed.as_str()),
         "with the file {file:?}"
@@ -172,7 +172,7 @@ fn counts_each_connection(rt: HostRuntime) -> Result<(), Fail> {
     let capture = Capture::new(&rt);
     let mut log = unlogged(&capture);
     assert!(rt; serve_connections(&mut log, &mut server, &mut [], listener, limits(3)).is_ok());
-    expect_eq!(rt;
+    assert_eq!(rt;
         capture.into_texts().0.as_slice(),
         b"served 1\nserved 2\nserved 3\n".as_slice()
     );
@@ -235,7 +235,7 @@ fn looks_again_at_the_last_file_of_a_name_alone(rt: HostRuntime) -> Result<(), F
     let capture = Capture::new(&rt);
     let answer = answer_of(&capture, &mut server, &mut files, &listener)?;
     assert!(rt; answer.as_str().ends_with("\r\n\r\nbcde"));
-    expect_eq!(rt; capture.into_texts().0.as_slice(), b"served 1\n".as_slice());
+    assert_eq!(rt; capture.into_texts().0.as_slice(), b"served 1\n".as_slice());
     fs::remove_file(&rt, "served_files_tests_first")?;
     fs::remove_file(&rt, "served_files_tests_last")?;
     Ok(())
@@ -259,7 +259,7 @@ fn serves_a_file_that_was_replaced_before(rt: HostRuntime) -> Result<(), Fail> {
     fs::remove_file(&rt, path)?;
     assert!(rt; answer.as_str().ends_with("\r\n\r\nbcde"));
     let printed = b"published a \"7-2\"\nserved 1\n".as_slice();
-    expect_eq!(rt; capture.into_texts().0.as_slice(), printed);
+    assert_eq!(rt; capture.into_texts().0.as_slice(), printed);
     Ok(())
 }
 

@@ -1,6 +1,5 @@
 //! The log of `cogserve`: a line for each answer, why a file isn't taken anew, and where it listens.
 use super::lines::{connect, limits};
-use assertion_support::expect_eq;
 use cog_server::Server;
 use disk_files::Watched;
 use fixtures_support::f1;
@@ -54,7 +53,7 @@ const ANSWERS: &str = "cogserve: connection 1: GET /a bytes=1-4: 206, 4 bytes\n\
 fn tells_each_answer(rt: HostRuntime) -> Result<(), Fail> {
     let mut server = server_of_one(rt.alloc(), 1, b"a", f1(rt.alloc())?)?;
     let told = told_of(&rt, &mut server, &mut [], MESSAGES)?;
-    expect_eq!(rt; told.as_str(), ANSWERS);
+    assert_eq!(rt; told.as_str(), ANSWERS);
     Ok(())
 }
 
@@ -84,7 +83,7 @@ fn tells_the_whole_of_a_request_that_comes_in_pieces(rt: HostRuntime) -> Result<
     client.write_all(b"ge: bytes=1-4\r\n\r\n")?;
     serving.wait(1)?;
     serving.turns(&server, 1, &mut log);
-    expect_eq!(rt;
+    assert_eq!(rt;
         str::from_utf8(&capture.into_texts().1),
         Ok("cogserve: connection 1: GET /a bytes=1-4: 206, 4 bytes\n")
     );
@@ -103,13 +102,13 @@ fn tells_why_a_file_is_not_taken_anew(rt: HostRuntime) -> Result<(), Fail> {
     assert!(rt; publish_all(&logged(&capture), &mut server, &mut files).is_ok());
     fs::write(&rt, PATH, "")?;
     let told = told_of(&rt, &mut server, &mut files, "")?;
-    expect_eq!(rt;
+    assert_eq!(rt;
         told.as_str(),
         "cogserve: a isn't taken: refused 2: the file is empty\n"
     );
     fs::remove_file(&rt, PATH)?;
     let told = told_of(&rt, &mut server, &mut files, "")?;
-    expect_eq!(rt;
+    assert_eq!(rt;
         told.as_str(),
         "cogserve: a isn't taken: can't read served_files_tests_logged: No such file or directory (os error 2)\n"
     );
@@ -125,8 +124,8 @@ fn tells_the_port_that_the_system_gave(rt: HostRuntime) -> Result<(), Fail> {
     };
     let want = format!(in rt.alloc(); "cogserve: listening at {}\n", listener.local_addr()?)?;
     let (out, err) = capture.into_texts();
-    expect_eq!(rt; out.as_slice(), b"listening 127.0.0.1:0\n".as_slice());
-    expect_eq!(rt; err.as_slice(), want.as_bytes());
+    assert_eq!(rt; out.as_slice(), b"listening 127.0.0.1:0\n".as_slice());
+    assert_eq!(rt; err.as_slice(), want.as_bytes());
     Ok(())
 }
 

@@ -1,7 +1,6 @@
 //! Requests that are sent early on a connection that is kept: each has its turn once, and behind anything else the connection is made
 //! anew.
 use super::peer::{Peer, expect, request, send, send_text};
-use assertion_support::expect_eq;
 use cog_client::Pieces;
 use fixtures_support::f5;
 use sockets::Socket;
@@ -148,7 +147,7 @@ where
     expect(alloc, socket, &mut [0; 16384], &texts[0])?;
     send(alloc, socket, LAST[2])?;
     let mut stream = peer.accept()?;
-    expect_eq!(rt; peer.answer(&mut stream)?, texts[2]);
+    assert_eq!(rt; peer.answer(&mut stream)?, texts[2]);
     expect(alloc, socket, &mut [0; 16384], &texts[2])
 }
 

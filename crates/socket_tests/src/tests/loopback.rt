@@ -108,7 +108,7 @@ where
 {
     let found = read(rt, peer, client, query)?;
     let found_text = text_of(rt.alloc(), client.report())?;
-    expect_eq!(rt; (found, found_text.as_slice()), (count, text));
+    assert_eq!(rt; (found, found_text.as_slice()), (count, text));
     Ok(())
 }
 

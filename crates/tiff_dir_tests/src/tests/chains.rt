@@ -45,7 +45,7 @@ fn takes_up_to_16_directories(rt: HostRuntime) -> Result<(), Fail> {
         (1, 122, Some(FileFault::TooManyDirs)),
     ] {
         let file = followed_by(&rt, &passed, count, next)?;
-        expect_eq!(rt; fault_of(&rt, file.as_slice())?, want, "at {count} {next}");
+        assert_eq!(rt; fault_of(&rt, file.as_slice())?, want, "at {count} {next}");
     }
     let file = followed_by(&rt, &passed, 15, 0)?;
     match end_of(&rt, &file)? {
@@ -90,7 +90,7 @@ fn refuses_a_level_not_smaller_than_the_one_before(rt: HostRuntime) -> Result<()
             ],
         )?;
         let file = followed_by(&rt, entries.as_slice(), 1, 0)?;
-        expect_eq!(rt;
+        assert_eq!(rt;
             fault_of(&rt, file.as_slice())?,
             want,
             "at {width} {length}"

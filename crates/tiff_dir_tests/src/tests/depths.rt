@@ -1,6 +1,5 @@
 //! Bits of a sample.
 use super::{end_of, fault_of, file_with};
-use assertion_support::expect_eq;
 use fixtures_support::{f6, f6m};
 use std::test::Fail;
 use tiff_dir::{FileFault, Order};
@@ -11,7 +10,7 @@ fn reads_levels_of_16_bits(rt: HostRuntime) -> Result<(), Fail> {
         match end_of(&rt, &file)? {
             Ok(walk) => {
                 let depths: Vec<u16> = walk.levels().iter().map(|l| l.bits).collect(rt.alloc())?;
-                expect_eq!(rt; depths.as_slice(), [16].as_slice());
+                assert_eq!(rt; depths.as_slice(), [16].as_slice());
             }
             Err(_) => return Err(Fail::new("a fault")),
         }
@@ -29,7 +28,7 @@ fn counts_two_bytes_a_sample_of_16_bits(rt: HostRuntime) -> Result<(), Fail> {
     for (side, bits, want) in rows {
         let changes = [(258, 3, 1, bits), (322, 3, 1, side), (323, 3, 1, side)];
         let file = file_with(&rt, Order::Little, &changes, 0, &[])?;
-        expect_eq!(rt; fault_of(&rt, file.as_slice())?, want, "at {side} {bits}");
+        assert_eq!(rt; fault_of(&rt, file.as_slice())?, want, "at {side} {bits}");
     }
     Ok(())
 }
@@ -59,7 +58,7 @@ fn refuses_samples_of_different_depths(rt: HostRuntime) -> Result<(), Fail> {
             0,
             &[0, 0, 0, 0, 0, 0, 0, 0, 0, 0, 0, 0, a, 0, b, 0, c, 0],
         )?;
-        expect_eq!(rt; fault_of(&rt, file.as_slice())?, want, "at {bits:?}");
+        assert_eq!(rt; fault_of(&rt, file.as_slice())?, want, "at {bits:?}");
     }
     Ok(())
 }

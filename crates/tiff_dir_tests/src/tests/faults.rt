@@ -139,7 +139,7 @@ fn tells_the_first_fault_of_outside_values(rt: HostRuntime) -> Result<(), Fail> 
             (339, 3, count, formats),
         ];
         let file = file_with(&rt, Order::Little, &changes, 0, tail)?;
-        expect_eq!(rt;
+        assert_eq!(rt;
             fault_of(&rt, file.as_slice())?,
             want,
             "at {bits} {formats}"
@@ -184,12 +184,12 @@ fn tells_faults_of_headers_and_tables(rt: HostRuntime) -> Result<(), Fail> {
             &[(first, 3, 1, 1), (second, 3, 1, 1)],
             0,
         )?;
-        expect_eq!(rt; fault_of(&rt, file.as_slice())?, Some(TagOrder));
+        assert_eq!(rt; fault_of(&rt, file.as_slice())?, Some(TagOrder));
     }
     let mut file = begun(&rt, Order::Little, 8)?;
     let mut entries = fields(&rt, &[])?;
     entries.push((400, 255, 7, 7))?;
     put_directory(&mut file, Order::Little, entries.as_slice(), 0)?;
-    expect_eq!(rt; fault_of(&rt, file.as_slice())?, None);
+    assert_eq!(rt; fault_of(&rt, file.as_slice())?, None);
     Ok(())
 }

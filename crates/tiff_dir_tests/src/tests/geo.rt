@@ -44,7 +44,7 @@ fn finds_the_geo_fields(rt: HostRuntime) -> Result<(), Fail> {
         tiepoints: None,
         transformation: None,
     };
-    expect_eq!(rt; places_of(&rt, file.as_slice())?, Ok(want));
+    assert_eq!(rt; places_of(&rt, file.as_slice())?, Ok(want));
     Ok(())
 }
 
@@ -54,7 +54,7 @@ fn ignores_geo_fields_of_later_directories(rt: HostRuntime) -> Result<(), Fail> 
     put_directory(&mut file, Order::Big, fields(&rt, &[])?.as_slice(), 122)?;
     let second = [(254, 4, 1, 4), (33550, 12, 3, 328), (34735, 3, 16, 352)];
     put_directory(&mut file, Order::Big, &second, 0)?;
-    expect_eq!(rt; places_of(&rt, file.as_slice())?, Ok(NONE));
+    assert_eq!(rt; places_of(&rt, file.as_slice())?, Ok(NONE));
     Ok(())
 }
 
@@ -66,7 +66,7 @@ fn finds_geo_values_in_their_entry(rt: HostRuntime) -> Result<(), Fail> {
         ascii: Some(place(138, 4, 4, Kind::Ascii)),
         ..NONE
     };
-    expect_eq!(rt; places_of(&rt, file.as_slice())?, Ok(want));
+    assert_eq!(rt; places_of(&rt, file.as_slice())?, Ok(want));
     Ok(())
 }
 

@@ -64,7 +64,7 @@ fn reads_a_width_of_type_long(rt: HostRuntime) -> Result<(), Fail> {
     }
     let (_ranges, _order, levels) = levels_of(&rt, &file)?;
     let (_ranges, _order, same) = levels_of(&rt, &long)?;
-    expect_eq!(rt; levels.as_slice(), same.as_slice());
+    assert_eq!(rt; levels.as_slice(), same.as_slice());
     Ok(())
 }
 

@@ -1,5 +1,4 @@
 //! Exchanged pairs.
-use assertion_support::expect_eq;
 use std::alloc::{AllocError, Global};
 use std::test::Fail;
 use tile_plan::swap_pairs;
@@ -28,10 +27,10 @@ fn exchanges_each_pair(rt: HostRuntime) -> Result<(), Fail> {
         let mut bytes = places(rt.alloc(), len)?;
         let want = exchanged(rt.alloc(), len)?;
         swap_pairs(&mut bytes);
-        expect_eq!(rt; bytes.as_slice(), want.as_slice(), "{len}");
+        assert_eq!(rt; bytes.as_slice(), want.as_slice(), "{len}");
     }
     let mut bytes = *b"\x12\x80\x13\x80\x14\x80";
     swap_pairs(&mut bytes);
-    expect_eq!(rt; bytes.as_slice(), b"\x80\x12\x80\x13\x80\x14".as_slice());
+    assert_eq!(rt; bytes.as_slice(), b"\x80\x12\x80\x13\x80\x14".as_slice());
     Ok(())
 }

@@ -33,7 +33,7 @@ fn expect_shapes(
 ) -> Result<(), Fail> {
     let image = Image::new(rt.alloc(), file)?;
     let shapes = shapes(rt.alloc(), &image, window)?;
-    expect_eq!(rt; shapes.as_slice(), want);
+    assert_eq!(rt; shapes.as_slice(), want);
     Ok(())
 }
 

@@ -49,7 +49,7 @@ const TEXT: [u8; 24] = [
 fn unpacks_the_example_of_the_standard(rt: HostRuntime) {
     let mut out = [0u8; 24];
     expect_eq!(rt; unpack(&EXAMPLE, 24, &mut out), Ok(()));
-    expect_eq!(rt; out.as_slice(), TEXT.as_slice());
+    assert_eq!(rt; out.as_slice(), TEXT.as_slice());
     expect_eq!(rt; unpack(&EXAMPLE, 12, &mut out), Err(FileFault::Packet));
 }
 
@@ -59,7 +59,7 @@ fn expect_row(rt: &(impl Abort + AllocGlobal), row: &[u8]) -> Result<(), Fail> {
     let seg = pack_row(rt.alloc(), row).ok().ok_or("no memory")?;
     let mut out = vec![in rt.alloc(); 9u8; row.len()]?;
     expect_eq!(rt; unpack(&seg, row.len(), &mut out), Ok(()));
-    expect_eq!(rt; out.as_slice(), row);
+    assert_eq!(rt; out.as_slice(), row);
     Ok(())
 }
 

@@ -1,6 +1,5 @@
 //! Whole windows beside the plain program: of a file that is replaced between requests, and of one larger than a small cache.
 use super::log_however_cut;
-use assertion_support::expect_eq;
 use cog_reader_support::Plain;
 use fixtures_support::{f2b, f5};
 use std::alloc::Global;
@@ -83,9 +82,9 @@ fn restarts_where_the_file_is_replaced_between_requests(rt: HostRuntime) -> Resu
         step_of(65536, 67705, 206, 2170, Delivered::Took(1)),
     ];
     let steps = exchanges(alloc, &log, 0)?;
-    expect_eq!(rt; steps.as_slice(), want.as_slice());
+    assert_eq!(rt; steps.as_slice(), want.as_slice());
     let plain = Plain::new(alloc, f2b(alloc)?)?;
-    expect_eq!(rt; right_reports(alloc, &log, &plain, b"\"1-2\"")?, Some(1));
+    assert_eq!(rt; right_reports(alloc, &log, &plain, b"\"1-2\"")?, Some(1));
     Ok(())
 }
 
@@ -134,10 +133,10 @@ fn asks_again_for_blocks_that_a_small_cache_let_go(rt: HostRuntime) -> Result<()
     let first = exchanges(alloc, &log, 0)?;
     let second = exchanges(alloc, &log, 1)?;
     let whole = whole_window();
-    expect_eq!(rt; first.get(..3), Some(whole.as_slice()), "client 0");
-    expect_eq!(rt; first.get(3..), Some([AGAIN].as_slice()), "client 0");
-    expect_eq!(rt; second.as_slice(), whole.as_slice(), "client 1");
+    assert_eq!(rt; first.get(..3), Some(whole.as_slice()), "client 0");
+    assert_eq!(rt; first.get(3..), Some([AGAIN].as_slice()), "client 0");
+    assert_eq!(rt; second.as_slice(), whole.as_slice(), "client 1");
     let plain = Plain::new(alloc, f5(alloc)?)?;
-    expect_eq!(rt; right_reports(alloc, &log, &plain, b"\"1-1\"")?, Some(4));
+    assert_eq!(rt; right_reports(alloc, &log, &plain, b"\"1-1\"")?, Some(4));
     Ok(())
 }
