@@ -1,6 +1,5 @@
 //! Answers to requests for ranges of f1, which is published as `a` in epoch 1.
 use super::streams::expect_served;
-use assertion_support::expect_eq;
 use cog_server::{Answer, Ended, Served, Server};
 use fixtures_support::f1;
 use std::alloc::Global;
@@ -77,7 +76,7 @@ fn expect_text(
 ) {
     let is_begun = answer.text.starts_with(want.head);
     let rest = answer.text.get(want.head.len()..);
-    expect_eq!(rt; (is_begun, rest), (true, Some(body)), "to {message:?}");
+    assert_eq!(rt; (is_begun, rest), (true, Some(body)), "to {message:?}");
 }
 
 /// Expects all of an answer but its text, with so many bytes of body.

@@ -24,7 +24,7 @@ fn expect_refused(
         Ok(_) => None,
         Err(refusal) => Some(refusal.number()),
     };
-    expect_eq!(rt; number, Some(want), "{count} bytes of {name:?}");
+    assert_eq!(rt; number, Some(want), "{count} bytes of {name:?}");
     Ok(())
 }
 
