@@ -74,7 +74,7 @@ const MESSAGES: [(&[u8], bool); 4] = [
 /// Expects that the answer to a message comes, or doesn't, by one exchange more, of four.
 fn expect_answer(rt: &impl Abort, transport: &mut InMemory<'_>, message: &[u8], comes: bool) {
     assert!(rt; transport.exchanges() < 4);
-    expect_eq!(rt; transport.exchange(message).is_ok(), comes, "{message:?}");
+    assert_eq!(rt; transport.exchange(message).is_ok(), comes, "{message:?}");
 }
 
 #[test]

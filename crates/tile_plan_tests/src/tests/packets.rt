@@ -1,7 +1,6 @@
 //! Random packets by a fixed generator, beside the plain program's unpacking.
 ghost use Rattle.std.specs.Prelude.{◌<◌, ◌≤◌, IfOk};
 
-use assertion_support::expect_eq;
 use fixtures_support::Numbers;
 use packbits::unpack;
 use std::alloc::{AllocError, Global};
@@ -73,7 +72,7 @@ fn expect_same(
     match want {
         Some(text) if text.len() == out.len() => {
             assert!(rt; answer.is_ok(), "seed 2026: {seg:?} in rows of {row}");
-            expect_eq!(rt; out, text, "seed 2026: {seg:?}");
+            assert_eq!(rt; out, text, "seed 2026: {seg:?}");
             true
         }
         _ => {
