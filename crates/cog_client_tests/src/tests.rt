@@ -1,6 +1,6 @@
 //! Tests of a client, answer by answer.
 use assertion_support::expect_eq;
-use cog_client_support::{ASKS_END, ASKS_FRONT, F2_TWICE, OLD, Publication, Revisions, Step};
+use cog_client_support::{OLD, Publication, Revisions, Step};
 use std::process::Abort;
 use std::test::Fail;
 
@@ -20,16 +20,6 @@ fn expect(
 ) -> Result<(), Fail> {
     expect_eq!(rt; revisions.otherwise(rt.alloc(), parts)?, None);
     Ok(())
-}
-
-/// The same of f2 that is published twice, behind the steps that ask for its first bytes.
-fn expect_at_front(rt: &(impl Abort + AllocGlobal), steps: &[Step<'_>]) -> Result<(), Fail> {
-    expect(rt, &F2_TWICE, &[&ASKS_FRONT, steps])
-}
-
-/// The same behind those that ask for its end.
-fn expect_at_end(rt: &(impl Abort + AllocGlobal), steps: &[Step<'_>]) -> Result<(), Fail> {
-    expect(rt, &F2_TWICE, &[&ASKS_END, steps])
 }
 
 /// One publication, twice.

@@ -1,11 +1,11 @@
 //! Checks whether the file is still the one that is read, and what their answers say.
 use super::exchanges::OF_ONES;
-use super::{expect, expect_at_end};
+use super::expect;
 use cog_client_support::Answer::{Part, Whole};
 use cog_client_support::Step::{
     Asks, Checks, Forgets, Hears, Opens, Reports, Restarts, Stands, Takes, TakesMore,
 };
-use cog_client_support::{END, F2_TWICE, FIRST, Kind, OLD, Said, Step};
+use cog_client_support::{ASKS_END, END, F2_TWICE, FIRST, Kind, OLD, Said, Step};
 use std::test::Fail;
 
 /// Answers of a server that has the file under the tag `"1-1"`, or under another.
@@ -156,7 +156,7 @@ const TAGS: [Step<'static>; 13] = [
 
 #[test]
 fn tells_what_the_answers_to_a_check_say(rt: HostRuntime) -> Result<(), Fail> {
-    expect_at_end(&rt, &SAYS)
+    expect(&rt, &F2_TWICE, &[&ASKS_END, &SAYS])
 }
 
 #[test]

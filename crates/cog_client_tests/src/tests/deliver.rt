@@ -1,6 +1,6 @@
 //! What an answer does to a client, case by case.
 use super::exchanges::OF_ONES;
-use super::{expect, expect_at_end, expect_at_front};
+use super::expect;
 use assertion_support::expect_eq;
 use cog_client_support::Answer::{
     self, Bytes, CutPart, CutWhole, Part, PartOf, ShortWhole, Text, Whole, WholeOf,
@@ -10,7 +10,8 @@ use cog_client_support::Step::{
     TakesMore,
 };
 use cog_client_support::{
-    ASKS_END, END, F2_REPLACED, F2_TWICE, FIRST, NEW, NOT_FOUND, OLD, Positions, Revisions, Step,
+    ASKS_END, ASKS_FRONT, END, F2_REPLACED, F2_TWICE, FIRST, NEW, NOT_FOUND, OLD, Positions,
+    Revisions, Step,
 };
 use cog_reader_support::{Fixture, Want};
 use std::test::Fail;
@@ -191,27 +192,27 @@ fn ignores_a_part_of_another_revision(rt: HostRuntime) -> Result<(), Fail> {
 
 #[test]
 fn ignores_another_length_under_its_tag(rt: HostRuntime) -> Result<(), Fail> {
-    expect_at_end(&rt, &OTHER_LENGTH)
+    expect(&rt, &F2_TWICE, &[&ASKS_END, &OTHER_LENGTH])
 }
 
 #[test]
 fn ignores_bytes_before_the_end_that_is_asked(rt: HostRuntime) -> Result<(), Fail> {
-    expect_at_end(&rt, &BESIDE_THE_END)
+    expect(&rt, &F2_TWICE, &[&ASKS_END, &BESIDE_THE_END])
 }
 
 #[test]
 fn ignores_bytes_beside_the_block_that_is_asked(rt: HostRuntime) -> Result<(), Fail> {
-    expect_at_front(&rt, &BESIDE_THE_FRONT)
+    expect(&rt, &F2_TWICE, &[&ASKS_FRONT, &BESIDE_THE_FRONT])
 }
 
 #[test]
 fn takes_what_is_asked_in_several_answers(rt: HostRuntime) -> Result<(), Fail> {
-    expect_at_front(&rt, &SEVERAL_ANSWERS)
+    expect(&rt, &F2_TWICE, &[&ASKS_FRONT, &SEVERAL_ANSWERS])
 }
 
 #[test]
 fn keeps_no_block_that_is_not_asked(rt: HostRuntime) -> Result<(), Fail> {
-    expect_at_front(&rt, &BLOCKS_BESIDE)
+    expect(&rt, &F2_TWICE, &[&ASKS_FRONT, &BLOCKS_BESIDE])
 }
 
 #[test]
@@ -226,7 +227,7 @@ fn reports_at_once_where_a_restart_brings_all(rt: HostRuntime) -> Result<(), Fai
 
 #[test]
 fn restarts_with_a_file_without_bytes(rt: HostRuntime) -> Result<(), Fail> {
-    expect_at_end(&rt, &TO_NO_BYTES)
+    expect(&rt, &F2_TWICE, &[&ASKS_END, &TO_NO_BYTES])
 }
 
 #[test]

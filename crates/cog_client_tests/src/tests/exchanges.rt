@@ -1,11 +1,11 @@
 //! Exchanges: what is asked, what each answer does, and what is reported.
-use super::{expect, expect_at_front};
+use super::expect;
 use cog_client_support::Answer::{CutPart, Part, Text, Whole};
 use cog_client_support::Step::{
     Asks, AsksNothing, Forgets, Ignores, IsSilent, Opens, Reads, Reports, Restarts, Stands, Takes,
 };
 use cog_client_support::{
-    ASKS_END, END, F2_REPLACED, F2_TWICE, FIRST, NEW, NOT_FOUND, OLD, Revisions, Step,
+    ASKS_END, ASKS_FRONT, END, F2_REPLACED, F2_TWICE, FIRST, NEW, NOT_FOUND, OLD, Revisions, Step,
 };
 use cog_reader_support::{Fixture, Want};
 use std::test::Fail;
@@ -122,7 +122,7 @@ fn reads_a_window_with_one_answer(rt: HostRuntime) -> Result<(), Fail> {
 
 #[test]
 fn reads_a_window_with_two_answers(rt: HostRuntime) -> Result<(), Fail> {
-    expect_at_front(&rt, &TWO_ANSWERS)
+    expect(&rt, &F2_TWICE, &[&ASKS_FRONT, &TWO_ANSWERS])
 }
 
 #[test]
@@ -137,22 +137,22 @@ fn restarts_where_the_same_bytes_have_a_later_tag(rt: HostRuntime) -> Result<(),
 
 #[test]
 fn asks_again_for_a_block_that_was_cut(rt: HostRuntime) -> Result<(), Fail> {
-    expect_at_front(&rt, &NO_WHOLE_BLOCK)
+    expect(&rt, &F2_TWICE, &[&ASKS_FRONT, &NO_WHOLE_BLOCK])
 }
 
 #[test]
 fn keeps_a_block_that_came_whole(rt: HostRuntime) -> Result<(), Fail> {
-    expect_at_front(&rt, &WHOLE_BLOCK)
+    expect(&rt, &F2_TWICE, &[&ASKS_FRONT, &WHOLE_BLOCK])
 }
 
 #[test]
 fn forgets_revision_and_blocks(rt: HostRuntime) -> Result<(), Fail> {
-    expect_at_front(&rt, &FORGETS)
+    expect(&rt, &F2_TWICE, &[&ASKS_FRONT, &FORGETS])
 }
 
 #[test]
 fn asks_again_where_the_name_is_not_found(rt: HostRuntime) -> Result<(), Fail> {
-    expect_at_front(&rt, &NOT_PUBLISHED)
+    expect(&rt, &F2_TWICE, &[&ASKS_FRONT, &NOT_PUBLISHED])
 }
 
 #[test]

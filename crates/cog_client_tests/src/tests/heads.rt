@@ -1,10 +1,10 @@
 //! Answers that no server of ours sends.
-use super::{expect, expect_at_front};
+use super::expect;
 use assertion_support::expect_eq;
 use cog_client_support::Answer::{self, Bytes, LongPart, Part, PartOf, Text, WholeOf};
 use cog_client_support::Step::{Asks, Ignores, IsSilent, Opens, Refuses, Reports, Stands, Takes};
 use cog_client_support::{
-    ASKS_FRONT, END, F2_TWICE, FIRST, NotDone, OLD, Positions, Step, otherwise,
+    ASKS_END, ASKS_FRONT, END, F2_TWICE, FIRST, NotDone, OLD, Positions, Step, otherwise,
 };
 use cog_reader_support::Want;
 use std::alloc::{AllocError, Global};
@@ -114,17 +114,17 @@ const GREATEST_LENGTH: [Step<'static>; 5] = [
 
 #[test]
 fn reads_heads_of_at_most_32_fields(rt: HostRuntime) -> Result<(), Fail> {
-    expect_at_front(&rt, &FIELDS)
+    expect(&rt, &F2_TWICE, &[&ASKS_FRONT, &FIELDS])
 }
 
 #[test]
 fn passes_over_bytes_that_are_not_announced(rt: HostRuntime) -> Result<(), Fail> {
-    expect_at_front(&rt, &LONG_BODIES)
+    expect(&rt, &F2_TWICE, &[&ASKS_FRONT, &LONG_BODIES])
 }
 
 #[test]
 fn passes_over_them_in_a_first_answer(rt: HostRuntime) -> Result<(), Fail> {
-    expect_at_front(&rt, &LONG_FIRST_BODY)
+    expect(&rt, &F2_TWICE, &[&ASKS_FRONT, &LONG_FIRST_BODY])
 }
 
 #[test]
@@ -134,12 +134,12 @@ fn ignores_heads_that_it_cannot_use(rt: HostRuntime) -> Result<(), Fail> {
 
 #[test]
 fn reports_a_fault_of_a_file_without_bytes(rt: HostRuntime) -> Result<(), Fail> {
-    expect_at_front(&rt, &NO_BYTES)
+    expect(&rt, &F2_TWICE, &[&ASKS_FRONT, &NO_BYTES])
 }
 
 #[test]
 fn reads_a_file_of_the_greatest_length(rt: HostRuntime) -> Result<(), Fail> {
-    expect_at_front(&rt, &GREATEST_LENGTH)
+    expect(&rt, &F2_TWICE, &[&ASKS_FRONT, &GREATEST_LENGTH])
 }
 
 /// Pieces of a first revision that bring no byte of what is asked.
