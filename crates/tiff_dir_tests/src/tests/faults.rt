@@ -91,7 +91,7 @@ fn expect_fault(
 ) -> Result<(), Fail> {
     for order in [Order::Little, Order::Big] {
         let file = file_with(rt, order, changes, next, tail)?;
-        expect_eq!(rt;
+        assert_eq!(rt;
             fault_of(rt, &file)?,
             want,
             "at {changes:?} {next} in {order:?}"
