@@ -107,7 +107,7 @@ fn expect_log(
     (name, sides): (&str, [u32; 4]),
     want: &[u8],
 ) -> Result<(), Fail> {
-    expect_eq!(rt; log.entries.len(), 5, "{sides:?} of {name}");
+    assert_eq!(rt; log.entries.len(), 5, "{sides:?} of {name}");
     let told = last_window(log);
     assert!(rt;
         is_window(told, sides, want),
