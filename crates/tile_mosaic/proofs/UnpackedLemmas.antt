@@ -1,7 +1,8 @@
 -- Tiles that are kept stay the file's, and have no more bytes together than they may.
-use Rattle.std.proofs.Common.{◌≡◌, ◌≤◌, ◌⊎◌, ℕ, List, Option, Some, None, Contains, inl, inr, sym, subst, get_or, length, nat_eq, arith}
+use Rattle.std.proofs.Common.{◌≡◌, ◌≤◌, ◌-◌, ◌&&◌, ◌⊎◌, ℕ, true, false, cond, List, ◌∷◌, take, Option, Some, None, Contains, inl, inr, refl, sym, ap, subst, get_or, length, slice_get, nat_eq, arith}
 use Rattle.std.specs.List.{All}
-use Rattle.std.specs.Map.{lookup}
+use Rattle.std.specs.Map.{lookup, lookup_entry, remove_entry}
+use Rattle.std.specs.Option.{option_copied, option_map_or}
 use Rattle.std.specs.Prelude.{IfSome, OnErr, OnOk, Result, Ok, Err}
 use Rattle.std.specs.Borrow.{Bor}
 use Rattle.std.proofs.lemmas.Bool.{eqb-true}
@@ -10,11 +11,11 @@ use Rattle.std.proofs.Math.Nat.{mul-le-mul_right}
 use Rattle.std.proofs.lemmas.List.Sums.{sum_by-le}
 use Rattle.std.proofs.lemmas.Map.Views.{IfSome-lookup}
 use Rattle.lru.specs.LruCache.{LruCache, lru_cache, promoted, put_entries}
-use Rattle.lru.proofs.CallerLemmas.{Contains-promoted, Contains-put_entries, IsPut}
+use Rattle.lru.proofs.CallerLemmas.{Contains-lookup_entry, Contains-promoted, Contains-put_entries, IsPut}
 use Rattle.tiff_dir.specs.Needs.{bytes_in}
 use Rattle.tiff_dir.specs.Packets.{Packs}
 use Rattle.tile_mosaic.specs.declared.unpacked.Tile.{Tile}
-use Rattle.tile_mosaic.specs.Unpacked.{size_of_tile, size_of_tiles, KeptTile, IsStore, IsTileOf}
+use Rattle.tile_mosaic.specs.Unpacked.{size_of_tile, size_of_tiles, plain_of, KeptTile, IsStore, IsTileOf}
 
 pub all_promoted : (P : KeptTile → Type 0) (first : ℕ) (es : List KeptTile) → All P es → All P (promoted (nat_eq first) es)
 all_promoted P first es all = λ k d less.
@@ -34,14 +35,39 @@ pub all_found : (P : KeptTile → Type 0) (first : ℕ) (es : List KeptTile) (ti
 all_found P first es tile found all =
     All-contains P es (first, tile) all (subst (λ o. IfSome o (λ v. Contains es (first, v))) found (IfSome-lookup eqb-true first es))
 
--- and what it stands for is what bytes stand for that are as many as its own
-pub stands_for : (f : List ℕ) (first len row size : ℕ) (t : Tile) (o : Option (Bor (List ℕ))) → IfSome o (λ plain. (len ≡ t.len) × (row ≡ t.row) × (size ≡ length plain.now) × (plain.now ≡ t.plain.items)) → IsTileOf f (first, t)
+-- what it stands for is told where the bytes are as many as its own, in rows as long
+is_of_form : (len row size : ℕ) (t : Tile) (plain : List ℕ) → Some plain ≡ plain_of len row size t → (len ≡ t.len) × (row ≡ t.row) × (plain ≡ t.plain.items)
+is_of_form len row size t plain told =
+    let Claim : Type 0 = (len ≡ t.len) × (row ≡ t.row) × (plain ≡ t.plain.items) in
+    (elim (nat_eq len t.len) as (λ a. nat_eq len t.len ≡ a → Some plain ≡ cond (a && nat_eq row t.row && nat_eq size (length t.plain.items)) (Some t.plain.items) None → Claim) [
+      | true ↦ λ lens. (elim (nat_eq row t.row) as (λ a. nat_eq row t.row ≡ a → Some plain ≡ cond (a && nat_eq size (length t.plain.items)) (Some t.plain.items) None → Claim) [
+        | true ↦ λ rows. elim (nat_eq size (length t.plain.items)) as (λ a. Some plain ≡ cond a (Some t.plain.items) None → Claim) [
+          | true ↦ λ is. (eqb-true len t.len lens, eqb-true row t.row rows, cc)
+          | false ↦ λ is. cc
+        ]
+        | false ↦ λ rows is. cc
+      ]) refl
+      | false ↦ λ lens is. cc
+    ]) refl told
+
+-- and then those bytes stand for it
+pub stands_for : (f : List ℕ) (first len row size : ℕ) (t : Tile) (o : Option (Bor (List ℕ))) → option_copied o ≡ plain_of len row size t → IsTileOf f (first, t)
     → IfSome o (λ plain. Packs row (bytes_in f (record { first = first; len = len })) plain.now)
 stands_for f first len row size t None told is = tt
 stands_for f first len row size t (Some plain) told is =
-    subst (λ n. Packs row (bytes_in f (record { first = first; len = n })) plain.now) (sym told.0)
-    (subst (λ r. Packs r (bytes_in f (record { first = first; len = t.len })) plain.now) (sym told.1)
-    (subst (Packs t.row (bytes_in f (record { first = first; len = t.len }))) (sym told.3) is))
+    let form = is_of_form len row size t plain.now told in
+    subst (λ n. Packs row (bytes_in f (record { first = first; len = n })) plain.now) (sym form.0)
+    (subst (λ r. Packs r (bytes_in f (record { first = first; len = t.len })) plain.now) (sym form.1)
+    (subst (Packs t.row (bytes_in f (record { first = first; len = t.len }))) (sym form.2) is))
+
+-- the tile that is put stands in front
+pub front_put : (c : LruCache ℕ Tile) (first : ℕ) (tile : Tile) → slice_get (put_entries nat_eq c first tile) 0 ≡ Some (first, tile)
+front_put c first tile =
+    (elim (lookup_entry (nat_eq first) c.entries) as (λ o. lookup_entry (nat_eq first) c.entries ≡ o
+    → slice_get (option_map_or (λ e. (e.0, tile) ∷ remove_entry (nat_eq first) c.entries) o ((first, tile) ∷ take (c.cap - 1) c.entries)) 0 ≡ Some (first, tile)) [
+      | None ↦ λ none. refl
+      | Some e ↦ λ found. ap (λ k. Some (k, tile)) (sym (eqb-true first e.0 (Contains-lookup_entry (nat_eq first) c.entries e found).1))
+    ]) refl
 
 -- a tile of the file that is put among its tiles is one of them, if it is put
 pub kept_put : {A E : Type 0} (f : List ℕ) (old new : LruCache ℕ Tile) (first : ℕ) (tile : Tile) (r : Result A E) → OnOk r (new ≡ lru_cache (put_entries nat_eq old first tile) old.cap) → OnErr r (new ≡ old)

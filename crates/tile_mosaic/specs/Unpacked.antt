@@ -1,6 +1,8 @@
 -- Tiles that are kept unpacked.
-use Rattle.std.specs.Prelude.{◌≡◌, ◌*◌, ◌≤◌, ℕ, List, [], length, Option, Some, None}
+use Rattle.std.specs.Prelude.{◌≡◌, ◌*◌, ◌≤◌, ◌&&◌, nat_eq, cond, ℕ, List, [], length, Option, Some, None}
 use Rattle.std.specs.List.{All, sum_by}
+use Rattle.std.specs.Map.{lookup}
+use Rattle.std.specs.Option.{option_and_then}
 use Rattle.lru.specs.LruCache.{LruCache}
 use Rattle.tiff_dir.specs.Needs.{bytes_in}
 use Rattle.tiff_dir.specs.Packets.{Packs}
@@ -19,6 +21,14 @@ tiles_in (Some store) = store.entries
 pub record KeptTiles : Type 0 where
   pub most : ℕ
   pub tiles : List KeptTile
+
+-- what a tile stands for, where its packed bytes are so many, and it has `size` bytes in rows of `row`
+abbrev pub plain_of : ℕ → ℕ → ℕ → Tile → Option (List ℕ)
+plain_of len row size t = cond (nat_eq len t.len && nat_eq row t.row && nat_eq size (length t.plain.items)) (Some t.plain.items) None
+
+-- and that of the tile that is kept at this place, if one is
+abbrev pub plain_at : ℕ → ℕ → ℕ → ℕ → KeptTiles → Option (List ℕ)
+plain_at first len row size k = option_and_then (plain_of len row size) (lookup (nat_eq first) k.tiles)
 
 -- how many bytes a tile has
 abbrev pub size_of_tile : KeptTile → ℕ

@@ -98,6 +98,7 @@ pub struct Mosaic {
     plain: Vec<u8>,
 }
 
+// Written out, it is one call wherever a mosaic is let go; derived, each such place would be proved field by field.
 impl Drop for Mosaic {
     fn drop(self) {
         let Mosaic {

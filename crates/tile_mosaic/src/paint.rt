@@ -49,6 +49,7 @@ pub fn paint_packed<B: Bytes>(
     let packed = bytes.part_at(0, len, room);
     unpack(packed, row, plain)?;
     canvas.blit(tile, &Slice(plain));
-    unpacked.keep(first, len, row, plain);
+    // Where there is no memory to keep it, the window is read all the same.
+    unpacked.keep(first, len, row, plain).ok();
     Ok(())
 }

@@ -1,9 +1,10 @@
 //! Tiles that were unpacked, kept from one window to the next.
-ghost use Rattle.std.specs.Prelude.{◌≡◌, ℕ, List, IfOk, length};
+ghost use Rattle.std.specs.Prelude.{◌≡◌, ◌*◌, ◌≤◌, ℕ, List, IfOk, IfSome, IsSome, OnOk, slice_get, Some, length};
 ghost use Rattle.std.specs.List.{All};
 ghost use Rattle.tiff_dir.specs.Needs.{bytes_in};
 ghost use Rattle.tiff_dir.specs.Packets.{Packs};
-ghost use Rattle.tile_mosaic.specs.Unpacked.{IsStore, IsTileOf};
+ghost use Rattle.std.specs.NonZero.{non_zero_usize_get};
+ghost use Rattle.tile_mosaic.specs.Unpacked.{tiles_in, IsStore, IsTileOf};
 
 use lru::LruCache;
 use std::alloc::Global;
@@ -21,11 +22,13 @@ pub struct Tile {
 }
 
 impl Tile {
-    ghost use Rattle.std.specs.Prelude.{◌≡◌, IfSome, length};
+    ghost use Rattle.std.specs.Prelude.{◌≡◌};
+    ghost use Rattle.std.specs.Option.{option_copied};
+    ghost use Rattle.tile_mosaic.specs.Unpacked.{plain_of};
 
     /// What it stands for, where its packed bytes are so many, and it has `size` bytes in rows of `row`.
     fn plain_of(&self, len: usize, row: usize, size: usize) -> Option<&[u8]>
-        ensures { IfSome result (λ plain. (len ≡ self.now.len) × (row ≡ self.now.row) × (size ≡ length plain.now) × (plain.now ≡ self.now.plain.items)) }
+        ensures { option_copied result ≡ plain_of len row size self.now }
     {
         if self.len != len || self.row != row || self.plain.len() != size {
             return None;
@@ -50,7 +53,29 @@ fn room_for(tiles: &mut LruCache<u32, Tile>, alloc: Global, size: usize) -> Resu
     Ok(vec![in alloc; 0u8; size]?)
 }
 
-/// Puts a tile among others, where there is memory for it. Its room is kept with it, and other room of that size stands in its place.
+/// Has a store for so many tiles of `size` bytes, in the place of one for those of another size, which `of` tells. After a refusal, what was
+/// there stays.
+fn fit(
+    tiles: &mut Option<LruCache<u32, Tile>>,
+    of: &mut usize,
+    alloc: Global,
+    size: usize,
+    count: NonZeroUsize,
+) -> Result<(), Memory>
+    ensures store { (most : ℕ) → non_zero_usize_get count * size ≤ most → IfSome tiles.old (IsStore most of.old)
+        → IfSome tiles.new (IsStore most of.new) }
+    ensures fits { OnOk result ((of.new ≡ size) × IsSome tiles.new) }
+    ensures of { (f : List ℕ) → All (IsTileOf f) (tiles_in tiles.old) → All (IsTileOf f) (tiles_in tiles.new) }
+{
+    if *of == size && tiles.is_some() {
+        return Ok(());
+    }
+    *tiles = Some(LruCache::sparse(alloc, count)?);
+    *of = size;
+    Ok(())
+}
+
+/// Puts a tile in front of others. Its room is kept with it, and other room of that size stands in its place.
 fn put(
     tiles: &mut LruCache<u32, Tile>,
     alloc: Global,
@@ -58,21 +83,21 @@ fn put(
     len: usize,
     row: usize,
     plain: &mut Vec<u8>,
-)
+) -> Result<(), Memory>
+    ensures front { OnOk result (slice_get tiles.new.entries 0 ≡ Some (first, record { len = len; row = row; plain = plain.old })) }
     ensures of { (f : List ℕ) → All (IsTileOf f) tiles.old.entries → Packs row (bytes_in f (record { first = first; len = len })) plain.old.items
         → All (IsTileOf f) tiles.new.entries }
     ensures store { (most : ℕ) → IsStore most (length plain.old.items) tiles.old → IsStore most (length plain.old.items) tiles.new }
     ensures size { length plain.new.items ≡ length plain.old.items }
 {
-    let Ok(room) = room_for(tiles, alloc, plain.len()) else {
-        return;
-    };
+    let room = room_for(tiles, alloc, plain.len())?;
     let tile = Tile {
         len,
         row,
         plain: mem::replace(plain, room),
     };
-    let _ = tiles.put(first, tile);
+    tiles.put(first, tile)?;
+    Ok(())
 }
 
 /// Tiles of one file that were unpacked, by where their packed bytes begin in it: those that were used last, as many as have room. Beside
@@ -85,6 +110,7 @@ pub struct Unpacked {
     room: Vec<u8>,
 }
 
+// Written out, it is one call wherever these are let go; derived, each such place would be proved field by field.
 impl Drop for Unpacked {
     fn drop(self) {
         let Unpacked {
@@ -110,10 +136,12 @@ impl Model for Unpacked {
 
 #[tactic(auto, unfolding(crate::specs::Unpacked::AreTilesOf))]
 impl Unpacked {
-    ghost use Rattle.std.specs.Prelude.{◌≡◌, ◌≤◌, ℕ, List, [], IfOk, IfSome, length};
+    ghost use Rattle.std.specs.Prelude.{◌≡◌, ◌<◌, ◌≤◌, ℕ, List, [], Some, nat_eq, slice_get, IfOk, IfSome, OnOk, length};
+    ghost use Rattle.std.specs.Option.{option_copied};
+    ghost use Rattle.lru.specs.LruCache.{promoted};
     ghost use Rattle.tiff_dir.specs.Needs.{bytes_in};
     ghost use Rattle.tiff_dir.specs.Packets.{Packs};
-    ghost use Rattle.tile_mosaic.specs.Unpacked.{size_of_tiles, AreTilesOf};
+    ghost use Rattle.tile_mosaic.specs.Unpacked.{size_of_tiles, plain_at, AreTilesOf};
 
     /// None yet, of at most so many bytes in all. It takes no memory.
     pub fn new(alloc: Global, most: usize) -> Unpacked
@@ -159,8 +187,9 @@ impl Unpacked {
         self.room = room;
     }
 
-    /// Notes that the tile at this place is used.
+    /// Notes that the tile at this place is used: where it is kept, it goes to the front.
     pub fn promote(&mut self, first: u32)
+        ensures tiles { self.new.tiles ≡ promoted (nat_eq first) self.old.tiles }
         ensures of { (f : List ℕ) → AreTilesOf f self.old → AreTilesOf f self.new }
         ensures most { self.new.most ≡ self.old.most }
     {
@@ -171,6 +200,7 @@ impl Unpacked {
 
     /// What the packed bytes of the tile at this place stand for, which are so many: `size` bytes in rows of `row`, where it is kept.
     pub fn find(&self, first: u32, len: usize, row: usize, size: usize) -> Option<&[u8]>
+        ensures found { option_copied result ≡ plain_at first len row size self.now }
         ensures size { IfSome result (λ plain. length plain.now ≡ size) }
         ensures stands { (f : List ℕ) → AreTilesOf f self.now
             → IfSome result (λ plain. Packs row (bytes_in f (record { first = first; len = len })) plain.now) }
@@ -180,36 +210,34 @@ impl Unpacked {
         tile.plain_of(len, row, size)
     }
 
-    /// Keeps what the packed bytes of the tile at this place stand for, which are so many, in the place of the tile that was used longest
-    /// ago where no more may be kept. Its room is taken, and other room of that size stands in its place. It isn't kept where no memory is
-    /// left, or where not one of its size may be kept.
-    pub fn keep(&mut self, first: u32, len: usize, row: usize, plain: &mut Vec<u8>)
+    /// Keeps what the packed bytes of the tile at this place stand for, which are so many, in front of the others, and in the place of the
+    /// one that was used longest ago where no more may be kept. Its room is taken, and other room of that size stands in its place. Tiles of
+    /// another size are let go. Where not one of its size may be kept, nothing happens.
+    ///
+    /// # Errors
+    /// `Memory`, and the tile isn't kept.
+    pub fn keep(
+        &mut self,
+        first: u32,
+        len: usize,
+        row: usize,
+        plain: &mut Vec<u8>,
+    ) -> Result<(), Memory>
+        ensures front { OnOk result (0 < length plain.old.items → length plain.old.items ≤ self.old.most
+            → slice_get self.new.tiles 0 ≡ Some (first, record { len = len; row = row; plain = plain.old })) }
         ensures of { (f : List ℕ) → AreTilesOf f self.old → Packs row (bytes_in f (record { first = first; len = len })) plain.old.items
             → AreTilesOf f self.new }
         ensures most { self.new.most ≡ self.old.most }
         ensures size { length plain.new.items ≡ length plain.old.items }
     {
-        self.fit(plain.len());
-        if self.size != plain.len() {
-            return;
-        }
-        if let Some(tiles) = &mut self.tiles {
-            put(tiles, self.alloc, first, len, row, plain);
-        }
-    }
-
-    /// May keep tiles of this size, in the place of those of another one, where there is memory. Where not one may be kept, those of
-    /// another size stay.
-    fn fit(&mut self, size: usize)
-        ensures of { (f : List ℕ) → AreTilesOf f self.old → AreTilesOf f self.new }
-        ensures most { self.new.most ≡ self.old.most }
-    {
-        if self.size == size && self.tiles.is_some() {
-            return;
-        }
-        if let Some(count) = NonZeroUsize::new(self.most.checked_div(size).unwrap_or(0)) {
-            self.size = size;
-            self.tiles = LruCache::sparse(self.alloc, count).ok();
-        }
+        let size = plain.len();
+        let Some(count) = NonZeroUsize::new(self.most.checked_div(size).unwrap_or(0)) else {
+            return Ok(());
+        };
+        fit(&mut self.tiles, &mut self.size, self.alloc, size, count)?;
+        let Some(tiles) = &mut self.tiles else {
+            unreachable!()
+        };
+        put(tiles, self.alloc, first, len, row, plain)
     }
 }

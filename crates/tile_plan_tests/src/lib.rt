@@ -1,4 +1,4 @@
-//! Tests of the calls that make tiles into samples: worked values, and random packets beside the plain program.
+//! Tests of the calls that make tiles into samples: worked values, random packets beside the plain program, and tiles that are kept.
 #![tactic(auto)]
 
 #[cfg(test)]

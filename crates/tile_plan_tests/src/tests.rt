@@ -6,6 +6,7 @@ mod packets;
 mod pairs;
 mod plan;
 mod rectangles;
+mod unpacked;
 mod values;
 
 /// A window of a level, by its number.
