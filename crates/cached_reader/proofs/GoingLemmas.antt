@@ -13,8 +13,9 @@ use Rattle.range_cache.specs.Laws.{MissingIsFew, RunsAreMissing}
 use Rattle.range_cache.specs.Missing.{IsFirstGap}
 use Rattle.range_cache.specs.declared.missing.Missing.{Missing}
 use Rattle.cog_reader.specs.Reader as reader
-use Rattle.cog_reader.specs.Reader.{ReaderState, ReaderAgrees, IsWantedOf, Takes, complete_of, outcome_of, query_of, to_come, unread, wanted}
+use Rattle.cog_reader.specs.Reader.{ReaderState, ReaderAgrees, IsWantedOf, Takes, complete_of, outcome_of, query_of, tiles_of, to_come, unread, wanted}
 use Rattle.cog_reader.specs.declared.outcome.Outcome.{Outcome}
+use Rattle.tile_mosaic.specs.Unpacked.{KeptTiles}
 use Rattle.cached_reader.specs.Going.{CachedReader, work, AreSame, KeepsRead, ReaderGoesOn, IsMissing, IsMissingWithRoom}
 
 -- ---- ends of lists
@@ -63,6 +64,7 @@ pub goes_refl : (w : CachedReader) → ReaderGoesOn w w
 goes_refl w = record {
   complete = refl;
   query = refl;
+  most = refl;
   blocks = same_refl w.cache;
   file = λ f agrees holds. record { reader = agrees; cache = holds; come = end_refl (to_come w.reader f); held = kept_refl f w.reader };
 }
@@ -71,6 +73,7 @@ pub goes_trans : (a b c : CachedReader) → ReaderGoesOn a b → ReaderGoesOn b 
 goes_trans a b c h k = record {
   complete = k.complete ∙ h.complete;
   query = k.query ∙ h.query;
+  most = k.most ∙ h.most;
   blocks = same_trans a.cache b.cache c.cache h.blocks k.blocks;
   file = λ f agrees holds.
       let first = h.file f agrees holds in
@@ -91,15 +94,16 @@ come_of f old new None is same none =
 come_of f old new (Some o) is same none =
     subst (λ rs. IsEndOf rs (to_come old f)) (sym (none (subst (λ x. IsSome x) (sym is) refl))) (end_nil (to_come old f))
 
-pub needed : (old new : ReaderState) (cache : Blocks) → complete_of new ≡ complete_of old → query_of new ≡ query_of old
+pub needed : (old new : ReaderState) (cache : Blocks) → complete_of new ≡ complete_of old → query_of new ≡ query_of old → tiles_of new ≡ tiles_of old
     → ((f : List ℕ) → ReaderAgrees old f → ReaderAgrees new f)
     → ((f : List ℕ) → ReaderAgrees old f → outcome_of new ≡ None → to_come new f ≡ to_come old f)
     → ((f : List ℕ) → IsSome (outcome_of new) → to_come new f ≡ [])
     → ((f : List ℕ) (q : Query) → unread new f q ≡ unread old f q)
     → ReaderGoesOn (work old cache) (work new cache)
-needed old new cache complete query agrees come none held = record {
+needed old new cache complete query tiles agrees come none held = record {
   complete = complete;
   query = query;
+  most = ap (λ (t : KeptTiles). t.most) tiles;
   blocks = same_refl cache;
   file = λ f before holds. record {
     reader = agrees f before;
@@ -116,6 +120,7 @@ pub read : (r : ReaderState) (old new : Blocks) → new.capacity ≡ old.capacit
 read r old new capacity kept holds = record {
   complete = refl;
   query = refl;
+  most = refl;
   blocks = record { capacity = capacity; blocks = kept };
   file = λ f agrees held. record { reader = agrees; cache = holds f held; come = end_refl (to_come r f); held = kept_refl f r };
 }
@@ -134,6 +139,7 @@ pub given : (old new : ReaderState) (before after : Blocks) (r : Extent) (bytes 
 given old new before after r bytes is of takes goes = record {
   complete = takes.complete;
   query = takes.query;
+  most = takes.most;
   blocks = goes.blocks;
   file = λ f held holds.
       let is_wanted : IsWantedOf f old bytes = subst (λ w. IsSomeAnd w (λ r. bytes ≡ bytes_in f r)) (sym is) (of f held holds) in

@@ -10,7 +10,7 @@ use Rattle.range_cache.specs.Cache.{Blocks, Holds, block_at, numbers}
 use Rattle.range_cache.specs.Numbers.{has, missing as absent, IsLed}
 use Rattle.range_cache.specs.Missing.{IsFirstGap}
 use Rattle.range_cache.specs.declared.missing.Missing.{Missing}
-use Rattle.cog_reader.specs.Reader.{AreOfOneLevel, ReaderState, ReaderAgrees, complete_of, outcome_of, query_of, steps_of, to_come, unread, upcoming, wanted}
+use Rattle.cog_reader.specs.Reader.{AreOfOneLevel, ReaderState, ReaderAgrees, complete_of, outcome_of, query_of, steps_of, tiles_of, to_come, unread, upcoming, wanted}
 
 -- a reader, and the blocks that it reads from
 pub record CachedReader : Type 0 where
@@ -36,10 +36,11 @@ pub record ReaderStaysOf (f : List ℕ) (old new : CachedReader) : Type 0 where
   pub come : IsEndOf (to_come new.reader f) (to_come old.reader f)
   pub held : KeepsRead f old.reader new.reader
 
--- What the reader is given changes no block, no length and no query.
+-- What the reader is given changes no block, no length, no query, and not how many bytes of unpacked tiles it may keep.
 pub record ReaderGoesOn (old new : CachedReader) : Type 0 where
   pub complete : complete_of new.reader ≡ complete_of old.reader
   pub query : query_of new.reader ≡ query_of old.reader
+  pub most : (tiles_of new.reader).most ≡ (tiles_of old.reader).most
   pub blocks : AreSame old.cache new.cache
   pub file : (f : List ℕ) → ReaderAgrees old.reader f → Holds f old.cache → ReaderStaysOf f old new
 

@@ -1,8 +1,9 @@
 //! Going on: the reader is given what the cache has.
-ghost use Rattle.std.specs.Prelude.{max, ◌≡◌, ◌+◌, ◌<◌, ◌≤◌, ◌^◌, Some, IfOk, OnErr, OnOk, length};
+ghost use Rattle.std.specs.Prelude.{max, ◌≡◌, ◌+◌, ◌<◌, ◌≤◌, ◌^◌, Some, IfOk, IsOk, OnErr, OnOk, length};
 ghost use Rattle.tiff_dir.specs.declared.limits.TheConstants.{MAX_RANGE_BYTES};
 ghost use Rattle.tiff_dir.specs.Walk.{extent_of_span};
-ghost use Rattle.cog_reader.specs.Reader.{complete_of, wanted, IsWanted, Takes};
+ghost use Rattle.tiff_dir.specs.declared.level.Compression.TheVariants.{Plain};
+ghost use Rattle.cog_reader.specs.Reader.{complete_of, tiles_wanted, wanted, IsWanted, Takes};
 ghost use Rattle.range_cache.specs.Cache.{bytes_at};
 ghost use Rattle.cached_reader.specs.Going.{work, ReaderGoesOn, IsFilled, IsGiven};
 
@@ -45,7 +46,8 @@ fn grow(buffer: &mut Vec<u8>, len: usize) -> Result<(), Memory>
 }
 
 /// Gives the reader the range that it wants, of so many bytes, all of which the cache has. Tiles, plain and packed, are taken out of the
-/// blocks where they lie; what has to be in one piece is copied to a buffer, which is kept from one range to the next.
+/// blocks where they lie; what has to be in one piece is copied to a buffer, which is kept from one range to the next. Plain tiles want no
+/// memory.
 fn give_held(
     reader: &mut Reader,
     cache: &Cache,
@@ -56,6 +58,7 @@ fn give_held(
     requires wanted { IsWanted reader.old len }
     requires fits { first + len < 2 ^ 64 }
     ensures takes { OnOk result (Takes (bytes_at cache.now first len) reader.old reader.new) }
+    ensures plain { tiles_wanted reader.old ≡ Some Plain → IsOk result × (buffer.new ≡ buffer.old) }
     ensures err { OnErr result (reader.new ≡ reader.old) }
     ensures room { length buffer.new.items ≤ max (length buffer.old.items) len }
 {

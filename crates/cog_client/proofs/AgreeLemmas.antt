@@ -1,10 +1,11 @@
 -- A client in the midst of an answer agrees with a book of which what came of it is a piece.
-use Rattle.std.proofs.Common.{◌≡◌, ℕ, Bool, true, false, List, length, Option, Some, None, Ok, refl, sym, ap, ◌∙◌, subst, inl, inr}
+use Rattle.std.proofs.Common.{◌≡◌, ℕ, ◌*◌, Bool, true, false, List, length, Option, Some, None, Ok, refl, sym, ap, ◌∙◌, subst, inl, inr}
 use Rattle.std.specs.Prelude.{IfSome, IsSome, not, if◌then◌else◌, ◌==◌}
 use Rattle.std.specs.Str.{bytes_eq}
 use Rattle.std.proofs.lemmas.Bool.{eqb-true}
 use Rattle.std.proofs.lemmas.Slice.Eq.{bytes_eq-Decides}
 use Rattle.tiff_dir.specs.declared.span.Span.{Span}
+use Rattle.tiff_dir.specs.declared.limits.TheConstants.{BLOCK_SIZE}
 use Rattle.http_range.specs.Announced.{Announced, body_behind}
 use Rattle.http_range.specs.Book.{Book, HasDistinctTags}
 use Rattle.http_range.specs.Honest.{IsPieceOfBook, IsReadAs}
@@ -13,12 +14,13 @@ use Rattle.http_range.specs.Piece.{SeenPiece}
 use Rattle.http_range.specs.Reading.{ReadsHead}
 use Rattle.range_cache.specs.Laws.{FrontHolds}
 use Rattle.range_cache.specs.Piece.{IsPieceOf}
+use Rattle.range_cache.specs.Cache.{Blocks}
 use Rattle.cog_client.specs.declared.case.Case.{Case}
 use Rattle.cog_client.specs.declared.case.Case.TheVariants.{Ignored, Adopted, Restarted, Accepted}
 use Rattle.cog_client.specs.declared.delivered.Ignored.TheVariants.{OtherRevision, OtherLength}
 use Rattle.cog_client.specs.declared.source.Source.{Source}
 use Rattle.cog_client.specs.Case.{Revision}
-use Rattle.cog_client.specs.Client.{ClientAgrees, ClientState, IsAlone, IsClient, Knows, KnowsBy, asked_of, blocks_of, feed_of, name_of, revision_of}
+use Rattle.cog_client.specs.Client.{ClientAgrees, ClientState, IsAlone, IsClient, Knows, KnowsBy, MayKeep, asked_of, blocks_of, feed_of, name_of, revision_of}
 use Rattle.cog_client.specs.Fed.{case_of_head, piece_with}
 use Rattle.cog_client.specs.FedClient.{Begins, FedBody, FrontsKeepAgreement, case_for, revision_of_head}
 use Rattle.cog_client.specs.Feeding.{Feed}
@@ -51,15 +53,16 @@ head_revision (Some v) (Some s) head is =
     tests false length false is = cc
 
 -- a client that reads a revision stays sound whatever blocks it has
-fed_sound : (f : List ℕ) (mid c : ClientState) → c ≡ record mid { cache = blocks_of c; feed = feed_of c } → IsSome (revision_of mid) → Knows f mid → IsClient c
+fed_sound : (f : List ℕ) (mid c : ClientState) → c ≡ record mid { cache = blocks_of c; feed = feed_of c } → (blocks_of c).capacity ≡ mid.cache.capacity → IsSome (revision_of mid) → Knows f mid → IsClient c
 unfolding revision_of Knows
-fed_sound f mid c same some knows =
+fed_sound f mid c same room some knows =
     subst IsClient (sym same) (by_source (λ o. mid.source ≡ o → IfSome o (KnowsBy f mid) → IsClient (record mid { cache = blocks_of c; feed = feed_of c }))
     (λ (x : Source) is k. record {
       hosted = k.sound.hosted;
       named = k.sound.named;
       alone = subst (λ o. IsAlone o (blocks_of c) mid.report (feed_of c)) (sym is) tt;
       reading = k.sound.reading;
+      tiles = subst (λ o. IfSome o (MayKeep (blocks_of c))) (sym is) ((subst (λ o. IfSome o (MayKeep mid.cache)) is k.sound.tiles) ∙ ap (λ (n : ℕ). n * BLOCK_SIZE) (sym room));
       standing = k.sound.standing;
       few = k.sound.few;
     })
@@ -69,10 +72,15 @@ module _ (law : FrontsAreRead) (holds : FrontHolds) (s c : ClientState) (p : Lis
   abbrev piece : SeenPiece
   piece = piece_with head (body_behind head p)
 
+  -- there may be as many blocks as before
+  same_room : (blocks_of c).capacity ≡ x.mid.cache.capacity
+  unfolding blocks_of
+  same_room = ap (λ (b : Blocks). b.capacity) x.is.holds
+
   -- blocks of a file are stored over what is known of it
   keeps : IsSome (revision_of x.mid) → (f : List ℕ) → head.complete ≡ length f → IsPieceOf f head.first (body_behind head p) → Knows f x.mid → StaysOf f x.mid c
   keeps some f size of knows =
-      (stored_over holds x.mid c x.same (fed_sound f x.mid c x.same some knows) piece x.taken.span (length (brought_by piece x.taken.span)) some
+      (stored_over holds x.mid c x.same (fed_sound f x.mid c x.same same_room some knows) piece x.taken.span (length (brought_by piece x.taken.span)) some
       (x.is.holds ∙ sym (all_stored piece x.taken.span (blocks_of x.mid)))).file f size of knows
 
   name_is : name_of x.mid ≡ name_of s → name_of c ≡ name_of s

@@ -1,10 +1,11 @@
 -- What the steps of a client keep.
-use Rattle.std.proofs.Common.{◌≡◌, ℕ, List, [], length, Option, Some, None, refl, sym, ap, ◌∙◌, subst}
+use Rattle.std.proofs.Common.{◌≡◌, ℕ, ◌*◌, List, [], length, Option, Some, None, refl, sym, ap, ◌∙◌, subst}
 use Rattle.std.proofs.lemmas.Bool.{false≢true}
 use Rattle.std.specs.Prelude.{IfSome, IsSome, IsSomeAnd, is_some, if◌then◌else◌}
 use Rattle.std.specs.Option.{option_map, option_map_or}
 use Rattle.tiff_dir.specs.declared.query.Query.{Query}
 use Rattle.tiff_dir.specs.declared.span.Span.{Span}
+use Rattle.tiff_dir.specs.declared.limits.TheConstants.{BLOCK_SIZE}
 use Rattle.tiff_dir.specs.Needs.{IsEndOf}
 use Rattle.tiff_dir.specs.Query.{needs}
 use Rattle.http_range.specs.Book.{Book}
@@ -14,13 +15,14 @@ use Rattle.range_cache.specs.Laws.{FrontHolds}
 use Rattle.cog_reader.specs.Outcome.{IsTrueOf}
 use Rattle.cog_reader.specs.Reader as reader
 use Rattle.cog_reader.specs.Reader.{ReaderState}
+use Rattle.tile_mosaic.specs.Unpacked.{KeptTiles}
 use Rattle.cog_client.specs.declared.asking.Asking.{Asking}
 use Rattle.cog_client.specs.declared.report.Report.{Report}
 use Rattle.cog_client.specs.declared.source.Source.{Source}
 use Rattle.cog_client.specs.Case.{Revision}
 use Rattle.cog_client.specs.Take.{emptied, stored_front}
 use Rattle.cog_client.specs.Feeding.{Feed, nothing_fed}
-use Rattle.cog_client.specs.Client.{ClientAgrees, ClientState, IsAlone, IsClient, IsFew, IsReadingOf, IsReportOf, Knows, KnowsBy, KnowsOne, asked_of, blocks_of, feed_of, host_of, how_of, name_of, query_of, report_of, revision_in, revision_of, tag_of, to_come, unread}
+use Rattle.cog_client.specs.Client.{ClientAgrees, ClientState, IsAlone, IsClient, IsFew, IsReadingOf, IsReportOf, Knows, KnowsBy, KnowsOne, MayKeep, asked_of, blocks_of, feed_of, host_of, how_of, name_of, query_of, report_of, revision_in, revision_of, tag_of, to_come, unread}
 use Rattle.cog_client.specs.Calls.{SameClient}
 use Rattle.cog_client.specs.Keeps.{GoesOnKeeping, OpensKeeping, StaysOf}
 use Rattle.cached_reader.specs.Going as going
@@ -114,6 +116,7 @@ module _ (e : Feed) (how : Asking) (h n : List ℕ) (q : Option Query) (a : Opti
     named = c.named;
     alone = tt;
     reading = (complete ∙ c.reading.0 ∙ sym goes.complete, goes.query ∙ c.reading.1);
+    tiles = goes.most ∙ c.tiles ∙ ap (λ (n : ℕ). n * BLOCK_SIZE) (sym goes.blocks.capacity);
     standing = c.standing;
     few = c.few;
   }
@@ -149,6 +152,7 @@ module _ (e : Feed) (how : Asking) (h n : List ℕ) (q : Query) (a : Option Span
     named = c.named;
     alone = tt;
     reading = (d.complete ∙ c.reading.0 ∙ sym d.length, d.unasked refl);
+    tiles = ap (λ (t : KeptTiles). t.most) d.tiles ∙ c.tiles;
     standing = (ap Some d.report.0, refl);
     few = tt;
   }
@@ -212,19 +216,26 @@ module _ (e e' : Feed) (dropped : e' ≡ nothing_fed) (how : Asking) (h n : List
     agrees = λ book k. tt;
   }
 
-  opened_sound : (s : Source) (x : ReaderState) → reader.complete_of x ≡ reader.complete_of s.reader → reader.query_of x ≡ Some query → IsClient (known e how h n q a (Some s) b r)
+  opened_sound : (s : Source) (x : ReaderState) → reader.complete_of x ≡ reader.complete_of s.reader → reader.query_of x ≡ Some query → reader.tiles_of x ≡ reader.tiles_of s.reader → IsClient (known e how h n q a (Some s) b r)
       → IsClient (known e' how h n (Some query) None (Some (record s { reader = x })) b None)
-  opened_sound s x complete asks c =
-      record { hosted = c.hosted; named = c.named; alone = tt; reading = (c.reading.0 ∙ sym complete, asks); standing = tt; few = tt }
+  opened_sound s x complete asks tiles c = record {
+    hosted = c.hosted;
+    named = c.named;
+    alone = tt;
+    reading = (c.reading.0 ∙ sym complete, asks);
+    tiles = ap (λ (t : KeptTiles). t.most) tiles ∙ c.tiles;
+    standing = tt;
+    few = tt;
+  }
 
-  pub opened : (s : Source) (x : ReaderState) → EndsAreWanted → reader.complete_of x ≡ reader.complete_of s.reader → reader.query_of x ≡ Some query
+  pub opened : (s : Source) (x : ReaderState) → EndsAreWanted → reader.complete_of x ≡ reader.complete_of s.reader → reader.query_of x ≡ Some query → reader.tiles_of x ≡ reader.tiles_of s.reader
       → ((f : List ℕ) → reader.ReaderAgrees s.reader f → reader.ReaderAgrees x f) → ((f : List ℕ) → reader.to_come x f ≡ reader.unread s.reader f query)
       → ((f : List ℕ) (k : Query) → reader.unread x f k ≡ reader.unread s.reader f k) → IsClient (known e how h n q a (Some s) b r)
       → OpensKeeping query (known e how h n q a (Some s) b r) (known e' how h n (Some query) None (Some (record s { reader = x })) b None)
   unfolding how_of host_of name_of query_of asked_of revision_of report_of blocks_of feed_of to_come unread Knows
-  opened s x law complete asks agrees held kept c =
+  opened s x law complete asks tiles agrees held kept c =
       let knows : (f : List ℕ) → Knows f (known e how h n q a (Some s) b r) → Knows f (known e' how h n (Some query) None (Some (record s { reader = x })) b None) =
-      λ f k. record { reader = agrees f k.reader; blocks = k.blocks; report = tt; sound = opened_sound s x complete asks c } in
+      λ f k. record { reader = agrees f k.reader; blocks = k.blocks; report = tt; sound = opened_sound s x complete asks tiles c } in
       record {
         seen = (refl, ap (λ k. known k how h n (Some query) None (Some (record s { reader = x })) b None) dropped);
         knows = knows;
@@ -238,10 +249,10 @@ module _ (e e' : Feed) (dropped : e' ≡ nothing_fed) (how : Asking) (h n : List
 
 module _ (e : Feed) (how : Asking) (h n : List ℕ) (q : Option Query) (a asked : Option Span) (before : Option Source) (s : Source) (b new : Blocks) where
   pub adopted : (p : Revision) → s.tag ≡ p.tag → s.complete ≡ p.complete → new ≡ emptied b → ((f : List ℕ) → Holds f new)
-      → ((f : List ℕ) → length f ≡ p.complete → reader.ReaderAgrees s.reader f) → reader.complete_of s.reader ≡ p.complete → reader.query_of s.reader ≡ q
+      → ((f : List ℕ) → length f ≡ p.complete → reader.ReaderAgrees s.reader f) → reader.complete_of s.reader ≡ p.complete → reader.query_of s.reader ≡ q → MayKeep new s
       → IfSome asked IsFew → IsClient (known e how h n q a before b None) → Adopts p asked (known e how h n q a before b None) (known e how h n q asked (Some s) new None)
   unfolding how_of host_of name_of query_of asked_of revision_of report_of blocks_of Knows
-  adopted p tag complete empty holds agrees size query few c = record {
+  adopted p tag complete empty holds agrees size query tiles few c = record {
     same = record { host = refl; name = refl; query = refl; how = refl };
     asks = refl;
     revision = ap Some (ap (λ t. record { tag = t; complete = s.complete }) tag ∙ ap (λ l. record { tag = p.tag; complete = l }) complete);
@@ -251,7 +262,7 @@ module _ (e : Feed) (how : Asking) (h n : List ℕ) (q : Option Query) (a asked 
       reader = agrees f long;
       blocks = holds f;
       report = tt;
-      sound = record { hosted = c.hosted; named = c.named; alone = tt; reading = (complete ∙ sym size, query); standing = tt; few = few };
+      sound = record { hosted = c.hosted; named = c.named; alone = tt; reading = (complete ∙ sym size, query); tiles = tiles; standing = tt; few = few };
     };
   }
 
@@ -296,6 +307,7 @@ refed c e f knows = at c.source refl knows
         named = k.sound.named;
         alone = subst (λ o. IsAlone o c.cache c.report e) (sym is) tt;
         reading = k.sound.reading;
+        tiles = k.sound.tiles;
         standing = k.sound.standing;
         few = k.sound.few;
       };
@@ -304,7 +316,7 @@ refed c e f knows = at c.source refl knows
 -- nor is how the client asks
 
 pub rehow_sound : (c : ClientState) (how : Asking) → IsClient c → IsClient (record c { how = how })
-rehow_sound c how s = record { hosted = s.hosted; named = s.named; alone = s.alone; reading = s.reading; standing = s.standing; few = s.few }
+rehow_sound c how s = record { hosted = s.hosted; named = s.named; alone = s.alone; reading = s.reading; tiles = s.tiles; standing = s.standing; few = s.few }
 
 pub rehowed : (c : ClientState) (how : Asking) (f : List ℕ) → Knows f c → Knows f (record c { how = how })
 unfolding Knows

@@ -1,5 +1,5 @@
 -- What a client asks for early.
-use Rattle.std.proofs.Common.{◌≡◌, ℕ, ◌+◌, ◌-◌, ◌*◌, ◌<◌, List, [], ◌∷◌, ◌++◌, false, Option, Some, Vec, Global, get_or, length, take, map, inl, inr, sym, ap, ◌∙◌, subst}
+use Rattle.std.proofs.Common.{◌≡◌, ℕ, ◌+◌, ◌-◌, ◌*◌, ◌<◌, List, [], ◌∷◌, ◌++◌, false, Option, Some, None, IfSome, Vec, Global, get_or, length, take, map, inl, inr, sym, ap, ◌∙◌, subst, arith}
 use Rattle.std.specs.List.{All, AllZip}
 use Rattle.std.proofs.lemmas.Bool.{false≢true}
 use Rattle.std.proofs.lemmas.List.{map-append, take_more}
@@ -10,14 +10,14 @@ use Rattle.tiff_dir.specs.declared.limits.TheConstants.{BLOCK_SIZE}
 use Rattle.tiff_dir.specs.Block.{end_of}
 use Rattle.range_cache.specs.Cache.{Blocks}
 use Rattle.cog_reader.specs.Reader.{complete_of}
-use Rattle.cached_reader.specs.Going.{work}
+use Rattle.cached_reader.specs.Going.{CachedReader, work}
 use Rattle.cached_reader.specs.Early as reading
 use Rattle.cog_client.specs.declared.asking.Asking.{Asking}
 use Rattle.cog_client.specs.declared.report.Report.{Report}
 use Rattle.cog_client.specs.declared.source.Source.{Source}
 use Rattle.cog_client.specs.Feeding.{Feed}
-use Rattle.cog_client.specs.Client.{ClientState, Knows, asked_of, blocks_of, how_of, revision_of, to_come}
-use Rattle.cog_client.specs.Early.{AsksNothingEarly, IsEarly, IsNeededEarly, IsRequestFor}
+use Rattle.cog_client.specs.Client.{ClientState, Knows, asked_of, blocks_of, how_of, reader_of, revision_of, to_come}
+use Rattle.cog_client.specs.Early.{AsksNothingEarly, IsEarly, IsNeededEarly, IsRequestFor, LeaveNothing}
 use Rattle.cog_client.proofs.ClientLemmas.{known}
 
 module _ (e : Feed) (how : Asking) (h n : List ℕ) (q : Option Query) (asked : Span) (s : Source) (b : Blocks) (r : Option Report) (long : complete_of s.reader ≡ s.complete) where
@@ -45,6 +45,19 @@ module _ (e : Feed) (how : Asking) (h n : List ℕ) (q : Option Query) (asked : 
   pub early_spans : (spans : List Span) → All (reading.IsEarly (work s.reader b) how.ahead asked) spans → All (IsEarly (known e how h n q (Some asked) (Some s) b r)) spans
   unfolding asked_of revision_of
   early_spans spans all k d lt = early_span _ (all k d lt)
+
+  pub nothing_left : (spans : List Span) → All (reading.LeavesNothing (work s.reader b) asked spans) spans → LeaveNothing (known e how h n q (Some asked) (Some s) b r) spans
+  unfolding asked_of reader_of
+  nothing_left spans all = all
+
+-- before no spans nothing is left out
+pub none_left : (c : ClientState) → LeaveNothing c []
+none_left c = at (reader_of c) (asked_of c)
+  where
+    at : (w : Option CachedReader) (a : Option Span) → IfSome w (λ w. IfSome a (λ asked. All (reading.LeavesNothing w asked []) []))
+    at None a = tt
+    at (Some w) None = tt
+    at (Some w) (Some asked) = λ k d less. absurd (omega (arith, less))
 
 -- It keeps its connections, and looks ahead.
 pub asks_early : (e : Feed) (how : Asking) (h n : List ℕ) (q : Option Query) (asked : Option Span) (s : Option Source) (b : Blocks) (r : Option Report)

@@ -1,10 +1,11 @@
 -- An answer in pieces: its blocks are stored over what its head made of the client, until memory is wanting.
-use Rattle.std.proofs.Common.{◌≡◌, ℕ, ◌-◌, true, List, [], ◌++◌, length, take, Option, Some, None, Ok, refl, sym, ap, ◌∙◌, subst, arith, inl, inr}
+use Rattle.std.proofs.Common.{◌≡◌, ℕ, ◌-◌, ◌*◌, true, List, [], ◌++◌, length, take, Option, Some, None, Ok, refl, sym, ap, ◌∙◌, subst, arith, inl, inr}
 use Rattle.std.proofs.lemmas.Bool.{leb-true}
 use Rattle.std.proofs.lemmas.Option.{none-some}
 use Rattle.std.specs.Prelude.{IfSome, IsSome, is_some}
 use Rattle.tiff_dir.specs.declared.query.Query.{Query}
 use Rattle.tiff_dir.specs.declared.span.Span.{Span}
+use Rattle.tiff_dir.specs.declared.limits.TheConstants.{BLOCK_SIZE}
 use Rattle.http_range.specs.Announced.{Announced, body_behind}
 use Rattle.http_range.specs.Laws.{FrontsAreRead}
 use Rattle.http_range.specs.Piece.{SeenPiece}
@@ -21,7 +22,7 @@ use Rattle.cog_client.specs.declared.source.Source.{Source}
 use Rattle.cog_client.specs.Arrival.{StopsInBytes}
 use Rattle.cog_client.specs.Body.{IsStopped}
 use Rattle.cog_client.specs.Case.{Revision, case_of, is_beside}
-use Rattle.cog_client.specs.Client.{ClientState, IsAlone, IsClient, IsStanding, asked_of, blocks_of, feed_of, host_of, how_of, name_of, query_of, report_of, revision_of}
+use Rattle.cog_client.specs.Client.{ClientState, IsAlone, IsClient, IsStanding, MayKeep, asked_of, blocks_of, feed_of, host_of, how_of, name_of, query_of, report_of, revision_of}
 use Rattle.cog_client.specs.Fed.{case_of_head, piece_with}
 use Rattle.cog_client.specs.FedClient.{Begins, FedAllBut, FedBefore, FedBody, case_for}
 use Rattle.cog_client.specs.Feeding.{Feed, TakesNoBody, waits, unused, passed, follows}
@@ -174,10 +175,14 @@ module _ (law : FrontsAreRead) (lengths : (r : ReaderState) (f : List ℕ) → r
 
 -- a client stays sound where blocks of a body were stored
 pub stopped_sound : (e e' : Feed) (how : Asking) (h n : List ℕ) (q : Option Query) (a : Option Span) (s : Option Source) (b b' : Blocks) (r : Option Report) (bytes : List ℕ)
-    → IsClient (known e how h n q a s b r) → StopsInBytes e b bytes b' → IsClient (known e' how h n q a s b' r)
-stopped_sound e e' how h n q a s b b' r bytes c stops =
-    record { hosted = c.hosted; named = c.named; alone = at s e c.alone stops; reading = c.reading; standing = c.standing; few = c.few }
+    → IsClient (known e how h n q a s b r) → b'.capacity ≡ b.capacity → StopsInBytes e b bytes b' → IsClient (known e' how h n q a s b' r)
+stopped_sound e e' how h n q a s b b' r bytes c room stops =
+    record { hosted = c.hosted; named = c.named; alone = at s e c.alone stops; reading = c.reading; tiles = kept s c.tiles; standing = c.standing; few = c.few }
   where
+    kept : (o : Option Source) → IfSome o (MayKeep b) → IfSome o (MayKeep b')
+    kept None k = tt
+    kept (Some o) k = k ∙ ap (λ (n : ℕ). n * BLOCK_SIZE) (sym room)
+
     at : (o : Option Source) (x : Feed) → IsAlone o b r x → StopsInBytes x b bytes b' → IsAlone o b' r e'
     at (Some o) x alone stops = tt
     at None (waits p) alone stops = absurd stops

@@ -1,5 +1,6 @@
 -- The words for what callers know of a client, and when what it holds is of a published file.
 use Rattle.cached_reader.specs.declared.ahead.TheConstants.{MAX_BLOCKS}
+use Rattle.cached_reader.specs.Going.{CachedReader, work}
 use Rattle.std.specs.Prelude.{◌≡◌, ℕ, ◌+◌, ◌*◌, ◌<◌, Bool, not, ◌||◌, nat_lt, IsTrue, if◌then◌else◌, List, [], length, Option, Some, None, IfSome, IsSomeAnd, is_some, ⊤}
 use Rattle.std.specs.Option.{option_map, option_map_or}
 use Rattle.tiff_dir.specs.declared.query.Query.{Query}
@@ -12,6 +13,7 @@ use Rattle.tiff_dir.specs.declared.limits.TheConstants.{BLOCK_SIZE}
 use Rattle.range_cache.specs.Cache.{Blocks, Holds}
 use Rattle.cog_reader.specs.Outcome.{IsTrueOf}
 use Rattle.cog_reader.specs.Reader as reader
+use Rattle.tile_mosaic.specs.Unpacked.{KeptTile}
 use Rattle.cog_client.specs.declared.asking.Asking.{Asking}
 use Rattle.cog_client.specs.declared.error.ClientError.{ClientError}
 use Rattle.cog_client.specs.declared.error.ClientError.TheVariants.{Host, Name, Blocks as BadBlocks, Memory}
@@ -103,6 +105,14 @@ report_of c = c.report
 unfoldable pub feed_of : ClientState → Feed
 feed_of c = c.feed
 
+-- The reader of the file, and the blocks that it reads from, none without a revision.
+unfoldable pub reader_of : ClientState → Option CachedReader
+reader_of c = option_map (λ (s : Source). work s.reader c.cache) c.source
+
+-- The tiles that are kept unpacked, none without a revision.
+unfoldable pub tiles_of : ClientState → List KeptTile
+tiles_of c = option_map_or (λ (s : Source). (reader.tiles_of s.reader).tiles) c.source []
+
 -- The ranges of the file that the query still needs, none without a revision.
 unfoldable pub to_come : ClientState → List ℕ → List Extent
 to_come c f = option_map_or (λ (s : Source). reader.to_come s.reader f) c.source []
@@ -138,6 +148,10 @@ IsReadingOf q r s =
 abbrev pub IsStanding : Option Query → Option Span → Report → Type 0
 IsStanding q a r = (q ≡ Some r.query) × (a ≡ None)
 
+-- as many bytes of tiles may be kept unpacked as the blocks may have
+abbrev pub MayKeep : Blocks → Source → Type 0
+MayKeep b s = (reader.tiles_of s.reader).most ≡ b.capacity * BLOCK_SIZE
+
 -- no more than 65 blocks are asked for
 abbrev pub IsFew : Span → Type 0
 IsFew s = s.last < s.first + MAX_BLOCKS * BLOCK_SIZE
@@ -147,6 +161,7 @@ pub record IsClient (c : ClientState) : Type 0 where
   pub named : IsTrue (is_name c.name)
   pub alone : IsAlone c.source c.cache c.report c.feed
   pub reading : IfSome c.source (IsReadingOf c.query c.report)
+  pub tiles : IfSome c.source (MayKeep c.cache)
   pub standing : IfSome c.report (IsStanding c.query c.asked)
   pub few : IfSome c.asked IsFew
 

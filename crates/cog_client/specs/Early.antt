@@ -1,5 +1,5 @@
 -- The requests that a client makes early: before the answer came to what it asks for now.
-use Rattle.std.specs.Prelude.{◌≡◌, ℕ, ◌+◌, ◌-◌, ◌*◌, ◌<◌, ◌≤◌, ◌⊎◌, false, true, List, [], Some, IsSomeAnd, slice_get}
+use Rattle.std.specs.Prelude.{◌≡◌, ℕ, ◌+◌, ◌-◌, ◌*◌, ◌<◌, ◌≤◌, ◌⊎◌, false, true, List, [], Some, IfSome, IsSomeAnd, slice_get}
 use Rattle.std.specs.List.{All, AllZip}
 use Rattle.tiff_dir.specs.declared.span.Span.{Span}
 use Rattle.tiff_dir.specs.declared.limits.TheConstants.{BLOCK_SIZE}
@@ -10,8 +10,8 @@ use Rattle.range_cache.specs.Cache.{numbers}
 use Rattle.range_cache.specs.Numbers.{has}
 use Rattle.cached_reader.specs.declared.ahead.TheConstants.{MAX_BLOCKS}
 use Rattle.cached_reader.specs.Going.{OneTouches}
-use Rattle.cached_reader.specs.Early.{AreApart, IsRunIn}
-use Rattle.cog_client.specs.Client.{ClientState, Knows, ahead_of, asked_of, blocks_of, closes, host_of, name_of, revision_of, tag_of, to_come}
+use Rattle.cached_reader.specs.Early.{AreApart, IsRunIn, LeavesNothing}
+use Rattle.cog_client.specs.Client.{ClientState, Knows, ahead_of, asked_of, blocks_of, closes, host_of, name_of, reader_of, revision_of, tag_of, to_come}
 use Rattle.cog_client.specs.Calls.{request_for}
 
 -- In a file of this length the span is of the blocks from one number up to another, which begin in it, and are 65 at most. It lies behind
@@ -42,10 +42,16 @@ IsEarly c span = IsSomeAnd (asked_of c) (λ asked. IsSomeAnd (revision_of c) (λ
 abbrev pub AsksNothingEarly : ClientState → Type 0
 AsksNothingEarly c = (closes c ≡ true) ⊎ (ahead_of c ≡ 0)
 
--- Such spans, each of which lies behind all those before it; there are none where nothing is asked early.
+-- Before each of these spans nothing is left out of what the client's reader wants from now on.
+abbrev pub LeaveNothing : ClientState → List Span → Type 0
+LeaveNothing c spans = IfSome (reader_of c) (λ w. IfSome (asked_of c) (λ asked. All (LeavesNothing w asked spans) spans))
+
+-- Such spans, each of which lies behind all those before it, and nothing is left out between them; there are none where nothing is asked
+-- early.
 pub record AreEarly (c : ClientState) (spans : List Span) : Type 0 where
   pub each : All (IsEarly c) spans
   pub apart : AreApart spans
+  pub order : LeaveNothing c spans
   pub none : AsksNothingEarly c → spans ≡ []
 
 -- The text is the client's request for the span, under the condition that the file still has the revision's tag.

@@ -25,6 +25,7 @@ pub record Concludes (query : Query) (old : Source) (r : Option Report) (new : S
   pub tag : new.tag ≡ old.tag
   pub complete : new.complete ≡ old.complete
   pub length : reader.complete_of new.reader ≡ reader.complete_of old.reader
+  pub tiles : reader.tiles_of new.reader ≡ reader.tiles_of old.reader
   pub report : IfSome r (IsReportBy query old)
   pub unasked : IsSome r → reader.query_of new.reader ≡ None
   pub told : IsSome (reader.outcome_of old.reader) → IsSome r

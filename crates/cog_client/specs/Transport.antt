@@ -43,60 +43,76 @@ IsInVain query tries old new = (new ≡ old + tries) ⊎ (query ≡ None)
 
 -- ---- what is exchanged
 
--- In what follows answers says of a transport which texts may come of the answer to a request.
+-- In what follows answers says of a transport what may come of a request: Some of a text of its answer, None where that is lost.
+
+-- what comes of a request
+abbrev pub Coming : Type 1
+Coming = List ℕ → Option (List ℕ) → Type 0
 
 -- what may come later might have come before
-abbrev pub AnswersOn : (List ℕ → List ℕ → Type 0) → (List ℕ → List ℕ → Type 0) → Type 0
-AnswersOn before after = (request text : List ℕ) → after request text → before request text
+abbrev pub AnswersOn : Coming → Coming → Type 0
+AnswersOn before after = (request : List ℕ) (came : Option (List ℕ)) → after request came → before request came
 
--- The answer to a request is lost, or what came of it is taken.
-abbrev pub TakesOrLoses : (List ℕ → List ℕ → Type 0) → List ℕ → ClientState → ClientState → Type 0
+-- such a text comes of the answer, or it is lost
+abbrev pub OrLost : (List ℕ → List ℕ → Type 0) → Coming
+OrLost answers request None = ⊤
+OrLost answers request (Some text) = answers request text
+
+-- The answer to a request was lost on the way, or what came of it is taken.
+abbrev pub TakesOrLoses : Coming → List ℕ → ClientState → ClientState → Type 0
 TakesOrLoses answers request old new =
-    (new ≡ old) ⊎ ((text : List ℕ) × (what : Delivered) × answers request text × DeliversKeeping old text what new)
+    (answers request None × (new ≡ old)) ⊎ ((text : List ℕ) × (what : Delivered) × answers request (Some text) × DeliversKeeping old text what new)
 
 -- so it is, if there is a request
-abbrev pub TakesIfAsked : (List ℕ → List ℕ → Type 0) → Option (List ℕ) → ClientState → ClientState → Type 0
+abbrev pub TakesIfAsked : Coming → Option (List ℕ) → ClientState → ClientState → Type 0
 TakesIfAsked answers None old new = new ≡ old
 TakesIfAsked answers (Some request) old new = TakesOrLoses answers request old new
 
 -- The client is asked for its request, and what comes of the answer to it is taken.
-pub record FetchesOnce (answers : List ℕ → List ℕ → Type 0) (old new : ClientState) : Type 0 where
+pub record FetchesOnce (answers : Coming) (old new : ClientState) : Type 0 where
   pub request : Option (List ℕ)
   pub asking : ClientState
   pub asks : RequestsKeeping old request asking
   pub takes : TakesIfAsked answers request asking new
 
 -- So it is so many times, and nothing else is done to the client.
-abbrev pub Fetches : (List ℕ → List ℕ → Type 0) → ℕ → ClientState → ClientState → Type 0
+abbrev pub Fetches : Coming → ℕ → ClientState → ClientState → Type 0
 Fetches answers zero old new = new ≡ old
 Fetches answers (suc n) old new = (mid : ClientState) × Fetches answers n old mid × FetchesOnce answers mid new
 
 -- It is done some times.
-abbrev pub FetchesSome : (List ℕ → List ℕ → Type 0) → ClientState → ClientState → Type 0
+abbrev pub FetchesSome : Coming → ClientState → ClientState → Type 0
 FetchesSome answers old new = (n : ℕ) × Fetches answers n old new
 
--- any text may come of the answer to a request
-abbrev pub AnyText : List ℕ → List ℕ → Type 0
-AnyText request text = ⊤
+-- anything may come of a request
+abbrev pub Anything : Coming
+Anything request came = ⊤
+
+-- It is done so many times, and of these each but the last, and that one too unless there was no request any more, is one of the exchanges
+-- from the first number to the second.
+pub record FetchesAll (answers : Coming) (before after : ℕ) (old new : ClientState) : Type 0 where
+  pub times : ℕ
+  pub fetches : Fetches answers times old new
+  pub counted : (after ≡ before + times) ⊎ (after + 1 ≡ before + times)
 
 -- ---- want of memory
 
 -- Nothing of the answer to a request was taken, or a beginning of what came of it.
-abbrev pub StopsTaking : (List ℕ → List ℕ → Type 0) → List ℕ → ClientState → ClientState → Type 0
+abbrev pub StopsTaking : Coming → List ℕ → ClientState → ClientState → Type 0
 StopsTaking answers request old new =
-    (new ≡ old) ⊎ ((text : List ℕ) × answers request text × StopsDelivery old text new)
+    (new ≡ old) ⊎ ((text : List ℕ) × answers request (Some text) × StopsDelivery old text new)
 
 -- The client's request was made, and memory was wanting behind it.
-pub record StopsExchange (answers : List ℕ → List ℕ → Type 0) (old new : ClientState) : Type 0 where
+pub record StopsExchange (answers : Coming) (old new : ClientState) : Type 0 where
   pub request : List ℕ
   pub asking : ClientState
   pub asks : RequestsKeeping old (Some request) asking
   pub stops : StopsTaking answers request asking new
 
 -- Memory was wanting for the request, or behind it.
-abbrev pub StopsOnce : (List ℕ → List ℕ → Type 0) → ClientState → ClientState → Type 0
+abbrev pub StopsOnce : Coming → ClientState → ClientState → Type 0
 StopsOnce answers old new = StopsAsking old new ⊎ StopsExchange answers old new
 
 -- It was wanting in one exchange, after some.
-abbrev pub StopsFetching : (List ℕ → List ℕ → Type 0) → ClientState → ClientState → Type 0
+abbrev pub StopsFetching : Coming → ClientState → ClientState → Type 0
 StopsFetching answers old new = (mid : ClientState) × FetchesSome answers old mid × StopsOnce answers mid new

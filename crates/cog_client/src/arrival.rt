@@ -116,6 +116,7 @@ impl Arrival {
     pub fn take(&mut self, cache: &mut Cache, bytes: &[u8]) -> Result<(), Memory>
         ensures ok { OnOk result (TakesBytes self.old cache.old bytes.now self.new cache.new) }
         ensures err { OnErr result (StopsInBytes self.old cache.old bytes.now cache.new) }
+        ensures capacity { cache.new.capacity ≡ cache.old.capacity }
     {
         match &mut self.feeding {
             Feeding::Follows(_, _, body) => body.take(&mut self.part, cache, bytes),

@@ -46,6 +46,7 @@ fn store(
         (cache.new ≡ with_stored new cache.old) × (count ≡ stores cache.old.capacity new cache.old.entries)) }
     ensures err { OnErr result (let new = whole_blocks complete first bytes.now span in
         (k : ℕ) × (k < length new) × (cache.new ≡ with_stored (take k new) cache.old)) }
+    ensures capacity { cache.new.capacity ≡ cache.old.capacity }
 {
     stores_are_counted();
     pieces_bring_blocks();
@@ -102,6 +103,7 @@ impl Body {
         ensures ok { IfOk result (λ rest. (m : ℕ) × (rest.now ≡ drop m bytes.now) × (length rest.now ≤ self.new.left) × IsSeam self.new.next rest.now
             × Extends self.old part.old cache.old (take m bytes.now) self.new part.new cache.new) }
         ensures err { OnErr result (Stops self.old part.old cache.old bytes.now cache.new) }
+        ensures capacity { cache.new.capacity ≡ cache.old.capacity }
     {
         parts_bring_blocks();
         stores_are_counted();
@@ -146,6 +148,7 @@ impl Body {
         ensures room { length part.new ≡ BLOCK_SIZE }
         ensures ok { OnOk result (Extends self.old part.old cache.old bytes.now self.new part.new cache.new) }
         ensures err { OnErr result (Stops self.old part.old cache.old bytes.now cache.new) }
+        ensures capacity { cache.new.capacity ≡ cache.old.capacity }
     {
         parts_bring_blocks();
         stores_are_counted();
@@ -188,6 +191,7 @@ impl Body {
         ensures room { length part.new ≡ BLOCK_SIZE }
         ensures ok { OnOk result (Extends self.old part.old cache.old (take self.old.left bytes.now) self.new part.new cache.new) }
         ensures err { OnErr result (Stops self.old part.old cache.old (take self.old.left bytes.now) cache.new) }
+        ensures capacity { cache.new.capacity ≡ cache.old.capacity }
     {
         let count = self.left.min(bytes.len() as u64);
         let rest = self.finish(part, cache, &bytes[..count as usize])?;

@@ -99,16 +99,18 @@ impl Model for Client {
     }) };
 }
 
-#[tactic(auto, unfolding(crate::specs::Client::how_of, crate::specs::Client::host_of, crate::specs::Client::name_of, crate::specs::Client::query_of, crate::specs::Client::asked_of, crate::specs::Client::revision_of, crate::specs::Client::blocks_of, crate::specs::Client::report_of, crate::specs::Client::feed_of, crate::specs::Client::to_come, crate::specs::Client::AreDirectoriesKnown, crate::specs::Client::Knows, crate::specs::Client::ClientAgrees))]
+#[tactic(auto, unfolding(crate::specs::Client::how_of, crate::specs::Client::host_of, crate::specs::Client::name_of, crate::specs::Client::query_of, crate::specs::Client::asked_of, crate::specs::Client::revision_of, crate::specs::Client::blocks_of, crate::specs::Client::report_of, crate::specs::Client::feed_of, crate::specs::Client::to_come, crate::specs::Client::tiles_of, crate::specs::Client::AreDirectoriesKnown, crate::specs::Client::Knows, crate::specs::Client::ClientAgrees))]
 impl Client {
-    ghost use Rattle.std.specs.Prelude.{◌≡◌, ℕ, List, None, Some, IfErr, IfOk, IfSome, IsSome, IsTrue, MatchOption, OnErr, OnOk, option_copied};
+    ghost use Rattle.std.specs.Prelude.{◌≡◌, ◌*◌, ◌≤◌, ℕ, List, None, Some, IfErr, IfOk, IfSome, IsSome, IsTrue, MatchOption, OnErr, OnOk, option_copied};
     ghost use Rattle.std.specs.Option.{option_map};
     ghost use Rattle.tiff_dir.specs.Described.{AreLevels};
+    ghost use Rattle.tiff_dir.specs.declared.limits.TheConstants.{BLOCK_SIZE};
+    ghost use Rattle.tile_mosaic.specs.Unpacked.{size_of_tiles};
     ghost use Rattle.http_range.specs.Ask.{CanAsk, CanCheck};
     ghost use Rattle.http_range.specs.Announced.{announced};
     ghost use Rattle.http_range.specs.Tag.{is_kept_tag};
     ghost use Rattle.cog_client.specs.declared.delivered.Current.TheVariants.{Same};
-    ghost use Rattle.cog_client.specs.Client.{client_refusal, AreDirectoriesKnown, IsFew, IsClientRefusal, Knows, asked_of, feed_of, host_of, name_of, blocks_of, query_of, report_of, revision_of, tag_of};
+    ghost use Rattle.cog_client.specs.Client.{client_refusal, AreDirectoriesKnown, IsFew, IsClientRefusal, Knows, asked_of, feed_of, host_of, name_of, blocks_of, query_of, report_of, revision_of, tag_of, tiles_of};
     ghost use Rattle.cog_client.specs.FedClient.{revision_of_head};
     ghost use Rattle.cog_client.specs.Calls.{Forgets, Starts, request_for, unless_reported};
     ghost use Rattle.cog_client.specs.Keeps.{GoesOnKeeping, KeepsOpen, LooksAhead, Misses, OpensKeeping, RequestsKeeping, Stands, StopsAsking};
@@ -256,6 +258,15 @@ impl Client {
     {
         let source = self.source.as_ref()?;
         source.reader.levels()
+    }
+
+    /// The tiles that are kept unpacked have no more bytes together than the blocks may have. It does nothing: its contract is the law.
+    pub fn no_more_is_kept(&self)
+        ensures { size_of_tiles (tiles_of self.now) ≤ (blocks_of self.now).capacity * BLOCK_SIZE }
+    {
+        if let Some(source) = &self.source {
+            source.reader.no_more_is_kept();
+        }
     }
 
     /// Goes on as far as the blocks reach, and makes the next request: a GET with a Range of bytes (RFC 9110, section 14.2),

@@ -1,8 +1,8 @@
 //! What carries a client's requests, and brings the answers in pieces, as they arrive.
-ghost use Rattle.std.specs.Prelude.{◌≡◌, ◌+◌, ◌<◌, ◌≤◌, ◌^◌, ℕ, List, [], IfOk, OnErr, OnOk, length};
+ghost use Rattle.std.specs.Prelude.{◌≡◌, ◌+◌, ◌<◌, ◌≤◌, ◌^◌, ℕ, List, [], IfOk, OnErr, OnOk, length, ⊤};
 ghost use Rattle.http_range.specs.Book.{Book};
 ghost use Rattle.cog_client.specs.Pieces.{BringsOf};
-ghost use Rattle.cog_client.specs.Transport.{AnyText, IsTrueToAll, SpeaksOn};
+ghost use Rattle.cog_client.specs.Transport.{IsTrueToAll, SpeaksOn};
 
 use crate::transport::Lost;
 
@@ -12,7 +12,7 @@ pub trait Pieces {
     ghost speaks_for: { Self → Book → Type 0 };
 
     /// This text may come of the answer to this request. One that leaves this out says nothing of it.
-    ghost answers: { Self → List ℕ → List ℕ → Type 0 } = { λ _. AnyText };
+    ghost answers: { Self → List ℕ → List ℕ → Type 0 } = { λ _ _ _. ⊤ };
 
     /// The requests so far.
     ghost count: { Self → ℕ };

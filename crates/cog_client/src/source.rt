@@ -16,17 +16,18 @@ pub struct Source {
 
 impl Source {
     ghost use Rattle.std.specs.Prelude.{◌≡◌, ℕ, List, length};
-    ghost use Rattle.cog_reader.specs.Reader.{complete_of, query_of, ReaderAgrees};
+    ghost use Rattle.cog_reader.specs.Reader.{complete_of, query_of, tiles_of, ReaderAgrees};
     ghost use Rattle.cog_client.specs.Steps.{Concludes};
 
-    /// The head's revision, of which nothing is known yet. It is asked the query, if there is one, and keeps so many bytes of unpacked
-    /// tiles.
+    /// The head's revision, of which nothing is known yet. It is asked the query, if there is one, and may keep so many bytes of
+    /// unpacked tiles.
     pub fn new(alloc: Global, head: &Head, query: Option<Query>, unpacked: usize) -> Source
         ensures tag { result.tag ≡ head.now.tag }
         ensures complete { result.complete ≡ head.now.complete }
         ensures agrees { (f : List ℕ) → length f ≡ head.now.complete → ReaderAgrees result.reader f }
         ensures length { complete_of result.reader ≡ head.now.complete }
         ensures query { query_of result.reader ≡ query }
+        ensures tiles { (tiles_of result.reader).most ≡ unpacked }
     {
         let mut reader = Reader::keeping(alloc, head.complete, unpacked);
         match query {

@@ -1,7 +1,7 @@
 //! What carries a client's requests, and brings the answers.
-ghost use Rattle.std.specs.Prelude.{◌≡◌, ◌+◌, ◌<◌, ◌^◌, ℕ, IfOk, List};
+ghost use Rattle.std.specs.Prelude.{◌≡◌, ◌+◌, ◌<◌, ◌^◌, ℕ, IfOk, List, OnErr, Option, Some, None};
 ghost use Rattle.http_range.specs.Book.{Book};
-ghost use Rattle.cog_client.specs.Transport.{AnswersOn, AnyText, IsTrueToAll, SpeaksOn};
+ghost use Rattle.cog_client.specs.Transport.{AnswersOn, Anything, IsTrueToAll, SpeaksOn};
 
 use thiserror::Error;
 
@@ -15,8 +15,8 @@ pub trait Transport {
     /// It speaks for this book: each piece of a file that is read of what it brings is of a publication of it, by its tag, length and bytes.
     ghost speaks_for: { Self → Book → Type 0 };
 
-    /// This text may come of the answer to this request. One that leaves this out says nothing of it.
-    ghost answers: { Self → List ℕ → List ℕ → Type 0 } = { λ _. AnyText };
+    /// This may come of this request: Some of a text of its answer, None where that is lost. One that leaves this out says nothing of it.
+    ghost answers: { Self → List ℕ → Option (List ℕ) → Type 0 } = { λ _. Anything };
 
     /// The exchanges so far.
     ghost count: { Self → ℕ };
@@ -24,7 +24,8 @@ pub trait Transport {
     /// One exchange: sends a request, and gives what came of its answer.
     fn exchange(&mut self, request: &[u8]) -> Result<Vec<u8>, Lost>
         requires { count self.old + 1 < 2 ^ 64 }
-        ensures answered { IfOk result (λ text. answers self.old request.now text.items) }
+        ensures answered { IfOk result (λ text. answers self.old request.now (Some text.items)) }
+        ensures lost { OnErr result (answers self.old request.now None) }
         ensures goes_on { AnswersOn (answers self.old) (answers self.new) }
         ensures shows { IfOk result (λ text. IsTrueToAll (speaks_for self.old) text.items) }
         ensures speaks { SpeaksOn (speaks_for self.old) (speaks_for self.new) }

@@ -1,3 +1,4 @@
 pub mod TakeLemmas
 pub mod FetchLemmas
 pub mod EndLemmas
+pub mod ReportLemmas

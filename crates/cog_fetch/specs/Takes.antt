@@ -1,11 +1,12 @@
 -- What a client takes of an answer that comes in pieces, and what the whole of it leaves.
-use Rattle.std.specs.Prelude.{◌≡◌, ◌<◌, ℕ, List, ◌++◌}
+use Rattle.std.specs.Prelude.{◌≡◌, ◌<◌, ℕ, List, ◌++◌, Some}
 use Rattle.http_range.specs.Book.{Book, HasDistinctTags}
 use Rattle.http_range.specs.Honest.{IsFront, IsPieceOfBook, IsReadAs}
 use Rattle.cog_client.specs.Calls.{SameClient}
 use Rattle.cog_client.specs.Client.{ClientAgrees, ClientState, name_of}
 use Rattle.cog_client.specs.FedClient.{Fed}
 use Rattle.cog_client.specs.Keeps.{StopsDelivery}
+use Rattle.cog_client.specs.Transport.{Coming}
 
 -- In what follows speaks is what a source speaks for, and rest what of its answer was still to come.
 
@@ -42,5 +43,5 @@ pub record TakesAnswer (speaks : Book → Type 0) (rest : List ℕ) (old new : C
   pub agrees : (book : Book) → HasDistinctTags book → ClientAgrees old book → IsReadAs (IsPieceOfBook (name_of old) book) bytes → ClientAgrees new book
 
 -- Memory was wanting behind a beginning of what came of the answer to a request.
-abbrev pub StopsWithin : (List ℕ → List ℕ → Type 0) → List ℕ → ClientState → ClientState → Type 0
-StopsWithin answers request old new = (text : List ℕ) × answers request text × StopsDelivery old text new
+abbrev pub StopsWithin : Coming → List ℕ → ClientState → ClientState → Type 0
+StopsWithin answers request old new = (text : List ℕ) × answers request (Some text) × StopsDelivery old text new

@@ -1,7 +1,7 @@
 //! One exchange: a request is sent, and what comes of its answer is taken.
-ghost use Rattle.std.specs.Prelude.{◌≡◌, ◌+◌, ◌<◌, ◌^◌, ℕ, List, OnErr, OnOk};
+ghost use Rattle.std.specs.Prelude.{◌≡◌, ◌+◌, ◌<◌, ◌^◌, ℕ, List, OnErr, OnOk, Option};
 ghost use Rattle.http_range.specs.Book.{Book};
-ghost use Rattle.cog_client.specs.Transport.{AnswersOn, AnyText, KeepsReading, SpeaksOn, TakesOrLoses};
+ghost use Rattle.cog_client.specs.Transport.{AnswersOn, Anything, KeepsReading, SpeaksOn, TakesOrLoses};
 ghost use Rattle.cog_fetch.specs.Takes.{StopsWithin};
 
 use crate::taking::take_answer;
@@ -12,8 +12,8 @@ pub(crate) trait Exchange<S> {
     /// It speaks for this book: each piece of a file that is read of what it brings is of a publication of it, by its tag, length and bytes.
     ghost speaks_for: { S → Book → Type 0 };
 
-    /// This text may come of the answer to this request.
-    ghost answers: { S → List ℕ → List ℕ → Type 0 };
+    /// This may come of this request: Some of a text of its answer, None where that is lost.
+    ghost answers: { S → List ℕ → Option (List ℕ) → Type 0 };
 
     /// The exchanges so far.
     ghost count: { S → ℕ };
@@ -79,7 +79,7 @@ pub(crate) struct InPieces;
 impl<P: Pieces> Exchange<P> for InPieces {
     ghost speaks_for = { P.speaks_for };
 
-    ghost answers = { λ _. AnyText };
+    ghost answers = { λ _. Anything };
 
     ghost count = { P.count };
 

@@ -4,13 +4,17 @@ ghost use Rattle.std.specs.Prelude.{if◌then◌else◌, option_copied};
 ghost use Rattle.std.specs.Borrow.{sem};
 ghost use Rattle.std.specs.Io.BufRead.{Rests};
 ghost use Rattle.cog_client.specs.contracts.client.Client.{the_row};
-ghost use Rattle.cog_client.specs.Client.{query_of, report_of};
+ghost use Rattle.tiff_dir.specs.declared.query.Query.{Query};
+ghost use Rattle.tiff_dir.specs.Query.{cost};
+ghost use Rattle.http_range.specs.Book.{Book, HasDistinctTags, In, Publication};
+ghost use Rattle.cog_client.specs.Client.{ClientAgrees, ClientState, name_of, query_of, report_of};
 ghost use Rattle.cog_client.specs.Calls.{IsIdle};
-ghost use Rattle.cog_client.specs.Keeps.{Stands};
-ghost use Rattle.cog_client.specs.Transport.{AnswersOn, AnyText, FetchesOnce, FetchesSome, StopsFetching, StopsOnce, IsInVain, IsTrueOfBooks, KeepsReading};
+ghost use Rattle.cog_client.specs.Keeps.{OpensKeeping, Stands};
+ghost use Rattle.cog_client.specs.Transport.{AnswersOn, Anything, FetchesAll, FetchesOnce, StopsFetching, StopsOnce, IsInVain, IsTrueOfBooks, KeepsReading};
+ghost use Rattle.cog_fetch.specs.Serves.{Serves};
 
 use crate::exchange::{Exchange, InPieces, Whole};
-use cog_client::{Client, FetchError, Pieces, Report, Transport};
+use cog_client::{Client, FetchError, Pieces, Report, Transport, whole_answers_report};
 
 /// One exchange, if the client has a request. Says whether it had one. At most so many follow.
 fn exchange_once<S, E: Exchange<S>>(
@@ -47,7 +51,7 @@ fn exchange_up_to<S, E: Exchange<S>>(
 ) -> Result<(), FetchError>
     requires { E.count source.old + tries < 2 ^ 64 }
     ensures keeps { KeepsReading (E.speaks_for source.old) (E.speaks_for source.new) client.old client.new }
-    ensures fetches { OnOk result (FetchesSome (E.answers source.old) client.old client.new) }
+    ensures fetches { OnOk result (FetchesAll (E.answers source.old) (E.count source.old) (E.count source.new) client.old client.new) }
     ensures stops { OnErr result (StopsFetching (E.answers source.old) client.old client.new) }
     ensures ends { OnOk result ((E.count source.new ≡ E.count source.old + tries) ⊎ IsIdle client.new) }
     ensures few { E.count source.new ≤ E.count source.old + tries }
@@ -73,11 +77,12 @@ pub fn fetch<'c, T: Transport>(
     requires { T.count transport.old + tries < 2 ^ 64 }
 
     // A client that reads a book for which the transport speaks reads it still, whatever was lost or cut, and
-    // after want of memory too. What is given is its standing report. Its own requests were sent one after another, and what
-    // came of their answers taken, and nothing else was done to it; want of memory came in the last of them.
+    // after want of memory too. What is given is its standing report. Its own requests were sent one after another, in each of the
+    // exchanges one, and what came of their answers was taken, unless the transport lost it, and nothing else was done to it; want of memory
+    // came in the last of them.
     ensures* client { sem 𝓛 (Rests the_row client.entry (λ c.
         KeepsReading (T.speaks_for transport.old) (T.speaks_for transport.new) client.old c
-        × IfOk result (λ report. Stands c (option_copied report) × FetchesSome (T.answers transport.old) client.old c)
+        × IfOk result (λ report. Stands c (option_copied report) × FetchesAll (T.answers transport.old) (T.count transport.old) (T.count transport.new) client.old c)
         × OnErr result (StopsFetching (T.answers transport.old) client.old c))) }
 
     // A report is true of one publication of that book: of the one whose tag it tells.
@@ -87,6 +92,12 @@ pub fn fetch<'c, T: Transport>(
     // There is none only after so many exchanges, or without a query.
     ensures none { IfOk result (λ report. report ≡ None
         → IsInVain (query_of client.old) tries (T.count transport.old) (T.count transport.new)) }
+
+    // Where the transport loses nothing, and brings answers of one publication alone that have all that is asked for, or the whole file, there
+    // is one behind an opening by as many exchanges as the query costs, and one more.
+    ensures reports { (book : Book) (p : Publication) (q : Query) (before : ClientState) → HasDistinctTags book → In p book → p.name ≡ name_of before
+        → ClientAgrees before book → OpensKeeping q before client.old → Serves (T.answers transport.old) p → cost p.file q + 1 ≤ tries
+        → IfOk result (λ report. IsSome (option_copied report)) }
     ensures few { T.count transport.new ≤ T.count transport.old + tries }
 
     // Where there is no query, or the report stands already, nothing is sent, and that report is given.
@@ -94,6 +105,7 @@ pub fn fetch<'c, T: Transport>(
     ensures stands { IsSome (report_of client.old)
         → IfOk result (λ report. option_copied report ≡ report_of client.old) }
 {
+    whole_answers_report();
     exchange_up_to::<T, Whole>(client, transport, tries)?;
     Ok(client.report())
 }
@@ -114,8 +126,9 @@ pub fn fetch_pieces<'c, P: Pieces>(
     // was done to it; want of memory came in the last of them.
     ensures* client { sem 𝓛 (Rests the_row client.entry (λ c.
         KeepsReading (P.speaks_for pieces.old) (P.speaks_for pieces.new) client.old c
-        × IfOk result (λ report. Stands c (option_copied report) × FetchesSome AnyText client.old c)
-        × OnErr result (StopsFetching AnyText client.old c))) }
+        × IfOk result (λ report. Stands c (option_copied report)
+            × FetchesAll Anything (P.count pieces.old) (P.count pieces.new) client.old c)
+        × OnErr result (StopsFetching Anything client.old c))) }
 
     // A report is true of one publication of that book: of the one whose tag it tells.
     ensures report { IfOk result (λ report.
@@ -144,8 +157,8 @@ pub fn exchange_pieces<P: Pieces>(
 ) -> Result<bool, FetchError>
     requires { P.count pieces.old + 1 < 2 ^ 64 }
     ensures keeps { KeepsReading (P.speaks_for pieces.old) (P.speaks_for pieces.new) client.old client.new }
-    ensures fetches { OnOk result (FetchesOnce AnyText client.old client.new) }
-    ensures stops { OnErr result (StopsOnce AnyText client.old client.new) }
+    ensures fetches { OnOk result (FetchesOnce Anything client.old client.new) }
+    ensures stops { OnErr result (StopsOnce Anything client.old client.new) }
     ensures counted { IfOk result (λ asked. P.count pieces.new
         ≡ (if asked then P.count pieces.old + 1 else P.count pieces.old)) }
     ensures few { P.count pieces.new ≤ P.count pieces.old + 1 }

@@ -2,7 +2,7 @@
 ghost use Rattle.std.specs.Prelude.{◌≡◌, ◌+◌, ◌<◌, ◌≤◌, ◌^◌, ◌⊎◌, IsSome, OnErr, OnOk};
 ghost use Rattle.cog_client.specs.Calls.{IsIdle};
 ghost use Rattle.cog_client.specs.Client.{report_of};
-ghost use Rattle.cog_client.specs.Transport.{AnyText, FetchesSome, KeepsReading, StopsFetching};
+ghost use Rattle.cog_client.specs.Transport.{Anything, FetchesSome, KeepsReading, StopsFetching};
 ghost use Rattle.exchange_notes.specs.Noted.{source_of};
 
 use crate::noted::{Noted, Progress};
@@ -35,8 +35,8 @@ pub fn exchanges_drawn<R: Eprint, P: Pieces>(
 
     // Its requests are asked for, and what comes of the answers is taken, in turn, and nothing else is done to it; want of memory came
     // in the last of them.
-    ensures fetches { OnOk result (FetchesSome AnyText client.old client.new) }
-    ensures stops { OnErr result (StopsFetching AnyText client.old client.new) }
+    ensures fetches { OnOk result (FetchesSome Anything client.old client.new) }
+    ensures stops { OnErr result (StopsFetching Anything client.old client.new) }
 
     // Where there is no query, or the report stands already, nothing is sent, and that report stays.
     ensures idle { IsIdle client.old → P.count (source_of noted.new) ≡ P.count (source_of noted.old) }

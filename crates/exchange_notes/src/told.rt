@@ -2,7 +2,7 @@
 ghost use Rattle.std.specs.Prelude.{◌≡◌, ◌+◌, ◌<◌, ◌≤◌, ◌^◌, ◌⊎◌, IfOk, IsSome, OnErr, OnOk, false, if◌then◌else◌};
 ghost use Rattle.cog_client.specs.Calls.{IsIdle};
 ghost use Rattle.cog_client.specs.Client.{report_of};
-ghost use Rattle.cog_client.specs.Transport.{AnyText, FetchesOnce, FetchesSome, KeepsReading, StopsFetching, StopsOnce};
+ghost use Rattle.cog_client.specs.Transport.{Anything, FetchesOnce, FetchesSome, KeepsReading, StopsFetching, StopsOnce};
 ghost use Rattle.exchange_notes.specs.Noted.{source_of};
 
 use crate::clock::moment;
@@ -34,8 +34,8 @@ fn exchange_told<R: Eprint + Clock, P: Pieces>(
     ensures counted { IfOk result (λ asked. P.count (source_of noted.new)
         ≡ (if asked then P.count (source_of noted.old) + 1 else P.count (source_of noted.old))) }
     ensures few { P.count (source_of noted.new) ≤ P.count (source_of noted.old) + 1 }
-    ensures fetches { OnOk result (FetchesOnce AnyText client.old client.new) }
-    ensures stops { OnErr result (StopsOnce AnyText client.old client.new) }
+    ensures fetches { OnOk result (FetchesOnce Anything client.old client.new) }
+    ensures stops { OnErr result (StopsOnce Anything client.old client.new) }
     ensures silent { IfOk result (λ asked. asked ≡ false → IsIdle client.new) }
     ensures idle { IsIdle client.old
         → (P.count (source_of noted.new) ≡ P.count (source_of noted.old)) × OnOk result (IsIdle client.new) }
@@ -86,8 +86,8 @@ pub fn exchanges_told<R: Eprint + Clock, P: Pieces>(
 
     // Its requests are asked for, and what comes of the answers is taken, in turn, and nothing else is done to it; want of memory came
     // in the last of them.
-    ensures fetches { OnOk result (FetchesSome AnyText client.old client.new) }
-    ensures stops { OnErr result (StopsFetching AnyText client.old client.new) }
+    ensures fetches { OnOk result (FetchesSome Anything client.old client.new) }
+    ensures stops { OnErr result (StopsFetching Anything client.old client.new) }
 
     // Where there is no query, or the report stands already, nothing is sent, and that report stays.
     ensures idle { IsIdle client.old → P.count (source_of noted.new) ≡ P.count (source_of noted.old) }

@@ -8,7 +8,7 @@ use Rattle.cog_client.specs.declared.report.Report.{Report}
 use Rattle.cog_client.specs.Calls.{IsIdle}
 use Rattle.cog_client.specs.Client.{ClientState, name_of, query_of, report_of}
 use Rattle.cog_client.specs.Keeps.{OpensKeeping}
-use Rattle.cog_client.specs.Transport.{AnyText, FetchesSome, KeepsReading, ReadsBook, StopsFetching}
+use Rattle.cog_client.specs.Transport.{Anything, FetchesSome, KeepsReading, ReadsBook, StopsFetching}
 use Rattle.reading.specs.declared.reading.Asked.{Asked}
 use Rattle.reading.specs.declared.reading.Asked.TheVariants as asked
 use Rattle.reading.specs.Exchanges.{AsksOf, Ends, IsAskedFor, ReadsSome, StopsReading}
@@ -78,23 +78,23 @@ on_ok (Err e) P h = tt
 
 -- one query more
 pub reads_more : (a : Asked) (q : Query) (old mid opened new : ClientState) → IsAskedFor a q → ReadsSome a old mid → OpensKeeping q mid opened
-    → FetchesSome AnyText opened new → ReadsSome a old new
+    → FetchesSome Anything opened new → ReadsSome a old new
 reads_more a q old mid opened new for (n, are) opens fetches = (suc n, (mid, opened, q, for, are, opens, fetches))
 
 -- the first one
 pub reads_one : {T E : Type 0} (r : Result T E) (a : Asked) (q : Query) (old opened new : ClientState) → IsAskedFor a q → OpensKeeping q old opened
-    → OnOk r (FetchesSome AnyText opened new) → OnOk r (ReadsSome a old new)
+    → OnOk r (FetchesSome Anything opened new) → OnOk r (ReadsSome a old new)
 reads_one (Ok x) a q old opened new for opens fetches = reads_more a q old old opened new for (zero, refl) opens fetches
 reads_one (Err e) a q old opened new for opens fetches = tt
 
 -- memory was wanting in the exchanges for one query more
 pub stops_more : {T E : Type 0} (r : Result T E) (a : Asked) (q : Query) (old mid opened new : ClientState) → IsAskedFor a q → ReadsSome a old mid
-    → OpensKeeping q mid opened → StopsFetching AnyText opened new → OnErr r (StopsReading a old new)
+    → OpensKeeping q mid opened → StopsFetching Anything opened new → OnErr r (StopsReading a old new)
 stops_more (Ok x) a q old mid opened new for are opens stops = tt
 stops_more (Err e) a q old mid opened new for are opens stops = (mid, opened, q, for, are, opens, stops)
 
 -- in those for the first one
 pub stops_one : {T E : Type 0} (r : Result T E) (a : Asked) (q : Query) (old opened new : ClientState) → IsAskedFor a q → OpensKeeping q old opened
-    → OnErr r (StopsFetching AnyText opened new) → OnErr r (StopsReading a old new)
+    → OnErr r (StopsFetching Anything opened new) → OnErr r (StopsReading a old new)
 stops_one (Ok x) a q old opened new for opens stops = tt
 stops_one (Err e) a q old opened new for opens stops = (old, opened, q, for, (zero, refl), opens, stops)

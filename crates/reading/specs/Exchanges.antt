@@ -6,7 +6,7 @@ use Rattle.tiff_dir.specs.declared.query.Pick.TheVariants.{Level}
 use Rattle.http_range.specs.Book.{Publication, Book, In}
 use Rattle.cog_client.specs.Client.{ClientState, query_of, report_of}
 use Rattle.cog_client.specs.Keeps.{OpensKeeping}
-use Rattle.cog_client.specs.Transport.{AnyText, FetchesSome, ReadsBook, StopsFetching}
+use Rattle.cog_client.specs.Transport.{Anything, FetchesSome, ReadsBook, StopsFetching}
 use Rattle.reading.specs.declared.reading.Asked.{Asked}
 use Rattle.reading.specs.declared.reading.Asked.TheVariants as asked
 use Rattle.reading.specs.Text.{IsFor}
@@ -34,7 +34,7 @@ IsAskedFor (asked.Description form) q = q ≡ Info
 abbrev pub ReadsQueries : Asked → ℕ → ClientState → ClientState → Type 0
 ReadsQueries a zero old new = new ≡ old
 ReadsQueries a (suc n) old new = (mid opened : ClientState) × (query : Query) × IsAskedFor a query
-    × ReadsQueries a n old mid × OpensKeeping query mid opened × FetchesSome AnyText opened new
+    × ReadsQueries a n old mid × OpensKeeping query mid opened × FetchesSome Anything opened new
 
 -- some are put so
 abbrev pub ReadsSome : Asked → ClientState → ClientState → Type 0
@@ -43,4 +43,4 @@ ReadsSome a old new = (n : ℕ) × ReadsQueries a n old new
 -- Memory was wanting in the exchanges for one query, after some.
 abbrev pub StopsReading : Asked → ClientState → ClientState → Type 0
 StopsReading a old new = (mid opened : ClientState) × (query : Query) × IsAskedFor a query
-    × ReadsSome a old mid × OpensKeeping query mid opened × StopsFetching AnyText opened new
+    × ReadsSome a old mid × OpensKeeping query mid opened × StopsFetching Anything opened new

@@ -5,7 +5,7 @@ ghost use Rattle.cog_client.specs.Calls.{IsIdle};
 ghost use Rattle.cog_client.specs.declared.report.Report.{Report};
 ghost use Rattle.cog_client.specs.Client.{name_of, report_of, ClientAgrees};
 ghost use Rattle.cog_client.specs.Keeps.{RequestsKeeping, Stands};
-ghost use Rattle.cog_client.specs.Transport.{AnyText, FetchesSome, KeepsReading, ReadsBook, StopsFetching};
+ghost use Rattle.cog_client.specs.Transport.{Anything, FetchesSome, KeepsReading, ReadsBook, StopsFetching};
 ghost use Rattle.exchange_notes.specs.Noted.{source_of};
 ghost use Rattle.reading.specs.declared.error.ReadError.TheVariants.{NoReport};
 ghost use Rattle.reading.specs.declared.reading.Asked.TheVariants.{Whole};
@@ -77,8 +77,8 @@ impl<R: Eprint + Clock + AllocGlobal> Exchanges<'_, '_, R> {
 
         // Its requests are asked for, and what comes of the answers is taken, in turn, and nothing else is done to it: what is asked
         // where no exchange is left has no answer. Want of memory came in the last of them.
-        ensures fetches { OnOk result (FetchesSome AnyText client.old client.new) }
-        ensures stops { OnErr result (StopsFetching AnyText client.old client.new) }
+        ensures fetches { OnOk result (FetchesSome Anything client.old client.new) }
+        ensures stops { OnErr result (StopsFetching Anything client.old client.new) }
     {
         let left = left(noted, self.requests);
         if left == 0 {

@@ -1,7 +1,8 @@
 -- What others know of the transports here.
-use Rattle.std.specs.Prelude.{ℕ, ◌==◌, ◌⊎◌, if◌then◌else◌, List, [], ◌∷◌, drop}
+use Rattle.std.specs.Prelude.{ℕ, ◌==◌, ◌⊎◌, if◌then◌else◌, List, [], ◌∷◌, drop, Some}
 use Rattle.http_range.specs.Book.{Book}
 use Rattle.http_range.specs.Honest.{IsFront}
+use Rattle.cog_client.specs.Transport.{Coming}
 use Rattle.cog_server.specs.Server.{ServerState}
 use Rattle.transports.specs.declared.in_memory.InMemory.{InMemory}
 use Rattle.transports.specs.declared.in_pieces.InPieces.{InPieces}
@@ -48,8 +49,8 @@ AnswersOfEither s request text =
     IsAnswerAbout s.before.now.catalogue s.name.now request text ⊎ IsAnswerAbout s.after.now.catalogue s.name.now request text
 
 -- a front of what may come of the answer to a request
-abbrev pub FrontsOf : (List ℕ → List ℕ → Type 0) → List ℕ → List ℕ → Type 0
-FrontsOf answers request text = (whole : List ℕ) × answers request whole × IsFront text whole
+abbrev pub FrontsOf : Coming → List ℕ → List ℕ → Type 0
+FrontsOf answers request text = (whole : List ℕ) × answers request (Some whole) × IsFront text whole
 
 -- the transport whose answers are lost and cut
 abbrev pub inner_of : {T : Type 0} → Scripted T → T

@@ -69,13 +69,13 @@ impl<'s> InMemory<'s> {
 
 impl Transport for InMemory<'_> {
     ghost use Rattle.std.specs.Prelude.{◌≡◌, ◌+◌, ◌<◌, ◌^◌, IfOk};
-    ghost use Rattle.cog_client.specs.Transport.{AnswersOn, IsTrueToAll, SpeaksOn};
+    ghost use Rattle.cog_client.specs.Transport.{AnswersOn, IsTrueToAll, OrLost, SpeaksOn};
     ghost use Rattle.transports.specs.InMemory.{IsAnswerAbout, StandsIn};
     ghost use Rattle.transports.specs.Transports.{exchanges_of, served_name, served_state};
 
     ghost speaks_for = { λ s. StandsIn (served_state s).catalogue (served_name s) };
 
-    ghost answers = { λ s. IsAnswerAbout (served_state s).catalogue (served_name s) };
+    ghost answers = { λ s. OrLost (IsAnswerAbout (served_state s).catalogue (served_name s)) };
 
     ghost count = { exchanges_of };
 
@@ -89,8 +89,8 @@ impl Transport for InMemory<'_> {
         ensures name { served_name self.new ≡ served_name self.old }
 
         // So it keeps the trait's law.
-        ensures goes_on { AnswersOn (IsAnswerAbout (served_state self.old).catalogue (served_name self.old))
-            (IsAnswerAbout (served_state self.new).catalogue (served_name self.new)) }
+        ensures goes_on { AnswersOn (OrLost (IsAnswerAbout (served_state self.old).catalogue (served_name self.old)))
+            (OrLost (IsAnswerAbout (served_state self.new).catalogue (served_name self.new))) }
         ensures shows { IfOk result (λ text.
             IsTrueToAll (StandsIn (served_state self.old).catalogue (served_name self.old)) text.items) }
         ensures speaks { SpeaksOn (StandsIn (served_state self.old).catalogue (served_name self.old))

@@ -61,12 +61,12 @@ impl<'p, T> InPieces<'p, T> {
 }
 
 impl<T: Transport> Pieces for InPieces<'_, T> {
-    ghost use Rattle.std.specs.Prelude.{◌≡◌, ◌+◌, ◌<◌};
+    ghost use Rattle.std.specs.Prelude.{◌≡◌, ◌+◌, ◌<◌, Some};
     ghost use Rattle.transports.specs.Transports.{rest_of, source_of};
 
     ghost speaks_for = { λ s. T.speaks_for (source_of s) };
 
-    ghost answers = { λ s. T.answers (source_of s) };
+    ghost answers = { λ s request text. T.answers (source_of s) request (Some text) };
 
     ghost count = { λ s. T.count (source_of s) };
 

@@ -38,13 +38,13 @@ impl<'s> Replaced<'s> {
 
 impl Transport for Replaced<'_> {
     ghost use Rattle.std.specs.Prelude.{◌≡◌, ◌+◌, ◌-◌, ◌<◌, ◌^◌, IfOk};
-    ghost use Rattle.cog_client.specs.Transport.{AnswersOn, IsTrueToAll, SpeaksOn};
+    ghost use Rattle.cog_client.specs.Transport.{AnswersOn, IsTrueToAll, OrLost, SpeaksOn};
     ghost use Rattle.transports.specs.InMemory.{IsAnswerAbout};
     ghost use Rattle.transports.specs.Transports.{AnswersOfEither, StandInBoth, count_of, left_of, name_of, state_in_turn, states_of};
 
     ghost speaks_for = { StandInBoth };
 
-    ghost answers = { AnswersOfEither };
+    ghost answers = { λ s. OrLost (AnswersOfEither s) };
 
     ghost count = { count_of };
 
@@ -60,7 +60,7 @@ impl Transport for Replaced<'_> {
 
         // So it keeps the trait's law.
         ensures answered { IfOk result (λ text. AnswersOfEither self.old request.now text.items) }
-        ensures goes_on { AnswersOn (AnswersOfEither self.old) (AnswersOfEither self.new) }
+        ensures goes_on { AnswersOn (OrLost (AnswersOfEither self.old)) (OrLost (AnswersOfEither self.new)) }
         ensures shows { IfOk result (λ text. IsTrueToAll (StandInBoth self.old) text.items) }
         ensures speaks { SpeaksOn (StandInBoth self.old) (StandInBoth self.new) }
         ensures counted { count_of self.new ≡ count_of self.old + 1 }

@@ -64,11 +64,12 @@ impl<'f, T> Scripted<'f, T> {
 }
 
 impl<T: Transport> Transport for Scripted<'_, T> {
+    ghost use Rattle.cog_client.specs.Transport.{OrLost};
     ghost use Rattle.transports.specs.Transports.{FrontsOf, inner_of};
 
     ghost speaks_for = { λ s. T.speaks_for (inner_of s) };
 
-    ghost answers = { λ s. FrontsOf (T.answers (inner_of s)) };
+    ghost answers = { λ s. OrLost (FrontsOf (T.answers (inner_of s))) };
 
     ghost count = { λ s. T.count (inner_of s) };
 

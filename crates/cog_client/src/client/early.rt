@@ -2,16 +2,16 @@
 ghost use Rattle.std.specs.Prelude.{◌≡◌, ◌≤◌, [], IfOk, IsOk, length, map};
 ghost use Rattle.std.specs.List.{All};
 ghost use Rattle.cached_reader.specs.Early.{AreApart};
-ghost use Rattle.cog_client.specs.Early.{AreEarlyRequests, AsksNothingEarly, IsEarly};
+ghost use Rattle.cog_client.specs.Early.{AreEarlyRequests, AsksNothingEarly, IsEarly, LeaveNothing};
 
 use crate::client::Client;
 use cached_reader::early_spans;
 use tiff_dir::{Memory, Span};
 
-#[tactic(auto, unfolding(crate::specs::Client::asked_of, crate::specs::Client::blocks_of, crate::specs::Client::to_come, crate::specs::Client::Knows))]
+#[tactic(auto, unfolding(crate::specs::Client::asked_of, crate::specs::Client::blocks_of, crate::specs::Client::reader_of, crate::specs::Client::to_come, crate::specs::Client::Knows))]
 impl Client {
-    /// The requests that follow the last one where each answer comes whole, the next one first: at most `most`, and none where requests
-    /// close their connections or don't look ahead. Whoever sends them early, one behind another on a connection (RFC 9112, section
+    /// The requests that follow the last one where each answer comes whole, the next one first, with none left out: at most `most`, and
+    /// none where requests close their connections or don't look ahead. Whoever sends them early, one behind another on a connection (RFC 9112, section
     /// 9.3.2), takes the answers as ever: `request` makes each of them once more when its turn comes, or another one, where an answer
     /// came otherwise. `Memory` is the only error.
     pub fn early_requests(&self, most: u32) -> Result<Vec<Vec<u8>>, Memory>
@@ -32,6 +32,7 @@ impl Client {
     fn spans_early(&self, most: u32) -> Result<Vec<Span>, Memory>
         ensures early { IfOk result (λ spans. All (IsEarly self.now) spans.items) }
         ensures apart { IfOk result (λ spans. AreApart spans.items) }
+        ensures order { IfOk result (λ spans. LeaveNothing self.now spans.items) }
         ensures none { AsksNothingEarly self.now → IfOk result (λ spans. spans.items ≡ []) }
         ensures few { IfOk result (λ spans. length spans.items ≤ most) }
         ensures sure { AsksNothingEarly self.now → IsOk result }

@@ -9,7 +9,7 @@ returns-in_err-missing-clause-goes c =
     let e = c.in_ok-span.ensures in
     goes_trans (work c.args.reader.now c.args.cache.now) (work c.need.new.self l.cache) (work c.give_next.new.reader c.give_next.new.cache)
     (goes_trans (work c.args.reader.now c.args.cache.now) (work l.reader l.cache) (work c.need.new.self l.cache) l.invariant.goes
-    (needed l.reader c.need.new.self l.cache e.complete e.query e.agrees e.come (c.nothing_comes.ensures.answered c.need.new.self) e.held))
+    (needed l.reader c.need.new.self l.cache e.complete e.query e.tiles e.agrees e.come (c.nothing_comes.ensures.answered c.need.new.self) e.held))
     c.in_err-missing.ensures.goes
 
 pub loop-span-preserved : goal.loop-span-preserved
@@ -20,7 +20,7 @@ loop-span-preserved c =
       goes =
           goes_trans (work c.args.reader.now c.args.cache.now) (work c.need.new.self l.cache) (work c.give_next.new.reader c.give_next.new.cache)
           (goes_trans (work c.args.reader.now c.args.cache.now) (work l.reader l.cache) (work c.need.new.self l.cache) l.invariant.goes
-          (needed l.reader c.need.new.self l.cache e.complete e.query e.agrees e.come (c.nothing_comes.ensures.answered c.need.new.self) e.held))
+          (needed l.reader c.need.new.self l.cache e.complete e.query e.tiles e.agrees e.come (c.nothing_comes.ensures.answered c.need.new.self) e.held))
           c.in_ok-missing.ensures.goes;
       room = omega (arith, c.in_ok-missing.ensures.room, l.invariant.room);
     }
@@ -30,4 +30,4 @@ returns-clause-goes c =
     let l = c.loop-span in
     let e = c.in_ok-span.ensures in
     goes_trans (work c.args.reader.now c.args.cache.now) (work l.reader l.cache) (work c.need.new.self l.cache) l.invariant.goes
-    (needed l.reader c.need.new.self l.cache e.complete e.query e.agrees e.come (c.nothing_comes.ensures.answered c.need.new.self) e.held)
+    (needed l.reader c.need.new.self l.cache e.complete e.query e.tiles e.agrees e.come (c.nothing_comes.ensures.answered c.need.new.self) e.held)

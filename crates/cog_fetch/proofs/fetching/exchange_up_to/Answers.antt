@@ -34,5 +34,5 @@ loop-done-preserved g c =
       keeps = search rules;
       fetches = fetches_more (g.E.Exchange.answers c.args.source.now) (g.E.Exchange.answers c.loop-done.source) i.goes_on c.loop-done.done
           c.args.client.now c.loop-done.client c.exchange_once.new.client i.fetches on.fetches;
-      goes_on = λ request text came. i.goes_on request text (on.goes_on request text came);
+      goes_on = λ request came is. i.goes_on request came (on.goes_on request came is);
     }

@@ -1,7 +1,7 @@
 use Rattle.std.proofs.Common.{◌≡◌, ◌+◌, IsSome}
 use Rattle.cog_client.specs.Calls.{IsIdle}
 use Rattle.cog_client.specs.Client.{report_of}
-use Rattle.cog_client.specs.Transport.{AnyText, FetchesSome, KeepsReading}
+use Rattle.cog_client.specs.Transport.{Anything, FetchesSome, KeepsReading}
 use Rattle.exchange_notes.specs.Noted.{source_of}
 use Rattle.exchange_notes.proofs.told.exchanges_told.Given as goal
 
@@ -11,5 +11,5 @@ invariant-loop-done g l = record {
   counted : g.P.Pieces.count (source_of l.noted) ≡ g.P.Pieces.count (source_of l.fn.noted) + l.done;
   idle : IsIdle l.fn.client → (g.P.Pieces.count (source_of l.noted) ≡ g.P.Pieces.count (source_of l.fn.noted)) × IsIdle l.client;
   stands : IsSome (report_of l.fn.client) → report_of l.client ≡ report_of l.fn.client;
-  fetches : FetchesSome AnyText l.fn.client l.client;
+  fetches : FetchesSome Anything l.fn.client l.client;
 }

@@ -20,7 +20,7 @@ returns-then-is_err-clause-err c =
     let same : new ≡ record now { cache = cache; feed = c.pass.new.self } = subst (λ (m : ClientState). new ≡ record m { cache = cache; feed = c.pass.new.self }) c.self.view_is refl in
     then_err c.take-taken.result (λ (stops : StopsInBytes i.arrival i.cache bytes cache). λ (s : ClientState) (p : List ℕ) (fed : FedBefore s p bytes now).
     fed_stops c.fronts_are_read.ensures.answers c.lengths_are_known.ensures c.stored_are_held.ensures.front c.parts_bring_blocks.ensures.beside s p bytes now new same (subst TakesNoBody (sym c.pass.ensures) tt)
-    (stopped_sound i.arrival c.pass.new.self i.how i.host.items i.name.items i.query i.asked i.source i.cache cache i.report bytes c.self.invariant stops)
+    (stopped_sound i.arrival c.pass.new.self i.how i.host.items i.name.items i.query i.asked i.source i.cache cache i.report bytes c.self.invariant c.take-taken.ensures.capacity stops)
     (subst (λ (m : ClientState). StopsInBytes (feed_of m) (blocks_of m) bytes cache) c.self.view_is stops) fed) c.take-taken.ensures.err
 
 pub returns-else-is_err-clause-ok : goal.returns-else-is_err-clause-ok

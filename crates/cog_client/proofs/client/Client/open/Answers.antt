@@ -24,5 +24,5 @@ returns c =
           let x = w.open.new.self in
           subst (λ x. OpensKeeping q c.args.self.now (the_view x)) (sym w.self-inside-is)
           (subst (λ k. OpensKeeping q k (known c.clear.new.self i.how i.host.items i.name.items (Some q) None (Some (record s { reader = x })) i.cache None)) (sym is ∙ c.self.view_is)
-          (opened i.arrival c.clear.new.self c.clear.ensures i.how i.host.items i.name.items i.query i.asked i.cache i.report q s x c.end_is_wanted.ensures w.open.ensures.complete w.open.ensures.query w.open.ensures.agrees w.open.ensures.come w.open.ensures.held (subst IsClient is c.self.invariant)))
+          (opened i.arrival c.clear.new.self c.clear.ensures i.how i.host.items i.name.items i.query i.asked i.cache i.report q s x c.end_is_wanted.ensures w.open.ensures.complete w.open.ensures.query w.open.ensures.tiles w.open.ensures.agrees w.open.ensures.come w.open.ensures.held (subst IsClient is c.self.invariant)))
     ]

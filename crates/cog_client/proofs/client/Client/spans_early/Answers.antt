@@ -5,9 +5,9 @@ use Rattle.std.proofs.lemmas.Result.{IfOk-weaker}
 use Rattle.cached_reader.specs.Going.{work}
 use Rattle.cached_reader.specs.Early as reading
 use Rattle.cog_client.specs.Client.{IsReadingOf}
-use Rattle.cog_client.specs.Early.{AsksNothingEarly, IsEarly}
+use Rattle.cog_client.specs.Early.{AsksNothingEarly, IsEarly, LeaveNothing}
 use Rattle.cog_client.proofs.ClientLemmas.{known}
-use Rattle.cog_client.proofs.EarlyLemmas.{asks_early, early_spans}
+use Rattle.cog_client.proofs.EarlyLemmas.{asks_early, early_spans, nothing_left}
 use Rattle.cog_client.proofs.client.Client.spans_early.Goals as goal
 
 pub returns-clause-early : goal.returns-clause-early
@@ -37,3 +37,17 @@ returns-clause-sure c = λ nothing.
     let some = c.if-ahead-eq0.false in
     absurd (asks_early i.arrival i.how i.host.items i.name.items i.query i.asked i.source i.cache i.report c.if-self.false (λ near. omega (arith, near, some))
     (subst AsksNothingEarly (sym c.self.view_is) nothing))
+
+pub returns-clause-order : goal.returns-clause-order
+returns-clause-order c =
+    let i = c.self.inside in
+    let asked = c.in-Some-Some.asked in
+    let s = c.in-Some-Some.source in
+    let made = known i.arrival i.how i.host.items i.name.items i.query (Some asked) (Some s) i.cache i.report in
+    let reads : IsReadingOf i.query i.report s = subst (λ o. IfSome o (IsReadingOf i.query i.report)) c.in-Some-Some.is-1 c.self.invariant.reading in
+    let is : made ≡ c.args.self.now =
+    sym (ap (λ o. known i.arrival i.how i.host.items i.name.items i.query o i.source i.cache i.report) c.in-Some-Some.is-0
+    ∙ ap (λ o. known i.arrival i.how i.host.items i.name.items i.query (Some asked) o i.cache i.report) c.in-Some-Some.is-1) ∙ c.self.view_is in
+    subst (λ k. IfOk c.early_spans.result (λ spans. LeaveNothing k spans.items)) is
+    (IfOk-weaker c.early_spans.result (λ spans. All (reading.LeavesNothing (work s.reader i.cache) asked spans.items) spans.items) (λ spans. LeaveNothing made spans.items)
+    (λ spans all. nothing_left i.arrival i.how i.host.items i.name.items i.query asked s i.cache i.report (sym reads.0) spans.items all) c.early_spans.ensures.order)
