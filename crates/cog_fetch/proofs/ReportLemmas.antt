@@ -7,8 +7,8 @@ use Rattle.tiff_dir.specs.declared.span.Span.{Span}
 use Rattle.tiff_dir.specs.Query.{cost}
 use Rattle.http_range.specs.Book.{Book, HasDistinctTags, In, Publication}
 use Rattle.cog_client.specs.Calls.{IsIdle, request_for}
-use Rattle.cog_client.specs.Client.{ClientAgrees, ClientState, ahead_of, asked_of, host_of, how_of, name_of, query_of, report_of, revision_of, tag_of}
-use Rattle.cog_client.specs.Keeps.{AsksFor, AsksLike, OpensKeeping, RequestsKeeping}
+use Rattle.cog_client.specs.Client.{ClientAgrees, ClientState, ahead_of, asked_of, host_of, how_of, name_of, query_of, report_of, revision_of}
+use Rattle.cog_client.specs.Keeps.{AsksFor, AsksLike, OpensKeeping}
 use Rattle.cog_client.specs.Progress.{AnswersReport, AreExchanges, Exchanges, IsServed}
 use Rattle.cog_client.specs.Transport.{Coming, Fetches, FetchesAll, FetchesOnce, TakesIfAsked}
 use Rattle.cog_fetch.specs.Serves.{Serves}
@@ -109,16 +109,19 @@ module _ (answers : Coming) (p : Publication) (serves : Serves answers p) (q : Q
         | inr all ↦ takes n mid new once before.0 before.1 all (asked_of once.asking) refl once.request refl once.asks.seen.text
       ]
 
-pub fetching_reports : AnswersReport IsServed → (answers : Coming) (p : Publication) → Serves answers p → (q : Query) (book : Book) (old opened new : ClientState) (before after : ℕ)
+pub fetching_reports : AnswersReport IsServed → (answers : Coming) (p : Publication) → Serves answers p → (q : Query) (book : Book) (old opened new : ClientState) (before after tries : ℕ)
     → HasDistinctTags book → In p book → p.name ≡ name_of old → ClientAgrees old book → OpensKeeping q old opened → FetchesAll answers before after opened new
-    → before + cost p.file q + 1 ≤ after → IsSome (report_of new)
+    → (after ≡ before + tries) ⊎ IsIdle new → cost p.file q + 1 ≤ tries → IsSome (report_of new)
 unfolding query_of name_of
-fetching_reports law answers p serves q book old opened new before after distinct among named agrees opens all enough =
+fetching_reports law answers p serves q book old opened new before after tries distinct among named agrees opens all ends enough =
     let came = reach answers p serves q opened (ap query_of opens.seen.1) (ap name_of opens.seen.1 ∙ sym named) all.times new all.fetches in
-    elim came.2 [
-      | inl stands ↦ stands
-      | inr are ↦ elim (law book p q old opened new all.times distinct among agrees opens are).1 [
+    elim ends [
+      | inr idle ↦ elim idle [ inl none ↦ absurd (none-some q (sym none ∙ came.0)) | inr stands ↦ stands ]
+      | inl used ↦ elim came.2 [
+        | inl stands ↦ stands
+        | inr are ↦ elim (law book p q old opened new all.times distinct among agrees opens are).1 [
           | inl stands ↦ stands
-          | inr few ↦ absurd (elim all.counted [ inl is ↦ omega (arith, is, few, enough) | inr is ↦ omega (arith, is, few, enough) ])
+          | inr few ↦ absurd (elim all.counted [ inl is ↦ omega (arith, is, few, used, enough) | inr is ↦ omega (arith, is, few, used, enough) ])
         ]
+      ]
     ]

@@ -1,5 +1,5 @@
 -- Transports over which a client gets its report.
-use Rattle.std.specs.Prelude.{◌≡◌, ℕ, List, Option, Some, None, IsOkAnd, Result}
+use Rattle.std.specs.Prelude.{◌≡◌, ℕ, List, Some, None, IsOkAnd, Result}
 use Rattle.tiff_dir.specs.declared.span.Span.{Span}
 use Rattle.http_range.specs.Book.{Publication}
 use Rattle.http_range.specs.Piece.{SeenPiece}

@@ -127,7 +127,7 @@ pub fn fetch_pieces<'c, P: Pieces>(
     ensures* client { sem 𝓛 (Rests the_row client.entry (λ c.
         KeepsReading (P.speaks_for pieces.old) (P.speaks_for pieces.new) client.old c
         × IfOk result (λ report. Stands c (option_copied report)
-            × FetchesAll Anything (P.count pieces.old) (P.count pieces.new) client.old c)
+        × FetchesAll Anything (P.count pieces.old) (P.count pieces.new) client.old c)
         × OnErr result (StopsFetching Anything client.old c))) }
 
     // A report is true of one publication of that book: of the one whose tag it tells.

@@ -68,7 +68,7 @@ impl<'s> InMemory<'s> {
 }
 
 impl Transport for InMemory<'_> {
-    ghost use Rattle.std.specs.Prelude.{◌≡◌, ◌+◌, ◌<◌, ◌^◌, IfOk};
+    ghost use Rattle.std.specs.Prelude.{◌≡◌, ◌+◌, ◌<◌, ◌^◌, IfOk, OnErr, None};
     ghost use Rattle.cog_client.specs.Transport.{AnswersOn, IsTrueToAll, OrLost, SpeaksOn};
     ghost use Rattle.transports.specs.InMemory.{IsAnswerAbout, StandsIn};
     ghost use Rattle.transports.specs.Transports.{exchanges_of, served_name, served_state};
@@ -88,7 +88,8 @@ impl Transport for InMemory<'_> {
         ensures server { served_state self.new ≡ served_state self.old }
         ensures name { served_name self.new ≡ served_name self.old }
 
-        // So it keeps the trait's law.
+        // So it keeps the trait's law. An answer may be lost, too.
+        ensures lost { OnErr result (OrLost (IsAnswerAbout (served_state self.old).catalogue (served_name self.old)) request.now None) }
         ensures goes_on { AnswersOn (OrLost (IsAnswerAbout (served_state self.old).catalogue (served_name self.old)))
             (OrLost (IsAnswerAbout (served_state self.new).catalogue (served_name self.new))) }
         ensures shows { IfOk result (λ text.

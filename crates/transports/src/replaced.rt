@@ -37,7 +37,7 @@ impl<'s> Replaced<'s> {
 }
 
 impl Transport for Replaced<'_> {
-    ghost use Rattle.std.specs.Prelude.{◌≡◌, ◌+◌, ◌-◌, ◌<◌, ◌^◌, IfOk};
+    ghost use Rattle.std.specs.Prelude.{◌≡◌, ◌+◌, ◌-◌, ◌<◌, ◌^◌, IfOk, OnErr, None};
     ghost use Rattle.cog_client.specs.Transport.{AnswersOn, IsTrueToAll, OrLost, SpeaksOn};
     ghost use Rattle.transports.specs.InMemory.{IsAnswerAbout};
     ghost use Rattle.transports.specs.Transports.{AnswersOfEither, StandInBoth, count_of, left_of, name_of, state_in_turn, states_of};
@@ -58,8 +58,9 @@ impl Transport for Replaced<'_> {
         ensures name { name_of self.new ≡ name_of self.old }
         ensures left { left_of self.new ≡ left_of self.old - 1 }
 
-        // So it keeps the trait's law.
+        // So it keeps the trait's law. An answer may be lost, too.
         ensures answered { IfOk result (λ text. AnswersOfEither self.old request.now text.items) }
+        ensures lost { OnErr result (OrLost (AnswersOfEither self.old) request.now None) }
         ensures goes_on { AnswersOn (OrLost (AnswersOfEither self.old)) (OrLost (AnswersOfEither self.new)) }
         ensures shows { IfOk result (λ text. IsTrueToAll (StandInBoth self.old) text.items) }
         ensures speaks { SpeaksOn (StandInBoth self.old) (StandInBoth self.new) }

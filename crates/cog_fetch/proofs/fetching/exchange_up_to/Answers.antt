@@ -1,4 +1,4 @@
-use Rattle.std.proofs.Common.{◌+◌, rules}
+use Rattle.std.proofs.Common.{◌+◌, inr, rules}
 use Rattle.cog_client.specs.Transport.{StopsFetching}
 use Rattle.cog_fetch.proofs.FetchLemmas.{fetches_more, stops_as}
 use Rattle.cog_fetch.proofs.TakeLemmas.{refused}
@@ -17,11 +17,13 @@ returns-in_err-exchange_once-clause-stops g c =
 pub returns-then-not-branch-clause-fetches : goal.returns-then-not-branch-clause-fetches
 returns-then-not-branch-clause-fetches g c =
     let i = c.loop-done.invariant in
-    let on = c.in_ok-exchange_once.ensures in (
-      c.loop-done.done + 1,
-      fetches_more (g.E.Exchange.answers c.args.source.now) (g.E.Exchange.answers c.loop-done.source) i.goes_on c.loop-done.done
-          c.args.client.now c.loop-done.client c.exchange_once.new.client i.fetches on.fetches,
-    )
+    let on = c.in_ok-exchange_once.ensures in
+    record {
+      times = c.loop-done.done + 1;
+      fetches = fetches_more (g.E.Exchange.answers c.args.source.now) (g.E.Exchange.answers c.loop-done.source) i.goes_on c.loop-done.done
+          c.args.client.now c.loop-done.client c.exchange_once.new.client i.fetches on.fetches;
+      counted = inr (search rules);
+    }
 
 pub loop-done-preserved : goal.loop-done-preserved
 loop-done-preserved g c =
