@@ -50,7 +50,10 @@ pub struct Noted<P> {
 impl<P> Noted<P> {
     /// A source of which nothing is noted so far.
     pub fn new(alloc: Global, source: P) -> Noted<P>
-        ensures { source_of result ≡ source }
+        ensures source { source_of result ≡ source }
+        ensures sent { sent_of result ≡ false }
+        ensures bytes { bytes_of result ≡ 0 }
+        ensures front { front_of result ≡ [] }
     {
         Noted {
             source,
