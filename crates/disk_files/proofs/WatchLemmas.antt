@@ -1,7 +1,39 @@
--- An error that is handed on.
-use Rattle.std.proofs.Common.{◌≡◌, Result, Ok, Err, IfErr, IsErrAnd, sym, subst}
+-- An error that is handed on, and what is published of bytes that were read.
+use Rattle.std.proofs.Common.{◌≡◌, ◌≤◌, ◌+◌, ◌∙◌, ℕ, List, Result, Ok, Err, Some, IfErr, IfOk, IsErrAnd, ap, arith, length, subst, sym, take}
+use Rattle.std.specs.Prelude.{MatchResult}
+use Rattle.std.specs.Option.{option_map}
+use Rattle.std.proofs.lemmas.List.{take_all}
+use Rattle.http_range.specs.Book.{Catalogue, Publication, publish, published}
+use Rattle.http_range.specs.Laws.{PublishReplaces}
+use Rattle.cog_server.specs.Server.{ServerState}
+use Rattle.disk_files.specs.Published.{IsFileOf}
 
 -- what holds of an error holds where it is handed on
 pub handed_on : {A E : Type 0} (r : Result A E) (P : E → Type 0) (error : E) → P error → IsErrAnd r (λ e. e ≡ error) → IfErr r P
 handed_on (Ok x) P error holds is = absurd is
 handed_on (Err e) P error holds is = subst P (sym is) holds
+
+abbrev ok_or : {T D : Type 0} → T → Result T D → T
+ok_or x (Ok y) = y
+ok_or x (Err e) = x
+
+-- what holds of a value holds of it where an error would have been told otherwise
+pub kept_ok : {T E D : Type 0} (r : Result T E) (s : Result T D) (Told : E → D → Type 0) (x : T) (P : T → Type 0)
+    → MatchResult r (λ y. s ≡ Ok y) (λ e. IsErrAnd s (Told e)) → s ≡ Ok x → IfOk r P → P x
+kept_ok (Ok y) s Told x P is here holds = subst P (ap (ok_or x) (sym is ∙ here)) holds
+kept_ok (Err e) s Told x P is here holds = absurd (subst (λ s. IsErrAnd s (Told e)) here is)
+
+-- what is read up to one byte more than the most, of no more than the most, is all of it
+pub all_of : (most : ℕ) (bytes whole : List ℕ) → bytes ≡ take (most + 1) whole → length whole ≤ most → bytes ≡ whole
+all_of most bytes whole is small = is ∙ take_all (most + 1) whole (omega arith)
+
+-- what is published last under a name is the file there
+pub file_there : PublishReplaces → (name tag file : List ℕ) (s t : ServerState) → t.catalogue ≡ publish (record { name = name; tag = tag; file = file }) s.catalogue
+    → IsFileOf name file t
+file_there law name tag file s t is =
+    let p : Publication = record { name = name; tag = tag; file = file } in
+    ap (λ (c : Catalogue). option_map (λ (p : Publication). p.file) (published name c)) is ∙ ap (option_map (λ (p : Publication). p.file)) (law.stands p s.catalogue)
+
+-- so it is under the same name, with the same bytes
+pub file_as : (key name bytes whole : List ℕ) (s : ServerState) → key ≡ name → bytes ≡ whole → IsFileOf key bytes s → IsFileOf name whole s
+file_as key name bytes whole s same is there = subst (λ n. IsFileOf n whole s) same (subst (λ b. IsFileOf key b s) is there)

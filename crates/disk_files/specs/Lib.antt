@@ -1,3 +1,4 @@
+pub mod Given
 pub mod Settled
 pub mod Published
 pub mod Watching

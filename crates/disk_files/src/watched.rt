@@ -1,16 +1,24 @@
 //! A file of the disk that is published, and when it has to be read again.
-ghost use Rattle.std.specs.Prelude.{◌≡◌, ℕ, List, IfErr, IfOk, IfSome, IsSome, None, OnErr, OnOk};
+ghost use Rattle.std.specs.Prelude.{◌≡◌, ◌≤◌, ℕ, List, IfErr, IfOk, IfSome, IsSome, IsSomeAnd, None, OnErr, OnOk, length};
+ghost use Rattle.std.specs.Duration.{as_nanos};
+ghost use Rattle.std.specs.Fs.{file_type, metadata_len};
+ghost use Rattle.std.specs.Fs.{IsFile as IsPlainFile};
 ghost use Rattle.http_range.specs.Book.{published};
+ghost use Rattle.http_range.specs.declared.publication.TheConstants.{FILE_LIMIT};
 ghost use Rattle.cog_server.specs.Server.{IsRefusal, ServerState, refusal_of};
+ghost use Rattle.disk_files.specs.Given.{GivesAlways};
 ghost use Rattle.disk_files.specs.Published.{HasOther, IsFileOf, IsPublished};
+ghost use Rattle.disk_files.specs.Settled.{IsSettledSince};
 ghost use Rattle.disk_files.specs.Watching.{IsRefusedBy, MayPass, seen_of};
 
 use crate::reading::{bytes_of, has_bytes};
 use crate::stamp::{Stamp, is_unchanged, stamp_of};
 use cog_server::{PublishError, Server};
 use http_range::{Tag, publications_replace};
+use std::alloc::Global;
 use std::fs::{self, File, Metadata, OpenFile};
 use std::io;
+use std::io::{Read, Seek};
 use std::rt::{Clock, Files};
 use std::time::Duration;
 use thiserror::Error;
@@ -37,8 +45,11 @@ pub struct Watched<'a> {
     seen: Option<Stamp>,
 }
 
-/// What is remembered of what the disk says, if it is a file's.
+/// What is remembered of what the disk says, if it is a file's: where each later change shows in it, by the moment that is known.
 fn remembered(metadata: &Metadata, now: Option<Duration>) -> Result<Option<Stamp>, WatchError>
+    ensures settled { IfOk result (λ seen. IfSome seen (λ stamp. IsSomeAnd now (λ n. IsSettledSince stamp.changed (as_nanos n)))) }
+    ensures length { IfOk result (λ seen. IfSome seen (λ stamp. stamp.length ≡ metadata_len metadata.now)) }
+    ensures file { OnOk result (IsPlainFile (file_type metadata.now)) }
     ensures refused { (s : ServerState) (name : List ℕ) → IfErr result (IsRefusedBy s name) }
 {
     if !metadata.is_file() {
@@ -107,6 +118,76 @@ impl<'a> Watched<'a> {
         }
     }
 
+    /// Publishes what an open file gives from its start on, and remembers what the disk said of it.
+    fn publish_all_of<F: Read + Seek + Drop>(
+        &mut self,
+        alloc: Global,
+        server: &mut Server,
+        file: F,
+        seen: Option<Stamp>,
+    ) -> Result<Tag, WatchError>
+        ensures has { (whole : List ℕ) → GivesAlways F.stream_position F.remaining whole → length whole ≤ FILE_LIMIT
+            → OnOk result (IsFileOf self.old.name.now whole server.new) }
+        ensures ok { IfOk result (IsPublished self.old.name.now server.old server.new) }
+        ensures err { OnErr result (server.new ≡ server.old) }
+        ensures refused { IfErr result (IsRefusedBy server.old self.old.name.now) }
+        ensures seen { OnOk result (seen_of self.new ≡ seen) }
+        ensures name { self.new.name ≡ self.old.name }
+        ensures path { self.new.path ≡ self.old.path }
+    {
+        publications_replace();
+        let bytes = bytes_of(alloc, file).map_err(WatchError::CantRead)?;
+        match server.publish(self.name.as_bytes(), bytes) {
+            Ok(tag) => {
+                self.seen = seen;
+                Ok(tag)
+            }
+            Err(refusal) => Err(WatchError::Refused(refusal)),
+        }
+    }
+
+    /// Publishes what an open file gives from its start on, unless its publication has the same bytes, and remembers what the disk said of
+    /// it, also where the server refuses it. It isn't remembered where the reason may pass.
+    fn publish_other_of<F: Read + Seek + Drop>(
+        &mut self,
+        alloc: Global,
+        server: &mut Server,
+        mut file: F,
+        seen: Option<Stamp>,
+    ) -> Result<Option<Tag>, WatchError>
+        ensures has { (whole : List ℕ) → GivesAlways F.stream_position F.remaining whole → length whole ≤ FILE_LIMIT
+            → OnOk result (IsFileOf self.old.name.now whole server.new) }
+        ensures ok { IfOk result (λ tag. IfSome tag (IsPublished self.old.name.now server.old server.new)) }
+        ensures other { IfOk result (λ tag. IsSome tag → HasOther self.old.name.now server.old server.new) }
+        ensures same { IfOk result (λ tag. tag ≡ None → server.new ≡ server.old) }
+        ensures first { published self.old.name.now server.old.catalogue ≡ None → IfOk result IsSome }
+        ensures err { OnErr result (server.new ≡ server.old) }
+        ensures refused { IfErr result (IsRefusedBy server.old self.old.name.now) }
+        ensures seen { OnOk result (seen_of self.new ≡ seen) }
+        ensures again { IfErr result (λ why. MayPass why → seen_of self.new ≡ seen_of self.old) }
+        ensures name { self.new.name ≡ self.old.name }
+        ensures path { self.new.path ≡ self.old.path }
+    {
+        if let Some(old) = server.file(self.name.as_bytes())
+            && has_bytes(alloc, &mut file, old).map_err(WatchError::CantRead)?
+        {
+            self.seen = seen;
+            return Ok(None);
+        }
+        let bytes = bytes_of(alloc, file).map_err(WatchError::CantRead)?;
+        match publish_other(server, self.name.as_bytes(), bytes) {
+            Ok(tag) => {
+                self.seen = seen;
+                Ok(tag)
+            }
+            Err(PublishError::Memory) => Err(WatchError::Refused(PublishError::Memory)),
+            Err(refusal) => {
+                self.seen = seen;
+                Err(WatchError::Refused(refusal))
+            }
+        }
+    }
+
     /// Reads the file and publishes what it read. An error changes nothing of the server.
     pub fn publish<R: Files + Clock + AllocGlobal>(
         &mut self,
@@ -123,14 +204,7 @@ impl<'a> Watched<'a> {
     {
         look(rt, self.path)?;
         let (file, seen) = open(rt, self.path)?;
-        let bytes = bytes_of(rt.alloc(), file).map_err(WatchError::CantRead)?;
-        match server.publish(self.name.as_bytes(), bytes) {
-            Ok(tag) => {
-                self.seen = seen;
-                Ok(tag)
-            }
-            Err(refusal) => Err(WatchError::Refused(refusal)),
-        }
+        self.publish_all_of(rt.alloc(), server, file, seen)
     }
 
     /// Publishes the file if its bytes changed. One that can't be read, or is refused, keeps its old publication. It isn't
@@ -158,24 +232,7 @@ impl<'a> Watched<'a> {
             return Ok(None);
         }
         // What is remembered is of the file whose bytes are read: the path may lead elsewhere by now.
-        let (mut file, seen) = open(rt, self.path)?;
-        if let Some(old) = server.file(self.name.as_bytes())
-            && has_bytes(rt.alloc(), &mut file, old).map_err(WatchError::CantRead)?
-        {
-            self.seen = seen;
-            return Ok(None);
-        }
-        let bytes = bytes_of(rt.alloc(), file).map_err(WatchError::CantRead)?;
-        match publish_other(server, self.name.as_bytes(), bytes) {
-            Ok(tag) => {
-                self.seen = seen;
-                Ok(tag)
-            }
-            Err(PublishError::Memory) => Err(WatchError::Refused(PublishError::Memory)),
-            Err(refusal) => {
-                self.seen = seen;
-                Err(WatchError::Refused(refusal))
-            }
-        }
+        let (file, seen) = open(rt, self.path)?;
+        self.publish_other_of(rt.alloc(), server, file, seen)
     }
 }

@@ -1,0 +1,14 @@
+use Rattle.std.proofs.Common.{◌≡◌, ◌+◌, List, ℕ, take}
+use Rattle.http_range.specs.declared.publication.TheConstants.{FILE_LIMIT}
+use Rattle.disk_files.specs.Given.{GivesAlways}
+use Rattle.disk_files.proofs.WatchLemmas.{all_of, file_as, kept_ok}
+use Rattle.disk_files.proofs.watched.Watched.publish_other_of.Goals as goal
+
+pub returns-in-Ok-clause-has : goal.returns-in-Ok-clause-has
+returns-in-Ok-clause-has g c = λ whole always small.
+    let bytes = c.in_ok-bytes.bytes in
+    let given = kept_ok c.bytes_of.result c.map_err-2.result _ bytes
+    (λ b. (whole : List ℕ) → GivesAlways g.F.Seek.stream_position g.F.Read.remaining whole → b.items ≡ take (FILE_LIMIT + 1) whole)
+    c.map_err-2.ensures.cases c.in_ok-bytes.was c.bytes_of.ensures whole always in
+    file_as c.as_bytes-2.result.now c.args.self.now.name.now bytes.items whole c.publish_other.new.server c.as_bytes-2.ensures.value
+    (all_of FILE_LIMIT bytes.items whole given small) c.in-Ok.ensures.has
