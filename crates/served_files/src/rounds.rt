@@ -1,8 +1,8 @@
 //! Serving: round by round, as connections come and are ready.
-ghost use Rattle.std.specs.Prelude.{◌≡◌, ℕ, max};
+ghost use Rattle.std.specs.Prelude.{◌≡◌, ◌≤◌, ℕ, [], OnOk, max};
 ghost use Rattle.served_files.specs.Publishing.{KeepsOthersThan, names};
 ghost use Rattle.serving.specs.Going.{AllWentOnOrStart};
-ghost use Rattle.serving.specs.Held.{places_of};
+ghost use Rattle.serving.specs.Held.{accepted_of, limits_of, places_of};
 
 use crate::error::ServeError;
 use crate::lines::Listening;
@@ -67,6 +67,7 @@ fn round<R: Files + Clock + Print + Eprint + AllocGlobal>(
 ) -> Result<(), ServeError<'static>>
     // Who has a place had it, and went on from there by events of its own, each answer from what was published before, or starts now.
     ensures went { (now : ℕ) × AllWentOnOrStart server.old.catalogue now (places_of serving.old) (places_of serving.new) }
+    ensures limits { limits_of serving.new ≡ limits_of serving.old }
     ensures others { KeepsOthersThan (names files.old) server.old server.new }
     ensures names { names files.new ≡ names files.old }
 {
@@ -76,6 +77,35 @@ fn round<R: Files + Clock + Print + Eprint + AllocGlobal>(
         look_again(log, server, files);
     }
     Ok(())
+}
+
+/// Serves in rounds until as many connections were accepted as there may be, and each has ended. After more rounds than can be counted
+/// it isn't waited any more.
+fn serve_rounds<R>(
+    log: &mut Log<'_, R>,
+    server: &mut Server,
+    files: &mut [Watched<'_>],
+    serving: &mut Serving,
+) -> Result<(), ServeError<'static>>
+where
+    R: Files + Clock + Print + Eprint + AllocGlobal,
+    ensures over { OnOk result (((limits_of serving.new).connections ≤ accepted_of serving.new) × (places_of serving.new ≡ [])) }
+    ensures limits { limits_of serving.new ≡ limits_of serving.old }
+    ensures others { KeepsOthersThan (names files.old) server.old server.new }
+    ensures names { names files.new ≡ names files.old }
+{
+    let mut told = 0;
+    for _ in 0..u64::MAX {
+        round(log, server, files, serving)?;
+        told = print_served(log.rt, told, serving.ended());
+        if serving.is_over() {
+            return Ok(());
+        }
+        if let Err(error) = serving.wait(moment(log.rt)) {
+            return Err(ServeError::CantWait(error));
+        }
+    }
+    Err(ServeError::CantWait(io::Error::from(ErrorKind::Other)))
 }
 
 /// Serves so many connections until each has ended. The files are looked at when connections came, once for all that came together.
@@ -95,16 +125,5 @@ where
         Ok(serving) => serving,
         Err(error) => return Err(ServeError::CantListen(error)),
     };
-    let mut told = 0;
-    for _ in 0..u64::MAX {
-        round(log, server, files, &mut serving)?;
-        told = print_served(log.rt, told, serving.ended());
-        if serving.is_over() {
-            break;
-        }
-        if let Err(error) = serving.wait(moment(log.rt)) {
-            return Err(ServeError::CantWait(error));
-        }
-    }
-    Ok(())
+    serve_rounds(log, server, files, &mut serving)
 }
