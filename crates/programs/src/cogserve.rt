@@ -1,10 +1,10 @@
 //! `cogserve`: publishes files of the disk and serves them over many connections at once.
-ghost use Rattle.std.specs.Prelude.{◌≡◌, ◌*◌, ◌++◌, ◌∷◌, [], IfErr, IfOk, OnErr, OnOk, Some, option_map};
+ghost use Rattle.std.specs.Prelude.{◌≡◌, ◌*◌, ◌++◌, ◌∷◌, [], IfErr, IfOk, None, OnErr, OnOk, Some, option_map};
 ghost use Rattle.std.specs.Int.NonZero.{non_zero_usize_get};
 ghost use Rattle.std.specs.Option.{option_copied};
 ghost use Rattle.programs.specs.Files.{AreFiles, IsFile, IsNoFile, IsOfFiles, NamesFile, NamesOneOf};
-ghost use Rattle.programs.specs.Number.{IsOfNumber};
-ghost use Rattle.programs.specs.Words.{HasNoLimit, at_once_number, connections_number, patience_number};
+ghost use Rattle.programs.specs.Number.{IsOfNumber, Names};
+ghost use Rattle.programs.specs.Words.{HasNoLimit, at_once_number, connections_number, number_32, patience_number};
 
 use crate::fault::Fault;
 use crate::number::{number, number_or};
@@ -30,10 +30,9 @@ where
         + Net<Listener = TcpListener, Stream = TcpStream>,
 {
     let line = serve_line(rt.alloc(), words)?;
-    let epoch = number(rt, line.epoch, 0, u32::MAX)?;
+    let mut server = server_of(rt, &line)?;
     let limits = limits_of(rt, &line)?;
     let mut files = files_of(rt, &line.files)?;
-    let mut server = Server::new(rt.alloc(), epoch);
     let mut log = Log {
         rt,
         is_kept: line.log,
@@ -66,6 +65,18 @@ where
     publish_all(log, server, files)?;
     let listener = listen(log, place)?;
     serve_connections(log, server, files, listener, limits)
+}
+
+/// A server of the words' epoch, without publications.
+fn server_of<R: AllocGlobal>(rt: &R, line: &ServeLine<'_>) -> Result<Server, Fault>
+    ensures epoch { IfOk result (λ server. number_32 line.now.epoch.now ≡ Some server.epoch) }
+    ensures empty { IfOk result (λ server. (server.count ≡ 0) × (server.catalogue ≡ [])) }
+    ensures err { OnErr result (number_32 line.now.epoch.now ≡ None) }
+    ensures told { IfErr result (Names line.now.epoch.now) }
+    ensures kinds { IfErr result IsOfNumber }
+{
+    let epoch = number(rt, line.epoch, 0, u32::MAX)?;
+    Ok(Server::new(rt.alloc(), epoch))
 }
 
 /// What the words say of connections: 256 at once, and a patience of 60 seconds, where they don't.
