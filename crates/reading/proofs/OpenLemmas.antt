@@ -1,6 +1,6 @@
 -- What a client is that has been asked a query and has exchanged since.
-use Rattle.std.proofs.Common.{◌≡◌, ◌≤◌, ◌⊎◌, ℕ, zero, suc, List, Option, Some, None, inl, inr, refl, sym, ap, ◌∙◌, subst}
-use Rattle.std.specs.Prelude.{IfSome, IsSome, OnErr, OnOk, Result, Ok, Err}
+use Rattle.std.proofs.Common.{◌≡◌, ◌≢◌, ◌≤◌, ◌⊎◌, ◌+◌, ℕ, add-one, zero, suc, List, Option, Some, None, inl, inr, refl, sym, ap, ◌∙◌, subst}
+use Rattle.std.specs.Prelude.{IfSome, IsSome, IsSomeAnd, OnErr, OnOk, Result, Ok, Err}
 use Rattle.std.proofs.lemmas.Option.{none-some}
 use Rattle.tiff_dir.specs.declared.query.Query.{Query}
 use Rattle.http_range.specs.Book.{Publication, Book, In}
@@ -11,7 +11,7 @@ use Rattle.cog_client.specs.Keeps.{OpensKeeping}
 use Rattle.cog_client.specs.Transport.{Anything, FetchesSome, KeepsReading, ReadsBook, StopsFetching}
 use Rattle.reading.specs.declared.reading.Asked.{Asked}
 use Rattle.reading.specs.declared.reading.Asked.TheVariants as asked
-use Rattle.reading.specs.Exchanges.{AsksOf, Ends, IsAskedFor, ReadsSome, StopsReading}
+use Rattle.reading.specs.Exchanges.{AsksOf, Ends, FindsReplaced, IsAskedFor, IsReplaced, ReadsSome, StopsReading}
 use Rattle.reading.specs.Text.{IsFor, IsOfWholeBy}
 
 opened_name : (q : Query) (old opened : ClientState) → OpensKeeping q old opened → name_of opened ≡ name_of old
@@ -47,14 +47,19 @@ ends_of q c most count is (inl all) = inl all
 ends_of q c most count is (inr (inl none)) = absurd (none-some q (sym none ∙ is))
 ends_of q c most count is (inr (inr stands)) = inr stands
 
-pub ends_for : (a : Asked) (c : ClientState) (most count : ℕ) → (most ≤ count) ⊎ IsSome (report_of c) → Ends a most count c
-ends_for (asked.Query query) c most count h = h
-ends_for (asked.Whole level) c most count h = tt
-ends_for (asked.Description form) c most count h = h
+pub ends_for : (a : Asked) (old c : ClientState) (most count : ℕ) → (most ≤ count) ⊎ IsSome (report_of c) → Ends a most count old c
+ends_for (asked.Query query) old c most count h = h
+ends_for (asked.Whole level) old c most count (inl all) = inl all
+ends_for (asked.Whole level) old c most count (inr stands) = inr (inl stands)
+ends_for (asked.Description form) old c most count h = h
 
-pub ended : {T E : Type 0} (r : Result T E) (a : Asked) (q : Query) (c : ClientState) (most count : ℕ) → query_of c ≡ Some q → OnOk r ((most ≤ count) ⊎ IsIdle c) → OnOk r (Ends a most count c)
-ended (Ok x) a q c most count is h = ends_for a c most count (ends_of q c most count is h)
-ended (Err e) a q c most count is h = tt
+pub ended_ok : (a : Asked) (q : Query) (old c : ClientState) (most count : ℕ) → query_of c ≡ Some q → (most ≤ count) ⊎ IsIdle c → Ends a most count old c
+ended_ok a q old c most count is h = ends_for a old c most count (ends_of q c most count is h)
+
+pub ended : {T E : Type 0} (r : Result T E) (a : Asked) (q : Query) (old c : ClientState) (most count : ℕ) → query_of c ≡ Some q → OnOk r ((most ≤ count) ⊎ IsIdle c)
+    → OnOk r (Ends a most count old c)
+ended (Ok x) a q old c most count is h = ended_ok a q old c most count is h
+ended (Err e) a q old c most count is h = tt
 
 -- each report of the query is for what is asked
 pub asks_same : (book : Book) (a : Asked) (q : Query) (c : ClientState) → query_of c ≡ Some q → ((p : Publication) → IsFor p.file a q) → AsksOf book a c
@@ -98,3 +103,17 @@ pub stops_one : {T E : Type 0} (r : Result T E) (a : Asked) (q : Query) (old ope
     → OnErr r (StopsFetching Anything opened new) → OnErr r (StopsReading a old new)
 stops_one (Ok x) a q old opened new for opens stops = tt
 stops_one (Err e) a q old opened new for opens stops = (old, opened, q, for, (zero, refl), opens, stops)
+
+-- a report that told a tag, and one that tells another
+pub replaced : (told new : ClientState) (tag : List ℕ) → IsSomeAnd (report_of told) (λ r. r.tag ≡ tag) → IsSomeAnd (report_of new) (λ s. s.tag ≢ tag) → IsReplaced told new
+replaced told new tag first then = by (report_of told) (report_of new) first then
+  where
+    by : (o p : Option Report) → IsSomeAnd o (λ r. r.tag ≡ tag) → IsSomeAnd p (λ s. s.tag ≢ tag) → IsSomeAnd o (λ r. IsSomeAnd p (λ s. s.tag ≢ r.tag))
+    by None p first then = absurd first
+    by (Some r) None first then = absurd then
+    by (Some r) (Some s) first then = λ same. then (same ∙ first)
+
+-- the file was replaced once more
+pub replaced_more : (a : Asked) (n : ℕ) (old mid told new : ClientState) → FindsReplaced a n old mid → ReadsSome a mid told → ReadsSome a told new → IsReplaced told new
+    → FindsReplaced a (n + 1) old new
+replaced_more a n old mid told new are first then is = subst (λ k. FindsReplaced a k old new) (sym (add-one n)) (mid, told, are, first, then, is)

@@ -1,5 +1,5 @@
 -- What exchanges for what is asked keep and do, and when they end.
-use Rattle.std.specs.Prelude.{◌≡◌, ◌≤◌, ◌⊎◌, ℕ, zero, suc, IfSome, IsSome, ⊤}
+use Rattle.std.specs.Prelude.{◌≡◌, ◌≢◌, ◌≤◌, ◌⊎◌, ℕ, zero, suc, IfSome, IsSome, IsSomeAnd}
 use Rattle.tiff_dir.specs.declared.query.Query.{Query}
 use Rattle.tiff_dir.specs.declared.query.Query.TheVariants.{Window, Info}
 use Rattle.tiff_dir.specs.declared.query.Pick.TheVariants.{Level}
@@ -18,11 +18,6 @@ StillReads before after old new = (book : Book) → ReadsBook before old book �
 -- Where a report stands, its query is one for what is asked of the file of the book that has the tag which it tells.
 abbrev pub AsksOf : Book → Asked → ClientState → Type 0
 AsksOf book a c = IfSome (report_of c) (λ r. (p : Publication) → In p book → p.tag ≡ r.tag → IfSome (query_of c) (IsFor p.file a))
-
--- the exchanges for one query end where its report stands, or all are used up; those for a whole level are for several
-abbrev pub Ends : Asked → (most count : ℕ) → ClientState → Type 0
-Ends (asked.Whole level) most count c = ⊤
-Ends a most count c = (most ≤ count) ⊎ IsSome (report_of c)
 
 -- The query is asked for what is asked of a file: for a whole level Info, or a window of that level from its first sample on.
 abbrev pub IsAskedFor : Asked → Query → Type 0
@@ -44,3 +39,26 @@ ReadsSome a old new = (n : ℕ) × ReadsQueries a n old new
 abbrev pub StopsReading : Asked → ClientState → ClientState → Type 0
 StopsReading a old new = (mid opened : ClientState) × (query : Query) × IsAskedFor a query
     × ReadsSome a old mid × OpensKeeping query mid opened × StopsFetching Anything opened new
+
+-- ---- when they end
+
+-- the reports that stood tell two tags: the file was replaced between
+abbrev pub IsReplaced : ClientState → ClientState → Type 0
+IsReplaced old new = IsSomeAnd (report_of old) (λ r. IsSomeAnd (report_of new) (λ s. s.tag ≢ r.tag))
+
+-- So often the file was replaced between two reports while what is asked was read, and nothing else is done to the client.
+abbrev pub FindsReplaced : Asked → ℕ → ClientState → ClientState → Type 0
+FindsReplaced a zero old new = new ≡ old
+FindsReplaced a (suc n) old new = (mid told : ClientState)
+    × FindsReplaced a n old mid × ReadsSome a mid told × ReadsSome a told new × IsReplaced told new
+
+-- It was replaced at least so often, and then the query was put anew.
+abbrev pub IsReplacedOften : Asked → (most : ℕ) → ClientState → ClientState → Type 0
+IsReplacedOften a most old new = (n : ℕ) × (mid : ClientState) × (most ≤ n) × FindsReplaced a n old mid × ReadsSome a mid new
+
+-- The exchanges end where a report stands, or all are used up; those for a whole level also where the file was replaced as often as there may
+-- be exchanges.
+abbrev pub Ends : Asked → (most count : ℕ) → (old new : ClientState) → Type 0
+Ends (asked.Whole level) most count old new =
+    (most ≤ count) ⊎ (IsSome (report_of new) ⊎ IsReplacedOften (asked.Whole level) most old new)
+Ends a most count old new = (most ≤ count) ⊎ IsSome (report_of new)

@@ -107,6 +107,8 @@ impl<R: Eprint + Clock + AllocGlobal> Exchanges<'_, '_, R> {
             → OnOk result (AsksOf book (Whole level) client.new) }
         ensures few { StaysWithin self.now.requests (P.count (source_of noted.old)) (P.count (source_of noted.new)) }
 
+        ensures ends { OnOk result (Ends (Whole level) self.now.requests (P.count (source_of noted.new)) client.old client.new) }
+
         // Queries for what is asked are put one after another, and exchanged for, and nothing else is done to the client; want of memory
         // came in the exchanges for the last of them.
         ensures queries { OnOk result (ReadsSome (Whole level) client.old client.new) }
@@ -146,7 +148,7 @@ impl<R: Eprint + Clock + AllocGlobal> Exchanges<'_, '_, R> {
         ensures asks { (book : Book) → ReadsBook (P.speaks_for (source_of noted.old)) client.old book
             → OnOk result (AsksOf book asked client.new) }
         ensures few { StaysWithin self.now.requests (P.count (source_of noted.old)) (P.count (source_of noted.new)) }
-        ensures ends { OnOk result (Ends asked self.now.requests (P.count (source_of noted.new)) client.new) }
+        ensures ends { OnOk result (Ends asked self.now.requests (P.count (source_of noted.new)) client.old client.new) }
 
         // Queries for what is asked are put one after another, and exchanged for, and nothing else is done to the client; want of memory
         // came in the exchanges for the last of them.
@@ -260,6 +262,7 @@ fn whole_of(client: &Client, level: u32) -> Option<(Tag, Query)>
     ensures whole { (book : Book) → HasDistinctTags book → ClientAgrees client.now book
         → IfSome result (λ whole. IsOfWholeBy book whole.0 level whole.1) }
     ensures asked { IfSome result (λ whole. IsAskedFor (Whole level) whole.1) }
+    ensures told { IfSome result (λ whole. IsSomeAnd (report_of client.now) (λ r. r.tag ≡ whole.0)) }
     ensures none { result ≡ None → IfSome (report_of client.now) (λ r. TellsSides (Whole level) r.outcome → ⊥) }
 {
     fronts_are_read();

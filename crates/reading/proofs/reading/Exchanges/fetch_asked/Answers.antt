@@ -23,7 +23,7 @@ returns-clause-asks g c = λ book reads.
 pub returns-clause-ends : goal.returns-clause-ends
 returns-clause-ends g c =
     let is = asks_query _ _ c.match-asked.query c.args.client.now c.open.new.self c.fetch.new.client c.open.ensures c.fetch.ensures.keeps in
-    ended c.fetch.result c.args.asked c.match-asked.query c.fetch.new.client _ _ is c.fetch.ensures.ends
+    ended c.fetch.result c.args.asked c.match-asked.query c.args.client.now c.fetch.new.client _ _ is c.fetch.ensures.ends
 
 pub returns-clause-queries : goal.returns-clause-queries
 returns-clause-queries g c =

@@ -1,7 +1,7 @@
-use Rattle.std.proofs.Common.{arith, inl, refl, zero}
+use Rattle.std.proofs.Common.{arith, inl, inr, refl, zero}
 use Rattle.tiff_dir.specs.declared.query.Query.TheVariants.{Info}
 use Rattle.reading.specs.declared.reading.Asked.TheVariants.{Whole}
-use Rattle.reading.proofs.OpenLemmas.{asks_query, asks_same, asks_whole, opened_query, opened_reads, reads_more, stops_more}
+use Rattle.reading.proofs.OpenLemmas.{asks_query, asks_same, asks_whole, ended_ok, opened_query, opened_reads, reads_more, replaced, replaced_more, stops_more}
 use Rattle.reading.proofs.reading.Exchanges.fetch_whole.Goals as goal
 
 pub returns-in_err-fetch-clause-reads : goal.returns-in_err-fetch-clause-reads
@@ -42,6 +42,12 @@ loop-preserved g c = record {
   queries =
       let first = reads_more (Whole c.args.level) Info c.args.client.now c.loop.client c.open.new.self c.fetch.new.client (inl refl) c.loop.invariant.queries c.open.ensures c.in_ok-fetch.ensures.fetches in
       reads_more (Whole c.args.level) c.in-Some.window c.args.client.now c.fetch.new.client c.open-in-loop.new.self c.fetch-in-loop.new.client c.in-Some.ensures.asked first c.open-in-loop.ensures c.in_ok-fetch-2.ensures.fetches;
+  replaced =
+      let a = Whole c.args.level in
+      let sides = reads_more a Info c.loop.client c.loop.client c.open.new.self c.fetch.new.client (inl refl) (zero, refl) c.open.ensures c.in_ok-fetch.ensures.fetches in
+      let window = reads_more a c.in-Some.window c.fetch.new.client c.fetch.new.client c.open-in-loop.new.self c.fetch-in-loop.new.client c.in-Some.ensures.asked (zero, refl) c.open-in-loop.ensures c.in_ok-fetch-2.ensures.fetches in
+      let other = replaced c.fetch.new.client c.fetch-in-loop.new.client c.in-Some.tag c.in-Some.ensures.told (c.has_another_tag.ensures.other c.if-not-has_another_tag.false) in
+      replaced_more a c.loop.counter c.args.client.now c.loop.client c.fetch.new.client c.fetch-in-loop.new.client c.loop.invariant.replaced sides window other;
 }
 
 pub returns-clause-reads : goal.returns-clause-reads
@@ -72,3 +78,18 @@ pub returns-in_err-fetch-2-clause-stops : goal.returns-in_err-fetch-2-clause-sto
 returns-in_err-fetch-2-clause-stops g c =
     let first = reads_more (Whole c.args.level) Info c.args.client.now c.loop.client c.open.new.self c.fetch.new.client (inl refl) c.loop.invariant.queries c.open.ensures c.in_ok-fetch.ensures.fetches in
     stops_more c.from_residual-in_err-fetch-2.result (Whole c.args.level) c.in-Some.window c.args.client.now c.fetch.new.client c.open-in-loop.new.self c.fetch-in-loop.new.client c.in-Some.ensures.asked first c.open-in-loop.ensures c.in_err-fetch-2.ensures.stops
+
+pub returns-in_default-clause-ends : goal.returns-in_default-clause-ends
+returns-in_default-clause-ends g c =
+    let is = asks_query _ _ Info c.loop.client c.open.new.self c.fetch.new.client c.open.ensures c.fetch.ensures.keeps in
+    ended_ok (Whole c.args.level) Info c.args.client.now c.fetch.new.client _ _ is c.in_ok-fetch.ensures.ends
+
+pub returns-then-not-has_another_tag-clause-ends : goal.returns-then-not-has_another_tag-clause-ends
+returns-then-not-has_another_tag-clause-ends g c =
+    let is = asks_query _ _ c.in-Some.window c.fetch.new.client c.open-in-loop.new.self c.fetch-in-loop.new.client c.open-in-loop.ensures c.fetch-in-loop.ensures.keeps in
+    ended_ok (Whole c.args.level) c.in-Some.window c.args.client.now c.fetch-in-loop.new.client _ _ is c.in_ok-fetch-2.ensures.ends
+
+pub returns-clause-ends : goal.returns-clause-ends
+returns-clause-ends g c =
+    let again = reads_more (Whole c.args.level) Info c.loop.client c.loop.client c.open-2.new.self c.open-2.new.self (inl refl) (zero, refl) c.open-2.ensures (zero, refl) in
+    inr (inr (c.loop.counter, c.loop.client, c.loop-test.false, c.loop.invariant.replaced, again))

@@ -1,6 +1,6 @@
 use Rattle.exchange_notes.specs.Noted.{source_of}
 use Rattle.reading.specs.declared.reading.Asked.TheVariants.{Whole}
-use Rattle.reading.specs.Exchanges.{ReadsSome, StillReads}
+use Rattle.reading.specs.Exchanges.{FindsReplaced, ReadsSome, StillReads}
 use Rattle.reading.specs.Text.{StaysWithin}
 use Rattle.reading.proofs.reading.Exchanges.fetch_whole.Given as goal
 
@@ -9,4 +9,5 @@ invariant-loop g l = record {
   reads : StillReads (g.P.Pieces.speaks_for (source_of l.fn.noted)) (g.P.Pieces.speaks_for (source_of l.noted)) l.fn.client l.client;
   few : StaysWithin l.fn.self.requests (g.P.Pieces.count (source_of l.fn.noted)) (g.P.Pieces.count (source_of l.noted));
   queries : ReadsSome (Whole l.level) l.fn.client l.client;
+  replaced : FindsReplaced (Whole l.level) l.counter l.fn.client l.client;
 }
