@@ -1,5 +1,6 @@
 pub mod GoingLemmas
 pub mod HeldLemmas
+pub mod PlaceLemmas
 pub mod RefusalLemmas
 pub mod RunLemmas
 pub mod TurnLemmas

@@ -1,5 +1,5 @@
 -- Connections whose answers are written.
-use Rattle.std.specs.Prelude.{◌≡◌, ◌+◌, ◌-◌, ◌^◌, ℕ, min, nat_eq, true, IsSomeAnd}
+use Rattle.std.specs.Prelude.{◌≡◌, ◌+◌, ◌-◌, ◌^◌, ℕ, min, nat_eq, false, true, IsSomeAnd}
 use Rattle.std.specs.HashMap.{get}
 use Rattle.serving.specs.declared.drain.Drain.{Drain}
 use Rattle.serving.specs.declared.open.Open.{Open}
@@ -11,6 +11,10 @@ DrainsAt k o = IsSomeAnd (get nat_eq o.peers k) (λ p. p.is_draining ≡ true)
 -- connection k has a socket, and its turn is noted and hasn't come yet
 abbrev pub IsReadyAt : ℕ → Open → Type 0
 IsReadyAt k o = IsSomeAnd (get nat_eq o.peers k) (λ p. p.is_ready ≡ true)
+
+-- a new connection: it has a socket, drains not, and no turn of it is noted
+abbrev pub IsFresh : ℕ → Open → Type 0
+IsFresh k o = IsSomeAnd (get nat_eq o.peers k) (λ p. (p.is_draining ≡ false) × (p.is_ready ≡ false))
 
 -- the drain of a connection whose last answer is written at this moment: it ends two seconds later
 abbrev pub drain_of : ℕ → ℕ → Drain

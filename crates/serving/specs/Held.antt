@@ -1,10 +1,10 @@
 -- What others know of a server's sockets.
-use Rattle.std.specs.Prelude.{◌≡◌, ◌≢◌, ◌<◌, ◌⊎◌, ◌+◌, ◌-◌, ◌*◌, ◌^◌, ◌≤◌, ℕ, false, true, min, slice_get, Option, None, Some, IfSome, IsSomeAnd}
+use Rattle.std.specs.Prelude.{◌≡◌, ◌≢◌, ◌<◌, ◌⊎◌, ◌+◌, ◌-◌, ◌*◌, ◌^◌, ◌≤◌, ℕ, [], length, false, true, min, slice_get, Option, None, Some, IfSome, IsSomeAnd}
 use Rattle.std.specs.declared.time.Duration.{Duration}
 use Rattle.std.specs.Duration.{as_nanos}
 use Rattle.cog_connections.specs.declared.timed.Timed.{Timed}
 use Rattle.cog_connections.specs.Table.{Table, timed_at}
-use Rattle.cog_connections.specs.Yielding.{MayYield, WakesAt}
+use Rattle.cog_connections.specs.Yielding.{MayYield, WakesAt, Yields}
 use Rattle.serving.specs.Turns.{HasStartedAt}
 use Rattle.serving.specs.declared.serving.Limits.{Limits}
 use Rattle.serving.specs.declared.serving.Serving.{Serving}
@@ -32,6 +32,18 @@ room_of s = s.held.connections.table.cap
 -- the number of the next one that gets a place
 abbrev pub next_of : Serving → ℕ
 next_of s = s.held.connections.next
+
+-- nobody's place is a newcomer's at this moment: each connection is busy, or it is the only one, which never loses its own
+abbrev pub NobodyYields : ℕ → Serving → Type 0
+NobodyYields now s = (room_of s ≡ 1) ⊎ Yields now (limits_of s).patience (places_of s) None
+
+-- there is no place for a newcomer at this moment: none is free, and nobody's is taken
+abbrev pub HasNoPlace : ℕ → Serving → Type 0
+HasNoPlace now s = (room_of s ≤ length (places_of s)) × NobodyYields now s
+
+-- no connection may go on, none drains, and no newcomer is known that there was no room for, or that wasn't let in
+abbrev pub Rests : Serving → Type 0
+Rests s = (s.ready.items ≡ []) × (s.drains.items ≡ []) × (s.is_starved ≡ false) × (s.is_barred ≡ false)
 
 -- by this moment one is looked at that will have made no progress for as long as the patience, the first that will
 abbrev pub WakesBy : Serving → Option ℕ → Type 0

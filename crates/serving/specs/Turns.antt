@@ -1,5 +1,5 @@
 -- What a connection's turn does, and when it comes to an end.
-use Rattle.std.specs.Prelude.{◌≡◌, ℕ, nat_eq, IfSome, IsTrue, Some, is_some}
+use Rattle.std.specs.Prelude.{◌≡◌, ℕ, nat_eq, IfSome, IsSomeAnd, IsTrue, None, Some, is_some}
 use Rattle.std.specs.HashMap.{HashMap, get}
 use Rattle.std.specs.Map.{remove_entry}
 use Rattle.cog_server.specs.Status.{EndsBy, is_drained, start}
@@ -22,6 +22,10 @@ HasStartedAt k now table = timed_at k table ≡ Some (record { connection = star
 -- all answers of connection k are written, and no more come; or there is no such connection
 abbrev pub HasEndedAt : ℕ → Table → Type 0
 HasEndedAt k table = IfSome (timed_at k table) (λ p. (ended : Ended) × EndsBy p.connection (Some ended))
+
+-- there is a connection k, and not all its answers are written, or more may come
+abbrev pub IsOpenAt : ℕ → Table → Type 0
+IsOpenAt k table = IsSomeAnd (timed_at k table) (λ p. EndsBy p.connection None)
 
 -- nothing more may come on connection k, or there is no such connection
 abbrev pub IsDrainedAt : ℕ → Table → Type 0

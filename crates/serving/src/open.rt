@@ -6,8 +6,8 @@ ghost use Rattle.cog_connections.specs.Table.{OthersStay, timed_at};
 ghost use Rattle.cog_connections.specs.declared.timed.Timed.{Timed};
 ghost use Rattle.cog_connections.specs.Yielding.{MayYield, WakesAt, Yields};
 ghost use Rattle.serving.specs.Going.{AllWentOn};
-ghost use Rattle.serving.specs.Turns.{HasEndedAt, HasStartedAt, HaveSockets, IsDrainedAt, KeepsPlaces};
-ghost use Rattle.serving.specs.declared.turn.Turn.TheVariants.{Ended};
+ghost use Rattle.serving.specs.Turns.{HasEndedAt, HasStartedAt, HaveSockets, IsDrainedAt, IsOpenAt, KeepsPlaces};
+ghost use Rattle.serving.specs.declared.turn.Turn.TheVariants.{Ended, GoesOn, Waits};
 
 use crate::answered::{Asked, Audience, Teller};
 use crate::socket::Socket;
@@ -36,7 +36,8 @@ struct Peer {
 
 /// Whether there is a place for a connection more.
 fn has_place(connections: &Connections) -> bool
-    ensures { IsTrue result ↔ (length connections.now.table.entries < connections.now.table.cap) }
+    ensures place { IsTrue result ↔ (length connections.now.table.entries < connections.now.table.cap) }
+    ensures bound { length connections.now.table.entries ≤ connections.now.table.cap }
 {
     connections.count() < connections.table.cap().get()
 }
@@ -52,12 +53,13 @@ pub struct Open {
 }
 
 impl Open {
-    ghost use Rattle.serving.specs.Draining.{DrainsAt, IsReadyAt};
+    ghost use Rattle.serving.specs.Draining.{DrainsAt, IsFresh, IsReadyAt};
 
     /// None, with so many places.
     pub fn new(alloc: Global, places: NonZeroUsize) -> Result<Self, Memory>
         ensures none { IfOk result (λ o. o.connections.table.entries ≡ []) }
         ensures places { IfOk result (λ o. o.connections.table.cap ≡ non_zero_usize_get places) }
+        ensures ended { IfOk result (λ o. o.ended ≡ 0) }
     {
         Ok(Open {
             alloc,
@@ -83,7 +85,8 @@ impl Open {
 
     /// Whether there is a place.
     pub fn has_place(&self) -> bool
-        ensures { IsTrue result ↔ (length self.now.connections.table.entries < self.now.connections.table.cap) }
+        ensures place { IsTrue result ↔ (length self.now.connections.table.entries < self.now.connections.table.cap) }
+        ensures bound { length self.now.connections.table.entries ≤ self.now.connections.table.cap }
     {
         has_place(&self.connections)
     }
@@ -121,6 +124,9 @@ impl Open {
         ensures added { HasStartedAt self.old.connections.next now self.new.connections.table.entries
             ⊎ ((self.old.ended + 1 < 2 ^ 32 → self.new.ended ≡ self.old.ended + 1)
             × ((k : ℕ) → timed_at k self.new.connections.table.entries ≡ timed_at k self.old.connections.table.entries)) }
+        // It doesn't drain, and its first turn isn't noted yet.
+        ensures fresh { IsFresh self.old.connections.next self.new
+            ⊎ ((k : ℕ) → timed_at k self.new.connections.table.entries ≡ timed_at k self.old.connections.table.entries) }
     {
         if self.try_add(poll, stream, now).is_err() {
             self.ended = self.ended.saturating_add(1);
@@ -131,6 +137,7 @@ impl Open {
     fn try_add(&mut self, poll: &Poll, mut stream: TcpStream, now: u64) -> io::Result<()>
         ensures ended { self.new.ended ≡ self.old.ended }
         ensures added { OnOk result (HasStartedAt self.old.connections.next now self.new.connections.table.entries) }
+        ensures fresh { OnOk result (IsFresh self.old.connections.next self.new) }
         ensures err { OnErr result ((k : ℕ) → timed_at k self.new.connections.table.entries ≡ timed_at k self.old.connections.table.entries) }
         ensures others { OthersStay self.old.connections.next self.old.connections.table.entries self.new.connections.table.entries }
         ensures kept { (k : ℕ) (p : Timed) → timed_at k self.old.connections.table.entries ≡ Some p
@@ -237,6 +244,12 @@ impl Open {
         ensures went { AllWentOn server.now.catalogue now self.old.connections.table.entries self.new.connections.table.entries }
         ensures ended { result ≡ Ended → HasEndedAt number self.new.connections.table.entries
             ⊎ (DrainsAt number self.old × IsDrainedAt number self.new.connections.table.entries) }
+        // One that has ended, or is read to its end, neither goes on nor waits.
+        ensures goes_on { result ≡ GoesOn → IsOpenAt number self.old.connections.table.entries
+            ⊎ (DrainsAt number self.old × ¬ IsDrainedAt number self.old.connections.table.entries) }
+        ensures waits { result ≡ Waits → IsOpenAt number self.new.connections.table.entries
+            ⊎ ((DrainsAt number self.old × ¬ IsDrainedAt number self.new.connections.table.entries)
+            ⊎ (timed_at number self.new.connections.table.entries ≡ None)) }
         ensures counted { self.new.ended ≡ self.old.ended }
         ensures taken { ¬ IsReadyAt number self.new }
     {

@@ -1,40 +1,38 @@
 //! The sockets of a server: who gets a place, whose turn it is, and how long to wait.
-ghost use Rattle.std.specs.Prelude.{◌≡◌, ◌≢◌, ◌+◌, ◌-◌, ◌*◌, ◌<◌, ◌≤◌, ◌^◌, ◌⊎◌, ◌↔◌, ◌++◌, ◌∷◌, ℕ, [], IfErr, IfOk, IfSome, IsSomeAnd, IsTrue, None, OnErr, OnOk, Some, drop, false, length, slice_get, true};
-ghost use Rattle.std.specs.Duration.{as_nanos};
+ghost use Rattle.std.specs.Prelude.{◌≡◌, ◌≢◌, ◌+◌, ◌-◌, ◌*◌, ◌<◌, ◌≤◌, ◌^◌, ◌⊎◌, ◌↔◌, ◌++◌, ◌∷◌, ℕ, [], IfErr, IfOk, IfSome, IsOk, IsSomeAnd, IsTrue, None, Ok, OnErr, OnOk, Some, drop, false, length, slice_get, true};
+ghost use Rattle.std.specs.IoError.{error_kind};
 ghost use Rattle.std.specs.NonZero.{non_zero_usize_get};
+ghost use Rattle.std.specs.declared.io.ErrorKind.TheVariants.{WouldBlock};
 ghost use Rattle.cog_connections.specs.Table.{OthersStay, timed_at};
 ghost use Rattle.mio.specs.Events.{capacity};
-ghost use Rattle.serving.specs.Draining.{drain_of};
+ghost use Rattle.serving.specs.Draining.{IsReadyAt, drain_of};
 ghost use Rattle.serving.specs.Going.{AllWentOn};
-ghost use Rattle.serving.specs.Held.{AllStart, IsLookedAt, IsWaitedFor, KeepsAll, KeepsBusy, NoneChanges, NobodyComes, StayOrStart, accepted_of, ended_of, limits_of, next_of, places_of, room_of, WakesBy, WakesIn};
+ghost use Rattle.serving.specs.Held.{AllStart, IsLookedAt, IsWaitedFor, HasNoPlace, KeepsAll, KeepsBusy, NoneChanges, NobodyComes, NobodyYields, Rests, StayOrStart, accepted_of, ended_of, limits_of, next_of, places_of, room_of, WakesBy, WakesIn};
 ghost use Rattle.serving.specs.Refusals.{HasNoRoom, IsBarred, IsLasting, IsOfAsking, IsPassing};
 ghost use Rattle.serving.specs.Turns.{GivesPlace, HasStartedAt};
 ghost use Rattle.serving.specs.declared.refusal.AcceptError.TheVariants.{Accept};
 ghost use Rattle.serving.specs.declared.turn.Turn.TheVariants.{Ended, Failed, GoesOn, Waits};
 
+mod waiting;
+
 use crate::answered::Audience;
 use crate::drain::{DRAIN, Drain};
 use crate::events::{LISTENER, note};
-use crate::moments::earlier;
 use crate::open::Open;
 use crate::refusal::{AcceptError, Refusal, refusal_of};
 use crate::turn::Turn;
 use cog_server::Server;
-use http_range::MESSAGE_LIMIT;
+use http_range::{MESSAGE_LIMIT, Memory};
 use mio::net::{TcpListener, TcpStream};
 use mio::{Events, Interest, Poll};
 use std::collections::VecDeque;
 use std::io::ErrorKind;
 use std::net::Net;
 use std::num::NonZeroUsize;
-use std::time::Duration;
 use std::{io, net};
 
 /// The most events of one wait.
 const EVENTS: usize = 65_536;
-
-/// After so many milliseconds a newcomer for which there was no room, or that wasn't let in, is tried again.
-const RETRY: u64 = 1_000;
 
 /// How many connections there may be, and how long one keeps its place.
 #[derive(Clone, Copy, Debug, PartialEq, Eq)]
@@ -76,7 +74,8 @@ impl Serving {
         listener: net::TcpListener,
         limits: Limits,
     ) -> io::Result<Self>
-        ensures none { IfOk result (λ s. (accepted_of s ≡ 0) × (places_of s ≡ [])) }
+        ensures none { IfOk result (λ s. (accepted_of s ≡ 0) × (ended_of s ≡ 0) × (places_of s ≡ [])) }
+        ensures rests { IfOk result Rests }
         ensures limits { IfOk result (λ s. limits_of s ≡ limits) }
         ensures room { IfOk result (λ s. room_of s ≡ non_zero_usize_get limits.at_once) }
         // One wait may tell of each connection, and of a newcomer.
@@ -137,6 +136,8 @@ impl Serving {
         // Nothing is done while no newcomer waits, nor where there may be no more.
         ensures quiet { self.old.knocks ≡ false → self.new ≡ self.old }
         ensures full { (limits_of self.old).connections ≤ accepted_of self.old → self.new ≡ self.old }
+        // Nor is a newcomer accepted where there is no place for it.
+        ensures waits { HasNoPlace now self.old → self.new ≡ self.old }
 
         // Nobody loses a place but those that may, and each newcomer that gets one counts.
         ensures busy { KeepsBusy now self.old self.new }
@@ -208,6 +209,7 @@ impl Serving {
         ensures last { IfErr result IsLasting }
         ensures quiet { self.old.knocks ≡ false → self.new ≡ self.old }
         ensures full { (limits_of self.old).connections ≤ accepted_of self.old → self.new ≡ self.old }
+        ensures waits { HasNoPlace now self.old → self.new ≡ self.old }
         ensures busy { KeepsBusy now self.old self.new }
         ensures spared { self.old.is_starved ≡ false → length (places_of self.old) < room_of self.old → KeepsAll self.old self.new }
         ensures fed { IfOk result (λ again. again ≡ true → self.old.is_starved ≡ false → self.new.is_starved ≡ false) }
@@ -230,6 +232,11 @@ impl Serving {
     /// Whether there is a place for a newcomer: a free one, or one that another connection loses.
     fn has_place(&mut self, now: u64) -> bool
         ensures free { length (places_of self.old) < room_of self.old → (result ≡ true) × (self.new ≡ self.old) }
+        ensures made { result ≡ true → length (places_of self.new) < room_of self.new }
+        ensures one { room_of self.old ≤ length (places_of self.old) → result ≡ true
+            → GivesPlace now (limits_of self.old).patience (places_of self.old) (places_of self.new) }
+        ensures no { result ≡ false → (self.new ≡ self.old) × HasNoPlace now self.old }
+        ensures waits { HasNoPlace now self.old → result ≡ false }
         ensures starved { self.new.is_starved ≡ self.old.is_starved }
         ensures same { NoneChanges self.old self.new }
         ensures fewer { length (places_of self.new) ≤ length (places_of self.old) }
@@ -244,7 +251,9 @@ impl Serving {
     fn displace(&mut self, now: u64) -> bool
         requires { (room_of self.old ≤ length (places_of self.old)) ⊎ (self.old.is_starved ≡ true) }
         ensures one { self.old.held.connections.table.cap ≡ 1 → result ≡ false }
-        ensures no { result ≡ false → self.new.held.connections ≡ self.old.held.connections }
+        ensures no { result ≡ false → (self.new ≡ self.old) × NobodyYields now self.old }
+        ensures waits { NobodyYields now self.old → result ≡ false }
+        ensures taken { result ≡ true → length (places_of self.new) + 1 ≡ length (places_of self.old) }
         ensures starved { self.new.is_starved ≡ self.old.is_starved }
         ensures same { NoneChanges self.old self.new }
         ensures fewer { length (places_of self.new) ≤ length (places_of self.old) }
@@ -281,6 +290,7 @@ impl Serving {
 
     /// Gives a newcomer its place.
     fn welcome(&mut self, stream: TcpStream, now: u64) -> Result<(), AcceptError>
+        requires { length (places_of self.old) < room_of self.old }
         ensures others { OthersStay self.old.held.connections.next self.old.held.connections.table.entries
             self.new.held.connections.table.entries }
         ensures accepted { accepted_of self.old + 1 < 2 ^ 32 → accepted_of self.new ≡ accepted_of self.old + 1 }
@@ -320,7 +330,14 @@ impl Serving {
         ensures same { NoneChanges self.old self.new }
         ensures fewer { length (places_of self.new) ≤ length (places_of self.old) }
         ensures passing { OnOk result (IsPassing error) }
+        // Where none waits, none counts as waiting, nor as one that there was no room for, or that wasn't let in.
+        ensures none_waits { error_kind error ≡ WouldBlock → (result ≡ Ok false)
+            × (self.new.knocks ≡ false) × (self.new.is_starved ≡ false) × (self.new.is_barred ≡ false) }
+        ensures starved { HasNoRoom error → error_kind error ≢ WouldBlock → OnOk result (self.new.is_starved ≡ true) }
         ensures barred { IsBarred error → OnOk result (self.new.is_barred ≡ true) }
+        // One that isn't tried again at once is heard of by the next wait, or looked at again within a second.
+        ensures heard { IfOk result (λ again. again ≡ false → (self.new.knocks ≡ false)
+            ⊎ ((self.new.is_starved ≡ true) ⊎ (self.new.is_barred ≡ true))) }
         ensures err { OnErr result (self.new.held.connections ≡ self.old.held.connections) }
         // An error that passes isn't told: where the system can't be asked behind it, that is, and no newcomer counts as waiting.
         ensures last { IfErr result (λ told. (IsOfAsking told × (self.new.knocks ≡ false))
@@ -363,52 +380,56 @@ impl Serving {
     {
         let buffer = &mut self.buffer;
         let turn = self.held.turn(number, server, buffer, now, audience);
-        self.after(number, turn, now);
+        if self.after(number, turn, now).is_err() {
+            self.held.close(number);
+        }
     }
 
-    /// What comes behind a connection's turn: it waits, goes on, is read to its end where its answers are written, or is closed.
-    fn after(&mut self, number: u64, turn: Turn, now: u64)
+    /// What comes behind a connection's turn: it waits, goes on, is read to its end where its answers are written, or is closed. The
+    /// caller closes it where memory is wanting.
+    fn after(&mut self, number: u64, turn: Turn, now: u64) -> Result<(), Memory>
         ensures others { OthersStay number self.old.held.connections.table.entries self.new.held.connections.table.entries }
         ensures nobody { NobodyComes self.old self.new }
         ensures same { NoneChanges self.old self.new }
-        ensures waits { turn ≡ Waits → self.new ≡ self.old }
-        ensures goes_on { turn ≡ GoesOn → (self.new.ready.items ≡ self.old.ready.items ++ number ∷ [])
-            ⊎ (timed_at number (places_of self.new) ≡ None) }
-        ensures ended { turn ≡ Ended → (self.new.ready.items ≡ self.old.ready.items ++ number ∷ [])
-            ⊎ (timed_at number (places_of self.new) ≡ None) }
-        ensures drains { turn ≡ Ended → (self.new.drains.items ≡ self.old.drains.items ++ drain_of now number ∷ [])
-            ⊎ (timed_at number (places_of self.new) ≡ None) }
+        ensures waits { turn ≡ Waits → IsOk result × (self.new ≡ self.old) }
+        ensures goes_on { turn ≡ GoesOn → OnOk result ((self.new.ready.items ≡ self.old.ready.items ++ number ∷ [])
+            × (places_of self.new ≡ places_of self.old)) }
+        ensures ended { turn ≡ Ended → OnOk result ((self.new.ready.items ≡ self.old.ready.items ++ number ∷ [])
+            ⊎ (timed_at number (places_of self.new) ≡ None)) }
+        ensures drains { turn ≡ Ended → OnOk result ((self.new.drains.items ≡ self.old.drains.items ++ drain_of now number ∷ [])
+            ⊎ (timed_at number (places_of self.new) ≡ None)) }
         ensures failed { turn ≡ Failed → timed_at number (places_of self.new) ≡ None }
     {
         match turn {
             Turn::Waits => {}
-            Turn::GoesOn => self.make_ready(number),
+            Turn::GoesOn => self.make_ready(number)?,
             Turn::Ended => {
                 let ends = now.saturating_add(DRAIN);
-                if self.held.drain(number)
-                    && self.drains.push_back(Drain { ends, number }).is_ok()
-                {
-                    self.make_ready(number);
+                if self.held.drain(number) {
+                    self.drains.push_back(Drain { ends, number })?;
+                    self.make_ready(number)?;
                 } else {
                     self.held.close(number);
                 }
             }
             Turn::Failed => self.held.close(number),
         }
+        Ok(())
     }
 
-    /// A connection may go on. Without memory it is closed.
-    fn make_ready(&mut self, number: u64)
+    /// A connection may go on, and keeps its place.
+    fn make_ready(&mut self, number: u64) -> Result<(), Memory>
         ensures others { OthersStay number self.old.held.connections.table.entries self.new.held.connections.table.entries }
         ensures nobody { NobodyComes self.old self.new }
         ensures same { NoneChanges self.old self.new }
-        ensures ready { (self.new.ready.items ≡ self.old.ready.items ++ number ∷ []) ⊎ (timed_at number (places_of self.new) ≡ None) }
+        ensures ready { OnOk result (self.new.ready.items ≡ self.old.ready.items ++ number ∷ []) }
+        ensures noted { IsReadyAt number self.new.held ⊎ (timed_at number (places_of self.new) ≡ None) }
+        ensures kept { places_of self.new ≡ places_of self.old }
         ensures drains { self.new.drains ≡ self.old.drains }
     {
         self.held.note_ready(number);
-        if self.ready.push_back(number).is_err() {
-            self.held.close(number);
-        }
+        self.ready.push_back(number)?;
+        Ok(())
     }
 
     /// Closes the connections whose drain ends.
@@ -444,55 +465,5 @@ impl Serving {
             }
             _ => false,
         }
-    }
-
-    /// When a newcomer that waits is looked at again: where a connection may lose its place, and after a second where there was no room for
-    /// it. One that wasn't let in is looked at after a second, whoever may lose a place.
-    fn looks_at(&self, now: u64) -> Option<u64>
-        ensures starved { (self.now.is_starved ≡ true) ⊎ (self.now.is_barred ≡ true) → self.now.knocks ≡ true
-            → accepted_of self.now < (limits_of self.now).connections → IsSomeAnd result (λ moment. moment ≤ now + 1000) }
-        ensures place { self.now.is_barred ≡ false → self.now.knocks ≡ true → accepted_of self.now < (limits_of self.now).connections → room_of self.now ≢ 1
-            → WakesBy self.now result }
-        ensures idle { self.now.knocks ≡ false → result ≡ None }
-        ensures only { IfSome result (IsLookedAt now self.now) }
-    {
-        if !self.is_awaited() {
-            return None;
-        }
-        if self.is_barred {
-            return Some(now.saturating_add(RETRY));
-        }
-        let place = self.held.wakes_at(self.limits.patience);
-        let again = if self.is_starved {
-            Some(now.saturating_add(RETRY))
-        } else {
-            None
-        };
-        earlier(place, again)
-    }
-
-    /// How long to wait: until a drain ends, or a newcomer that waits is looked at again.
-    fn timeout(&self, now: u64) -> Option<Duration>
-        ensures ready { self.now.ready.items ≢ [] → IsSomeAnd result (λ wait. as_nanos wait ≡ 0) }
-        ensures drain { IfSome (slice_get self.now.drains.items 0) (λ drain.
-            IsSomeAnd result (λ wait. as_nanos wait ≤ (drain.ends - now) * 1000000)) }
-        ensures starved { (self.now.is_starved ≡ true) ⊎ (self.now.is_barred ≡ true) → self.now.knocks ≡ true
-            → accepted_of self.now < (limits_of self.now).connections → IsSomeAnd result (λ wait. as_nanos wait ≤ 1000 * 1000000) }
-        ensures place { self.now.ready.items ≡ [] → self.now.is_barred ≡ false → self.now.knocks ≡ true → accepted_of self.now < (limits_of self.now).connections
-            → room_of self.now ≢ 1 → WakesIn now self.now result }
-        // Where no connection may go on and no newcomer waits, it is waited just until the first drain ends, or without a limit where there
-        // is none.
-        ensures idle { self.now.ready.items ≡ [] → self.now.drains.items ≡ [] → self.now.knocks ≡ false → result ≡ None }
-        ensures just { self.now.ready.items ≡ [] → self.now.knocks ≡ false → IfSome (slice_get self.now.drains.items 0) (λ drain.
-            IsSomeAnd result (λ wait. as_nanos wait ≡ (drain.ends - now) * 1000000)) }
-        // It is never woken for anything else.
-        ensures only { self.now.ready.items ≡ [] → IfSome result (IsWaitedFor now self.now) }
-    {
-        if !self.ready.is_empty() {
-            return Some(Duration::ZERO);
-        }
-        let drain = self.drains.front().map(|drain| drain.ends);
-        let moment = earlier(drain, self.looks_at(now))?;
-        Some(Duration::from_millis(moment.saturating_sub(now)))
     }
 }

@@ -1,5 +1,7 @@
 //! Bytes between a connection and its socket.
-ghost use Rattle.std.specs.Prelude.{◌≤◌, IfOk, IfSome, OnErr, length, take};
+ghost use Rattle.std.specs.Prelude.{◌≡◌, ◌≤◌, IfErr, IfOk, IfSome, OnErr, length, take};
+ghost use Rattle.std.specs.IoError.{error_kind};
+ghost use Rattle.std.specs.declared.io.ErrorKind.TheVariants.{OutOfMemory};
 ghost use Rattle.cog_server.specs.Received.{after_read};
 ghost use Rattle.cog_server.specs.Status.{room_of};
 ghost use Rattle.cog_connections.specs.Table.{Changes, GoesOnAt, timed_after_write, timed_at};
@@ -20,7 +22,9 @@ pub struct Socket {
 }
 
 /// Want of memory, as an error of the socket.
-fn memory(_error: Memory) -> io::Error {
+fn memory(_error: Memory) -> io::Error
+    ensures { error_kind result ≡ OutOfMemory }
+{
     io::Error::from(ErrorKind::OutOfMemory)
 }
 
@@ -101,7 +105,12 @@ pub fn answer(
     ensures ok { IfOk result (GoesOnAt server.now.catalogue number now (timed_at number connections.old.table.entries)
         connections.old.table.entries connections.new.table.entries) }
     ensures err { OnErr result (Changes number (λ p. p) connections.old.table.entries connections.new.table.entries) }
+    // Only memory may be wanting.
+    ensures memory { IfErr result (λ error. error_kind error ≡ OutOfMemory) }
     ensures kept { KeepsPlaces number connections.old connections.new }
 {
-    connections.go_on(number, server, now).map_err(memory)
+    match connections.go_on(number, server, now) {
+        Ok(went) => Ok(went),
+        Err(error) => Err(memory(error)),
+    }
 }

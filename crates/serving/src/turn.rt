@@ -1,12 +1,11 @@
 //! A connection's turn: it goes on until its socket would block, and no longer than is fair to others.
-ghost use Rattle.std.specs.Prelude.{◌≡◌, ◌≢◌, ◌<◌, ◌↔◌, ℕ, false, length, IfOk, IsSomeAnd, IsTrue, None, Some};
+ghost use Rattle.std.specs.Prelude.{◌≡◌, ◌≢◌, ◌<◌, ◌↔◌, ℕ, false, length, IfErr, IfOk, IsSome, IsSomeAnd, IsTrue, None, Some};
 ghost use Rattle.std.specs.IoError.{error_kind};
 ghost use Rattle.cog_connections.specs.Table.{timed_at};
 ghost use Rattle.http_range.specs.Book.{Catalogue};
-ghost use Rattle.cog_server.specs.Status.{EndsBy};
-ghost use Rattle.std.specs.declared.io.ErrorKind.TheVariants.{Interrupted, WouldBlock};
+ghost use Rattle.std.specs.declared.io.ErrorKind.TheVariants.{Interrupted, OutOfMemory, WouldBlock};
 ghost use Rattle.serving.specs.Going.{AllWentOn};
-ghost use Rattle.serving.specs.Turns.{HasEndedAt, IsDrainedAt, KeepsPlaces};
+ghost use Rattle.serving.specs.Turns.{HasEndedAt, IsDrainedAt, IsOpenAt, KeepsPlaces};
 ghost use Rattle.serving.specs.declared.turn.Turn.TheVariants.{Ended, GoesOn, Waits};
 
 use crate::answered::{Audience, Teller};
@@ -49,7 +48,7 @@ fn is_waiting(connections: &Connections, number: u64) -> bool
 /// Whether all answers of a connection are written, or there is none of this number.
 fn has_ended(connections: &Connections, number: u64) -> bool
     ensures ended { IsTrue result → HasEndedAt number connections.now.table.entries }
-    ensures open { result ≡ false → IsSomeAnd (timed_at number connections.now.table.entries) (λ p. EndsBy p.connection None) }
+    ensures open { result ≡ false → IsOpenAt number connections.now.table.entries }
 {
     match connections.get(number) {
         Some(timed) => timed.connection.ended().is_some(),
@@ -101,6 +100,10 @@ fn step<A: Audience>(
     ensures kept { KeepsPlaces socket.now.number connections.old connections.new }
     ensures went { AllWentOn server.now.catalogue bounds.now connections.old.table.entries connections.new.table.entries }
     ensures ended { IfOk result (λ count. count ≡ None → HasEndedAt socket.now.number connections.new.table.entries) }
+    // Something is done only on a connection that hasn't ended, and its socket blocks, or fails, only where it still hasn't.
+    ensures open { IfOk result (λ count. IsSome count → IsOpenAt socket.now.number connections.old.table.entries) }
+    ensures blocks { IfErr result (λ error. error_kind error ≢ OutOfMemory
+        → IsOpenAt socket.now.number connections.old.table.entries × IsOpenAt socket.now.number connections.new.table.entries) }
     ensures asked { teller.new.asked.ghost_name ≡ teller.old.asked.ghost_name }
 {
     let Bounds { most, now } = bounds;
@@ -133,6 +136,10 @@ pub fn serve_turn<A: Audience>(
     ensures kept { KeepsPlaces socket.now.number connections.old connections.new }
     ensures went { AllWentOn server.now.catalogue now connections.old.table.entries connections.new.table.entries }
     ensures ended { result ≡ Ended → HasEndedAt socket.now.number connections.new.table.entries }
+    // One that has ended neither goes on nor waits.
+    ensures goes_on { result ≡ GoesOn → IsOpenAt socket.now.number connections.old.table.entries }
+    ensures waits { result ≡ Waits → IsOpenAt socket.now.number connections.old.table.entries
+        × IsOpenAt socket.now.number connections.new.table.entries }
     ensures asked { teller.new.asked.ghost_name ≡ teller.old.asked.ghost_name }
 {
     let mut most = WRITE_LIMIT;
@@ -161,6 +168,9 @@ pub fn drain_turn(connections: &mut Connections, socket: &Socket, buffer: &mut [
     // Nothing is answered, from whatever catalogue.
     ensures went { (catalogue : Catalogue) (now : ℕ) → AllWentOn catalogue now connections.old.table.entries connections.new.table.entries }
     ensures ended { result ≡ Ended → IsDrainedAt socket.now.number connections.new.table.entries }
+    // Where nothing more may come it neither goes on nor waits.
+    ensures goes_on { result ≡ GoesOn → ¬ IsDrainedAt socket.now.number connections.old.table.entries }
+    ensures waits { result ≡ Waits → ¬ IsDrainedAt socket.now.number connections.new.table.entries }
 {
     for _ in 0..STEP_LIMIT {
         if is_drained(connections, socket.number) {

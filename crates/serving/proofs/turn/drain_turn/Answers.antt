@@ -1,5 +1,8 @@
 use Rattle.serving.proofs.GoingLemmas.{all_on, none_on, read_or_not}
-use Rattle.serving.proofs.TurnLemmas.{keeps_on}
+use Rattle.std.proofs.Common.{inr}
+use Rattle.cog_connections.specs.declared.table.Connections.{Connections}
+use Rattle.serving.specs.Turns.{IsDrainedAt}
+use Rattle.serving.proofs.TurnLemmas.{first_tells, keeps_on, not_so}
 use Rattle.serving.proofs.turn.drain_turn.Goals as goal
 
 pub returns-in-loop-clause-went : goal.returns-in-loop-clause-went
@@ -12,6 +15,9 @@ pub loop-preserved : goal.loop-preserved
 loop-preserved c = record {
   kept = keeps_on c.args.socket.now.number c.args.connections.now c.loop.connections c.read_some.new.connections
       c.loop.invariant.kept c.read_some.ensures.kept;
+  comes = inr (first_tells (λ (x : Connections). ¬ IsDrainedAt c.args.socket.now.number x.table.entries) c.loop.counter
+      c.args.connections.now c.loop.connections c.loop.invariant.comes
+      (not_so c.is_drained.result c.if-is_drained.false c.is_drained.ensures));
   went = λ catalogue now.
       all_on catalogue now c.args.connections.now.table.entries c.loop.connections.table.entries c.read_some.new.connections.table.entries
       (c.loop.invariant.went catalogue now)

@@ -1,5 +1,5 @@
 use Rattle.std.specs.Prelude.{◌≡◌, ◌+◌, ◌-◌, ◌<◌, ◌≤◌, false, length}
-use Rattle.serving.specs.Held.{StayOrStart, KeepsAll, KeepsBusy, accepted_of, ended_of, limits_of, next_of, places_of, room_of}
+use Rattle.serving.specs.Held.{HasNoPlace, StayOrStart, KeepsAll, KeepsBusy, accepted_of, ended_of, limits_of, next_of, places_of, room_of}
 use Rattle.serving.proofs.serving.Serving.accept.Given as goal
 
 abbrev pub invariant-loop : goal.invariant-loop
@@ -18,5 +18,6 @@ invariant-loop l = record {
   newcomers : StayOrStart l.now l.fn.self l.self;
   quiet : l.fn.self.knocks ≡ false → l.self ≡ l.fn.self;
   full : (limits_of l.fn.self).connections ≤ accepted_of l.fn.self → l.self ≡ l.fn.self;
+  waits : HasNoPlace l.now l.fn.self → l.self ≡ l.fn.self;
   few : accepted_of l.fn.self ≤ (limits_of l.fn.self).connections → accepted_of l.self ≤ (limits_of l.fn.self).connections;
 }
