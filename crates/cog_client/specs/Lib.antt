@@ -8,6 +8,7 @@ pub mod Keeps
 pub mod Steps
 pub mod Check
 pub mod Transport
+pub mod Serves
 pub mod Progress
 pub mod Pieces
 pub mod Fed

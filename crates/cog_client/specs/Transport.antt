@@ -1,5 +1,5 @@
 -- What a transport promises, and what fetching over it keeps.
-use Rattle.std.specs.Prelude.{◌≡◌, ℕ, zero, suc, ◌+◌, ◌⊎◌, List, Option, Some, None, ⊤}
+use Rattle.std.specs.Prelude.{◌≡◌, ℕ, zero, suc, ◌+◌, ◌⊎◌, Bool, IsTrue, List, Option, Some, None, ⊤}
 use Rattle.tiff_dir.specs.declared.query.Query.{Query}
 use Rattle.http_range.specs.Book.{Publication, Book, HasDistinctTags, In}
 use Rattle.http_range.specs.Honest.{IsPieceOfSome, ShowsOnly}
@@ -57,6 +57,10 @@ AnswersOn before after = (request : List ℕ) (came : Option (List ℕ)) → aft
 abbrev pub OrLost : (List ℕ → List ℕ → Type 0) → Coming
 OrLost answers request None = ⊤
 OrLost answers request (Some text) = answers request text
+
+-- so it comes, and nothing was lost unless this is told
+abbrev pub UnlessTold : Bool → Coming → Coming
+UnlessTold lost answers request came = answers request came × (came ≡ None → IsTrue lost)
 
 -- The answer to a request was lost on the way, or what came of it is taken.
 abbrev pub TakesOrLoses : Coming → List ℕ → ClientState → ClientState → Type 0

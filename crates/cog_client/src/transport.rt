@@ -1,5 +1,5 @@
 //! What carries a client's requests, and brings the answers.
-ghost use Rattle.std.specs.Prelude.{◌≡◌, ◌+◌, ◌<◌, ◌^◌, ℕ, IfOk, List, OnErr, Option, Some, None};
+ghost use Rattle.std.specs.Prelude.{◌≡◌, ◌+◌, ◌<◌, ◌^◌, ℕ, Bool, true, IfOk, IsTrue, List, OnErr, OnOk, Option, Some, None};
 ghost use Rattle.http_range.specs.Book.{Book};
 ghost use Rattle.cog_client.specs.Transport.{AnswersOn, Anything, IsTrueToAll, SpeaksOn};
 
@@ -18,6 +18,9 @@ pub trait Transport {
     /// This may come of this request: Some of a text of its answer, None where that is lost. One that leaves this out says nothing of it.
     ghost answers: { Self → List ℕ → Option (List ℕ) → Type 0 } = { λ _. Anything };
 
+    /// An answer was lost so far, or may have been. One that leaves this out says nothing of it.
+    ghost has_lost: { Self → Bool } = { λ _. true };
+
     /// The exchanges so far.
     ghost count: { Self → ℕ };
 
@@ -26,6 +29,8 @@ pub trait Transport {
         requires { count self.old + 1 < 2 ^ 64 }
         ensures answered { IfOk result (λ text. answers self.old request.now (Some text.items)) }
         ensures lost { OnErr result (answers self.old request.now None) }
+        ensures told { OnErr result (IsTrue (has_lost self.new)) }
+        ensures kept { OnOk result (has_lost self.new ≡ has_lost self.old) }
         ensures goes_on { AnswersOn (answers self.old) (answers self.new) }
         ensures shows { IfOk result (λ text. IsTrueToAll (speaks_for self.old) text.items) }
         ensures speaks { SpeaksOn (speaks_for self.old) (speaks_for self.new) }

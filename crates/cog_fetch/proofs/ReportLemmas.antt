@@ -1,17 +1,23 @@
 -- Fetching leads to a report where nothing is lost.
-use Rattle.std.proofs.Common.{◌≡◌, ℕ, zero, suc, ◌+◌, ◌≤◌, ◌⊎◌, List, Option, Some, None, refl, sym, ap, ◌∙◌, subst, inl, inr, arith}
-use Rattle.std.specs.Prelude.{IfSome, IsSome}
-use Rattle.std.proofs.lemmas.Option.{none-some}
+use Rattle.std.proofs.Common.{◌≡◌, ℕ, zero, suc, ◌+◌, ◌≤◌, ◌⊎◌, Bool, true, false, List, Option, Some, None, Result, Ok, Err, refl, sym, ap, ◌∙◌, subst, inl, inr, arith}
+use Rattle.std.specs.Prelude.{IfOk, IfSome, IsOkAnd, IsSome, IsTrue}
+use Rattle.std.specs.Option.{option_map}
+use Rattle.std.proofs.lemmas.Bool.{false≢true}
+use Rattle.std.proofs.lemmas.Option.{none-some, same_Some}
 use Rattle.tiff_dir.specs.declared.query.Query.{Query}
 use Rattle.tiff_dir.specs.declared.span.Span.{Span}
 use Rattle.tiff_dir.specs.Query.{cost}
+use Rattle.http_range.specs.Ask.{CanAsk}
 use Rattle.http_range.specs.Book.{Book, HasDistinctTags, In, Publication}
+use Rattle.http_range.specs.Honest.{IsPieceOfBook, IsReadAs}
+use Rattle.http_range.specs.Laws.{TagsTellOne}
 use Rattle.cog_client.specs.Calls.{IsIdle, request_for}
-use Rattle.cog_client.specs.Client.{ClientAgrees, ClientState, ahead_of, asked_of, host_of, how_of, name_of, query_of, report_of, revision_of}
+use Rattle.cog_client.specs.Case.{Revision}
+use Rattle.cog_client.specs.Client.{ClientAgrees, ClientState, Knows, KnowsOne, ahead_of, asked_of, host_of, how_of, name_of, query_of, report_of, revision_of, tag_of}
 use Rattle.cog_client.specs.Keeps.{AsksFor, AsksLike, OpensKeeping}
-use Rattle.cog_client.specs.Progress.{AnswersReport, AreExchanges, Exchanges, IsServed}
-use Rattle.cog_client.specs.Transport.{Coming, Fetches, FetchesAll, FetchesOnce, TakesIfAsked}
-use Rattle.cog_fetch.specs.Serves.{Serves}
+use Rattle.cog_client.specs.Progress.{AnswersReport, AreExchanges, Exchanges, IsGiven, IsServed}
+use Rattle.cog_client.specs.Serves.{AsksBy, Serves}
+use Rattle.cog_client.specs.Transport.{Coming, Fetches, FetchesAll, FetchesOnce, TakesIfAsked, UnlessTold}
 
 -- a client is told to ask as it does
 likewise : (c : ClientState) → AsksLike (how_of c) c c
@@ -37,26 +43,61 @@ same_text : (old new : ClientState) (span : Span) → how_of new ≡ how_of old 
     → request_for old (Some span) ≡ request_for new (Some span)
 same_text old new span how host name revision = cc
 
-module _ (answers : Coming) (p : Publication) (serves : Serves answers p) (q : Query) (opened : ClientState) where
-  -- the report stands, or so many answers were taken
-  abbrev Came : ℕ → ClientState → Type 0
-  Came n c = (query_of c ≡ Some q) × (name_of c ≡ p.name) × (IsSome (report_of c) ⊎ AreExchanges IsServed p n opened c)
+abbrev tag_by : Option Revision → Option (List ℕ)
+tag_by o = option_map (λ (v : Revision). v.tag) o
 
-  module _ (n : ℕ) (mid new : ClientState) (once : FetchesOnce answers mid new) (asks : query_of mid ≡ Some q) (named : name_of mid ≡ p.name) where
+same_asking : (old new : ClientState) (span : Span) → host_of new ≡ host_of old → name_of new ≡ name_of old → revision_of new ≡ revision_of old
+    → CanAsk (host_of old) (name_of old) span.first span.last (tag_of old) → CanAsk (host_of new) (name_of new) span.first span.last (tag_of new)
+same_asking old new span host name revision can =
+    subst (λ h. CanAsk h (name_of new) span.first span.last (tag_of new)) (sym host)
+    (subst (λ n. CanAsk (host_of old) n span.first span.last (tag_of new)) (sym name)
+    (subst (λ t. CanAsk (host_of old) (name_of old) span.first span.last t) (ap tag_by (sym revision)) can))
+
+some_of : {A : Type 0} (o : Option A) (x : A) (P : A → Type 0) → o ≡ Some x → IfSome o P → P x
+some_of o x P is h = subst (λ z. IfSome z P) is h
+
+if_ok : {A E : Type 0} (r : Result A E) (P Q : A → Type 0) → ((x : A) → P x → Q x) → IsOkAnd r P → IfOk r Q
+if_ok (Ok x) P Q to h = to x h
+if_ok (Err e) P Q to h = absurd h
+
+module _ (one : TagsTellOne) (answers : Coming) (lost : Bool) (p : Publication) (serves : Serves answers p) (kept : lost ≡ false) (q : Query) (opened : ClientState) (book : Book) (distinct : HasDistinctTags book) (among : In p book) where
+  -- a client that agrees with the book knows p's file, where it has the tag
+  knows_file : (c : ClientState) → ClientAgrees c book → tag_of c ≡ Some p.tag → Knows p.file c
+  unfolding ClientAgrees
+  knows_file c agrees tag = at (revision_of c) refl agrees
+    where
+      at : (o : Option Revision) → revision_of c ≡ o → IfSome o (KnowsOne c book) → Knows p.file c
+      at None is k = absurd (none-some p.tag (sym (ap tag_by is) ∙ tag))
+      at (Some v) is k =
+          let same_tag : v.tag ≡ p.tag = same_Some _ _ (sym (ap tag_by is) ∙ tag) in
+          let same : k.source ≡ p = one book distinct k.source p k.published among (k.of_tag ∙ same_tag) in
+          subst (λ (s : Publication). Knows s.file c) same k.knows
+
+  -- the report stands, or so many answers were taken
+  record Came (n : ℕ) (c : ClientState) : Type 0 where
+    query : query_of c ≡ Some q
+    named : p.name ≡ name_of c
+    agrees : ClientAgrees c book
+    are : IsSome (report_of c) ⊎ AreExchanges IsServed p n opened c
+
+  module _ (n : ℕ) (mid new : ClientState) (once : FetchesOnce (UnlessTold lost answers) mid new) (before : Came n mid) where
     abbrev asking : ClientState
     asking = once.asking
 
     query_is : query_of asking ≡ Some q
-    query_is = once.asks.seen.goes.same.query ∙ asks
+    query_is = once.asks.seen.goes.same.query ∙ before.query
 
-    name_is : name_of asking ≡ p.name
-    name_is = once.asks.seen.goes.same.name ∙ named
+    name_is : p.name ≡ name_of asking
+    name_is = before.named ∙ sym once.asks.seen.goes.same.name
+
+    agrees_still : ClientAgrees asking book
+    agrees_still = once.asks.goes.agrees book before.agrees
 
     -- without a request the client is as when it was asked for one
     stays : once.request ≡ None → IsSome (report_of asking) → Came (suc n) new
     stays none stands =
-        let same : new ≡ asking = subst (λ o. TakesIfAsked answers o asking new) none once.takes in
-        subst (Came (suc n)) (sym same) (query_is, name_is, inl stands)
+        let same : new ≡ asking = subst (λ o. TakesIfAsked (UnlessTold lost answers) o asking new) none once.takes in
+        subst (Came (suc n)) (sym same) (record { query = query_is; named = name_is; agrees = agrees_still; are = inl stands })
 
     stood : IsSome (report_of mid) → Came (suc n) new
     stood stands =
@@ -64,23 +105,30 @@ module _ (answers : Coming) (p : Publication) (serves : Serves answers p) (q : Q
         let still : IsSome (report_of asking) = subst (λ o. IsSome o) (sym (seen.report stands)) stands in
         stays (no_request mid (asked_of asking) once.request seen.text (seen.idle (inr still))) still
 
+    by : (span : Span) (request : List ℕ) → asked_of asking ≡ Some span → Some request ≡ request_for mid (Some span) → AsksBy p asking span request
+    by span request is text =
+        let goes = once.asks.seen.goes in
+        record {
+          named = name_is;
+          asked = is;
+          asks = some_of (asked_of asking) span (AsksFor asking (revision_of asking) (ahead_of asking)) is once.asks.asks;
+          can = same_asking mid asking span goes.same.host goes.same.name goes.revision
+              (some_of (asked_of asking) span (λ s. CanAsk (host_of mid) (name_of mid) s.first s.last (tag_of mid)) is once.asks.lawful);
+          text = text ∙ same_text mid asking span goes.same.how goes.same.host goes.same.name goes.revision;
+          knows = knows_file asking agrees_still;
+        }
+
     takes : AreExchanges IsServed p n opened mid → (a : Option Span) → asked_of asking ≡ a → (o : Option (List ℕ)) → once.request ≡ o → o ≡ request_for mid a → Came (suc n) new
     takes are None is None none text = stays none (elim (once.asks.seen.silent is) [ inl idle ↦ absurd (none-some q (sym idle ∙ query_is)) | inr stands ↦ stands ])
     takes are (Some span) is None none text = cc
     takes are None is (Some request) some text = cc
     takes are (Some span) is (Some request) some text =
-        let goes = once.asks.seen.goes in
-        let own : Some request ≡ request_for asking (Some span) = text ∙ same_text mid asking span goes.same.how goes.same.host goes.same.name goes.revision in
-        elim (subst (λ o. TakesIfAsked answers o asking new) some once.takes) [
-          | inl lost ↦ absurd (serves.comes request lost.0)
+        elim (subst (λ o. TakesIfAsked (UnlessTold lost answers) o asking new) some once.takes) [
+          | inl none ↦ absurd (false≢true (sym kept ∙ none.0.1 refl))
           | inr (came, what, answered, delivers) ↦
-              let served : IsServed asking p span came = record {
-                named = sym name_is;
-                asked = is;
-                ahead = ahead_of asking;
-                asks = subst (λ o. IfSome o (AsksFor asking (revision_of asking) (ahead_of asking))) is once.asks.asks;
-                read = serves.served asking span request came own answered;
-              } in
+              let served : IsServed asking p span came = serves asking span request came (by span request is text) answered.0 in
+              let read : IsReadAs (IsPieceOfBook (name_of asking) book) came = λ r reads.
+              if_ok r (IsGiven p span (tag_of asking)) (IsPieceOfBook (name_of asking) book) (λ piece given. (p, among, name_is, given.of)) (served.read r reads) in
               let x : Exchanges IsServed p mid new = record {
                 how = how_of mid;
                 told = mid;
@@ -97,27 +145,39 @@ module _ (answers : Coming) (p : Publication) (serves : Serves answers p) (q : Q
                 what = what;
                 delivers = delivers;
               } in
-              (delivers.seen.same.query ∙ query_is, delivers.seen.same.name ∙ name_is, inr (one_more IsServed p n opened mid new are x))
+              record {
+                query = delivers.seen.same.query ∙ query_is;
+                named = name_is ∙ sym delivers.seen.same.name;
+                agrees = delivers.agrees book distinct agrees_still read;
+                are = inr (one_more IsServed p n opened mid new are x);
+              }
         ]
 
-  reach : query_of opened ≡ Some q → name_of opened ≡ p.name → (n : ℕ) (new : ClientState) → Fetches answers n opened new → Came n new
-  reach asks named zero new same = (ap query_of same ∙ asks, ap name_of same ∙ named, inr same)
-  reach asks named (suc n) new (mid, are, once) =
-      let before = reach asks named n mid are in
-      elim before.2 [
-        | inl stands ↦ stood n mid new once before.0 before.1 stands
-        | inr all ↦ takes n mid new once before.0 before.1 all (asked_of once.asking) refl once.request refl once.asks.seen.text
+  reach : Came zero opened → (n : ℕ) (new : ClientState) → Fetches (UnlessTold lost answers) n opened new → Came n new
+  reach first zero new same = subst (Came zero) (sym same) first
+  reach first (suc n) new (mid, are, once) =
+      let before = reach first n mid are in
+      elim before.are [
+        | inl stands ↦ stood n mid new once before stands
+        | inr all ↦ takes n mid new once before all (asked_of once.asking) refl once.request refl once.asks.seen.text
       ]
 
-pub fetching_reports : AnswersReport IsServed → (answers : Coming) (p : Publication) → Serves answers p → (q : Query) (book : Book) (old opened new : ClientState) (before after tries : ℕ)
-    → HasDistinctTags book → In p book → p.name ≡ name_of old → ClientAgrees old book → OpensKeeping q old opened → FetchesAll answers before after opened new
+pub fetching_reports : AnswersReport IsServed → TagsTellOne → (answers : Coming) (lost : Bool) (p : Publication) → Serves answers p → lost ≡ false
+    → (q : Query) (book : Book) (old opened new : ClientState) (before after tries : ℕ)
+    → HasDistinctTags book → In p book → p.name ≡ name_of old → ClientAgrees old book → OpensKeeping q old opened → FetchesAll (UnlessTold lost answers) before after opened new
     → (after ≡ before + tries) ⊎ IsIdle new → cost p.file q + 1 ≤ tries → IsSome (report_of new)
 unfolding query_of name_of
-fetching_reports law answers p serves q book old opened new before after tries distinct among named agrees opens all ends enough =
-    let came = reach answers p serves q opened (ap query_of opens.seen.1) (ap name_of opens.seen.1 ∙ sym named) all.times new all.fetches in
+fetching_reports law one answers lost p serves kept q book old opened new before after tries distinct among named agrees opens all ends enough =
+    let first : Came one answers lost p serves kept q opened book distinct among zero opened = record {
+      query = ap query_of opens.seen.1;
+      named = named ∙ sym (ap name_of opens.seen.1);
+      agrees = opens.agrees book agrees;
+      are = inr refl;
+    } in
+    let came = reach one answers lost p serves kept q opened book distinct among first all.times new all.fetches in
     elim ends [
-      | inr idle ↦ elim idle [ inl none ↦ absurd (none-some q (sym none ∙ came.0)) | inr stands ↦ stands ]
-      | inl used ↦ elim came.2 [
+      | inr idle ↦ elim idle [ inl none ↦ absurd (none-some q (sym none ∙ came.query)) | inr stands ↦ stands ]
+      | inl used ↦ elim came.are [
         | inl stands ↦ stands
         | inr are ↦ elim (law book p q old opened new all.times distinct among agrees opens are).1 [
           | inl stands ↦ stands

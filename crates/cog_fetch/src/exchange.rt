@@ -1,7 +1,7 @@
 //! One exchange: a request is sent, and what comes of its answer is taken.
-ghost use Rattle.std.specs.Prelude.{◌≡◌, ◌+◌, ◌<◌, ◌^◌, ℕ, List, OnErr, OnOk, Option};
+ghost use Rattle.std.specs.Prelude.{◌≡◌, ◌+◌, ◌<◌, ◌^◌, ℕ, Bool, true, IsTrue, List, OnErr, OnOk, Option};
 ghost use Rattle.http_range.specs.Book.{Book};
-ghost use Rattle.cog_client.specs.Transport.{AnswersOn, Anything, KeepsReading, SpeaksOn, TakesOrLoses};
+ghost use Rattle.cog_client.specs.Transport.{AnswersOn, Anything, KeepsReading, SpeaksOn, TakesOrLoses, UnlessTold};
 ghost use Rattle.cog_fetch.specs.Takes.{StopsWithin};
 
 use crate::taking::take_answer;
@@ -15,6 +15,9 @@ pub(crate) trait Exchange<S> {
     /// This may come of this request: Some of a text of its answer, None where that is lost.
     ghost answers: { S → List ℕ → Option (List ℕ) → Type 0 };
 
+    /// An answer was lost so far, or may have been.
+    ghost has_lost: { S → Bool };
+
     /// The exchanges so far.
     ghost count: { S → ℕ };
 
@@ -27,8 +30,9 @@ pub(crate) trait Exchange<S> {
     ) -> Result<(), FetchError>
         requires { count source.old + 1 < 2 ^ 64 }
         ensures keeps { KeepsReading (speaks_for source.old) (speaks_for source.new) client.old client.new }
-        ensures takes { OnOk result (TakesOrLoses (answers source.old) request.now client.old client.new) }
+        ensures takes { OnOk result (TakesOrLoses (UnlessTold (has_lost source.new) (answers source.old)) request.now client.old client.new) }
         ensures stops { OnErr result (StopsWithin (answers source.old) request.now client.old client.new) }
+        ensures told { IsTrue (has_lost source.old) → IsTrue (has_lost source.new) }
         ensures goes_on { AnswersOn (answers source.old) (answers source.new) }
         ensures counted { count source.new ≡ count source.old + 1 };
 }
@@ -40,6 +44,8 @@ impl<T: Transport> Exchange<T> for Whole {
     ghost speaks_for = { T.speaks_for };
 
     ghost answers = { T.answers };
+
+    ghost has_lost = { T.has_lost };
 
     ghost count = { T.count };
 
@@ -80,6 +86,8 @@ impl<P: Pieces> Exchange<P> for InPieces {
     ghost speaks_for = { P.speaks_for };
 
     ghost answers = { λ _. Anything };
+
+    ghost has_lost = { λ _. true };
 
     ghost count = { P.count };
 

@@ -1,5 +1,5 @@
 //! Fetching: a client's requests over a transport or a source of answers in pieces, until its report stands.
-ghost use Rattle.std.specs.Prelude.{◌≡◌, ◌+◌, ◌<◌, ◌≤◌, ◌^◌, ◌⊎◌, IfOk, IfSome, IsSome, OnErr, OnOk, false};
+ghost use Rattle.std.specs.Prelude.{◌≡◌, ◌+◌, ◌<◌, ◌≤◌, ◌^◌, ◌⊎◌, IfOk, IfSome, IsSome, IsTrue, OnErr, OnOk, false};
 ghost use Rattle.std.specs.Prelude.{if◌then◌else◌, option_copied};
 ghost use Rattle.std.specs.Borrow.{sem};
 ghost use Rattle.std.specs.Io.BufRead.{Rests};
@@ -10,11 +10,12 @@ ghost use Rattle.http_range.specs.Book.{Book, HasDistinctTags, In, Publication};
 ghost use Rattle.cog_client.specs.Client.{ClientAgrees, ClientState, name_of, query_of, report_of};
 ghost use Rattle.cog_client.specs.Calls.{IsIdle};
 ghost use Rattle.cog_client.specs.Keeps.{OpensKeeping, Stands};
-ghost use Rattle.cog_client.specs.Transport.{AnswersOn, Anything, FetchesAll, FetchesOnce, StopsFetching, StopsOnce, IsInVain, IsTrueOfBooks, KeepsReading};
-ghost use Rattle.cog_fetch.specs.Serves.{Serves};
+ghost use Rattle.cog_client.specs.Serves.{Serves};
+ghost use Rattle.cog_client.specs.Transport.{AnswersOn, Anything, FetchesAll, FetchesOnce, StopsFetching, StopsOnce, IsInVain, IsTrueOfBooks, KeepsReading, UnlessTold};
 
 use crate::exchange::{Exchange, InPieces, Whole};
 use cog_client::{Client, FetchError, Pieces, Report, Transport, whole_answers_report};
+use http_range::fronts_are_read;
 
 /// One exchange, if the client has a request. Says whether it had one. At most so many follow.
 fn exchange_once<S, E: Exchange<S>>(
@@ -24,8 +25,9 @@ fn exchange_once<S, E: Exchange<S>>(
 ) -> Result<bool, FetchError>
     requires { E.count source.old + 1 < 2 ^ 64 }
     ensures keeps { KeepsReading (E.speaks_for source.old) (E.speaks_for source.new) client.old client.new }
-    ensures fetches { OnOk result (FetchesOnce (E.answers source.old) client.old client.new) }
+    ensures fetches { OnOk result (FetchesOnce (UnlessTold (E.has_lost source.new) (E.answers source.old)) client.old client.new) }
     ensures stops { OnErr result (StopsOnce (E.answers source.old) client.old client.new) }
+    ensures told { IsTrue (E.has_lost source.old) → IsTrue (E.has_lost source.new) }
     ensures goes_on { AnswersOn (E.answers source.old) (E.answers source.new) }
     ensures counted { IfOk result (λ asked. E.count source.new
         ≡ (if asked then E.count source.old + 1 else E.count source.old)) }
@@ -51,8 +53,8 @@ fn exchange_up_to<S, E: Exchange<S>>(
 ) -> Result<(), FetchError>
     requires { E.count source.old + tries < 2 ^ 64 }
     ensures keeps { KeepsReading (E.speaks_for source.old) (E.speaks_for source.new) client.old client.new }
-    ensures fetches { OnOk result (FetchesAll (E.answers source.old) (E.count source.old) (E.count source.new) client.old client.new) }
-    ensures stops { OnErr result (StopsFetching (E.answers source.old) client.old client.new) }
+    ensures fetches { OnOk result (FetchesAll (UnlessTold (E.has_lost source.new) (E.answers source.old)) (E.count source.old) (E.count source.new) client.old client.new) }
+    ensures stops { OnErr result (StopsFetching (UnlessTold (E.has_lost source.new) (E.answers source.old)) client.old client.new) }
     ensures ends { OnOk result ((E.count source.new ≡ E.count source.old + tries) ⊎ IsIdle client.new) }
     ensures few { E.count source.new ≤ E.count source.old + tries }
     ensures idle { IsIdle client.old → E.count source.new ≡ E.count source.old }
@@ -78,12 +80,13 @@ pub fn fetch<'c, T: Transport>(
 
     // A client that reads a book for which the transport speaks reads it still, whatever was lost or cut, and
     // after want of memory too. What is given is its standing report. Its own requests were sent one after another, in each of the
-    // exchanges one, and what came of their answers was taken, unless the transport lost it, and nothing else was done to it; want of memory
-    // came in the last of them.
+    // exchanges one, and what came of their answers was taken, unless the transport lost it, and tells so, and nothing else was done to it;
+    // want of memory came in the last of them.
     ensures* client { sem 𝓛 (Rests the_row client.entry (λ c.
         KeepsReading (T.speaks_for transport.old) (T.speaks_for transport.new) client.old c
-        × IfOk result (λ report. Stands c (option_copied report) × FetchesAll (T.answers transport.old) (T.count transport.old) (T.count transport.new) client.old c)
-        × OnErr result (StopsFetching (T.answers transport.old) client.old c))) }
+        × IfOk result (λ report. Stands c (option_copied report)
+        × FetchesAll (UnlessTold (T.has_lost transport.new) (T.answers transport.old)) (T.count transport.old) (T.count transport.new) client.old c)
+        × OnErr result (StopsFetching (UnlessTold (T.has_lost transport.new) (T.answers transport.old)) client.old c))) }
 
     // A report is true of one publication of that book: of the one whose tag it tells.
     ensures report { IfOk result (λ report.
@@ -93,11 +96,11 @@ pub fn fetch<'c, T: Transport>(
     ensures none { IfOk result (λ report. report ≡ None
         → IsInVain (query_of client.old) tries (T.count transport.old) (T.count transport.new)) }
 
-    // Where the transport loses nothing, and brings answers of one publication alone that have all that is asked for, or the whole file, there
+    // Where the transport lost nothing, and brings answers of one publication alone that have all that is asked for, or the whole file, there
     // is one behind an opening by as many exchanges as the query costs, and one more.
     ensures reports { (book : Book) (p : Publication) (q : Query) (before : ClientState) → HasDistinctTags book → In p book → p.name ≡ name_of before
-        → ClientAgrees before book → OpensKeeping q before client.old → Serves (T.answers transport.old) p → cost p.file q + 1 ≤ tries
-        → IfOk result (λ report. IsSome (option_copied report)) }
+        → ClientAgrees before book → OpensKeeping q before client.old → Serves (T.answers transport.old) p → T.has_lost transport.new ≡ false
+        → cost p.file q + 1 ≤ tries → IfOk result (λ report. IsSome (option_copied report)) }
     ensures few { T.count transport.new ≤ T.count transport.old + tries }
 
     // Where there is no query, or the report stands already, nothing is sent, and that report is given.
@@ -106,6 +109,7 @@ pub fn fetch<'c, T: Transport>(
         → IfOk result (λ report. option_copied report ≡ report_of client.old) }
 {
     whole_answers_report();
+    fronts_are_read();
     exchange_up_to::<T, Whole>(client, transport, tries)?;
     Ok(client.report())
 }

@@ -1,13 +1,17 @@
 -- What the answers of a server in memory show.
 use Rattle.std.proofs.Common.{◌≡◌, ℕ, List, [], ◌++◌, inl, inr, Option, Some, None, IfSome, IsSomeAnd, Result, Ok, Err, IfOk, sym, ap, ◌∙◌, subst, append-nil, append_assoc}
+use Rattle.std.proofs.lemmas.Option.{same_Some}
 use Rattle.http_range.specs.declared.reading.Why.{Why}
 use Rattle.http_range.specs.Piece.{SeenPiece}
 use Rattle.http_range.specs.Book.{Publication, Book, In, Catalogue, published}
 use Rattle.http_range.specs.Honest.{IsFront, IsHonest, IsPieceOfBook, IsPieceOfSome}
 use Rattle.http_range.specs.Response.{Response, IsAnswer, text_of}
 use Rattle.http_range.specs.Laws.{FrontsAreRead}
-use Rattle.cog_client.specs.Transport.{IsTrueToAll}
-use Rattle.transports.specs.InMemory.{IsAbout, StandsIn}
+use Rattle.cog_client.specs.Client.{ahead_of, name_of}
+use Rattle.cog_client.specs.Progress.{OwnAnswersAreServed}
+use Rattle.cog_client.specs.Serves.{Serves}
+use Rattle.cog_client.specs.Transport.{IsTrueToAll, OrLost}
+use Rattle.transports.specs.InMemory.{Has, IsAbout, IsAnswerAbout, StandsIn}
 
 -- the answer of a server that has the file, if it carries that file's tag or none
 pub shown_answer : FrontsAreRead → (catalogue : Catalogue) (name message text : List ℕ) (s : Response) → IsAnswer catalogue message s
@@ -54,3 +58,18 @@ pub shown_more : {A E : Type 0} (r : Result A E) (items : A → List ℕ) (speak
     → IfOk r (λ x. IsTrueToAll speaks (items x)) → IfOk r (λ x. IsTrueToAll more (items x))
 shown_more (Ok x) items speaks more less shows = λ book spoken. shows book (less book spoken)
 shown_more (Err e) items speaks more less shows = tt
+
+-- a server that has the file serves what a client asks for
+pub server_serves : OwnAnswersAreServed → (catalogue : Catalogue) (name : List ℕ) (p : Publication) → Has catalogue name p → Serves (OrLost (IsAnswerAbout catalogue name)) p
+server_serves own catalogue name p has c span request text asks is = own c p span text (record {
+  catalogue = catalogue;
+  lawful = has.lawful;
+  has = ap (λ n. published n catalogue) (sym asks.named ∙ has.named) ∙ has.there;
+  asked = asks.asked;
+  ahead = ahead_of c;
+  asks = asks.asks;
+  can = asks.can;
+  response = is.response;
+  answers = subst (λ m. IsAnswer catalogue m is.response) (same_Some _ _ asks.text) is.answers;
+  shown = is.shown;
+}) asks.knows

@@ -1,5 +1,5 @@
 -- What others know of the transports here.
-use Rattle.std.specs.Prelude.{ℕ, ◌==◌, ◌⊎◌, if◌then◌else◌, List, [], ◌∷◌, drop, Some}
+use Rattle.std.specs.Prelude.{ℕ, Bool, ◌==◌, ◌⊎◌, if◌then◌else◌, List, [], ◌∷◌, drop, Some}
 use Rattle.http_range.specs.Book.{Book}
 use Rattle.http_range.specs.Honest.{IsFront}
 use Rattle.cog_client.specs.Transport.{Coming}
@@ -18,11 +18,15 @@ served_state s = s.server.now
 abbrev pub served_name : InMemory → List ℕ
 served_name s = s.name.now
 
--- the exchanges so far
+-- the exchanges so far, and whether the answer to one was lost
 abbrev pub exchanges_of : InMemory → ℕ
 exchanges_of s = s.exchanges
 
--- of a server that is replaced: the servers before and after, the name, how many exchanges are left to the first one, and those so far
+abbrev pub has_lost : InMemory → Bool
+has_lost s = s.has_lost
+
+-- of a server that is replaced: the servers before and after, the name, how many exchanges are left to the first one, those so far, and
+-- whether the answer to one was lost
 abbrev pub states_of : Replaced → List ServerState
 states_of s = s.before.now ∷ s.after.now ∷ []
 
@@ -34,6 +38,9 @@ left_of s = s.left
 
 abbrev pub count_of : Replaced → ℕ
 count_of s = s.exchanges
+
+abbrev pub lost_of : Replaced → Bool
+lost_of s = s.has_lost
 
 -- the server whose turn it is
 abbrev pub state_in_turn : Replaced → ServerState

@@ -41,11 +41,12 @@ pub struct InMemory<'s> {
     server: &'s Server,
     name: &'s [u8],
     exchanges: u64,
+    has_lost: bool,
 }
 
 impl<'s> InMemory<'s> {
-    ghost use Rattle.std.specs.Prelude.{◌≡◌};
-    ghost use Rattle.transports.specs.Transports.{exchanges_of, served_name, served_state};
+    ghost use Rattle.std.specs.Prelude.{◌≡◌, false};
+    ghost use Rattle.transports.specs.Transports.{exchanges_of, has_lost, served_name, served_state};
 
     /// A transport without exchanges.
     ///
@@ -58,24 +59,35 @@ impl<'s> InMemory<'s> {
         ensures server { served_state result ≡ server.now }
         ensures name { served_name result ≡ name.now }
         ensures exchanges { exchanges_of result ≡ 0 }
+        ensures lost { has_lost result ≡ false }
     {
         InMemory {
             server,
             name,
             exchanges: 0,
+            has_lost: false,
         }
+    }
+
+    /// Whether the answer to an exchange was lost.
+    pub fn has_lost(&self) -> bool
+        ensures { result ≡ has_lost self.now }
+    {
+        self.has_lost
     }
 }
 
 impl Transport for InMemory<'_> {
-    ghost use Rattle.std.specs.Prelude.{◌≡◌, ◌+◌, ◌<◌, ◌^◌, IfOk, OnErr, None};
+    ghost use Rattle.std.specs.Prelude.{◌≡◌, ◌+◌, ◌<◌, ◌^◌, IfOk, IsTrue, OnErr, OnOk, None};
     ghost use Rattle.cog_client.specs.Transport.{AnswersOn, IsTrueToAll, OrLost, SpeaksOn};
     ghost use Rattle.transports.specs.InMemory.{IsAnswerAbout, StandsIn};
-    ghost use Rattle.transports.specs.Transports.{exchanges_of, served_name, served_state};
+    ghost use Rattle.transports.specs.Transports.{exchanges_of, has_lost, served_name, served_state};
 
     ghost speaks_for = { λ s. StandsIn (served_state s).catalogue (served_name s) };
 
     ghost answers = { λ s. OrLost (IsAnswerAbout (served_state s).catalogue (served_name s)) };
+
+    ghost has_lost = { has_lost };
 
     ghost count = { exchanges_of };
 
@@ -88,8 +100,10 @@ impl Transport for InMemory<'_> {
         ensures server { served_state self.new ≡ served_state self.old }
         ensures name { served_name self.new ≡ served_name self.old }
 
-        // So it keeps the trait's law. An answer may be lost, too.
+        // So it keeps the trait's law. An answer may be lost, too, and that is told.
         ensures lost { OnErr result (OrLost (IsAnswerAbout (served_state self.old).catalogue (served_name self.old)) request.now None) }
+        ensures told { OnErr result (IsTrue (has_lost self.new)) }
+        ensures kept { OnOk result (has_lost self.new ≡ has_lost self.old) }
         ensures goes_on { AnswersOn (OrLost (IsAnswerAbout (served_state self.old).catalogue (served_name self.old)))
             (OrLost (IsAnswerAbout (served_state self.new).catalogue (served_name self.new))) }
         ensures shows { IfOk result (λ text.
@@ -99,7 +113,9 @@ impl Transport for InMemory<'_> {
         ensures counted { exchanges_of self.new ≡ exchanges_of self.old + 1 }
     {
         self.exchanges += 1;
-        answer_about(self.server, self.name, request)
+        let answer = answer_about(self.server, self.name, request);
+        self.has_lost |= answer.is_err();
+        answer
     }
 
     fn exchanges(&self) -> u64 {

@@ -4,10 +4,12 @@
 
 mod in_memory;
 mod in_pieces;
+mod laws;
 mod replaced;
 mod scripted;
 
 pub use in_memory::{InMemory, server_of_one};
 pub use in_pieces::InPieces;
+pub use laws::servers_in_memory_serve;
 pub use replaced::Replaced;
 pub use scripted::{Fate, Scripted};

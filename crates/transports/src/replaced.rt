@@ -13,11 +13,12 @@ pub struct Replaced<'s> {
     name: &'s [u8],
     left: u64,
     exchanges: u64,
+    has_lost: bool,
 }
 
 impl<'s> Replaced<'s> {
-    ghost use Rattle.std.specs.Prelude.{◌≡◌, [], ◌∷◌};
-    ghost use Rattle.transports.specs.Transports.{count_of, left_of, name_of, states_of};
+    ghost use Rattle.std.specs.Prelude.{◌≡◌, false, [], ◌∷◌};
+    ghost use Rattle.transports.specs.Transports.{count_of, left_of, lost_of, name_of, states_of};
 
     /// A transport without exchanges: so many of them come to the first server.
     pub fn new(before: &'s Server, after: &'s Server, name: &'s [u8], left: u64) -> Self
@@ -25,6 +26,7 @@ impl<'s> Replaced<'s> {
         ensures name { name_of result ≡ name.now }
         ensures left { left_of result ≡ left }
         ensures exchanges { count_of result ≡ 0 }
+        ensures lost { lost_of result ≡ false }
     {
         Replaced {
             before,
@@ -32,19 +34,22 @@ impl<'s> Replaced<'s> {
             name,
             left,
             exchanges: 0,
+            has_lost: false,
         }
     }
 }
 
 impl Transport for Replaced<'_> {
-    ghost use Rattle.std.specs.Prelude.{◌≡◌, ◌+◌, ◌-◌, ◌<◌, ◌^◌, IfOk, OnErr, None};
+    ghost use Rattle.std.specs.Prelude.{◌≡◌, ◌+◌, ◌-◌, ◌<◌, ◌^◌, IfOk, IsTrue, OnErr, OnOk, None};
     ghost use Rattle.cog_client.specs.Transport.{AnswersOn, IsTrueToAll, OrLost, SpeaksOn};
     ghost use Rattle.transports.specs.InMemory.{IsAnswerAbout};
-    ghost use Rattle.transports.specs.Transports.{AnswersOfEither, StandInBoth, count_of, left_of, name_of, state_in_turn, states_of};
+    ghost use Rattle.transports.specs.Transports.{AnswersOfEither, StandInBoth, count_of, left_of, lost_of, name_of, state_in_turn, states_of};
 
     ghost speaks_for = { StandInBoth };
 
     ghost answers = { λ s. OrLost (AnswersOfEither s) };
+
+    ghost has_lost = { lost_of };
 
     ghost count = { count_of };
 
@@ -58,20 +63,26 @@ impl Transport for Replaced<'_> {
         ensures name { name_of self.new ≡ name_of self.old }
         ensures left { left_of self.new ≡ left_of self.old - 1 }
 
-        // So it keeps the trait's law. An answer may be lost, too.
+        // So it keeps the trait's law. An answer may be lost, too, and that is told.
         ensures answered { IfOk result (λ text. AnswersOfEither self.old request.now text.items) }
         ensures lost { OnErr result (OrLost (AnswersOfEither self.old) request.now None) }
+        ensures told { OnErr result (IsTrue (lost_of self.new)) }
+        ensures kept { OnOk result (lost_of self.new ≡ lost_of self.old) }
         ensures goes_on { AnswersOn (OrLost (AnswersOfEither self.old)) (OrLost (AnswersOfEither self.new)) }
         ensures shows { IfOk result (λ text. IsTrueToAll (StandInBoth self.old) text.items) }
         ensures speaks { SpeaksOn (StandInBoth self.old) (StandInBoth self.new) }
         ensures counted { count_of self.new ≡ count_of self.old + 1 }
     {
         self.exchanges += 1;
-        if self.left == 0 {
-            return answer_about(self.after, self.name, request);
-        }
-        self.left -= 1;
-        answer_about(self.before, self.name, request)
+        let server = if self.left == 0 {
+            self.after
+        } else {
+            self.before
+        };
+        self.left = self.left.saturating_sub(1);
+        let answer = answer_about(server, self.name, request);
+        self.has_lost |= answer.is_err();
+        answer
     }
 
     fn exchanges(&self) -> u64 {

@@ -1,0 +1,15 @@
+//! Laws of the definitions, for the crates above. Each function does nothing: its contract is the law.
+ghost use Rattle.std.specs.Prelude.{List, ℕ};
+ghost use Rattle.http_range.specs.Book.{Catalogue, Publication};
+ghost use Rattle.cog_client.specs.Serves.{Serves};
+ghost use Rattle.cog_client.specs.Transport.{OrLost};
+ghost use Rattle.transports.specs.InMemory.{Has, IsAnswerAbout};
+
+use cog_client::whole_answers_bring_on;
+
+/// Of a file that it has, a server in memory serves whatever a client asks for.
+pub fn servers_in_memory_serve()
+    ensures { (catalogue : Catalogue) (name : List ℕ) (p : Publication) → Has catalogue name p → Serves (OrLost (IsAnswerAbout catalogue name)) p }
+{
+    whole_answers_bring_on();
+}
