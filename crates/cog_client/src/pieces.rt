@@ -1,8 +1,8 @@
 //! What carries a client's requests, and brings the answers in pieces, as they arrive.
-ghost use Rattle.std.specs.Prelude.{◌≡◌, ◌+◌, ◌<◌, ◌≤◌, ◌^◌, ℕ, List, [], IfOk, OnErr, OnOk, length, ⊤};
+ghost use Rattle.std.specs.Prelude.{◌≡◌, ◌+◌, ◌<◌, ◌≤◌, ◌^◌, ℕ, Bool, true, IsTrue, List, [], IfOk, OnErr, OnOk, length, ⊤};
 ghost use Rattle.http_range.specs.Book.{Book};
 ghost use Rattle.cog_client.specs.Pieces.{BringsOf};
-ghost use Rattle.cog_client.specs.Transport.{IsTrueToAll, SpeaksOn};
+ghost use Rattle.cog_client.specs.Transport.{AnswersOn, IsTrueToAll, OrLost, SpeaksOn};
 
 use crate::transport::Lost;
 
@@ -13,6 +13,9 @@ pub trait Pieces {
 
     /// This text may come of the answer to this request. One that leaves this out says nothing of it.
     ghost answers: { Self → List ℕ → List ℕ → Type 0 } = { λ _ _ _. ⊤ };
+
+    /// An answer was lost so far, or the rest of one, or may have been. One that leaves this out says nothing of it.
+    ghost has_lost: { Self → Bool } = { λ _. true };
 
     /// The requests so far.
     ghost count: { Self → ℕ };
@@ -25,6 +28,9 @@ pub trait Pieces {
         requires { count self.old + 1 < 2 ^ 64 }
         ensures answered { OnOk result (answers self.old request.now (rest self.new)) }
         ensures dropped { OnErr result (rest self.new ≡ []) }
+        ensures told { OnErr result (IsTrue (has_lost self.new)) }
+        ensures kept { OnOk result (has_lost self.new ≡ has_lost self.old) }
+        ensures goes_on { AnswersOn (OrLost (answers self.old)) (OrLost (answers self.new)) }
         ensures shows { OnOk result (IsTrueToAll (speaks_for self.old) (rest self.new)) }
         ensures speaks { SpeaksOn (speaks_for self.old) (speaks_for self.new) }
         ensures counted { count self.new ≡ count self.old + 1 };
@@ -34,6 +40,9 @@ pub trait Pieces {
         requires { 0 < length out.old }
         ensures fits { IfOk result (λ n. n ≤ length out.new) }
         ensures brings { IfOk result (λ n. BringsOf (speaks_for self.old) (rest self.old) out.new n (rest self.new)) }
+        ensures told { OnErr result (IsTrue (has_lost self.new)) }
+        ensures kept { OnOk result (has_lost self.new ≡ has_lost self.old) }
+        ensures goes_on { AnswersOn (OrLost (answers self.old)) (OrLost (answers self.new)) }
         ensures speaks { SpeaksOn (speaks_for self.old) (speaks_for self.new) }
         ensures counted { count self.new ≡ count self.old };
 
@@ -41,6 +50,8 @@ pub trait Pieces {
     /// turn all the same, or another one is.
     fn foresee(&mut self, _requests: &[Vec<u8>])
         ensures rest { rest self.new ≡ rest self.old }
+        ensures kept { has_lost self.new ≡ has_lost self.old }
+        ensures goes_on { AnswersOn (OrLost (answers self.old)) (OrLost (answers self.new)) }
         ensures speaks { SpeaksOn (speaks_for self.old) (speaks_for self.new) }
         ensures counted { count self.new ≡ count self.old }
     {}

@@ -1,6 +1,6 @@
 -- Fetching leads to a report where nothing is lost.
-use Rattle.std.proofs.Common.{◌≡◌, ℕ, zero, suc, ◌+◌, ◌≤◌, ◌⊎◌, Bool, true, false, List, Option, Some, None, Result, Ok, Err, refl, sym, ap, ◌∙◌, subst, inl, inr, arith}
-use Rattle.std.specs.Prelude.{IfOk, IfSome, IsOkAnd, IsSome, IsTrue}
+use Rattle.std.proofs.Common.{◌≡◌, ℕ, zero, suc, ◌+◌, ◌≤◌, ◌⊎◌, Bool, false, List, Option, Some, None, Result, Ok, Err, refl, sym, ap, ◌∙◌, subst, inl, inr, arith}
+use Rattle.std.specs.Prelude.{IfOk, IfSome, IsOkAnd, IsSome}
 use Rattle.std.specs.Option.{option_map}
 use Rattle.std.proofs.lemmas.Bool.{false≢true}
 use Rattle.std.proofs.lemmas.Option.{none-some, same_Some}
@@ -18,6 +18,7 @@ use Rattle.cog_client.specs.Keeps.{AsksFor, AsksLike, OpensKeeping}
 use Rattle.cog_client.specs.Progress.{AnswersReport, AreExchanges, Exchanges, IsGiven, IsServed}
 use Rattle.cog_client.specs.Serves.{AsksBy, Serves}
 use Rattle.cog_client.specs.Transport.{Coming, Fetches, FetchesAll, FetchesOnce, TakesIfAsked, UnlessTold}
+use Rattle.cog_fetch.specs.Takes.{AllOf, TakenOf}
 
 -- a client is told to ask as it does
 likewise : (c : ClientState) → AsksLike (how_of c) c c
@@ -60,7 +61,25 @@ if_ok : {A E : Type 0} (r : Result A E) (P Q : A → Type 0) → ((x : A) → P 
 if_ok (Ok x) P Q to h = to x h
 if_ok (Err e) P Q to h = absurd h
 
-module _ (one : TagsTellOne) (answers : Coming) (lost : Bool) (p : Publication) (serves : Serves answers p) (kept : lost ≡ false) (q : Query) (opened : ClientState) (book : Book) (distinct : HasDistinctTags book) (among : In p book) where
+-- nothing is lost, and whatever text comes serves
+pub record AllServe (came : Coming) (p : Publication) : Type 0 where
+  pub comes : (request : List ℕ) → ¬ (came request None)
+  pub serves : Serves came p
+
+pub serves_untold : (answers : Coming) (lost : Bool) (p : Publication) → Serves answers p → lost ≡ false → AllServe (UnlessTold lost answers) p
+serves_untold answers lost p serves kept = record {
+  comes = λ request none. false≢true (sym kept ∙ none.1 refl);
+  serves = λ c span request text asks came. serves c span request text asks came.0;
+}
+
+pub serves_taken : (speaks : Book → Type 0) (answers : List ℕ → List ℕ → Type 0) (lost : Bool) (book : Book) → speaks book → (p : Publication)
+    → Serves (AllOf answers) p → lost ≡ false → AllServe (TakenOf speaks answers lost) p
+serves_taken speaks answers lost book spoken p serves kept = record {
+  comes = λ request none. false≢true (sym kept ∙ none);
+  serves = λ c span request text asks came. serves c span request text asks (came.0, came.1, came.2.all kept book spoken);
+}
+
+module _ (one : TagsTellOne) (came : Coming) (p : Publication) (all : AllServe came p) (q : Query) (opened : ClientState) (book : Book) (distinct : HasDistinctTags book) (among : In p book) where
   -- a client that agrees with the book knows p's file, where it has the tag
   knows_file : (c : ClientState) → ClientAgrees c book → tag_of c ≡ Some p.tag → Knows p.file c
   unfolding ClientAgrees
@@ -80,7 +99,7 @@ module _ (one : TagsTellOne) (answers : Coming) (lost : Bool) (p : Publication) 
     agrees : ClientAgrees c book
     are : IsSome (report_of c) ⊎ AreExchanges IsServed p n opened c
 
-  module _ (n : ℕ) (mid new : ClientState) (once : FetchesOnce (UnlessTold lost answers) mid new) (before : Came n mid) where
+  module _ (n : ℕ) (mid new : ClientState) (once : FetchesOnce came mid new) (before : Came n mid) where
     abbrev asking : ClientState
     asking = once.asking
 
@@ -96,7 +115,7 @@ module _ (one : TagsTellOne) (answers : Coming) (lost : Bool) (p : Publication) 
     -- without a request the client is as when it was asked for one
     stays : once.request ≡ None → IsSome (report_of asking) → Came (suc n) new
     stays none stands =
-        let same : new ≡ asking = subst (λ o. TakesIfAsked (UnlessTold lost answers) o asking new) none once.takes in
+        let same : new ≡ asking = subst (λ o. TakesIfAsked came o asking new) none once.takes in
         subst (Came (suc n)) (sym same) (record { query = query_is; named = name_is; agrees = agrees_still; are = inl stands })
 
     stood : IsSome (report_of mid) → Came (suc n) new
@@ -122,12 +141,12 @@ module _ (one : TagsTellOne) (answers : Coming) (lost : Bool) (p : Publication) 
     takes are None is None none text = stays none (elim (once.asks.seen.silent is) [ inl idle ↦ absurd (none-some q (sym idle ∙ query_is)) | inr stands ↦ stands ])
     takes are (Some span) is None none text = cc
     takes are None is (Some request) some text = cc
-    takes are (Some span) is (Some request) some text =
-        elim (subst (λ o. TakesIfAsked (UnlessTold lost answers) o asking new) some once.takes) [
-          | inl none ↦ absurd (false≢true (sym kept ∙ none.0.1 refl))
-          | inr (came, what, answered, delivers) ↦
-              let served : IsServed asking p span came = serves asking span request came (by span request is text) answered.0 in
-              let read : IsReadAs (IsPieceOfBook (name_of asking) book) came = λ r reads.
+    takes are (Some span) is (Some request) some own =
+        elim (subst (λ o. TakesIfAsked came o asking new) some once.takes) [
+          | inl none ↦ absurd (all.comes request none.0)
+          | inr (text, what, answered, delivers) ↦
+              let served : IsServed asking p span text = all.serves asking span request text (by span request is own) answered in
+              let read : IsReadAs (IsPieceOfBook (name_of asking) book) text = λ r reads.
               if_ok r (IsGiven p span (tag_of asking)) (IsPieceOfBook (name_of asking) book) (λ piece given. (p, among, name_is, given.of)) (served.read r reads) in
               let x : Exchanges IsServed p mid new = record {
                 how = how_of mid;
@@ -140,7 +159,7 @@ module _ (one : TagsTellOne) (answers : Coming) (lost : Bool) (p : Publication) 
                 waiting = asking;
                 looks = likewise asking;
                 span = span;
-                text = came;
+                text = text;
                 answered = served;
                 what = what;
                 delivers = delivers;
@@ -153,7 +172,7 @@ module _ (one : TagsTellOne) (answers : Coming) (lost : Bool) (p : Publication) 
               }
         ]
 
-  reach : Came zero opened → (n : ℕ) (new : ClientState) → Fetches (UnlessTold lost answers) n opened new → Came n new
+  reach : Came zero opened → (n : ℕ) (new : ClientState) → Fetches came n opened new → Came n new
   reach first zero new same = subst (Came zero) (sym same) first
   reach first (suc n) new (mid, are, once) =
       let before = reach first n mid are in
@@ -162,22 +181,22 @@ module _ (one : TagsTellOne) (answers : Coming) (lost : Bool) (p : Publication) 
         | inr all ↦ takes n mid new once before all (asked_of once.asking) refl once.request refl once.asks.seen.text
       ]
 
-pub fetching_reports : AnswersReport IsServed → TagsTellOne → (answers : Coming) (lost : Bool) (p : Publication) → Serves answers p → lost ≡ false
+pub fetching_reports : AnswersReport IsServed → TagsTellOne → (came : Coming) (p : Publication) → AllServe came p
     → (q : Query) (book : Book) (old opened new : ClientState) (before after tries : ℕ)
-    → HasDistinctTags book → In p book → p.name ≡ name_of old → ClientAgrees old book → OpensKeeping q old opened → FetchesAll (UnlessTold lost answers) before after opened new
+    → HasDistinctTags book → In p book → p.name ≡ name_of old → ClientAgrees old book → OpensKeeping q old opened → FetchesAll came before after opened new
     → (after ≡ before + tries) ⊎ IsIdle new → cost p.file q + 1 ≤ tries → IsSome (report_of new)
 unfolding query_of name_of
-fetching_reports law one answers lost p serves kept q book old opened new before after tries distinct among named agrees opens all ends enough =
-    let first : Came one answers lost p serves kept q opened book distinct among zero opened = record {
+fetching_reports law one came p serve q book old opened new before after tries distinct among named agrees opens all ends enough =
+    let first : Came one came p serve q opened book distinct among zero opened = record {
       query = ap query_of opens.seen.1;
       named = named ∙ sym (ap name_of opens.seen.1);
       agrees = opens.agrees book agrees;
       are = inr refl;
     } in
-    let came = reach one answers lost p serves kept q opened book distinct among first all.times new all.fetches in
+    let reached = reach one came p serve q opened book distinct among first all.times new all.fetches in
     elim ends [
-      | inr idle ↦ elim idle [ inl none ↦ absurd (none-some q (sym none ∙ came.query)) | inr stands ↦ stands ]
-      | inl used ↦ elim came.are [
+      | inr idle ↦ elim idle [ inl none ↦ absurd (none-some q (sym none ∙ reached.query)) | inr stands ↦ stands ]
+      | inl used ↦ elim reached.are [
         | inl stands ↦ stands
         | inr are ↦ elim (law book p q old opened new all.times distinct among agrees opens are).1 [
           | inl stands ↦ stands

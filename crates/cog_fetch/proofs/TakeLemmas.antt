@@ -1,6 +1,8 @@
 -- Pieces that come one after another, and what an answer leaves of a client that reads one publication.
-use Rattle.std.proofs.Common.{◌≡◌, ℕ, List, [], ◌++◌, sym, ap, subst, ◌∙◌, Result, Ok, Err, IfOk, OnErr}
-use Rattle.std.proofs.lemmas.List.{append_assoc, append-nil}
+use Rattle.std.proofs.Common.{◌≡◌, ℕ, ◌+◌, ◌≤◌, Bool, true, false, List, [], ◌++◌, Some, None, length, take, refl, sym, ap, subst, ◌∙◌, Result, Ok, Err, IfOk, OnErr, arith}
+use Rattle.std.proofs.Math.Seq.{take-append_seam}
+use Rattle.std.proofs.lemmas.Bool.{false≢true}
+use Rattle.std.proofs.lemmas.List.{append_assoc, append-nil, nil_from_length, take_all}
 use Rattle.http_range.specs.Book.{Book, Publication, HasDistinctTags, In}
 use Rattle.http_range.specs.declared.reading.Why.{Why}
 use Rattle.http_range.specs.Piece.{SeenPiece}
@@ -9,8 +11,9 @@ use Rattle.cog_client.specs.Calls.{SameClient}
 use Rattle.cog_client.specs.Client.{ClientAgrees, ClientState, name_of}
 use Rattle.cog_client.specs.FedClient.{Fed}
 use Rattle.cog_client.specs.Keeps.{StopsDelivery}
-use Rattle.cog_client.specs.Transport.{IsTrueToAll, KeepsReading, SpeaksOn}
-use Rattle.cog_fetch.specs.Takes.{IsNextOf, LeavesOf, Stops, Takes, TakesAnswer}
+use Rattle.cog_client.specs.Transport.{AnswersOn, IsTrueToAll, KeepsReading, OrLost, SpeaksOn}
+use Rattle.cog_fetch.specs.declared.taking.TheConstants.{ANSWER_LIMIT}
+use Rattle.cog_fetch.specs.Takes.{AreAllOf, IsNextOf, IsTakenOf, LeavesOf, Stops, StopsWithin, TakenOf, Takes, TakesAnswer, TakesPiece}
 
 -- behind a front, the next bytes of what is left make a longer front
 pub next_on : (before after : Book → Type 0) (rest left xs ys : List ℕ) → SpeaksOn before after → LeavesOf before rest xs left
@@ -42,6 +45,53 @@ stops_on before after rest left old mid new on first leaves then = record {
   next = next_on before after rest left first.bytes then.bytes on leaves then.next;
   stops = λ s p fed. subst (λ (t : List ℕ). StopsDelivery s t new) (append_assoc p first.bytes then.bytes) (then.stops s (p ++ first.bytes) (first.fed s p fed));
 }
+
+-- as many bytes as are taken at most are all of an answer
+pub all_of_most : (rest bytes left : List ℕ) → rest ≡ bytes ++ left → length bytes ≡ ANSWER_LIMIT → bytes ≡ take ANSWER_LIMIT rest
+all_of_most rest bytes left is long =
+    sym (take-append_seam bytes left) ∙ ap (λ n. take n (bytes ++ left)) long ∙ ap (λ (t : List ℕ). take ANSWER_LIMIT t) (sym is)
+
+-- so are the bytes to its end
+pub all_to_end : (before after : Book → Type 0) (rest left : List ℕ) (lost : Bool) (n : ℕ) (later : List ℕ) (old mid new : ClientState) (on : SpeaksOn before after)
+    (first : Takes before rest old mid) (leaves : LeavesOf before rest first.bytes left) (then : TakesPiece after left n lost later mid new)
+    → n ≡ 0 → length first.bytes ≤ ANSWER_LIMIT → lost ≡ false → AreAllOf before rest (takes_on before after rest left old mid new on first leaves then.takes).bytes
+all_to_end before after rest left lost n later old mid new on first leaves then none few kept book spoken =
+    let over : left ≡ [] = then.ends none kept book (on book spoken) in
+    let empty : then.takes.bytes ≡ [] = nil_from_length then.takes.bytes (then.size ∙ none) in
+    let whole : rest ≡ first.bytes = leaves book spoken ∙ ap (λ (t : List ℕ). first.bytes ++ t) over ∙ append-nil first.bytes in
+    ap (λ (t : List ℕ). first.bytes ++ t) empty ∙ append-nil first.bytes ∙ sym whole
+    ∙ sym (take_all ANSWER_LIMIT rest (subst (λ (t : List ℕ). length t ≤ ANSWER_LIMIT) (sym whole) few))
+
+-- what is taken of an answer that came of a request came of that
+pub taken_of : (before mid : Book → Type 0) (answers : List ℕ → List ℕ → Type 0) (lost : Bool) (request rest left bytes : List ℕ) → SpeaksOn before mid
+    → answers request rest → left ≡ rest → IsTakenOf mid lost left bytes → TakenOf before answers lost request (Some bytes)
+taken_of before mid answers lost request rest left bytes on came same taken = (
+  rest,
+  came,
+  subst (λ r. IsTakenOf before lost r bytes) same (record {
+    front = λ book spoken. taken.front book (on book spoken);
+    all = λ kept book spoken. taken.all kept book (on book spoken);
+  }),
+)
+
+-- what may come later might have come before
+pub taken_on : (before after : Book → Type 0) (answers later : List ℕ → List ℕ → Type 0) → SpeaksOn before after → AnswersOn (OrLost answers) (OrLost later)
+    → (lost : Bool) → AnswersOn (TakenOf before answers lost) (TakenOf after later lost)
+taken_on before after answers later on goes lost request None is = is
+taken_on before after answers later on goes lost request (Some bytes) (whole, came, taken) = (
+  whole,
+  goes request (Some whole) came,
+  record {
+    front = λ book spoken. taken.front book (on book spoken);
+    all = λ kept book spoken. taken.all kept book (on book spoken);
+  },
+)
+
+-- and so did what was taken before memory was wanting
+pub stops_of : (before mid : Book → Type 0) (answers : List ℕ → List ℕ → Type 0) (request rest left bytes : List ℕ) (old new : ClientState) → SpeaksOn before mid
+    → answers request rest → left ≡ rest → IsNextOf mid left bytes → StopsDelivery old bytes new → StopsWithin (TakenOf before answers true) request old new
+stops_of before mid answers request rest left bytes old new on came same next stops =
+    (bytes, taken_of before mid answers true request rest left bytes on came same (record { front = next; all = λ kept. absurd (false≢true (sym kept)) }), stops)
 
 -- a piece that is read of a front of what shows only pieces of a book's publications is of the book, where they have the name
 read_front : (bytes text name : List ℕ) (book : Book) → ((p : Publication) → In p book → p.name ≡ name) → IsFront bytes text → ShowsOnly (IsPieceOfSome book) text

@@ -1,5 +1,5 @@
 //! Fetching: a client's requests over a transport or a source of answers in pieces, until its report stands.
-ghost use Rattle.std.specs.Prelude.{◌≡◌, ◌+◌, ◌<◌, ◌≤◌, ◌^◌, ◌⊎◌, IfOk, IfSome, IsSome, IsTrue, OnErr, OnOk, false};
+ghost use Rattle.std.specs.Prelude.{◌≡◌, ◌+◌, ◌<◌, ◌≤◌, ◌^◌, ◌⊎◌, IfOk, IfSome, IsSome, IsTrue, OnErr, OnOk, Bool, true, false};
 ghost use Rattle.std.specs.Prelude.{if◌then◌else◌, option_copied};
 ghost use Rattle.std.specs.Borrow.{sem};
 ghost use Rattle.std.specs.Io.BufRead.{Rests};
@@ -11,7 +11,8 @@ ghost use Rattle.cog_client.specs.Client.{ClientAgrees, ClientState, name_of, qu
 ghost use Rattle.cog_client.specs.Calls.{IsIdle};
 ghost use Rattle.cog_client.specs.Keeps.{OpensKeeping, Stands};
 ghost use Rattle.cog_client.specs.Serves.{Serves};
-ghost use Rattle.cog_client.specs.Transport.{AnswersOn, Anything, FetchesAll, FetchesOnce, StopsFetching, StopsOnce, IsInVain, IsTrueOfBooks, KeepsReading, UnlessTold};
+ghost use Rattle.cog_client.specs.Transport.{AnswersOn, FetchesAll, FetchesOnce, StopsFetching, StopsOnce, IsInVain, IsTrueOfBooks, KeepsReading, UnlessTold};
+ghost use Rattle.cog_fetch.specs.Takes.{AllOf, TakenOf};
 
 use crate::exchange::{Exchange, InPieces, Whole};
 use cog_client::{Client, FetchError, Pieces, Report, Transport, whole_answers_report};
@@ -25,10 +26,10 @@ fn exchange_once<S, E: Exchange<S>>(
 ) -> Result<bool, FetchError>
     requires { E.count source.old + 1 < 2 ^ 64 }
     ensures keeps { KeepsReading (E.speaks_for source.old) (E.speaks_for source.new) client.old client.new }
-    ensures fetches { OnOk result (FetchesOnce (UnlessTold (E.has_lost source.new) (E.answers source.old)) client.old client.new) }
-    ensures stops { OnErr result (StopsOnce (E.answers source.old) client.old client.new) }
+    ensures fetches { OnOk result (FetchesOnce (E.came source.old (E.has_lost source.new)) client.old client.new) }
+    ensures stops { OnErr result (StopsOnce (E.came source.old true) client.old client.new) }
     ensures told { IsTrue (E.has_lost source.old) → IsTrue (E.has_lost source.new) }
-    ensures goes_on { AnswersOn (E.answers source.old) (E.answers source.new) }
+    ensures goes_on { (lost : Bool) → AnswersOn (E.came source.old lost) (E.came source.new lost) }
     ensures counted { IfOk result (λ asked. E.count source.new
         ≡ (if asked then E.count source.old + 1 else E.count source.old)) }
     ensures few { E.count source.new ≤ E.count source.old + 1 }
@@ -53,13 +54,14 @@ fn exchange_up_to<S, E: Exchange<S>>(
 ) -> Result<(), FetchError>
     requires { E.count source.old + tries < 2 ^ 64 }
     ensures keeps { KeepsReading (E.speaks_for source.old) (E.speaks_for source.new) client.old client.new }
-    ensures fetches { OnOk result (FetchesAll (UnlessTold (E.has_lost source.new) (E.answers source.old)) (E.count source.old) (E.count source.new) client.old client.new) }
-    ensures stops { OnErr result (StopsFetching (UnlessTold (E.has_lost source.new) (E.answers source.old)) client.old client.new) }
+    ensures fetches { OnOk result (FetchesAll (E.came source.old (E.has_lost source.new)) (E.count source.old) (E.count source.new) client.old client.new) }
+    ensures stops { OnErr result (StopsFetching (E.came source.old true) client.old client.new) }
     ensures ends { OnOk result ((E.count source.new ≡ E.count source.old + tries) ⊎ IsIdle client.new) }
     ensures few { E.count source.new ≤ E.count source.old + tries }
     ensures idle { IsIdle client.old → E.count source.new ≡ E.count source.old }
     ensures stands { IsSome (report_of client.old) → OnOk result (report_of client.new ≡ report_of client.old) }
 {
+    E::more();
     for done in 0..tries {
         if !exchange_once::<S, E>(client, source, tries - done - 1)? {
             return Ok(());
@@ -86,7 +88,7 @@ pub fn fetch<'c, T: Transport>(
         KeepsReading (T.speaks_for transport.old) (T.speaks_for transport.new) client.old c
         × IfOk result (λ report. Stands c (option_copied report)
         × FetchesAll (UnlessTold (T.has_lost transport.new) (T.answers transport.old)) (T.count transport.old) (T.count transport.new) client.old c)
-        × OnErr result (StopsFetching (UnlessTold (T.has_lost transport.new) (T.answers transport.old)) client.old c))) }
+        × OnErr result (StopsFetching (T.answers transport.old) client.old c))) }
 
     // A report is true of one publication of that book: of the one whose tag it tells.
     ensures report { IfOk result (λ report.
@@ -126,13 +128,14 @@ pub fn fetch_pieces<'c, P: Pieces>(
     requires { P.count pieces.old + tries < 2 ^ 64 }
 
     // A client that reads a book for which the source speaks reads it still, whatever was lost or cut, and after want of
-    // memory too. What is given is its standing report. Its requests were asked for, and answers taken, in turn, and nothing else
-    // was done to it; want of memory came in the last of them.
+    // memory too. What is given is its standing report. Its own requests were sent one after another, in each of the exchanges one, and what
+    // came of their answers was taken, all of it up to `ANSWER_LIMIT` bytes, unless the source lost the answer, or the rest of it, and tells
+    // so, and nothing else was done to it; want of memory came in the last of them.
     ensures* client { sem 𝓛 (Rests the_row client.entry (λ c.
         KeepsReading (P.speaks_for pieces.old) (P.speaks_for pieces.new) client.old c
         × IfOk result (λ report. Stands c (option_copied report)
-        × FetchesAll Anything (P.count pieces.old) (P.count pieces.new) client.old c)
-        × OnErr result (StopsFetching Anything client.old c))) }
+        × FetchesAll (TakenOf (P.speaks_for pieces.old) (P.answers pieces.old) (P.has_lost pieces.new)) (P.count pieces.old) (P.count pieces.new) client.old c)
+        × OnErr result (StopsFetching (TakenOf (P.speaks_for pieces.old) (P.answers pieces.old) true) client.old c))) }
 
     // A report is true of one publication of that book: of the one whose tag it tells.
     ensures report { IfOk result (λ report.
@@ -141,6 +144,12 @@ pub fn fetch_pieces<'c, P: Pieces>(
     // There is none only after so many exchanges, or without a query.
     ensures none { IfOk result (λ report. report ≡ None
         → IsInVain (query_of client.old) tries (P.count pieces.old) (P.count pieces.new)) }
+
+    // Where the source lost nothing, and brings answers of one publication alone that have all that is asked for, or the whole file, in so
+    // many bytes as are taken, there is one behind an opening by as many exchanges as the query costs, and one more.
+    ensures reports { (book : Book) (p : Publication) (q : Query) (before : ClientState) → HasDistinctTags book → In p book → p.name ≡ name_of before
+        → ClientAgrees before book → P.speaks_for pieces.old book → OpensKeeping q before client.old → Serves (AllOf (P.answers pieces.old)) p
+        → P.has_lost pieces.new ≡ false → cost p.file q + 1 ≤ tries → IfOk result (λ report. IsSome (option_copied report)) }
     ensures few { P.count pieces.new ≤ P.count pieces.old + tries }
 
     // Where there is no query, or the report stands already, nothing is sent, and that report is given.
@@ -148,11 +157,13 @@ pub fn fetch_pieces<'c, P: Pieces>(
     ensures stands { IsSome (report_of client.old)
         → IfOk result (λ report. option_copied report ≡ report_of client.old) }
 {
+    whole_answers_report();
+    fronts_are_read();
     exchange_up_to::<P, InPieces>(client, pieces, tries)?;
     Ok(client.report())
 }
 
-/// One exchange of `fetch_pieces`, if the client has a request. Says whether it had one. At most `later` follow: the source may be told
+/// One exchange of `fetch_pieces`, if the client has a request, whose answer is taken as there. Says whether it had one. At most `later` follow: the source may be told
 /// of as many requests, which it may send early. `Memory` is the only error, and the client can go on from there.
 pub fn exchange_pieces<P: Pieces>(
     client: &mut Client,
@@ -161,8 +172,8 @@ pub fn exchange_pieces<P: Pieces>(
 ) -> Result<bool, FetchError>
     requires { P.count pieces.old + 1 < 2 ^ 64 }
     ensures keeps { KeepsReading (P.speaks_for pieces.old) (P.speaks_for pieces.new) client.old client.new }
-    ensures fetches { OnOk result (FetchesOnce Anything client.old client.new) }
-    ensures stops { OnErr result (StopsOnce Anything client.old client.new) }
+    ensures fetches { OnOk result (FetchesOnce (TakenOf (P.speaks_for pieces.old) (P.answers pieces.old) (P.has_lost pieces.new)) client.old client.new) }
+    ensures stops { OnErr result (StopsOnce (TakenOf (P.speaks_for pieces.old) (P.answers pieces.old) true) client.old client.new) }
     ensures counted { IfOk result (λ asked. P.count pieces.new
         ≡ (if asked then P.count pieces.old + 1 else P.count pieces.old)) }
     ensures few { P.count pieces.new ≤ P.count pieces.old + 1 }

@@ -1,9 +1,9 @@
 //! A client takes an answer piece by piece, as it arrives.
-ghost use Rattle.std.specs.Prelude.{◌≡◌, ◌<◌, ◌≤◌, ℕ, IfOk, List, OnErr, OnOk, length};
+ghost use Rattle.std.specs.Prelude.{◌≡◌, ◌<◌, ◌≤◌, ℕ, false, IfOk, IsTrue, List, OnErr, OnOk, length};
 ghost use Rattle.cog_client.specs.declared.delivered.Delivered.{Delivered};
 ghost use Rattle.cog_client.specs.Keeps.{DeliversKeeping, StopsDelivery};
-ghost use Rattle.cog_client.specs.Transport.{SpeaksOn};
-ghost use Rattle.cog_fetch.specs.Takes.{IsNextOf, Stops, Takes, TakesAnswer, TakesPiece};
+ghost use Rattle.cog_client.specs.Transport.{AnswersOn, OrLost, SpeaksOn};
+ghost use Rattle.cog_fetch.specs.Takes.{IsNextOf, IsTakenOf, Stops, TakesAll, TakesAnswer, TakesPiece};
 
 use cog_client::{Client, Lost, MAX_BLOCKS, Pieces};
 use http_parts::limits::HEAD_LIMIT;
@@ -24,8 +24,10 @@ fn take_piece<P: Pieces>(
 ) -> Result<usize, Memory>
     requires { 0 < length room.old }
     ensures few { IfOk result (λ n. n ≤ length room.old) }
-    ensures ok { IfOk result (λ n. TakesPiece (P.speaks_for pieces.old) (P.rest pieces.old) n (P.rest pieces.new) client.old client.new) }
+    ensures ok { IfOk result (λ n. TakesPiece (P.speaks_for pieces.old) (P.rest pieces.old) n (P.has_lost pieces.new) (P.rest pieces.new) client.old client.new) }
     ensures err { OnErr result (Stops (P.speaks_for pieces.old) (P.rest pieces.old) client.old client.new) }
+    ensures told { IsTrue (P.has_lost pieces.old) → IsTrue (P.has_lost pieces.new) }
+    ensures goes_on { AnswersOn (OrLost (P.answers pieces.old)) (OrLost (P.answers pieces.new)) }
     ensures speaks { SpeaksOn (P.speaks_for pieces.old) (P.speaks_for pieces.new) }
     ensures counted { P.count pieces.new ≡ P.count pieces.old }
 {
@@ -40,8 +42,10 @@ fn take_piece<P: Pieces>(
 
 /// Takes pieces to the end of the answer, to a loss, or to the most bytes of an answer.
 fn take_pieces<P: Pieces>(client: &mut Client, pieces: &mut P) -> Result<(), Memory>
-    ensures ok { OnOk result (Takes (P.speaks_for pieces.old) (P.rest pieces.old) client.old client.new) }
+    ensures ok { OnOk result (TakesAll (P.speaks_for pieces.old) (P.rest pieces.old) (P.has_lost pieces.new) client.old client.new) }
     ensures err { OnErr result (Stops (P.speaks_for pieces.old) (P.rest pieces.old) client.old client.new) }
+    ensures told { IsTrue (P.has_lost pieces.old) → IsTrue (P.has_lost pieces.new) }
+    ensures goes_on { AnswersOn (OrLost (P.answers pieces.old)) (OrLost (P.answers pieces.new)) }
     ensures speaks { SpeaksOn (P.speaks_for pieces.old) (P.speaks_for pieces.new) }
     ensures counted { P.count pieces.new ≡ P.count pieces.old }
 {
@@ -61,10 +65,12 @@ fn take_pieces<P: Pieces>(client: &mut Client, pieces: &mut P) -> Result<(), Mem
 /// Takes what comes of the answer to the last request, and goes on with the client.
 pub fn take_answer<P: Pieces>(client: &mut Client, pieces: &mut P) -> Result<(), Memory>
     ensures takes { TakesAnswer (P.speaks_for pieces.old) (P.rest pieces.old) client.old client.new }
-    ensures ok { OnOk result ((bytes : List ℕ) × IsNextOf (P.speaks_for pieces.old) (P.rest pieces.old) bytes
+    ensures ok { OnOk result ((bytes : List ℕ) × IsTakenOf (P.speaks_for pieces.old) (P.has_lost pieces.new) (P.rest pieces.old) bytes
         × (what : Delivered) × DeliversKeeping client.old bytes what client.new) }
     ensures err { OnErr result ((bytes : List ℕ) × IsNextOf (P.speaks_for pieces.old) (P.rest pieces.old) bytes
         × StopsDelivery client.old bytes client.new) }
+    ensures told { IsTrue (P.has_lost pieces.old) → IsTrue (P.has_lost pieces.new) }
+    ensures goes_on { AnswersOn (OrLost (P.answers pieces.old)) (OrLost (P.answers pieces.new)) }
     ensures speaks { SpeaksOn (P.speaks_for pieces.old) (P.speaks_for pieces.new) }
     ensures counted { P.count pieces.new ≡ P.count pieces.old }
 {

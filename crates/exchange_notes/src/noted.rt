@@ -159,14 +159,16 @@ impl<P> Noted<P> {
 }
 
 impl<P: Pieces> Pieces for Noted<P> {
-    ghost use Rattle.std.specs.Prelude.{◌≡◌, ◌+◌, ◌<◌, ◌≤◌, ◌^◌, [], IfOk, OnErr, OnOk, is_ok, length, min, take};
+    ghost use Rattle.std.specs.Prelude.{◌≡◌, ◌+◌, ◌<◌, ◌≤◌, ◌^◌, [], IfOk, IsTrue, OnErr, OnOk, is_ok, length, min, take};
     ghost use Rattle.cog_client.specs.Pieces.{BringsOf};
-    ghost use Rattle.cog_client.specs.Transport.{IsTrueToAll, SpeaksOn};
+    ghost use Rattle.cog_client.specs.Transport.{AnswersOn, IsTrueToAll, OrLost, SpeaksOn};
     ghost use Rattle.exchange_notes.specs.Noted.{NotesOf, bytes_of, front_of, sent_of, source_of};
 
     ghost speaks_for = { λ s. P.speaks_for (source_of s) };
 
     ghost answers = { λ s. P.answers (source_of s) };
+
+    ghost has_lost = { λ s. P.has_lost (source_of s) };
 
     ghost count = { λ s. P.count (source_of s) };
 
@@ -183,6 +185,9 @@ impl<P: Pieces> Pieces for Noted<P> {
         // So it keeps the trait's law.
         ensures answered { OnOk result (P.answers (source_of self.old) request.now (P.rest (source_of self.new))) }
         ensures dropped { OnErr result (P.rest (source_of self.new) ≡ []) }
+        ensures told { OnErr result (IsTrue (P.has_lost (source_of self.new))) }
+        ensures kept { OnOk result (P.has_lost (source_of self.new) ≡ P.has_lost (source_of self.old)) }
+        ensures goes_on { AnswersOn (OrLost (P.answers (source_of self.old))) (OrLost (P.answers (source_of self.new))) }
         ensures shows { OnOk result (IsTrueToAll (P.speaks_for (source_of self.old)) (P.rest (source_of self.new))) }
         ensures speaks { SpeaksOn (P.speaks_for (source_of self.old)) (P.speaks_for (source_of self.new)) }
         ensures counted { P.count (source_of self.new) ≡ P.count (source_of self.old) + 1 }
@@ -206,6 +211,9 @@ impl<P: Pieces> Pieces for Noted<P> {
         ensures fits { IfOk result (λ n. n ≤ length out.new) }
         ensures brings { IfOk result (λ n. BringsOf (P.speaks_for (source_of self.old)) (P.rest (source_of self.old)) out.new n
             (P.rest (source_of self.new))) }
+        ensures told { OnErr result (IsTrue (P.has_lost (source_of self.new))) }
+        ensures kept { OnOk result (P.has_lost (source_of self.new) ≡ P.has_lost (source_of self.old)) }
+        ensures goes_on { AnswersOn (OrLost (P.answers (source_of self.old))) (OrLost (P.answers (source_of self.new))) }
         ensures speaks { SpeaksOn (P.speaks_for (source_of self.old)) (P.speaks_for (source_of self.new)) }
         ensures counted { P.count (source_of self.new) ≡ P.count (source_of self.old) }
     {

@@ -1,8 +1,9 @@
 //! Exchanges that are told on standard error, each when it is over.
-ghost use Rattle.std.specs.Prelude.{◌≡◌, ◌+◌, ◌<◌, ◌≤◌, ◌^◌, ◌⊎◌, IfOk, IsSome, OnErr, OnOk, false, if◌then◌else◌};
+ghost use Rattle.std.specs.Prelude.{◌≡◌, ◌+◌, ◌<◌, ◌≤◌, ◌^◌, ◌⊎◌, IfOk, IsSome, OnErr, OnOk, true, false, if◌then◌else◌};
 ghost use Rattle.cog_client.specs.Calls.{IsIdle};
 ghost use Rattle.cog_client.specs.Client.{report_of};
 ghost use Rattle.cog_client.specs.Transport.{Anything, FetchesOnce, FetchesSome, KeepsReading, StopsFetching, StopsOnce};
+ghost use Rattle.cog_fetch.specs.Takes.{TakenOf};
 ghost use Rattle.exchange_notes.specs.Noted.{source_of};
 
 use crate::clock::moment;
@@ -34,8 +35,8 @@ fn exchange_told<R: Eprint + Clock, P: Pieces>(
     ensures counted { IfOk result (λ asked. P.count (source_of noted.new)
         ≡ (if asked then P.count (source_of noted.old) + 1 else P.count (source_of noted.old))) }
     ensures few { P.count (source_of noted.new) ≤ P.count (source_of noted.old) + 1 }
-    ensures fetches { OnOk result (FetchesOnce Anything client.old client.new) }
-    ensures stops { OnErr result (StopsOnce Anything client.old client.new) }
+    ensures fetches { OnOk result (FetchesOnce (TakenOf (P.speaks_for (source_of noted.old)) (P.answers (source_of noted.old)) (P.has_lost (source_of noted.new))) client.old client.new) }
+    ensures stops { OnErr result (StopsOnce (TakenOf (P.speaks_for (source_of noted.old)) (P.answers (source_of noted.old)) true) client.old client.new) }
     ensures silent { IfOk result (λ asked. asked ≡ false → IsIdle client.new) }
     ensures idle { IsIdle client.old
         → (P.count (source_of noted.new) ≡ P.count (source_of noted.old)) × OnOk result (IsIdle client.new) }

@@ -1,2 +1,3 @@
 pub mod OpenLemmas
 pub mod WholeLemmas
+pub mod FetchLemmas

@@ -301,9 +301,9 @@ impl<'r, R: Net<Stream = TcpStream> + AllocGlobal> Socket<'r, R> {
 }
 
 impl<R: Net<Stream = TcpStream> + AllocGlobal> Pieces for Socket<'_, R> {
-    ghost use Rattle.std.specs.Prelude.{◌≡◌, ◌<◌, ◌≤◌, [], IfOk, Ok, length, take};
+    ghost use Rattle.std.specs.Prelude.{◌≡◌, ◌<◌, ◌≤◌, [], true, IfOk, IsTrue, Ok, OnErr, OnOk, length, take, ⊤};
     ghost use Rattle.cog_client.specs.Pieces.{BringsOf};
-    ghost use Rattle.cog_client.specs.Transport.{SpeaksOn};
+    ghost use Rattle.cog_client.specs.Transport.{AnswersOn, OrLost, SpeaksOn};
     ghost use Rattle.sockets.specs.Sockets.{exchanges_of, keeps, IsOver, Nothing, Notes};
 
     ghost speaks_for = { λ _ _. Nothing };
@@ -329,6 +329,9 @@ impl<R: Net<Stream = TcpStream> + AllocGlobal> Pieces for Socket<'_, R> {
         // So it keeps the trait's law, as a source that speaks for no file.
         ensures fits { IfOk result (λ n. n ≤ length out.new) }
         ensures brings { IfOk result (λ n. BringsOf (λ _. Nothing) [] out.new n []) }
+        ensures told { OnErr result (IsTrue true) }
+        ensures kept { OnOk result (true ≡ true) }
+        ensures goes_on { AnswersOn (OrLost (λ _ _. ⊤)) (OrLost (λ _ _. ⊤)) }
         ensures speaks { SpeaksOn (λ _. Nothing) (λ _. Nothing) }
         ensures counted { exchanges_of self.new ≡ exchanges_of self.old }
     {

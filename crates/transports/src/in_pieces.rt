@@ -68,6 +68,8 @@ impl<T: Transport> Pieces for InPieces<'_, T> {
 
     ghost answers = { λ s request text. T.answers (source_of s) request (Some text) };
 
+    ghost has_lost = { λ s. T.has_lost (source_of s) };
+
     ghost count = { λ s. T.count (source_of s) };
 
     ghost rest = { rest_of };

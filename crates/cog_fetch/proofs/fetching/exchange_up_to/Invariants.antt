@@ -1,7 +1,7 @@
-use Rattle.std.proofs.Common.{◌≡◌, ◌+◌, IsSome}
+use Rattle.std.proofs.Common.{◌≡◌, ◌+◌, Bool, IsSome}
 use Rattle.cog_client.specs.Calls.{IsIdle}
 use Rattle.cog_client.specs.Client.{report_of}
-use Rattle.cog_client.specs.Transport.{AnswersOn, Fetches, KeepsReading, UnlessTold}
+use Rattle.cog_client.specs.Transport.{AnswersOn, Fetches, KeepsReading}
 use Rattle.cog_fetch.proofs.fetching.exchange_up_to.Given as goal
 
 abbrev pub invariant-loop-done : goal.invariant-loop-done
@@ -10,6 +10,6 @@ invariant-loop-done g l = record {
   idle : IsIdle l.fn.client → (g.E.Exchange.count l.source ≡ g.E.Exchange.count l.fn.source) × IsIdle l.client;
   stands : IsSome (report_of l.fn.client) → report_of l.client ≡ report_of l.fn.client;
   keeps : KeepsReading (g.E.Exchange.speaks_for l.fn.source) (g.E.Exchange.speaks_for l.source) l.fn.client l.client;
-  fetches : Fetches (UnlessTold (g.E.Exchange.has_lost l.source) (g.E.Exchange.answers l.fn.source)) l.done l.fn.client l.client;
-  goes_on : AnswersOn (g.E.Exchange.answers l.fn.source) (g.E.Exchange.answers l.source);
+  fetches : Fetches (g.E.Exchange.came l.fn.source (g.E.Exchange.has_lost l.source)) l.done l.fn.client l.client;
+  goes_on : (lost : Bool) → AnswersOn (g.E.Exchange.came l.fn.source lost) (g.E.Exchange.came l.source lost);
 }

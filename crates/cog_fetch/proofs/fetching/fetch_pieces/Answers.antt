@@ -1,25 +1,16 @@
-use Rattle.std.proofs.Common.{true, rules, refl}
-use Rattle.cog_client.specs.Transport.{Anything, StopsFetching, UnlessTold}
-use Rattle.cog_fetch.proofs.FetchLemmas.{all_anything, stops_anything}
-use Rattle.cog_fetch.proofs.TakeLemmas.{refused}
+use Rattle.std.proofs.Common.{rules, refl, subst, sym}
+use Rattle.std.specs.Prelude.{IsSome}
+use Rattle.cog_fetch.specs.Takes.{TakenOf}
+use Rattle.cog_fetch.proofs.ReportLemmas.{fetching_reports, serves_taken}
 use Rattle.cog_fetch.proofs.fetching.fetch_pieces.Goals as goal
 
 pub returns : goal.returns
 returns g c =
-    let e = c.in_ok-exchange_up_to.ensures in (
-      (
-        refl,
-        (λ _. tt),
-        (
-          e.keeps,
-          (
-            c.report.ensures,
-            all_anything (UnlessTold true Anything) (g.P.Pieces.count c.args.pieces.now) (g.P.Pieces.count c.exchange_up_to.new.source)
-                c.args.client.now c.exchange_up_to.new.client e.fetches,
-          ),
-          tt,
-        ),
-      ),
+    let e = c.in_ok-exchange_up_to.ensures in
+    let speaks = g.P.Pieces.speaks_for c.args.pieces.now in
+    let answers = g.P.Pieces.answers c.args.pieces.now in
+    let lost = g.P.Pieces.has_lost c.exchange_up_to.new.source in (
+      (refl, (λ _. tt), (e.keeps, (c.report.ensures, e.fetches), tt)),
       record {
         client = tt;
         report = search rules;
@@ -27,29 +18,10 @@ returns g c =
         few = e.few;
         idle = search rules;
         stands = search rules;
-      },
-    )
-
-pub returns-in_err-exchange_up_to : goal.returns-in_err-exchange_up_to
-returns-in_err-exchange_up_to g c =
-    let e = c.in_err-exchange_up_to.ensures in (
-      (
-        refl,
-        (λ _. tt),
-        (
-          e.keeps,
-          search rules,
-          refused c.from_residual.result
-              (StopsFetching Anything c.args.client.now c.exchange_up_to.new.client)
-              (stops_anything (UnlessTold true Anything) c.args.client.now c.exchange_up_to.new.client e.stops),
-        ),
-      ),
-      record {
-        client = tt;
-        report = search rules;
-        none = search rules;
-        few = e.few;
-        idle = search rules;
-        stands = search rules;
+        reports = λ book p q before distinct among named agrees spoken opens serves kept enough.
+            subst (λ o. IsSome o) (sym c.report.ensures.standing)
+            (fetching_reports c.whole_answers_report.ensures.served c.fronts_are_read.ensures.answers.one (TakenOf speaks answers lost) p
+            (serves_taken speaks answers lost book spoken p serves kept) q book before c.args.client.now c.exchange_up_to.new.client
+            (g.P.Pieces.count c.args.pieces.now) (g.P.Pieces.count c.exchange_up_to.new.source) c.args.tries distinct among named agrees opens e.fetches e.ends enough);
       },
     )

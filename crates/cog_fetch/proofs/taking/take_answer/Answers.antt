@@ -19,24 +19,29 @@ returns-in_err-take_pieces-clause-err g c =
 
 pub returns-in_err-end-clause-err : goal.returns-in_err-end-clause-err
 returns-in_err-end-clause-err g c =
-    let t = c.in_ok-take_pieces.ensures.ok in
+    let t = c.in_ok-take_pieces.ensures.ok.takes in
     refused c.from_residual-in_err-end.result ((bytes : List ℕ) × IsNextOf (g.P.Pieces.speaks_for c.args.pieces.now) (g.P.Pieces.rest c.args.pieces.now) bytes
     × StopsDelivery c.args.client.now bytes c.end.new.self)
     (t.bytes, t.next, c.in_err-end.ensures.err c.args.client.now t.bytes (t.fed c.args.client.now [] c.begin.ensures))
 
 pub returns-in_err-end-clause-takes : goal.returns-in_err-end-clause-takes
 returns-in_err-end-clause-takes g c =
-    let t = c.in_ok-take_pieces.ensures.ok in
+    let t = c.in_ok-take_pieces.ensures.ok.takes in
     let e = c.in_err-end.ensures.err c.args.client.now t.bytes (t.fed c.args.client.now [] c.begin.ensures) in
     record { bytes = t.bytes; next = t.next; same = e.same; agrees = e.agrees }
 
 pub returns-clause-takes : goal.returns-clause-takes
 returns-clause-takes g c =
-    let t = c.in_ok-take_pieces.ensures.ok in
+    let t = c.in_ok-take_pieces.ensures.ok.takes in
     let e = c.in_ok-end.ensures.ok c.args.client.now t.bytes (t.fed c.args.client.now [] c.begin.ensures) in
     record { bytes = t.bytes; next = t.next; same = e.seen.same; agrees = e.agrees }
 
 pub returns-clause-ok : goal.returns-clause-ok
 returns-clause-ok g c =
-    let t = c.in_ok-take_pieces.ensures.ok in
-    (t.bytes, t.next, c.in_ok-end.field-0, c.in_ok-end.ensures.ok c.args.client.now t.bytes (t.fed c.args.client.now [] c.begin.ensures))
+    let all = c.in_ok-take_pieces.ensures.ok in
+    let t = all.takes in (
+      t.bytes,
+      record { front = t.next; all = all.all },
+      c.in_ok-end.field-0,
+      c.in_ok-end.ensures.ok c.args.client.now t.bytes (t.fed c.args.client.now [] c.begin.ensures),
+    )

@@ -1,5 +1,6 @@
-use Rattle.std.proofs.Common.{List, [], take, refl, sym, subst, arith}
-use Rattle.std.proofs.lemmas.List.{append-nil}
+use Rattle.std.proofs.Common.{List, [], take, refl, sym, subst, ◌∙◌, arith}
+use Rattle.std.proofs.lemmas.Bool.{false≢true}
+use Rattle.std.proofs.lemmas.List.{append-nil, length-take-le}
 use Rattle.cog_client.specs.FedClient.{Fed}
 use Rattle.cog_fetch.specs.Takes.{Stops}
 use Rattle.cog_fetch.proofs.TakeLemmas.{refused}
@@ -22,7 +23,9 @@ returns-in-Err-clause-ok g c = record {
     next = λ p spoken. (g.P.Pieces.rest c.args.pieces.now, refl);
     fed = λ s p fed. subst (λ (t : List _). Fed s t c.args.client.now) (sym (append-nil p)) fed;
   };
+  size = refl;
   goes = λ some. absurd (omega arith);
+  ends = λ none kept. absurd (false≢true (sym kept ∙ c.in-Err.ensures.told));
 }
 
 pub returns-in_ok-feed-in-Ok-clause-ok : goal.returns-in_ok-feed-in-Ok-clause-ok
@@ -32,5 +35,7 @@ returns-in_ok-feed-in-Ok-clause-ok g c = record {
     next = λ p spoken. (g.P.Pieces.rest c.next.new.self, sym (c.in-Ok.ensures.brings p spoken).parts);
     fed = c.in_ok-feed-in-Ok.ensures.ok;
   };
+  size = length-take-le c.in-Ok.count c.next.new.out c.in-Ok.ensures.fits;
   goes = λ some p spoken. (c.in-Ok.ensures.brings p spoken).parts;
+  ends = λ none kept p spoken. (c.in-Ok.ensures.brings p spoken).ends none;
 }
