@@ -5,6 +5,7 @@ mod example;
 mod exchanges;
 mod fates;
 mod fetched;
+mod kept;
 mod memory;
 mod replaced;
 mod tries;

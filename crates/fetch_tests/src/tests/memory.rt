@@ -19,11 +19,12 @@ fn make_again(alloc: Global) -> Result<Client, ClientError> {
     }
 }
 
-/// Expects the last tile from the second fetching. The first is refused under its number, or isn't.
+/// Expects the last tile from the second fetching. The first is refused under its number, or has the report unless an answer was lost.
 fn fetch_again(rt: &impl Abort, server: &Server, client: &mut Client) -> Result<(), Fail> {
     let mut transport = InMemory::new(server, b"a");
-    if let Err(refusal) = fetch(client, &mut transport, 3) {
-        expect_eq!(rt; refusal.number(), 1);
+    match fetch(client, &mut transport, 3) {
+        Err(refusal) => expect_eq!(rt; refusal.number(), 1),
+        Ok(report) => assert!(rt; report.is_some() || transport.has_lost()),
     }
     let report = fetch(client, &mut transport, 3)?.ok_or("no report")?;
     assert!(rt; is_last_tile(report));
