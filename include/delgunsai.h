@@ -32,7 +32,8 @@
  *   - A pointer is to as many bytes as the length behind it says, or to the struct. It isn't NULL, not even where the length is 0.
  *     The library keeps no pointer of the caller's: memory that a call is given is the caller's again when the call returns. What a
  *     call writes to, another pointer of the same call isn't to.
- *   - A call of a client that was never made, or is freed, gives COG_NO_CLIENT and does nothing else.
+ *   - Any call but cog_client_new and cog_client_free of a client that was never made, or is freed, gives COG_NO_CLIENT and does
+ *     nothing else.
  *   - A handle is used by one call at a time, and by the thread that made its client. It may be moved to another place in memory, and
  *     isn't copied to be used twice.
  *   - malloc, realloc and free are of one allocator. No call is made from a signal handler, nor in the forked child of a process with
@@ -119,11 +120,11 @@ int32_t cog_client_open_info(struct cog_client *client);
  * again. */
 int64_t cog_client_request(struct cog_client *client, uint8_t *room, size_t length);
 
-/* cog_client_later: lays the text of the request into the room that will come `index` requests after the next one, 0 for the one right
- * behind it, as far as it is known before their answers which bytes are needed then. It may be sent ahead of its time, on the same
- * connection too; its answer is taken once cog_client_request gives the same text. Another one may come in its place, as where the file is
- * replaced or an answer is cut. Gives the text's length; 0, where none is known, as before cog_client_keep_open and cog_client_look_ahead;
- * COG_MEMORY or COG_NO_CLIENT. It changes nothing of the client. */
+/* cog_client_later: lays a request's text into the room, of those that are known to follow the one which cog_client_request gave last,
+ * before its answer comes: the one at place `index`, 0 for the next. It may be sent ahead of its time, on the same connection too; its
+ * answer is taken once cog_client_request gives the same text. Another one may come in its place, as where the file is replaced or an
+ * answer is cut. Gives the text's length; 0, where none is known, as before cog_client_request, cog_client_keep_open and
+ * cog_client_look_ahead; COG_MEMORY or COG_NO_CLIENT. It changes nothing of the client. */
 int64_t cog_client_later(struct cog_client *client, uint32_t index, uint8_t *room, size_t length);
 
 /* cog_client_begin: begins an answer to the request. An unfinished one is dropped. Gives 0 or COG_NO_CLIENT. */

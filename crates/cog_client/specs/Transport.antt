@@ -67,51 +67,48 @@ abbrev pub TakesOrLoses : Coming → List ℕ → ClientState → ClientState �
 TakesOrLoses answers request old new =
     (answers request None × (new ≡ old)) ⊎ ((text : List ℕ) × (what : Delivered) × answers request (Some text) × DeliversKeeping old text what new)
 
--- so it is, if there is a request
-abbrev pub TakesIfAsked : Coming → Option (List ℕ) → ClientState → ClientState → Type 0
-TakesIfAsked answers None old new = new ≡ old
-TakesIfAsked answers (Some request) old new = TakesOrLoses answers request old new
-
 -- The client is asked for its request, and what comes of the answer to it is taken.
 pub record FetchesOnce (answers : Coming) (old new : ClientState) : Type 0 where
-  pub request : Option (List ℕ)
+  pub request : List ℕ
   pub asking : ClientState
-  pub asks : RequestsKeeping old request asking
-  pub takes : TakesIfAsked answers request asking new
+  pub asks : RequestsKeeping old (Some request) asking
+  pub takes : TakesOrLoses answers request asking new
 
 -- So it is so many times, and nothing else is done to the client.
 abbrev pub Fetches : Coming → ℕ → ClientState → ClientState → Type 0
 Fetches answers zero old new = new ≡ old
 Fetches answers (suc n) old new = (mid : ClientState) × Fetches answers n old mid × FetchesOnce answers mid new
 
+-- Nothing is done to the client any more, or it is asked for a request, and has none.
+abbrev pub RestsOrHasNone : ClientState → ClientState → Type 0
+RestsOrHasNone old new = (new ≡ old) ⊎ RequestsKeeping old None new
+
+-- It is done as many times as there were exchanges from the first number to the second; behind them the client may have had no request.
+pub record FetchesAll (answers : Coming) (before after : ℕ) (old new : ClientState) : Type 0 where
+  pub times : ℕ
+  pub counted : after ≡ before + times
+  pub last : ClientState
+  pub fetches : Fetches answers times old last
+  pub ends : RestsOrHasNone last new
+
 -- It is done some times.
 abbrev pub FetchesSome : Coming → ClientState → ClientState → Type 0
-FetchesSome answers old new = (n : ℕ) × Fetches answers n old new
+FetchesSome answers old new = (n : ℕ) × FetchesAll answers 0 n old new
 
 -- anything may come of a request
 abbrev pub Anything : Coming
 Anything request came = ⊤
 
--- It is done so many times, and of these each but the last, and that one too unless there was no request any more, is one of the exchanges
--- from the first number to the second.
-pub record FetchesAll (answers : Coming) (before after : ℕ) (old new : ClientState) : Type 0 where
-  pub times : ℕ
-  pub fetches : Fetches answers times old new
-  pub counted : (after ≡ before + times) ⊎ (after + 1 ≡ before + times)
-
 -- ---- want of memory
 
--- Nothing of the answer to a request was taken, or a beginning of what came of it.
-abbrev pub StopsTaking : Coming → List ℕ → ClientState → ClientState → Type 0
-StopsTaking answers request old new =
-    (new ≡ old) ⊎ ((text : List ℕ) × answers request (Some text) × StopsDelivery old text new)
-
--- The client's request was made, and memory was wanting behind it.
+-- The client's request was made, and memory was wanting behind a beginning of what came of the answer to it.
 pub record StopsExchange (answers : Coming) (old new : ClientState) : Type 0 where
   pub request : List ℕ
   pub asking : ClientState
   pub asks : RequestsKeeping old (Some request) asking
-  pub stops : StopsTaking answers request asking new
+  pub text : List ℕ
+  pub came : answers request (Some text)
+  pub stops : StopsDelivery asking text new
 
 -- Memory was wanting for the request, or behind it.
 abbrev pub StopsOnce : Coming → ClientState → ClientState → Type 0
@@ -119,4 +116,4 @@ StopsOnce answers old new = StopsAsking old new ⊎ StopsExchange answers old ne
 
 -- It was wanting in one exchange, after some.
 abbrev pub StopsFetching : Coming → ClientState → ClientState → Type 0
-StopsFetching answers old new = (mid : ClientState) × FetchesSome answers old mid × StopsOnce answers mid new
+StopsFetching answers old new = (n : ℕ) × (mid : ClientState) × Fetches answers n old mid × StopsOnce answers mid new

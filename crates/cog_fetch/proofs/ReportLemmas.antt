@@ -17,7 +17,7 @@ use Rattle.cog_client.specs.Client.{ClientAgrees, ClientState, Knows, KnowsOne, 
 use Rattle.cog_client.specs.Keeps.{AsksFor, AsksLike, OpensKeeping}
 use Rattle.cog_client.specs.Progress.{AnswersReport, AreExchanges, Exchanges, IsGiven, IsServed}
 use Rattle.cog_client.specs.Serves.{AsksBy, Serves}
-use Rattle.cog_client.specs.Transport.{Coming, Fetches, FetchesAll, FetchesOnce, TakesIfAsked, UnlessTold}
+use Rattle.cog_client.specs.Transport.{Coming, Fetches, FetchesAll, FetchesOnce, RestsOrHasNone, UnlessTold}
 use Rattle.cog_fetch.specs.Takes.{AllOf, TakenOf}
 
 -- a client is told to ask as it does
@@ -30,15 +30,6 @@ one_more : (Answers : ClientState → Publication → Span → List ℕ → Type
     → AreExchanges Answers p n old mid → Exchanges Answers p mid new → AreExchanges Answers p (suc n) old new
 one_more Answers p zero old mid new are x = (new, subst (λ (c : ClientState). Exchanges Answers p c new) are x, refl)
 one_more Answers p (suc n) old mid new (next, first, rest) x = (next, first, one_more Answers p n next mid new rest x)
-
--- a client that asks for nothing has no request
-no_request : (c : ClientState) (o : Option Span) (request : Option (List ℕ)) → request ≡ request_for c o → o ≡ None → request ≡ None
-no_request c o request text none = text ∙ ap (request_for c) none
-
--- and one without a request asks for nothing
-unasked : (c : ClientState) (o : Option Span) → None ≡ request_for c o → o ≡ None
-unasked c None text = refl
-unasked c (Some span) text = cc
 
 same_text : (old new : ClientState) (span : Span) → how_of new ≡ how_of old → host_of new ≡ host_of old → name_of new ≡ name_of old → revision_of new ≡ revision_of old
     → request_for old (Some span) ≡ request_for new (Some span)
@@ -92,12 +83,12 @@ module _ (one : TagsTellOne) (came : Coming) (p : Publication) (all : AllServe c
           let same : k.source ≡ p = one book distinct k.source p k.published among (k.of_tag ∙ same_tag) in
           subst (λ (s : Publication). Knows s.file c) same k.knows
 
-  -- the report stands, or so many answers were taken
+  -- so many answers were taken
   record Came (n : ℕ) (c : ClientState) : Type 0 where
     query : query_of c ≡ Some q
     named : p.name ≡ name_of c
     agrees : ClientAgrees c book
-    are : IsSome (report_of c) ⊎ AreExchanges IsServed p n opened c
+    are : AreExchanges IsServed p n opened c
 
   module _ (n : ℕ) (mid new : ClientState) (once : FetchesOnce came mid new) (before : Came n mid) where
     abbrev asking : ClientState
@@ -112,20 +103,8 @@ module _ (one : TagsTellOne) (came : Coming) (p : Publication) (all : AllServe c
     agrees_still : ClientAgrees asking book
     agrees_still = once.asks.goes.agrees book before.agrees
 
-    -- without a request the client is as when it was asked for one
-    stays : once.request ≡ None → IsSome (report_of asking) → Came (suc n) new
-    stays none stands =
-        let same : new ≡ asking = subst (λ o. TakesIfAsked came o asking new) none once.takes in
-        subst (Came (suc n)) (sym same) (record { query = query_is; named = name_is; agrees = agrees_still; are = inl stands })
-
-    stood : IsSome (report_of mid) → Came (suc n) new
-    stood stands =
-        let seen = once.asks.seen in
-        let still : IsSome (report_of asking) = subst (λ o. IsSome o) (sym (seen.report stands)) stands in
-        stays (no_request mid (asked_of asking) once.request seen.text (seen.idle (inr still))) still
-
-    by : (span : Span) (request : List ℕ) → asked_of asking ≡ Some span → Some request ≡ request_for mid (Some span) → AsksBy p asking span request
-    by span request is text =
+    by : (span : Span) → asked_of asking ≡ Some span → Some once.request ≡ request_for mid (Some span) → AsksBy p asking span once.request
+    by span is text =
         let goes = once.asks.seen.goes in
         record {
           named = name_is;
@@ -137,22 +116,20 @@ module _ (one : TagsTellOne) (came : Coming) (p : Publication) (all : AllServe c
           knows = knows_file asking agrees_still;
         }
 
-    takes : AreExchanges IsServed p n opened mid → (a : Option Span) → asked_of asking ≡ a → (o : Option (List ℕ)) → once.request ≡ o → o ≡ request_for mid a → Came (suc n) new
-    takes are None is None none text = stays none (elim (once.asks.seen.silent is) [ inl idle ↦ absurd (none-some q (sym idle ∙ query_is)) | inr stands ↦ stands ])
-    takes are (Some span) is None none text = cc
-    takes are None is (Some request) some text = cc
-    takes are (Some span) is (Some request) some own =
-        elim (subst (λ o. TakesIfAsked came o asking new) some once.takes) [
-          | inl none ↦ absurd (all.comes request none.0)
+    takes : (a : Option Span) → asked_of asking ≡ a → Some once.request ≡ request_for mid a → Came (suc n) new
+    takes None is text = absurd (none-some once.request (sym text))
+    takes (Some span) is own =
+        elim once.takes [
+          | inl none ↦ absurd (all.comes once.request none.0)
           | inr (text, what, answered, delivers) ↦
-              let served : IsServed asking p span text = all.serves asking span request text (by span request is own) answered in
+              let served : IsServed asking p span text = all.serves asking span once.request text (by span is own) answered in
               let read : IsReadAs (IsPieceOfBook (name_of asking) book) text = λ r reads.
               if_ok r (IsGiven p span (tag_of asking)) (IsPieceOfBook (name_of asking) book) (λ piece given. (p, among, name_is, given.of)) (served.read r reads) in
               let x : Exchanges IsServed p mid new = record {
                 how = how_of mid;
                 told = mid;
                 tells = likewise mid;
-                request = once.request;
+                request = Some once.request;
                 asking = asking;
                 requests = once.asks;
                 ahead = ahead_of asking;
@@ -168,18 +145,22 @@ module _ (one : TagsTellOne) (came : Coming) (p : Publication) (all : AllServe c
                 query = delivers.seen.same.query ∙ query_is;
                 named = name_is ∙ sym delivers.seen.same.name;
                 agrees = delivers.agrees book distinct agrees_still read;
-                are = inr (one_more IsServed p n opened mid new are x);
+                are = one_more IsServed p n opened mid new before.are x;
               }
         ]
 
   reach : Came zero opened → (n : ℕ) (new : ClientState) → Fetches came n opened new → Came n new
   reach first zero new same = subst (Came zero) (sym same) first
-  reach first (suc n) new (mid, are, once) =
-      let before = reach first n mid are in
-      elim before.are [
-        | inl stands ↦ stood n mid new once before stands
-        | inr all ↦ takes n mid new once before all (asked_of once.asking) refl once.request refl once.asks.seen.text
-      ]
+  reach first (suc n) new (mid, are, once) = takes n mid new once (reach first n mid are) (asked_of once.asking) refl once.asks.seen.text
+
+-- what it rests with, or has where it has no request
+query_still : (old new : ClientState) → RestsOrHasNone old new → query_of new ≡ query_of old
+query_still old new (inl same) = ap query_of same
+query_still old new (inr asks) = asks.seen.goes.same.query
+
+stands_still : (old new : ClientState) → RestsOrHasNone old new → IsSome (report_of old) → IsSome (report_of new)
+stands_still old new (inl same) stands = subst (λ (c : ClientState). IsSome (report_of c)) (sym same) stands
+stands_still old new (inr asks) stands = subst (λ o. IsSome o) (sym (asks.seen.report stands)) stands
 
 pub fetching_reports : AnswersReport IsServed → TagsTellOne → (came : Coming) (p : Publication) → AllServe came p
     → (q : Query) (book : Book) (old opened new : ClientState) (before after tries : ℕ)
@@ -191,16 +172,13 @@ fetching_reports law one came p serve q book old opened new before after tries d
       query = ap query_of opens.seen.1;
       named = named ∙ sym (ap name_of opens.seen.1);
       agrees = opens.agrees book agrees;
-      are = inr refl;
+      are = refl;
     } in
-    let reached = reach one came p serve q opened book distinct among first all.times new all.fetches in
+    let reached = reach one came p serve q opened book distinct among first all.times all.last all.fetches in
     elim ends [
-      | inr idle ↦ elim idle [ inl none ↦ absurd (none-some q (sym none ∙ reached.query)) | inr stands ↦ stands ]
-      | inl used ↦ elim reached.are [
-        | inl stands ↦ stands
-        | inr are ↦ elim (law book p q old opened new all.times distinct among agrees opens are).1 [
-          | inl stands ↦ stands
-          | inr few ↦ absurd (elim all.counted [ inl is ↦ omega (arith, is, few, used, enough) | inr is ↦ omega (arith, is, few, used, enough) ])
-        ]
+      | inr idle ↦ elim idle [ inl none ↦ absurd (none-some q (sym none ∙ query_still all.last new all.ends ∙ reached.query)) | inr stands ↦ stands ]
+      | inl used ↦ elim (law book p q old opened all.last all.times distinct among agrees opens reached.are).1 [
+        | inl stands ↦ stands_still all.last new all.ends stands
+        | inr few ↦ absurd (omega (arith, all.counted, few, used, enough))
       ]
     ]

@@ -1,12 +1,12 @@
 -- What a client takes of an answer that comes in pieces, and what the whole of it leaves.
-use Rattle.std.specs.Prelude.{◌≡◌, ◌<◌, ℕ, Bool, false, IsTrue, List, [], ◌++◌, length, take, Some, None}
+use Rattle.std.specs.Prelude.{◌≡◌, ◌<◌, ℕ, Bool, true, false, IsTrue, List, [], ◌++◌, length, take, Some, None}
 use Rattle.http_range.specs.Book.{Book, HasDistinctTags}
 use Rattle.http_range.specs.Honest.{IsFront, IsPieceOfBook, IsReadAs}
 use Rattle.cog_client.specs.Calls.{SameClient}
 use Rattle.cog_client.specs.Client.{ClientAgrees, ClientState, name_of}
 use Rattle.cog_client.specs.FedClient.{Fed}
-use Rattle.cog_client.specs.Keeps.{StopsDelivery}
-use Rattle.cog_client.specs.Transport.{Coming}
+use Rattle.cog_client.specs.Keeps.{RequestsKeeping, StopsDelivery}
+use Rattle.cog_client.specs.Transport.{Coming, FetchesOnce}
 use Rattle.cog_fetch.specs.declared.taking.TheConstants.{ANSWER_LIMIT}
 
 -- In what follows speaks is what a source speaks for, rest what of its answer was still to come, and lost whether a loss is told by now.
@@ -36,7 +36,7 @@ pub record TakesPiece (speaks : Book → Type 0) (rest : List ℕ) (n : ℕ) (lo
   pub goes : 0 < n → LeavesOf speaks rest takes.bytes after
   pub ends : n ≡ 0 → lost ≡ false → (book : Book) → speaks book → rest ≡ []
 
--- The pieces that came were fed: all, unless a loss is told.
+-- The pieces that came were fed: unless a loss is told all of the answer, up to the most that is taken.
 pub record TakesAll (speaks : Book → Type 0) (rest : List ℕ) (lost : Bool) (old new : ClientState) : Type 0 where
   pub takes : Takes speaks rest old new
   pub all : lost ≡ false → AreAllOf speaks rest takes.bytes
@@ -74,3 +74,10 @@ TakenOf speaks answers lost request (Some bytes) = (whole : List ℕ) × answers
 abbrev pub AllOf : (List ℕ → List ℕ → Type 0) → Coming
 AllOf answers request None = ⊥
 AllOf answers request (Some bytes) = (whole : List ℕ) × answers request whole × (bytes ≡ take ANSWER_LIMIT whole)
+
+-- ---- one exchange
+
+-- It was made, or the client had no request.
+abbrev pub ExchangesOnce : Coming → Bool → ClientState → ClientState → Type 0
+ExchangesOnce answers true old new = FetchesOnce answers old new
+ExchangesOnce answers false old new = RequestsKeeping old None new

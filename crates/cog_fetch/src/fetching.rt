@@ -11,8 +11,8 @@ ghost use Rattle.cog_client.specs.Client.{ClientAgrees, ClientState, name_of, qu
 ghost use Rattle.cog_client.specs.Calls.{IsIdle};
 ghost use Rattle.cog_client.specs.Keeps.{OpensKeeping, Stands};
 ghost use Rattle.cog_client.specs.Serves.{Serves};
-ghost use Rattle.cog_client.specs.Transport.{AnswersOn, FetchesAll, FetchesOnce, StopsFetching, StopsOnce, IsInVain, IsTrueOfBooks, KeepsReading, UnlessTold};
-ghost use Rattle.cog_fetch.specs.Takes.{AllOf, TakenOf};
+ghost use Rattle.cog_client.specs.Transport.{AnswersOn, FetchesAll, StopsFetching, StopsOnce, IsInVain, IsTrueOfBooks, KeepsReading, UnlessTold};
+ghost use Rattle.cog_fetch.specs.Takes.{AllOf, ExchangesOnce, TakenOf};
 
 use crate::exchange::{Exchange, InPieces, Whole};
 use cog_client::{Client, FetchError, Pieces, Report, Transport, whole_answers_report};
@@ -26,7 +26,7 @@ fn exchange_once<S, E: Exchange<S>>(
 ) -> Result<bool, FetchError>
     requires { E.count source.old + 1 < 2 ^ 64 }
     ensures keeps { KeepsReading (E.speaks_for source.old) (E.speaks_for source.new) client.old client.new }
-    ensures fetches { OnOk result (FetchesOnce (E.came source.old (E.has_lost source.new)) client.old client.new) }
+    ensures fetches { IfOk result (λ asked. ExchangesOnce (E.came source.old (E.has_lost source.new)) asked client.old client.new) }
     ensures stops { OnErr result (StopsOnce (E.came source.old true) client.old client.new) }
     ensures told { IsTrue (E.has_lost source.old) → IsTrue (E.has_lost source.new) }
     ensures goes_on { (lost : Bool) → AnswersOn (E.came source.old lost) (E.came source.new lost) }
@@ -56,6 +56,8 @@ fn exchange_up_to<S, E: Exchange<S>>(
     ensures keeps { KeepsReading (E.speaks_for source.old) (E.speaks_for source.new) client.old client.new }
     ensures fetches { OnOk result (FetchesAll (E.came source.old (E.has_lost source.new)) (E.count source.old) (E.count source.new) client.old client.new) }
     ensures stops { OnErr result (StopsFetching (E.came source.old true) client.old client.new) }
+    ensures told { IsTrue (E.has_lost source.old) → IsTrue (E.has_lost source.new) }
+    ensures goes_on { (lost : Bool) → AnswersOn (E.came source.old lost) (E.came source.new lost) }
     ensures ends { OnOk result ((E.count source.new ≡ E.count source.old + tries) ⊎ IsIdle client.new) }
     ensures few { E.count source.new ≤ E.count source.old + tries }
     ensures idle { IsIdle client.old → E.count source.new ≡ E.count source.old }
@@ -81,9 +83,9 @@ pub fn fetch<'c, T: Transport>(
     requires { T.count transport.old + tries < 2 ^ 64 }
 
     // A client that reads a book for which the transport speaks reads it still, whatever was lost or cut, and
-    // after want of memory too. What is given is its standing report. Its own requests were sent one after another, in each of the
-    // exchanges one, and what came of their answers was taken, unless the transport lost it, and tells so, and nothing else was done to it;
-    // want of memory came in the last of them.
+    // after want of memory too. What is given is its standing report. It was asked for its request, and what came of the answer was taken, as
+    // often as the transport counts, and nothing else was done to it; none was lost unless the transport tells so. Want of memory came in the
+    // last of them.
     ensures* client { sem 𝓛 (Rests the_row client.entry (λ c.
         KeepsReading (T.speaks_for transport.old) (T.speaks_for transport.new) client.old c
         × IfOk result (λ report. Stands c (option_copied report)
@@ -128,9 +130,9 @@ pub fn fetch_pieces<'c, P: Pieces>(
     requires { P.count pieces.old + tries < 2 ^ 64 }
 
     // A client that reads a book for which the source speaks reads it still, whatever was lost or cut, and after want of
-    // memory too. What is given is its standing report. Its own requests were sent one after another, in each of the exchanges one, and what
-    // came of their answers was taken, all of it up to `ANSWER_LIMIT` bytes, unless the source lost the answer, or the rest of it, and tells
-    // so, and nothing else was done to it; want of memory came in the last of them.
+    // memory too. What is given is its standing report. It was asked for its request, and what came of the answer was taken, as often as the
+    // source counts, and nothing else was done to it; where the source speaks for any book all of each answer up to `ANSWER_LIMIT` bytes, unless
+    // it lost one, or the rest of one, and tells so. Want of memory came in the last of them.
     ensures* client { sem 𝓛 (Rests the_row client.entry (λ c.
         KeepsReading (P.speaks_for pieces.old) (P.speaks_for pieces.new) client.old c
         × IfOk result (λ report. Stands c (option_copied report)
@@ -150,6 +152,11 @@ pub fn fetch_pieces<'c, P: Pieces>(
     ensures reports { (book : Book) (p : Publication) (q : Query) (before : ClientState) → HasDistinctTags book → In p book → p.name ≡ name_of before
         → ClientAgrees before book → P.speaks_for pieces.old book → OpensKeeping q before client.old → Serves (AllOf (P.answers pieces.old)) p
         → P.has_lost pieces.new ≡ false → cost p.file q + 1 ≤ tries → IfOk result (λ report. IsSome (option_copied report)) }
+
+    // What was lost is told from then on, and what is taken later might have been taken now.
+    ensures told { IsTrue (P.has_lost pieces.old) → IsTrue (P.has_lost pieces.new) }
+    ensures goes_on { (lost : Bool) → AnswersOn (TakenOf (P.speaks_for pieces.old) (P.answers pieces.old) lost)
+        (TakenOf (P.speaks_for pieces.new) (P.answers pieces.new) lost) }
     ensures few { P.count pieces.new ≤ P.count pieces.old + tries }
 
     // Where there is no query, or the report stands already, nothing is sent, and that report is given.
@@ -172,8 +179,13 @@ pub fn exchange_pieces<P: Pieces>(
 ) -> Result<bool, FetchError>
     requires { P.count pieces.old + 1 < 2 ^ 64 }
     ensures keeps { KeepsReading (P.speaks_for pieces.old) (P.speaks_for pieces.new) client.old client.new }
-    ensures fetches { OnOk result (FetchesOnce (TakenOf (P.speaks_for pieces.old) (P.answers pieces.old) (P.has_lost pieces.new)) client.old client.new) }
+    ensures fetches { IfOk result (λ asked. ExchangesOnce (TakenOf (P.speaks_for pieces.old) (P.answers pieces.old) (P.has_lost pieces.new)) asked client.old client.new) }
     ensures stops { OnErr result (StopsOnce (TakenOf (P.speaks_for pieces.old) (P.answers pieces.old) true) client.old client.new) }
+
+    // What was lost is told from then on, and what is taken later might have been taken now.
+    ensures told { IsTrue (P.has_lost pieces.old) → IsTrue (P.has_lost pieces.new) }
+    ensures goes_on { (lost : Bool) → AnswersOn (TakenOf (P.speaks_for pieces.old) (P.answers pieces.old) lost)
+        (TakenOf (P.speaks_for pieces.new) (P.answers pieces.new) lost) }
     ensures counted { IfOk result (λ asked. P.count pieces.new
         ≡ (if asked then P.count pieces.old + 1 else P.count pieces.old)) }
     ensures few { P.count pieces.new ≤ P.count pieces.old + 1 }

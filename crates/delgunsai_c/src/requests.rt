@@ -99,7 +99,7 @@ pub extern "C" fn cog_client_check(alloc: Global, client: &mut Handle, room: &mu
     told
 }
 
-/// The request that comes `index` requests after the next one, as far as it is known before their answers.
+/// The request at place `index` of those that are known to follow the one that was given last, before its answer comes.
 #[unsafe(no_mangle)]
 pub extern "C" fn cog_client_later(
     alloc: Global,

@@ -1,9 +1,9 @@
 //! Exchanges that are told on standard error, each when it is over.
-ghost use Rattle.std.specs.Prelude.{◌≡◌, ◌+◌, ◌<◌, ◌≤◌, ◌^◌, ◌⊎◌, IfOk, IsSome, OnErr, OnOk, true, false, if◌then◌else◌};
+ghost use Rattle.std.specs.Prelude.{◌≡◌, ◌+◌, ◌<◌, ◌≤◌, ◌^◌, ◌⊎◌, Bool, IfOk, IsSome, IsTrue, OnErr, OnOk, true, false, if◌then◌else◌};
 ghost use Rattle.cog_client.specs.Calls.{IsIdle};
 ghost use Rattle.cog_client.specs.Client.{report_of};
-ghost use Rattle.cog_client.specs.Transport.{Anything, FetchesOnce, FetchesSome, KeepsReading, StopsFetching, StopsOnce};
-ghost use Rattle.cog_fetch.specs.Takes.{TakenOf};
+ghost use Rattle.cog_client.specs.Transport.{AnswersOn, FetchesAll, KeepsReading, StopsFetching, StopsOnce};
+ghost use Rattle.cog_fetch.specs.Takes.{ExchangesOnce, TakenOf};
 ghost use Rattle.exchange_notes.specs.Noted.{source_of};
 
 use crate::clock::moment;
@@ -35,7 +35,10 @@ fn exchange_told<R: Eprint + Clock, P: Pieces>(
     ensures counted { IfOk result (λ asked. P.count (source_of noted.new)
         ≡ (if asked then P.count (source_of noted.old) + 1 else P.count (source_of noted.old))) }
     ensures few { P.count (source_of noted.new) ≤ P.count (source_of noted.old) + 1 }
-    ensures fetches { OnOk result (FetchesOnce (TakenOf (P.speaks_for (source_of noted.old)) (P.answers (source_of noted.old)) (P.has_lost (source_of noted.new))) client.old client.new) }
+    ensures fetches { IfOk result (λ asked. ExchangesOnce (TakenOf (P.speaks_for (source_of noted.old)) (P.answers (source_of noted.old)) (P.has_lost (source_of noted.new))) asked client.old client.new) }
+    ensures told { IsTrue (P.has_lost (source_of noted.old)) → IsTrue (P.has_lost (source_of noted.new)) }
+    ensures goes_on { (lost : Bool) → AnswersOn (TakenOf (P.speaks_for (source_of noted.old)) (P.answers (source_of noted.old)) lost)
+        (TakenOf (P.speaks_for (source_of noted.new)) (P.answers (source_of noted.new)) lost) }
     ensures stops { OnErr result (StopsOnce (TakenOf (P.speaks_for (source_of noted.old)) (P.answers (source_of noted.old)) true) client.old client.new) }
     ensures silent { IfOk result (λ asked. asked ≡ false → IsIdle client.new) }
     ensures idle { IsIdle client.old
@@ -85,10 +88,14 @@ pub fn exchanges_told<R: Eprint + Clock, P: Pieces>(
     ensures ends { OnOk result ((P.count (source_of noted.new) ≡ P.count (source_of noted.old) + requests) ⊎ IsIdle client.new) }
     ensures few { P.count (source_of noted.new) ≤ P.count (source_of noted.old) + requests }
 
-    // Its requests are asked for, and what comes of the answers is taken, in turn, and nothing else is done to it; want of memory came
-    // in the last of them.
-    ensures fetches { OnOk result (FetchesSome Anything client.old client.new) }
-    ensures stops { OnErr result (StopsFetching Anything client.old client.new) }
+    // It is asked for its request, and what comes of the answer is taken, as often as the source counts, and nothing else is done to it;
+    // want of memory came in the last of them. What was lost is told from then on, and what is taken later might have been taken now.
+    ensures fetches { OnOk result (FetchesAll (TakenOf (P.speaks_for (source_of noted.old)) (P.answers (source_of noted.old)) (P.has_lost (source_of noted.new)))
+        (P.count (source_of noted.old)) (P.count (source_of noted.new)) client.old client.new) }
+    ensures stops { OnErr result (StopsFetching (TakenOf (P.speaks_for (source_of noted.old)) (P.answers (source_of noted.old)) true) client.old client.new) }
+    ensures told { IsTrue (P.has_lost (source_of noted.old)) → IsTrue (P.has_lost (source_of noted.new)) }
+    ensures goes_on { (lost : Bool) → AnswersOn (TakenOf (P.speaks_for (source_of noted.old)) (P.answers (source_of noted.old)) lost)
+        (TakenOf (P.speaks_for (source_of noted.new)) (P.answers (source_of noted.new)) lost) }
 
     // Where there is no query, or the report stands already, nothing is sent, and that report stays.
     ensures idle { IsIdle client.old → P.count (source_of noted.new) ≡ P.count (source_of noted.old) }

@@ -19,7 +19,7 @@ use std::rt::Files;
 use std::{fs, io};
 use world::{Event, Log, run, run_cut};
 
-/// The most bytes of a piece: as many as the longest answer that a client takes has.
+/// The most bytes of a piece: as many as are taken of an answer in pieces.
 const MOST_BYTES: u32 = ANSWER_LIMIT as u32;
 
 /// The log of the events, and whether memory was wanting, which ends it. Answers are handed over whole, or in pieces of so many bytes.

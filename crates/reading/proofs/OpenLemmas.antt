@@ -1,8 +1,11 @@
 -- What a client is that has been asked a query and has exchanged since.
 use Rattle.std.proofs.Common.{◌≡◌, ◌≢◌, ◌≤◌, ◌⊎◌, ◌+◌, ℕ, add-one, zero, suc, List, Option, Some, None, inl, inr, refl, sym, ap, ◌∙◌, subst}
 use Rattle.std.specs.Prelude.{IfSome, IsSome, IsSomeAnd, OnErr, OnOk, Result, Ok, Err}
-use Rattle.std.proofs.lemmas.Option.{none-some}
+use Rattle.std.proofs.lemmas.Bool.{false≢true}
+use Rattle.std.proofs.lemmas.Option.{none-some, same_Some}
 use Rattle.tiff_dir.specs.declared.query.Query.{Query}
+use Rattle.tiff_dir.specs.declared.query.Query.TheVariants.{Info}
+use Rattle.describing.specs.declared.description.Form.{Form}
 use Rattle.http_range.specs.Book.{Publication, Book, In}
 use Rattle.cog_client.specs.declared.report.Report.{Report}
 use Rattle.cog_client.specs.Calls.{IsIdle}
@@ -12,7 +15,7 @@ use Rattle.cog_client.specs.Transport.{Anything, FetchesSome, KeepsReading, Read
 use Rattle.reading.specs.declared.reading.Asked.{Asked}
 use Rattle.reading.specs.declared.reading.Asked.TheVariants as asked
 use Rattle.reading.specs.Exchanges.{AsksOf, Ends, FindsReplaced, IsAskedFor, IsReplaced, ReadsSome, StopsReading}
-use Rattle.reading.specs.Text.{IsFor, IsOfWholeBy}
+use Rattle.reading.specs.Text.{IsFor, IsOfWholeBy, TellsSides}
 
 opened_name : (q : Query) (old opened : ClientState) → OpensKeeping q old opened → name_of opened ≡ name_of old
 unfolding name_of
@@ -47,19 +50,51 @@ ends_of q c most count is (inl all) = inl all
 ends_of q c most count is (inr (inl none)) = absurd (none-some q (sym none ∙ is))
 ends_of q c most count is (inr (inr stands)) = inr stands
 
-pub ends_for : (a : Asked) (old c : ClientState) (most count : ℕ) → (most ≤ count) ⊎ IsSome (report_of c) → Ends a most count old c
-ends_for (asked.Query query) old c most count h = h
-ends_for (asked.Whole level) old c most count (inl all) = inl all
-ends_for (asked.Whole level) old c most count (inr stands) = inr (inl stands)
-ends_for (asked.Description form) old c most count h = h
+-- a query, and a description, aren't a whole level
+pub query_whole : (query : Query) (level : ℕ) → asked.Query query ≢ asked.Whole level
+query_whole query level = λ same. cc
 
-pub ended_ok : (a : Asked) (q : Query) (old c : ClientState) (most count : ℕ) → query_of c ≡ Some q → (most ≤ count) ⊎ IsIdle c → Ends a most count old c
-ended_ok a q old c most count is h = ends_for a old c most count (ends_of q c most count is h)
+pub description_whole : (form : Form) (level : ℕ) → asked.Description form ≢ asked.Whole level
+description_whole form level = λ same. cc
 
-pub ended : {T E : Type 0} (r : Result T E) (a : Asked) (q : Query) (old c : ClientState) (most count : ℕ) → query_of c ≡ Some q → OnOk r ((most ≤ count) ⊎ IsIdle c)
-    → OnOk r (Ends a most count old c)
-ended (Ok x) a q old c most count is h = ended_ok a q old c most count is h
-ended (Err e) a q old c most count is h = tt
+-- for what is asked, but a whole level, it is the end
+pub ends_for : (a : Asked) (old c : ClientState) (most count : ℕ) → ((level : ℕ) → a ≢ asked.Whole level) → (most ≤ count) ⊎ IsSome (report_of c) → Ends a most count old c
+ends_for (asked.Query query) old c most count not h = h
+ends_for (asked.Whole level) old c most count not h = absurd (not level refl)
+ends_for (asked.Description form) old c most count not h = h
+
+pub ended : {T E : Type 0} (r : Result T E) (a : Asked) (q : Query) (old c : ClientState) (most count : ℕ) → ((level : ℕ) → a ≢ asked.Whole level) → query_of c ≡ Some q
+    → OnOk r ((most ≤ count) ⊎ IsIdle c) → OnOk r (Ends a most count old c)
+ended (Ok x) a q old c most count not is h = ends_for a old c most count not (ends_of q c most count is h)
+ended (Err e) a q old c most count not is h = tt
+
+some_and : (o : Option Report) (P : Report → Type 0) → IsSome o → IfSome o P → IsSomeAnd o P
+some_and None P none h = absurd (false≢true none)
+some_and (Some r) P some h = h
+
+-- for a whole level where no sides were told
+pub ended_early : (level : ℕ) (q : Query) (old c : ClientState) (most count : ℕ) → query_of c ≡ Some q → IfSome (report_of c) (λ r. TellsSides (asked.Whole level) r.outcome → ⊥)
+    → (most ≤ count) ⊎ IsIdle c → Ends (asked.Whole level) most count old c
+ended_early level q old c most count is none h = elim (ends_of q c most count is h) [
+  | inl all ↦ inl all
+  | inr stands ↦ inr (inl (some_and (report_of c) (λ r. query_of c ≡ Some Info → TellsSides (asked.Whole level) r.outcome → ⊥) stands (untold (report_of c) none)))
+]
+  where
+    untold : (o : Option Report) → IfSome o (λ r. TellsSides (asked.Whole level) r.outcome → ⊥)
+        → IfSome o (λ r. query_of c ≡ Some Info → TellsSides (asked.Whole level) r.outcome → ⊥)
+    untold None none = tt
+    untold (Some r) none = λ info. none
+
+-- and where it was asked for
+pub ended_whole : (level : ℕ) (q : Query) (old c : ClientState) (most count : ℕ) → query_of c ≡ Some q → q ≢ Info → (most ≤ count) ⊎ IsIdle c → Ends (asked.Whole level) most count old c
+ended_whole level q old c most count is other h = elim (ends_of q c most count is h) [
+  | inl all ↦ inl all
+  | inr stands ↦ inr (inl (some_and (report_of c) (λ r. query_of c ≡ Some Info → TellsSides (asked.Whole level) r.outcome → ⊥) stands (never (report_of c))))
+]
+  where
+    never : (o : Option Report) → IfSome o (λ r. query_of c ≡ Some Info → TellsSides (asked.Whole level) r.outcome → ⊥)
+    never None = tt
+    never (Some r) = λ info sides. other (same_Some _ _ (sym is ∙ info))
 
 -- each report of the query is for what is asked
 pub asks_same : (book : Book) (a : Asked) (q : Query) (c : ClientState) → query_of c ≡ Some q → ((p : Publication) → IsFor p.file a q) → AsksOf book a c

@@ -1,5 +1,5 @@
 -- What exchanges for what is asked keep and do, and when they end.
-use Rattle.std.specs.Prelude.{◌≡◌, ◌≢◌, ◌≤◌, ◌⊎◌, ℕ, zero, suc, IfSome, IsSome, IsSomeAnd}
+use Rattle.std.specs.Prelude.{◌≡◌, ◌≢◌, ◌≤◌, ◌⊎◌, ℕ, zero, suc, Some, IfSome, IsSome, IsSomeAnd}
 use Rattle.tiff_dir.specs.declared.query.Query.{Query}
 use Rattle.tiff_dir.specs.declared.query.Query.TheVariants.{Window, Info}
 use Rattle.tiff_dir.specs.declared.query.Pick.TheVariants.{Level}
@@ -9,7 +9,7 @@ use Rattle.cog_client.specs.Keeps.{OpensKeeping}
 use Rattle.cog_client.specs.Transport.{Anything, FetchesSome, ReadsBook, StopsFetching}
 use Rattle.reading.specs.declared.reading.Asked.{Asked}
 use Rattle.reading.specs.declared.reading.Asked.TheVariants as asked
-use Rattle.reading.specs.Text.{IsFor}
+use Rattle.reading.specs.Text.{IsFor, TellsSides}
 
 -- the client still reads each book that it read and that the source spoke for
 abbrev pub StillReads : (Book → Type 0) → (Book → Type 0) → ClientState → ClientState → Type 0
@@ -56,9 +56,13 @@ FindsReplaced a (suc n) old new = (mid told : ClientState)
 abbrev pub IsReplacedOften : Asked → (most : ℕ) → ClientState → ClientState → Type 0
 IsReplacedOften a most old new = (n : ℕ) × (mid : ClientState) × (most ≤ n) × FindsReplaced a n old mid × ReadsSome a mid new
 
--- The exchanges end where a report stands, or all are used up; those for a whole level also where the file was replaced as often as there may
--- be exchanges.
+-- a report stands, and not one that only tells the sides of a level
+abbrev pub AnswersWhole : (level : ℕ) → ClientState → Type 0
+AnswersWhole level c = IsSomeAnd (report_of c) (λ r. query_of c ≡ Some Info → TellsSides (asked.Whole level) r.outcome → ⊥)
+
+-- The exchanges end where a report stands, or all are used up; those for a whole level where it answers more than its sides, and also where the
+-- file was replaced as often as there may be exchanges.
 abbrev pub Ends : Asked → (most count : ℕ) → (old new : ClientState) → Type 0
 Ends (asked.Whole level) most count old new =
-    (most ≤ count) ⊎ (IsSome (report_of new) ⊎ IsReplacedOften (asked.Whole level) most old new)
+    (most ≤ count) ⊎ (AnswersWhole level new ⊎ IsReplacedOften (asked.Whole level) most old new)
 Ends a most count old new = (most ≤ count) ⊎ IsSome (report_of new)

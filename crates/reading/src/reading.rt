@@ -1,11 +1,13 @@
 //! How `cogread` reads: its exchanges, which are told with `--verbose` and drawn with `--progress`, and what is asked of the file.
 ghost use Rattle.std.specs.Prelude.{◌≡◌, ◌≢◌, ℕ, ◌+◌, ◌<◌, ◌≤◌, ◌^◌, ◌⊎◌, false, true, Err, IfSome, IsSomeAnd, List, None, OnErr, OnOk, Option, Some, slice_get};
+ghost use Rattle.tiff_dir.specs.declared.query.Query.TheVariants.{Info as AnInfo};
 ghost use Rattle.http_range.specs.Book.{Book, HasDistinctTags};
 ghost use Rattle.cog_client.specs.Calls.{IsIdle};
 ghost use Rattle.cog_client.specs.declared.report.Report.{Report};
 ghost use Rattle.cog_client.specs.Client.{name_of, report_of, ClientAgrees};
 ghost use Rattle.cog_client.specs.Keeps.{RequestsKeeping, Stands};
-ghost use Rattle.cog_client.specs.Transport.{Anything, FetchesSome, KeepsReading, ReadsBook, StopsFetching};
+ghost use Rattle.cog_client.specs.Transport.{Anything, FetchesAll, FetchesSome, KeepsReading, ReadsBook, StopsFetching};
+ghost use Rattle.cog_fetch.specs.Takes.{TakenOf};
 ghost use Rattle.exchange_notes.specs.Noted.{source_of};
 ghost use Rattle.reading.specs.declared.error.ReadError.TheVariants.{NoReport};
 ghost use Rattle.reading.specs.declared.reading.Asked.TheVariants.{Whole};
@@ -75,8 +77,11 @@ impl<R: Eprint + Clock + AllocGlobal> Exchanges<'_, '_, R> {
         ensures last { self.now.requests ≤ P.count (source_of noted.old)
             → OnOk result ((request : Option (List ℕ)) × RequestsKeeping client.old request client.new) }
 
-        // Its requests are asked for, and what comes of the answers is taken, in turn, and nothing else is done to it: what is asked
-        // where no exchange is left has no answer. Want of memory came in the last of them.
+        // It is asked for its request, and what comes of the answer is taken, as often as the source counts, and nothing else is done to it:
+        // what is asked where no exchange is left has no answer. Want of memory came in the last of them.
+        ensures taken { P.count (source_of noted.old) < self.now.requests → OnOk result (FetchesAll
+            (TakenOf (P.speaks_for (source_of noted.old)) (P.answers (source_of noted.old)) (P.has_lost (source_of noted.new)))
+            (P.count (source_of noted.old)) (P.count (source_of noted.new)) client.old client.new) }
         ensures fetches { OnOk result (FetchesSome Anything client.old client.new) }
         ensures stops { OnErr result (StopsFetching Anything client.old client.new) }
     {
@@ -262,6 +267,7 @@ fn whole_of(client: &Client, level: u32) -> Option<(Tag, Query)>
     ensures whole { (book : Book) → HasDistinctTags book → ClientAgrees client.now book
         → IfSome result (λ whole. IsOfWholeBy book whole.0 level whole.1) }
     ensures asked { IfSome result (λ whole. IsAskedFor (Whole level) whole.1) }
+    ensures window { IfSome result (λ whole. whole.1 ≢ AnInfo) }
     ensures told { IfSome result (λ whole. IsSomeAnd (report_of client.now) (λ r. r.tag ≡ whole.0)) }
     ensures none { result ≡ None → IfSome (report_of client.now) (λ r. TellsSides (Whole level) r.outcome → ⊥) }
 {

@@ -10,8 +10,9 @@ use tiff_dir::{Memory, Span};
 
 #[tactic(auto, unfolding(crate::specs::Client::asked_of, crate::specs::Client::blocks_of, crate::specs::Client::reader_of, crate::specs::Client::to_come, crate::specs::Client::Knows))]
 impl Client {
-    /// The requests that follow the last one where each answer comes whole, the next one first, with none left out: at most `most`, and
-    /// none where requests close their connections or don't look ahead. Whoever sends them early, one behind another on a connection (RFC 9112, section
+    /// The requests that may be sent before the last one's answer comes, in the order in which they would follow it where each answer comes
+    /// whole; before none of them a missing block is left out that is known to be wanted. At most `most`, and none where requests close
+    /// their connections or don't look ahead. Whoever sends them early, one behind another on a connection (RFC 9112, section
     /// 9.3.2), takes the answers as ever: `request` makes each of them once more when its turn comes, or another one, where an answer
     /// came otherwise. `Memory` is the only error.
     pub fn early_requests(&self, most: u32) -> Result<Vec<Vec<u8>>, Memory>

@@ -1,6 +1,6 @@
-use Rattle.std.proofs.Common.{◌+◌, Bool, true, inr, rules}
+use Rattle.std.proofs.Common.{Bool, true, inl, inr, refl, rules}
 use Rattle.cog_client.specs.Transport.{Coming, StopsFetching}
-use Rattle.cog_fetch.proofs.FetchLemmas.{fetches_more, stops_more}
+use Rattle.cog_fetch.proofs.FetchLemmas.{fetches_more, fetches_still, stops_more}
 use Rattle.cog_fetch.proofs.TakeLemmas.{refused}
 use Rattle.cog_fetch.proofs.fetching.exchange_up_to.Goals as goal
 
@@ -20,12 +20,22 @@ returns-then-not-branch-clause-fetches g c =
     let before : Bool → Coming = λ lost. g.E.Exchange.came c.args.source.now lost in
     let mid : Bool → Coming = λ lost. g.E.Exchange.came c.loop-done.source lost in
     record {
-      times = c.loop-done.done + 1;
-      fetches = fetches_more before mid i.goes_on (c.more.ensures c.args.source.now) (g.E.Exchange.has_lost c.loop-done.source)
-          (g.E.Exchange.has_lost c.exchange_once.new.source) on.told c.loop-done.done
-          c.args.client.now c.loop-done.client c.exchange_once.new.client i.fetches on.fetches;
-      counted = inr (search rules);
+      times = c.loop-done.done;
+      counted = search rules;
+      last = c.loop-done.client;
+      fetches = fetches_still before mid i.goes_on (c.more.ensures c.args.source.now) (g.E.Exchange.has_lost c.loop-done.source)
+          (g.E.Exchange.has_lost c.exchange_once.new.source) on.told c.loop-done.done c.args.client.now c.loop-done.client i.fetches;
+      ends = inr (search rules);
     }
+
+pub returns-clause-fetches : goal.returns-clause-fetches
+returns-clause-fetches g c = record {
+  times = c.args.tries;
+  counted = search rules;
+  last = c.loop-done.client;
+  fetches = search rules;
+  ends = inl refl;
+}
 
 pub loop-done-preserved : goal.loop-done-preserved
 loop-done-preserved g c =
@@ -40,6 +50,7 @@ loop-done-preserved g c =
       keeps = search rules;
       fetches = fetches_more before mid i.goes_on (c.more.ensures c.args.source.now) (g.E.Exchange.has_lost c.loop-done.source)
           (g.E.Exchange.has_lost c.exchange_once.new.source) on.told c.loop-done.done
-          c.args.client.now c.loop-done.client c.exchange_once.new.client i.fetches on.fetches;
+          c.args.client.now c.loop-done.client c.exchange_once.new.client i.fetches (search rules);
+      told = λ is. on.told (i.told is);
       goes_on = λ lost request came is. i.goes_on lost request came (on.goes_on lost request came is);
     }

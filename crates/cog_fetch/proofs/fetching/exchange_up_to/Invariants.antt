@@ -1,4 +1,5 @@
 use Rattle.std.proofs.Common.{◌≡◌, ◌+◌, Bool, IsSome}
+use Rattle.std.specs.Prelude.{IsTrue}
 use Rattle.cog_client.specs.Calls.{IsIdle}
 use Rattle.cog_client.specs.Client.{report_of}
 use Rattle.cog_client.specs.Transport.{AnswersOn, Fetches, KeepsReading}
@@ -11,5 +12,6 @@ invariant-loop-done g l = record {
   stands : IsSome (report_of l.fn.client) → report_of l.client ≡ report_of l.fn.client;
   keeps : KeepsReading (g.E.Exchange.speaks_for l.fn.source) (g.E.Exchange.speaks_for l.source) l.fn.client l.client;
   fetches : Fetches (g.E.Exchange.came l.fn.source (g.E.Exchange.has_lost l.source)) l.done l.fn.client l.client;
+  told : IsTrue (g.E.Exchange.has_lost l.fn.source) → IsTrue (g.E.Exchange.has_lost l.source);
   goes_on : (lost : Bool) → AnswersOn (g.E.Exchange.came l.fn.source lost) (g.E.Exchange.came l.source lost);
 }

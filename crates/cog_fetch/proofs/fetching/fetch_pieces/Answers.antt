@@ -18,6 +18,8 @@ returns g c =
         few = e.few;
         idle = search rules;
         stands = search rules;
+        told = e.told;
+        goes_on = e.goes_on;
         reports = λ book p q before distinct among named agrees spoken opens serves kept enough.
             subst (λ o. IsSome o) (sym c.report.ensures.standing)
             (fetching_reports c.whole_answers_report.ensures.served c.fronts_are_read.ensures.answers.one (TakenOf speaks answers lost) p

@@ -1,7 +1,9 @@
-use Rattle.std.proofs.Common.{◌≡◌, ◌+◌, IsSome}
+use Rattle.std.proofs.Common.{◌≡◌, ◌+◌, Bool, IsSome}
+use Rattle.std.specs.Prelude.{IsTrue}
 use Rattle.cog_client.specs.Calls.{IsIdle}
 use Rattle.cog_client.specs.Client.{report_of}
-use Rattle.cog_client.specs.Transport.{Anything, FetchesSome, KeepsReading}
+use Rattle.cog_client.specs.Transport.{AnswersOn, Fetches, KeepsReading}
+use Rattle.cog_fetch.specs.Takes.{TakenOf}
 use Rattle.exchange_notes.specs.Noted.{source_of}
 use Rattle.exchange_notes.proofs.drawn.exchanges_drawn.Given as goal
 
@@ -11,5 +13,8 @@ invariant-loop-done g l = record {
   counted : g.P.Pieces.count (source_of l.noted) ≡ g.P.Pieces.count (source_of l.fn.noted) + l.done;
   idle : IsIdle l.fn.client → (g.P.Pieces.count (source_of l.noted) ≡ g.P.Pieces.count (source_of l.fn.noted)) × IsIdle l.client;
   stands : IsSome (report_of l.fn.client) → report_of l.client ≡ report_of l.fn.client;
-  fetches : FetchesSome Anything l.fn.client l.client;
+  fetches : Fetches (TakenOf (g.P.Pieces.speaks_for l.fn.noted.source) (g.P.Pieces.answers l.fn.noted.source) (g.P.Pieces.has_lost l.noted.source)) l.done l.fn.client l.client;
+  told : IsTrue (g.P.Pieces.has_lost l.fn.noted.source) → IsTrue (g.P.Pieces.has_lost l.noted.source);
+  goes_on : (lost : Bool) → AnswersOn (TakenOf (g.P.Pieces.speaks_for l.fn.noted.source) (g.P.Pieces.answers l.fn.noted.source) lost)
+      (TakenOf (g.P.Pieces.speaks_for l.noted.source) (g.P.Pieces.answers l.noted.source) lost);
 }

@@ -1,8 +1,9 @@
-use Rattle.std.proofs.Common.{subst, sym}
+use Rattle.std.proofs.Common.{◌≡◌, ◌≢◌, ◌∙◌, ℕ, subst, sym}
+use Rattle.reading.specs.declared.reading.Asked.TheVariants.{Whole}
 use Rattle.reading.specs.declared.reading.Asked.{Asked}
 use Rattle.reading.specs.Text.{IsFor}
 use Rattle.reading.specs.Exchanges.{AsksOf, IsAskedFor}
-use Rattle.reading.proofs.OpenLemmas.{asks_query, asks_same, ended, on_ok, opened_reads, reads_one, stops_one}
+use Rattle.reading.proofs.OpenLemmas.{asks_query, asks_same, description_whole, ended, on_ok, query_whole, opened_reads, reads_one, stops_one}
 use Rattle.http_range.specs.Book.{Publication}
 use Rattle.reading.proofs.reading.Exchanges.fetch_asked.Goals.{in-Query, in-Description}
 use Rattle.reading.proofs.reading.Exchanges.fetch_asked.Goals as goal
@@ -23,7 +24,11 @@ returns-clause-asks g c = λ book reads.
 pub returns-clause-ends : goal.returns-clause-ends
 returns-clause-ends g c =
     let is = asks_query _ _ c.match-asked.query c.args.client.now c.open.new.self c.fetch.new.client c.open.ensures c.fetch.ensures.keeps in
-    ended c.fetch.result c.args.asked c.match-asked.query c.args.client.now c.fetch.new.client _ _ is c.fetch.ensures.ends
+    let other : (level : ℕ) → c.args.asked ≢ Whole level = elim c.match-asked.branch [
+      | in-Query w ↦ λ level same. query_whole _ level (sym w.in-Query.is ∙ same)
+      | in-Description w ↦ λ level same. description_whole _ level (sym w.in-Description.is ∙ same)
+    ] in
+    ended c.fetch.result c.args.asked c.match-asked.query c.args.client.now c.fetch.new.client _ _ other is c.fetch.ensures.ends
 
 pub returns-clause-queries : goal.returns-clause-queries
 returns-clause-queries g c =

@@ -1,7 +1,8 @@
-use Rattle.std.proofs.Common.{arith, inl, inr, refl, zero}
+use Rattle.std.proofs.Common.{arith, inl, inr, refl, rules, zero}
 use Rattle.tiff_dir.specs.declared.query.Query.TheVariants.{Info}
 use Rattle.reading.specs.declared.reading.Asked.TheVariants.{Whole}
-use Rattle.reading.proofs.OpenLemmas.{asks_query, asks_same, asks_whole, ended_ok, opened_query, opened_reads, reads_more, replaced, replaced_more, stops_more}
+use Rattle.reading.proofs.OpenLemmas.{asks_query, asks_same, asks_whole, ended_early, ended_whole, opened_query, opened_reads, reads_more, replaced, replaced_more, stops_more}
+use Rattle.reading.proofs.FetchLemmas.{none_fetched}
 use Rattle.reading.proofs.reading.Exchanges.fetch_whole.Goals as goal
 
 pub returns-in_err-fetch-clause-reads : goal.returns-in_err-fetch-clause-reads
@@ -59,7 +60,7 @@ returns-clause-asks g c = λ book reads.
 
 pub returns-clause-queries : goal.returns-clause-queries
 returns-clause-queries g c =
-    reads_more (Whole c.args.level) Info c.args.client.now c.loop.client c.open-2.new.self c.open-2.new.self (inl refl) c.loop.invariant.queries c.open-2.ensures (zero, refl)
+    reads_more (Whole c.args.level) Info c.args.client.now c.loop.client c.open-2.new.self c.open-2.new.self (inl refl) c.loop.invariant.queries c.open-2.ensures (none_fetched c.open-2.new.self)
 
 pub returns-in_default-clause-queries : goal.returns-in_default-clause-queries
 returns-in_default-clause-queries g c =
@@ -82,14 +83,14 @@ returns-in_err-fetch-2-clause-stops g c =
 pub returns-in_default-clause-ends : goal.returns-in_default-clause-ends
 returns-in_default-clause-ends g c =
     let is = asks_query _ _ Info c.loop.client c.open.new.self c.fetch.new.client c.open.ensures c.fetch.ensures.keeps in
-    ended_ok (Whole c.args.level) Info c.args.client.now c.fetch.new.client _ _ is c.in_ok-fetch.ensures.ends
+    ended_early c.args.level Info c.args.client.now c.fetch.new.client _ _ is (search rules) c.in_ok-fetch.ensures.ends
 
 pub returns-then-not-has_another_tag-clause-ends : goal.returns-then-not-has_another_tag-clause-ends
 returns-then-not-has_another_tag-clause-ends g c =
     let is = asks_query _ _ c.in-Some.window c.fetch.new.client c.open-in-loop.new.self c.fetch-in-loop.new.client c.open-in-loop.ensures c.fetch-in-loop.ensures.keeps in
-    ended_ok (Whole c.args.level) c.in-Some.window c.args.client.now c.fetch-in-loop.new.client _ _ is c.in_ok-fetch-2.ensures.ends
+    ended_whole c.args.level c.in-Some.window c.args.client.now c.fetch-in-loop.new.client _ _ is c.in-Some.ensures.window c.in_ok-fetch-2.ensures.ends
 
 pub returns-clause-ends : goal.returns-clause-ends
 returns-clause-ends g c =
-    let again = reads_more (Whole c.args.level) Info c.loop.client c.loop.client c.open-2.new.self c.open-2.new.self (inl refl) (zero, refl) c.open-2.ensures (zero, refl) in
+    let again = reads_more (Whole c.args.level) Info c.loop.client c.loop.client c.open-2.new.self c.open-2.new.self (inl refl) (zero, refl) c.open-2.ensures (none_fetched c.open-2.new.self) in
     inr (inr (c.loop.counter, c.loop.client, c.loop-test.false, c.loop.invariant.replaced, again))

@@ -1,0 +1,8 @@
+//! A law of the limits, for the crates above. The function does nothing: its contract is the law.
+ghost use Rattle.std.specs.Prelude.{◌≡◌, ◌+◌, ◌*◌};
+ghost use Rattle.cog_fetch.specs.declared.taking.TheConstants.{ANSWER_LIMIT};
+
+/// The most bytes that are taken of an answer: those of a head, 4,096, and of 65 blocks of 16,384.
+pub fn answer_limit_is()
+    ensures { ANSWER_LIMIT ≡ 4096 + 65 * 16384 }
+{}
