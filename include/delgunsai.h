@@ -120,8 +120,8 @@ int32_t cog_client_open_info(struct cog_client *client);
  * again. */
 int64_t cog_client_request(struct cog_client *client, uint8_t *room, size_t length);
 
-/* cog_client_later: lays a request's text into the room, of those that are known to follow the one which cog_client_request gave last,
- * before its answer comes: the one at place `index`, 0 for the next. It may be sent ahead of its time, on the same connection too; its
+/* cog_client_later: lays a request's text into the room, of those that may be sent before the answer to the one comes which
+ * cog_client_request gave last: the one at place `index`, 0 for the next. It may be sent ahead of its time, on the same connection too; its
  * answer is taken once cog_client_request gives the same text. Another one may come in its place, as where the file is replaced or an
  * answer is cut. Gives the text's length; 0, where none is known, as before cog_client_request, cog_client_keep_open and
  * cog_client_look_ahead; COG_MEMORY or COG_NO_CLIENT. It changes nothing of the client. */

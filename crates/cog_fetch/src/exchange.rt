@@ -12,7 +12,7 @@ pub(crate) trait Exchange<S> {
     /// It speaks for this book: each piece of a file that is read of what it brings is of a publication of it, by its tag, length and bytes.
     ghost speaks_for: { S → Book → Type 0 };
 
-    /// This may come of this request, where a loss is told by then, or none: Some of a text of its answer, None where that is lost.
+    /// This may come of this request: Some of a text of its answer, None where that is lost. The Bool says whether a loss is told by then.
     ghost came: { S → Bool → List ℕ → Option (List ℕ) → Type 0 };
 
     /// An answer was lost so far, or may have been.

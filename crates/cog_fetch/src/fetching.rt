@@ -85,7 +85,7 @@ pub fn fetch<'c, T: Transport>(
     // A client that reads a book for which the transport speaks reads it still, whatever was lost or cut, and
     // after want of memory too. What is given is its standing report. It was asked for its request, and what came of the answer was taken, as
     // often as the transport counts, and nothing else was done to it; none was lost unless the transport tells so. Want of memory came in the
-    // last of them.
+    // last of some such exchanges, of whose number and losses nothing is said.
     ensures* client { sem 𝓛 (Rests the_row client.entry (λ c.
         KeepsReading (T.speaks_for transport.old) (T.speaks_for transport.new) client.old c
         × IfOk result (λ report. Stands c (option_copied report)
@@ -105,6 +105,10 @@ pub fn fetch<'c, T: Transport>(
     ensures reports { (book : Book) (p : Publication) (q : Query) (before : ClientState) → HasDistinctTags book → In p book → p.name ≡ name_of before
         → ClientAgrees before book → OpensKeeping q before client.old → Serves (T.answers transport.old) p → T.has_lost transport.new ≡ false
         → cost p.file q + 1 ≤ tries → IfOk result (λ report. IsSome (option_copied report)) }
+
+    // What was lost is told from then on, and what may come later might have come now.
+    ensures told { IsTrue (T.has_lost transport.old) → IsTrue (T.has_lost transport.new) }
+    ensures goes_on { AnswersOn (T.answers transport.old) (T.answers transport.new) }
     ensures few { T.count transport.new ≤ T.count transport.old + tries }
 
     // Where there is no query, or the report stands already, nothing is sent, and that report is given.
@@ -132,7 +136,8 @@ pub fn fetch_pieces<'c, P: Pieces>(
     // A client that reads a book for which the source speaks reads it still, whatever was lost or cut, and after want of
     // memory too. What is given is its standing report. It was asked for its request, and what came of the answer was taken, as often as the
     // source counts, and nothing else was done to it; where the source speaks for any book all of each answer up to `ANSWER_LIMIT` bytes, unless
-    // it lost one, or the rest of one, and tells so. Want of memory came in the last of them.
+    // it lost one, or the rest of one, and tells so. Want of memory came in the last of some such exchanges, of whose number and losses nothing
+    // is said.
     ensures* client { sem 𝓛 (Rests the_row client.entry (λ c.
         KeepsReading (P.speaks_for pieces.old) (P.speaks_for pieces.new) client.old c
         × IfOk result (λ report. Stands c (option_copied report)

@@ -99,7 +99,7 @@ pub extern "C" fn cog_client_check(alloc: Global, client: &mut Handle, room: &mu
     told
 }
 
-/// The request at place `index` of those that are known to follow the one that was given last, before its answer comes.
+/// The request at place `index` of those that may be sent before the answer comes to the one that was given last.
 #[unsafe(no_mangle)]
 pub extern "C" fn cog_client_later(
     alloc: Global,

@@ -35,7 +35,7 @@ pub fn exchanges_drawn<R: Eprint, P: Pieces>(
     ensures few { P.count (source_of noted.new) ≤ P.count (source_of noted.old) + requests }
 
     // It is asked for its request, and what comes of the answer is taken, as often as the source counts, and nothing else is done to it;
-    // want of memory came in the last of them. What was lost is told from then on, and what is taken later might have been taken now.
+    // want of memory came in the last of some such exchanges. What was lost is told from then on, and what is taken later might have been taken now.
     ensures fetches { OnOk result (FetchesAll (TakenOf (P.speaks_for (source_of noted.old)) (P.answers (source_of noted.old)) (P.has_lost (source_of noted.new)))
         (P.count (source_of noted.old)) (P.count (source_of noted.new)) client.old client.new) }
     ensures stops { OnErr result (StopsFetching (TakenOf (P.speaks_for (source_of noted.old)) (P.answers (source_of noted.old)) true) client.old client.new) }

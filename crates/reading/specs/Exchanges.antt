@@ -56,12 +56,12 @@ FindsReplaced a (suc n) old new = (mid told : ClientState)
 abbrev pub IsReplacedOften : Asked → (most : ℕ) → ClientState → ClientState → Type 0
 IsReplacedOften a most old new = (n : ℕ) × (mid : ClientState) × (most ≤ n) × FindsReplaced a n old mid × ReadsSome a mid new
 
--- a report stands, and not one that only tells the sides of a level
+-- a report stands, and not one of Info that only tells sides
 abbrev pub AnswersWhole : (level : ℕ) → ClientState → Type 0
 AnswersWhole level c = IsSomeAnd (report_of c) (λ r. query_of c ≡ Some Info → TellsSides (asked.Whole level) r.outcome → ⊥)
 
--- The exchanges end where a report stands, or all are used up; those for a whole level where it answers more than its sides, and also where the
--- file was replaced as often as there may be exchanges.
+-- The exchanges end where all are used up, or a report stands; those for a whole level only where one stands that tells more than sides, or where
+-- the file was replaced as often as there may be exchanges.
 abbrev pub Ends : Asked → (most count : ℕ) → (old new : ClientState) → Type 0
 Ends (asked.Whole level) most count old new =
     (most ≤ count) ⊎ (AnswersWhole level new ⊎ IsReplacedOften (asked.Whole level) most old new)

@@ -326,7 +326,7 @@ impl<R: Net<Stream = TcpStream> + AllocGlobal> Pieces for Socket<'_, R> {
         ensures noted { ¬ IsOver self.old → IfOk result (λ n. Notes self.old self.new (take n out.new)) }
         ensures stays { keeps self.new ≡ keeps self.old }
 
-        // So it keeps the trait's law, as a source that speaks for no file.
+        // So it keeps the trait's law, as a source that speaks for no file and tells nothing of its losses.
         ensures fits { IfOk result (λ n. n ≤ length out.new) }
         ensures brings { IfOk result (λ n. BringsOf (λ _. Nothing) [] out.new n []) }
         ensures told { OnErr result (IsTrue true) }

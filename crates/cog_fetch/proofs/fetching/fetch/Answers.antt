@@ -1,4 +1,4 @@
-use Rattle.std.proofs.Common.{rules, refl, subst, sym}
+use Rattle.std.proofs.Common.{true, rules, refl, subst, sym}
 use Rattle.std.specs.Prelude.{IsSome}
 use Rattle.cog_client.specs.Transport.{StopsFetching, UnlessTold}
 use Rattle.cog_fetch.proofs.FetchLemmas.{stops_untold}
@@ -19,6 +19,8 @@ returns g c =
         few = e.few;
         idle = search rules;
         stands = search rules;
+        told = e.told;
+        goes_on = λ request came is. (e.goes_on true request came (is, λ _. refl)).0;
         reports = λ book p q before distinct among named agrees opens serves kept enough.
             subst (λ o. IsSome o) (sym c.report.ensures.standing)
             (fetching_reports c.whole_answers_report.ensures.served c.fronts_are_read.ensures.answers.one (UnlessTold lost answers) p
@@ -49,6 +51,8 @@ returns-in_err-exchange_up_to g c =
         few = e.few;
         idle = search rules;
         stands = search rules;
+        told = e.told;
+        goes_on = λ request came is. (e.goes_on true request came (is, λ _. refl)).0;
         reports = search rules;
       },
     )
