@@ -1,4 +1,4 @@
-"""Compiles the shared library from the static ones with cc, or says what is missing."""
+"""Compiles the shared library from wire.c and the static ones with cc, or says what is missing."""
 import os
 import pathlib
 import shlex
@@ -67,8 +67,8 @@ class Build(build_py):
             raise SystemExit(f'missing: {words[0]}: a C compiler, or set CC to one')
         folder = (HERE if self.editable_mode else pathlib.Path(self.build_lib)) / 'delgunsai'
         folder.mkdir(parents=True, exist_ok=True)
-        subprocess.run([*words, '-shared', '-o', str(folder / 'libdelgunsai.so'), '-Wl,--whole-archive', str(core()),
-                        '-Wl,--no-whole-archive', str(heap())], check=True)
+        subprocess.run([*words, '-O2', '-fPIC', '-shared', '-o', str(folder / 'libdelgunsai.so'), str(HERE / 'wire.c'),
+                        '-Wl,--whole-archive', str(core()), '-Wl,--no-whole-archive', str(heap())], check=True)
 
 
 class Binary(Distribution):

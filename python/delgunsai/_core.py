@@ -2,6 +2,7 @@
 from __future__ import annotations
 
 import ctypes
+import enum
 import pathlib
 import sys
 from typing import Any, List, Optional, Tuple, Union
@@ -15,14 +16,18 @@ NO_REPORT, WINDOW, INFO, FAULT = 0, 1, 2, 3
 TOOK, RESTARTED, IGNORED = 1, 2, 3
 SAME, OTHER, UNKNOWN = 1, 2, 3
 
-REQUEST_ROOM, TAG_ROOM = 1024, 64
+REQUESTS, REQUEST_ROOM, TAG_ROOM = 9, 1024, 64
 AHEAD = 64
+EXCHANGES = 65536
 MEMORY = -4
 LONG = frozenset(('new', 'free', 'forget', 'request', 'feed', 'end', 'pixels', 'info'))
 """The calls that may go over blocks, samples or keys."""
+HUGE = 1 << 22
+"""From how many bytes on numpy asks for huge pages."""
 
 Piece = Union[memoryview, bytes]
-NARROW, WIDE = numpy.dtype('u1'), numpy.dtype('u2')
+NARROW: 'numpy.dtype[Any]' = numpy.dtype('u1')
+WIDE: 'numpy.dtype[Any]' = numpy.dtype('u2')
 Front = ctypes.c_char * 1
 
 
@@ -39,6 +44,29 @@ class Said(ctypes.Structure):
 class Report(ctypes.Structure):
     """struct cog_report."""
     _fields_ = [(name, ctypes.c_uint32) for name in ('kind', 'width', 'height', 'samples', 'bits', 'fault', 'field')]
+
+
+class Wire(ctypes.Structure):
+    """struct wire of wire.c."""
+    _fields_ = [('socket', ctypes.c_int32), ('timeout', ctypes.c_int32),
+                *((name, ctypes.c_uint32) for name in ('depth', 'phase', 'count', 'first', 'sent', 'bytes', 'ahead', 'kept')),
+                ('error', ctypes.c_int32), ('said', Said), ('left', ctypes.c_uint64), ('room', ctypes.c_void_p),
+                *((name, ctypes.c_size_t) for name in ('size', 'begin', 'end')),
+                ('lengths', ctypes.c_uint32 * REQUESTS), ('texts', ctypes.c_char * REQUEST_ROOM * REQUESTS)]
+
+    def requests(self) -> List[bytes]:
+        """Those that were sent and aren't answered, in order."""
+        places = [(self.first + k) % REQUESTS for k in range(self.count)]
+        return [self.texts[place].raw[:self.lengths[place]] for place in places]
+
+
+class Stop(enum.IntEnum):
+    """Where exchanges stop, as in wire.c."""
+    REPORT, ELSE, ODD, ENDED, BEFORE, MIDST, INTERRUPTED, MEMORY, MANY = range(1, 10)
+
+
+WANT = numpy.dtype([(name, 'u4') for name in ('x', 'y', 'width', 'height')] + [('place', 'u8')])
+"""struct want of wire.c."""
 
 
 def _load() -> ctypes.CDLL:
@@ -73,6 +101,12 @@ def _load() -> ctypes.CDLL:
         call.restype = result
         call.argtypes = arguments
         setattr(library, 'cog_client_' + name, call)
+    wire = ctypes.POINTER(Wire)
+    library.delgunsai_ask.restype = ctypes.c_int32
+    library.delgunsai_ask.argtypes = [client, wire]
+    library.delgunsai_read.restype = ctypes.c_int32
+    library.delgunsai_read.argtypes = [client, wire, room, number, number, number, ctypes.POINTER(Report), text, ctypes.c_size_t,
+                                       ctypes.POINTER(number)]
     library.cog_swap_pairs.restype = None
     library.cog_swap_pairs.argtypes = [room, ctypes.c_size_t]
     return library
@@ -88,6 +122,19 @@ def _checked(result: int) -> int:
     if result < 0:
         raise RuntimeError(f'the core refused with {result}')
     return result
+
+
+def shape(report: Report, width: int, height: int) -> Tuple[int, ...]:
+    """The shape of a window of samples as this report tells of."""
+    return (height, width) if report.samples == 1 else (height, width, report.samples)
+
+
+def room(report: Report, count: int) -> NDArray[Any]:
+    """Room for so many samples as this report tells of; a large one has huge pages, where the system gives any."""
+    kind = WIDE if report.bits == 16 else NARROW
+    huge = HUGE // kind.itemsize
+    samples: NDArray[Any] = numpy.empty(max(count, huge) if 2 * count > huge else count, kind)
+    return samples[:count]
 
 
 class Core:
@@ -134,6 +181,16 @@ class Core:
             requests.append(self._room.raw[:length])
         return requests
 
+    def ask(self, wire: Wire) -> int:
+        """Exchanges over a wire until a report stands, or until it stops elsewhere."""
+        return int(_library.delgunsai_ask(self._at, ctypes.byref(wire)))
+
+    def read(self, wire: Wire, wants: NDArray[Any], level: int, like: Report, tag: bytes, done: ctypes.c_uint32) -> int:
+        """Reads these windows of a level from the one on at which `done` is, as long as their reports are like this one, and of this tag."""
+        swapped = like.bits == 16 and sys.byteorder == 'little'
+        return int(_library.delgunsai_read(self._at, ctypes.byref(wire), wants.ctypes.data, len(wants), level, swapped, ctypes.byref(like),
+                                           tag, len(tag), ctypes.byref(done)))
+
     def check(self) -> Optional[bytes]:
         """The request that asks whether the file is the same; None where nothing of it is known."""
         length = _checked(_library.cog_client_check(self._at, self._room, REQUEST_ROOM))
@@ -165,8 +222,7 @@ class Core:
     def pixels(self, report: Report) -> NDArray[Any]:
         """The samples of the window that this report tells of, a row for each of its rows."""
         wide = report.bits == 16
-        shape = (report.height, report.width) if report.samples == 1 else (report.height, report.width, report.samples)
-        array: NDArray[Any] = numpy.empty(shape, WIDE if wide else NARROW)
+        array: NDArray[Any] = numpy.empty(shape(report, report.width, report.height), WIDE if wide else NARROW)
         place = Front.from_buffer(array.data)
         if _checked(_library.cog_client_pixels(self._at, place, array.nbytes)) != array.nbytes:
             raise RuntimeError('the core reports another number of samples')

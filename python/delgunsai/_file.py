@@ -1,6 +1,8 @@
 """A file that is read by windows."""
 from __future__ import annotations
 
+import concurrent.futures
+import ctypes
 import dataclasses
 import numbers
 import operator
@@ -9,22 +11,29 @@ import re
 import ssl
 import threading
 import weakref
-from typing import Any, Callable, List, NoReturn, Optional, SupportsIndex, Tuple, TypeVar, Union
+from typing import Any, Callable, Iterable, List, NoReturn, Optional, Sequence, Set, SupportsIndex, Tuple, TypeVar, Union
 
+import numpy
 from numpy.typing import NDArray
 
 from . import _core
 from ._core import Core, Piece
 from ._errors import Error, Lost, NotUsed, fault_of
 from ._info import Info, read_info
-from ._sources import Address, Disk, Host, Source, of_handler
+from ._sources import Address, Carried, Disk, Host, Source, of_handler
 
 Result = TypeVar('Result')
 TRIES = 3
-EXCHANGES = 65536
+BAND = 1024
+"""Rows that are read together of many windows: tiles of a band stay in the blocks."""
+SOME = 64
+EACH = 4
+"""How many windows share memory at most, and how many a connection is made for."""
+MOST_SAMPLES = 4_194_304
 CUT, REVISION, LENGTH = 1, 10, 11
 UNSATISFIABLE = 416
 FRONT = 16
+PART = b'HTTP/1.1 206'
 GREATEST = 2 ** 32 - 1
 LONGEST = 2 ** 31 // 1000                               # seconds that poll() takes
 
@@ -41,6 +50,7 @@ class File:
     def __init__(self, source: Source, host: bytes, name: bytes, blocks: int) -> None:
         self._source = source
         self._client = host, name, blocks
+        self._others: List[File] = []
         self._begin()
         self._front = b''
         self._open = True
@@ -76,6 +86,8 @@ class File:
             self._check_idle()
             if self._open:
                 self._open = False
+                for other in self._others:
+                    other.close()
                 self._source.close()
                 self._core.free()
 
@@ -118,6 +130,17 @@ class File:
         if level is not None:
             raise TypeError('level or columns, and not both')
         return self._alone(self._window, self._core.open_columns, _numbers(x=x, y=y, width=width, height=height, columns=columns))
+
+    def read_windows(self, windows: Iterable[Sequence[SupportsIndex]], *, level: SupportsIndex = 0,
+                     connections: SupportsIndex = 4) -> List[NDArray[Any]]:
+        """What `read` gives of each of these windows (x, y, width, height), in their order, all of one revision, which `tag` tells then. They
+        are read side by side over so many connections, 1 to 64, which stay open until `close`, each with as many blocks and a thread.
+
+        >>> [a.shape for a in f.read_windows([(0, 0, 256, 256), (3000, 2000, 64, 32)])]   # doctest: +SKIP
+        [(256, 256), (32, 64)]
+        """
+        number, = _numbers(level=level)
+        return self._alone(self._windows, _rows(windows), number, _number('connections', connections, 1, 64))
 
     @property
     def info(self) -> Info:
@@ -168,6 +191,73 @@ class File:
         report, tag = self._report()
         return self._core.pixels(report), tag
 
+    def _windows(self, rows: NDArray[Any], level: int, connections: int) -> List[NDArray[Any]]:
+        order = numpy.lexsort((rows[:, 0], rows[:, 1] // BAND))
+        arrays: List[Any] = [None] * len(order)
+        shares = numpy.array_split(order, max(1, min(connections, -(-len(order) // EACH))))
+        while len(self._others) < len(shares) - 1:
+            self._others.append(File(self._source.another(), *self._client))
+        readers = [self, *self._others[:len(shares) - 1]]
+
+        def reading(reader: File, share: NDArray[Any]) -> Callable[[threading.Event], Set[str]]:
+            if reader is self:
+                return lambda stop: reader._share(rows, share, level, arrays, stop)
+            return lambda stop: reader._alone(reader._share, rows, share, level, arrays, stop)
+
+        for _ in range(TRIES):
+            tags = _side_by_side(list(map(reading, readers, shares)))
+            if len(tags) <= 1:
+                self._tag = tags.pop() if tags else self._tag
+                return arrays
+            for reader in readers:
+                reader._core.forget()
+        raise Lost(f'the file was replaced {TRIES} times while it was read')
+
+    def _share(self, rows: NDArray[Any], share: NDArray[Any], level: int, arrays: List[Any], stop: threading.Event) -> Set[str]:
+        """Reads the windows in these rows into the list, unless it is to stop, and gives their tags."""
+        tags: Set[str] = set()
+        like: Optional[Tuple[_core.Report, str]] = None
+        at = 0
+        while at < len(share) and not stop.is_set():
+            carried = None
+            if like is not None and self._source.carries():
+                some = share[at:at + SOME]
+                done, carried = self._some(rows, some, level, arrays, *like)
+                at += done
+                if done == len(some):
+                    continue
+            row = share[at]
+            if carried is None:
+                x, y, width, height = rows[row].tolist()
+                self._core.open_window(x, y, width, height, level)
+            report, tag = self._report(carried)
+            arrays[row] = self._core.pixels(report)
+            like = _core.Report.from_buffer_copy(report), tag
+            tags.add(tag)
+            at += 1
+        return tags
+
+    def _some(self, rows: NDArray[Any], share: NDArray[Any], level: int, arrays: List[Any], like: _core.Report,
+              tag: str) -> Tuple[int, Optional[Carried]]:
+        """Reads the first of the windows in these rows without the interpreter, as far as the report of each is like this one, and says how
+        many, and how the next one is left, which is asked for; None where it isn't."""
+        wants = numpy.zeros(len(share), _core.WANT)
+        for column, name in enumerate(('x', 'y', 'width', 'height')):
+            wants[name] = rows[share, column]
+        ends = numpy.cumsum(numpy.minimum(wants['width'].astype('u8') * wants['height'], MOST_SAMPLES + 1) * like.samples)
+        count = max(1, int(numpy.searchsorted(ends, MOST_SAMPLES, 'right')))
+        if ends[count - 1] > MOST_SAMPLES:
+            return 0, None                                 # a fault, for which no room is made
+        room = _core.room(like, int(ends[count - 1]))
+        wants['place'] = room.ctypes.data + numpy.concatenate(([0], ends[:-1])).astype('u8') * room.itemsize
+        done = ctypes.c_uint32()
+        carried = self._source.carry(self._core, lambda wire: self._core.read(wire, wants[:count], level, like, tag.encode('latin-1'), done))
+        first = 0
+        for row, end, (width, height) in zip(share[:done.value].tolist(), ends.tolist(), rows[share, 2:].tolist()):
+            arrays[row] = room[first:end].reshape(_core.shape(like, width, height))
+            first = end
+        return done.value, carried if done.value < count else None
+
     def _read_info(self) -> Info:
         if self._info is None or self._info.tag != self._tag:
             self._core.open_info()
@@ -200,30 +290,41 @@ class File:
                 raise NotUsed(reason, _status_of(bytes(answer)))
         raise Lost(f'no whole answer in {TRIES} exchanges' + (f': {failed}' if failed else '')) from failed
 
-    def _report(self) -> Tuple[_core.Report, str]:
-        """Exchanges until a report stands, and gives it with its tag, or raises its fault."""
+    def _report(self, carried: Optional[Carried] = None) -> Tuple[_core.Report, str]:
+        """Exchanges until a report stands, and gives it with its tag, or raises its fault. Some may have been made without the interpreter."""
         failed: Optional[Exception] = None
         failures = restarts = 0
-        for _ in range(EXCHANGES):
-            request = self._core.request()
-            if request is None:
-                report, tag = self._core.report()
-                self._tag = tag.decode('latin-1')
-                if report.kind == _core.FAULT:
-                    raise fault_of(report.fault, report.field)
-                return report, self._tag
-            if failures == TRIES and isinstance(failed, NotUsed) and _tells_another(failed, request):
-                self._core.forget()                        # the server passes If-Range over, or gives one tag to two files
-                self._info, failures, restarts = None, 0, restarts + 1
-                continue
-            if failures == TRIES:
-                raise Lost(f'no whole answer in {TRIES} exchanges: {failed}') from failed
-            if restarts == TRIES:
-                raise Lost(f'the file was replaced {TRIES} times while it was read')
-            kind, failed = self._exchange(request)
+        for _ in range(_core.EXCHANGES):
+            if carried is None and failures == 0 and restarts < TRIES:
+                carried = self._source.carry(self._core, self._core.ask)
+            if carried is not None and carried.kind:
+                self._front = PART
+                kind, failed = self._brought(b'', carried.kind, carried.number, carried.lost)
+            else:
+                request = None if carried is not None and carried.report else self._core.request()
+                if request is None:
+                    return self._told()
+                if failures == TRIES and isinstance(failed, NotUsed) and _tells_another(failed, request):
+                    self._core.forget()                        # the server passes If-Range over, or gives one tag to two files
+                    self._info, failures, restarts = None, 0, restarts + 1
+                    continue
+                if failures == TRIES:
+                    raise Lost(f'no whole answer in {TRIES} exchanges: {failed}') from failed
+                if restarts == TRIES:
+                    raise Lost(f'the file was replaced {TRIES} times while it was read')
+                kind, failed = self._exchange(request)
+            carried = None
             failures = failures + 1 if failed else 0
             restarts += kind == _core.RESTARTED
-        raise Lost(f'no report in {EXCHANGES} exchanges')
+        raise Lost(f'no report in {_core.EXCHANGES} exchanges')
+
+    def _told(self) -> Tuple[_core.Report, str]:
+        """The report that stands, with its tag, or its fault, which is raised."""
+        report, tag = self._core.report()
+        self._tag = tag.decode('latin-1')
+        if report.kind == _core.FAULT:
+            raise fault_of(report.fault, report.field)
+        return report, self._tag
 
     def _exchange(self, request: bytes) -> Tuple[int, Optional[Exception]]:
         """One exchange. Gives the kind of its answer, and why it brought nothing, where another may bring more: a refusal of requests that
@@ -240,7 +341,10 @@ class File:
             if of_handler(error):
                 raise
             lost = error.with_traceback(None)
-        kind, number = self._core.end()
+        return self._brought(request, *self._core.end(), lost)
+
+    def _brought(self, request: bytes, kind: int, number: int, lost: Optional[Exception]) -> Tuple[int, Optional[Exception]]:
+        """What is said of the answer to this request, and why it brought nothing."""
         if kind == _core.IGNORED:
             refusal = NotUsed(number, _status_of(self._front))
             if number != CUT and number < REVISION and not self._source.shared and not _tells_another(refusal, request):
@@ -265,6 +369,42 @@ def _status_of(front: bytes) -> Optional[int]:
     """The status of an answer that begins so."""
     found = re.match(rb'HTTP/[0-9]\.[0-9] ([0-9]{3})', front)
     return int(found[1]) if found else None
+
+
+def _rows(windows: Iterable[Sequence[SupportsIndex]]) -> NDArray[Any]:
+    """The windows as rows of x, y, width and height."""
+    given: Any = windows if isinstance(windows, numpy.ndarray) else list(windows)
+    if len(given) == 0:
+        return numpy.zeros((0, 4), 'i8')
+    try:
+        rows = numpy.asarray(given)
+    except ValueError:                                     # not four of each
+        rows = numpy.zeros(0)
+    if rows.dtype.kind in 'iu' and rows.ndim == 2 and rows.shape[1] == 4 and rows.min() >= 0 and rows.max() <= GREATEST:
+        return rows.astype('i8')
+    return numpy.array([_numbers(x=x, y=y, width=width, height=height) for x, y, width, height in given], 'i8')
+
+
+def _side_by_side(shares: List[Callable[[threading.Event], Set[str]]]) -> Set[str]:
+    """Runs these at once, the first in this thread, and gives what all of them give. Where one raises the others are told to stop."""
+    stop = threading.Event()
+
+    def run(share: Callable[[threading.Event], Set[str]]) -> Set[str]:
+        try:
+            return share(stop)
+        except BaseException:
+            stop.set()
+            raise
+
+    if len(shares) == 1:
+        return run(shares[0])
+    with concurrent.futures.ThreadPoolExecutor(len(shares) - 1) as pool:
+        others = [pool.submit(run, share) for share in shares[1:]]
+        try:
+            return run(shares[0]).union(*(other.result() for other in others))
+        except BaseException:
+            stop.set()
+            raise
 
 
 _files: weakref.WeakSet[File] = weakref.WeakSet()

@@ -1,9 +1,12 @@
 """Where answers come from: a host, or a file of the disk."""
 from __future__ import annotations
 
+import ctypes
 import encodings.idna                                    # which connect() imports: half done at a fork it would hang the child
+import errno
 import functools
 import http.client
+import math
 import os
 import re
 import select
@@ -12,11 +15,12 @@ import socket
 import ssl
 import traceback
 from types import CodeType
-from typing import BinaryIO, Callable, Iterator, List, Optional, Protocol, Tuple, Type, Union
+from typing import BinaryIO, Callable, Iterator, List, NamedTuple, Optional, Protocol, Tuple, Type, Union
 from urllib.parse import urlsplit
 
-from ._core import Piece
-from ._errors import BadUrl
+from . import _core
+from ._core import Core, Front, Piece, Stop, Wire
+from ._errors import BadUrl, Lost, OutOfMemory
 
 PIECE = 1 << 17
 HEAD_ROOM = 4096
@@ -46,6 +50,18 @@ def of_handler(error: OSError) -> bool:
     return any(frame.f_code in handlers for frame, _ in traceback.walk_tb(error.__traceback__))
 
 
+class Carried(NamedTuple):
+    """What exchanges without the interpreter left."""
+
+    report: bool
+    """Whether a report stands; else the next exchange is to be made, or gone on with."""
+    kind: int = 0
+    number: int = 0
+    """What is said of the last answer, where it brought nothing; else 0."""
+    lost: Optional[Exception] = None
+    """Why the rest of it is lost."""
+
+
 class Source(Protocol):
     """What carries a request, and hands on the bytes of the answer as they arrive."""
 
@@ -63,6 +79,15 @@ class Source(Protocol):
     def exchange(self, request: bytes, later: List[bytes], take: Take) -> None:
         """Hands each piece of the answer to `take`, in order; an OSError where the rest of the answer is lost. Requests that will come
         later may be sent at once."""
+
+    def carries(self) -> bool:
+        """Whether a connection is open over which exchanges can be made without the interpreter."""
+
+    def carry(self, core: Core, run: Callable[[Wire], int]) -> Optional[Carried]:
+        """Makes the client's exchanges so, as far as they are ordinary ones; None, and nothing was done, where none is open."""
+
+    def another(self) -> 'Source':
+        """Another one to the same place, for use beside this one."""
 
     def close(self) -> None:
         """Ends what is open."""
@@ -167,6 +192,7 @@ class Host:
 
     def __init__(self, address: Address, timeout: Optional[float], context: Optional[ssl.SSLContext]) -> None:
         self.where = address.url
+        self._words = address, timeout, context
         if address.secure:
             self._connection: http.client.HTTPConnection = http.client.HTTPSConnection(
                 address.host.rstrip('.'), address.port, timeout=timeout, context=context or _trusting())
@@ -183,19 +209,72 @@ class Host:
         self._well = True
         """Whether the last exchange left the connection open, or as the request has it, ended."""
         self._losses = 0
+        self._begun = False
+        """Whether the room has the front of the answer to the request that is answered."""
+        self._wire = Wire(room=ctypes.addressof(Front.from_buffer(self._room)), size=PIECE)
         self._process = os.getpid()
         self.depth = DEPTH
 
+    def another(self) -> 'Host':
+        return Host(*self._words)
+
+    def carries(self) -> bool:
+        return (type(self._connection.sock) is socket.socket and self._well and not self.sent and self._begin == self._end
+                and self._process == os.getpid())
+
+    def carry(self, core: Core, run: Callable[[Wire], int]) -> Optional[Carried]:
+        if not self.carries():
+            return None
+        wire, stream = self._wire, self._connection.sock
+        timeout = stream.gettimeout()
+        wire.socket, wire.timeout = stream.fileno(), -1 if timeout is None else math.ceil(timeout * 1000)
+        wire.depth, wire.phase, wire.count, wire.kept, wire.begin, wire.end = self.depth, 0, 0, 0, 0, 0
+        self._well = False                               # where a signal handler raises
+        stop = run(wire)
+        while stop == Stop.INTERRUPTED:
+            stop = run(wire)
+        self._losses = 0 if wire.kept else self._losses
+        if stop == Stop.ODD and self._room[wire.begin:wire.end][8:12] == b' 408':
+            stop, wire.error = Stop.BEFORE, 0
+        if stop in (Stop.BEFORE, Stop.MIDST, Stop.MEMORY, Stop.MANY):
+            return self._broken(stop, core)
+        self._begin, self._end, self.sent = wire.begin, wire.end, wire.requests() if wire.count else []
+        self._begun, self._well = stop == Stop.ODD, True
+        self._ahead, self.shared = wire.ahead > 0, wire.ahead > 0 or wire.count > (stop == Stop.ODD)
+        return Carried(stop == Stop.REPORT, *((wire.said.kind, wire.said.number) if stop == Stop.ENDED else ()))
+
+    def _broken(self, stop: int, core: Core) -> Carried:
+        """What is left where the connection failed: where it was kept for too long, nothing, as in `_first`."""
+        wire = self._wire
+        self._ahead, self.shared = wire.ahead > 0, wire.ahead > 0 or wire.count > 1
+        late = wire.error == errno.ETIMEDOUT
+        failed = socket.timeout('timed out') if late else OSError(wire.error, os.strerror(wire.error)) if wire.error else None
+        if stop in (Stop.BEFORE, Stop.MIDST):
+            self._lose(late)
+        self.close()
+        if stop == Stop.MEMORY:
+            raise OutOfMemory('out of memory')
+        if stop == Stop.MANY:
+            raise Lost(f'no report in {_core.EXCHANGES} exchanges')
+        if stop == Stop.BEFORE and (failed is None or isinstance(failed, ConnectionError) or late and self._ahead):
+            return Carried(False)
+        if stop == Stop.BEFORE:
+            core.begin()
+        return Carried(False, *core.end(), failed)
+
     def exchange(self, request: bytes, later: List[bytes], take: Take) -> None:
         well, self._well = self._well, False
+        begun, self._begun = self._begun, False
         if not well or self._process != os.getpid() or self.sent[:1] not in ([], [request]):
             self._process = os.getpid()                  # the connection stays the parent's: to close it here sends nothing, of TLS neither
             self.close()
             later = []                                   # not at once after a failure (RFC 9112, section 9.3.2), nor after others
-        self._ahead = self.shared = len(self.sent) > 0
+            begun = False
+        if not begun:
+            self._ahead = self.shared = len(self.sent) > 0
         goes_on = False
         try:
-            goes_on = self._receive(self._first(request, later), request, take)
+            goes_on = self._receive(self._more() if begun else self._first(request, later), request, take)
             if goes_on:
                 self.sent.pop(0)
                 self._losses = 0 if self._ahead else self._losses
@@ -343,6 +422,15 @@ class Disk:
                 raise OSError('the file changed while it was read')
         for piece in pieces:
             take(piece)
+
+    def carries(self) -> bool:
+        return False
+
+    def carry(self, core: Core, run: Callable[[Wire], int]) -> Optional[Carried]:
+        return None
+
+    def another(self) -> 'Disk':
+        return Disk(self.where)
 
     def close(self) -> None:
         pass

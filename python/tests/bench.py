@@ -7,6 +7,7 @@ import struct
 import subprocess
 import sys
 import time
+from concurrent.futures import ThreadPoolExecutor
 from unittest import mock
 
 import delgunsai
@@ -30,6 +31,7 @@ ROUND_TRIP = 40
 ROUNDS = 5
 SERIES = 3
 SHARES = 10
+CONNECTIONS = 4
 
 
 def written():
@@ -109,6 +111,46 @@ def spread(row, urls, windows):
     tell(row, share * len(urls), *map(sum, zip(*took)))
 
 
+def by_one_call(url, windows):
+    """The windows of a file of which nothing is kept, by one call of the package."""
+    with delgunsai.open(url, blocks=4096) as file:
+        return file.read_windows(windows, connections=CONNECTIONS)
+
+
+def by_calls(url, windows):
+    """The same by calls of rasterio."""
+    import rasterio
+    from rasterio.windows import Window
+    with rasterio.open('/vsicurl/' + url) as file:
+        return [file.read(1, window=Window(*window)) for window in windows]
+
+
+def by_threads(url, windows):
+    """The same in as many threads as the package has, each with a data set and a share of its own: windows of the same rows."""
+    order = sorted(range(len(windows)), key=lambda number: windows[number][1])
+    shares = [order[k * len(order) // CONNECTIONS:(k + 1) * len(order) // CONNECTIONS] for k in range(CONNECTIONS)]
+    arrays = [None] * len(windows)
+    with ThreadPoolExecutor(CONNECTIONS) as pool:
+        for share, read in zip(shares, pool.map(lambda share: by_calls(url, [windows[number] for number in share]), shares)):
+            for number, array in zip(share, read):
+                arrays[number] = array
+    return arrays
+
+
+def at_once(row, urls, windows):
+    """Reads all windows by one call, and by rasterio as one does it, one after another, and in threads, and tells how long the best of each
+    took. GDAL keeps what it read of a URL, so each has its own."""
+    best = [float('inf')] * 3
+    for k in range(0, len(urls), 2):
+        took = [seconds(by_one_call, urls[k], windows), seconds(by_calls, urls[k], windows), seconds(by_threads, urls[k + 1], windows)]
+        best = [min(one, more) for one, (more, _) in zip(best, took)]
+        if not all(all(map(numpy.array_equal, took[0][1], arrays)) for _, arrays in took[1:]):
+            sys.exit('python: a window differs')
+    tell(f'{row}, all by one call', len(windows), *best[:2])
+    print(f'  beside it rasterio in {CONNECTIONS} threads: {best[2]:.3f} s, {len(windows) / best[2]:.0f} in a second; the package has '
+          f'{best[2] / best[0]:.2f} times its rate', flush=True)
+
+
 def offsets_of(path):
     """The offsets of the tiles of level 0 of a file that is little-endian."""
     with open(path, 'rb') as file:
@@ -130,7 +172,8 @@ def planned(url, path, windows):
     def noted(self, request, later, take):
         plan.append(struct.pack('<2I', 1, len(request)) + request)
         return exchange(self, request, later, take)
-    with mock.patch.object(_sources.Host, 'exchange', noted), delgunsai.open(url, blocks=4096) as file:
+    with mock.patch.object(_sources.Host, 'exchange', noted), mock.patch.object(_sources.Host, 'carry', return_value=None), \
+            delgunsai.open(url, blocks=4096) as file:
         for x, y, width, height in windows:
             file.read(x=x, y=y, width=width, height=height)
             plan.append(struct.pack('<3I', 2, x, y))
@@ -179,23 +222,26 @@ def main(near=1000, far=200):
     source = random.Random(1)
     windows = [(source.randint(0, WIDTH - SIDE), source.randint(0, HEIGHT - SIDE), SIDE, SIDE) for _ in range(max(near, far))]
     path = written()
-    names = [f'{k}.tif' for k in range(2 * ROUNDS + SHARES + 1)]  # one for each round, since GDAL keeps what it read of a URL
+    names = [f'{k}.tif' for k in range(4 * ROUNDS + SHARES + 3)]  # one for each round, since GDAL keeps what it read of a URL
     with Cogserve({name: path for name in names}) as server:
         library, urls = compiled(), [server.url(name) for name in names[:2 * ROUNDS]]
         plans = [planned(url, path, windows[:near]) for url in urls]
         floors = [(Floor(server.port, plan), Compiled(library, server.port, plan)) for plan in plans]
         compare(['loopback, in turn', 'the same again'], urls[:ROUNDS], windows[:near], floors[:ROUNDS])
         compare(['loopback, one after another', 'the same again'], urls[ROUNDS:], windows[:near], floors[ROUNDS:], apart)
+        at_once('loopback', [server.url(name) for name in names[-2 * ROUNDS:]], windows[:near])
         forms(near)
         if TLS:
             beside_nginx(path, windows[:near])
-        spread(f'loopback, {SHARES} files', [server.url(name) for name in names[2 * ROUNDS:-1]], windows[:near])
+        spread(f'loopback, {SHARES} files', [server.url(name) for name in names[2 * ROUNDS:][:SHARES]], windows[:near])
         port = free_port()
         relay = subprocess.Popen([sys.executable, os.path.join(os.path.dirname(os.path.abspath(__file__)), 'relay.py'), str(port),
                                   f'127.0.0.1:{server.port}', str(ROUND_TRIP)], stdout=subprocess.PIPE)
         relay.stdout.readline()
         try:
-            compare([f'round trips of {ROUND_TRIP} ms'], [f'http://127.0.0.1:{port}/{names[-1]}'], windows[:far])
+            urls = [f'http://127.0.0.1:{port}/{name}' for name in names[2 * ROUNDS + SHARES:][:3]]
+            compare([f'round trips of {ROUND_TRIP} ms'], urls[:1], windows[:far])
+            at_once(f'round trips of {ROUND_TRIP} ms', urls[1:], windows[:far])
         finally:
             relay.terminate()
             relay.wait()

@@ -7,7 +7,8 @@ import socket
 import tempfile
 import unittest
 
-TOP = os.path.dirname(os.path.dirname(os.path.dirname(os.path.abspath(__file__))))
+HERE = os.path.dirname(os.path.abspath(__file__))
+TOP = os.path.dirname(os.path.dirname(HERE))
 COGTOOLS = os.environ.get('COGTOOLS', os.path.join(TOP, 'crates/cogtools/out/cogtools'))
 CORE = os.path.abspath(os.environ.get('DELGUNSAI_CORE', os.path.join(TOP, 'crates/delgunsai_c/out/libdelgunsai_c.a')))
 HEAP = os.environ.get('DELGUNSAI_HEAP') or os.path.join(os.path.dirname(os.path.dirname(os.path.realpath(shutil.which('rt') or '/rt'))),

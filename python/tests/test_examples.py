@@ -22,10 +22,10 @@ class Examples(unittest.TestCase):
             exec(lines.replace('127.0.0.1:8080', f'127.0.0.1:{server.port}'), {})
         self.assertEqual(printed.getvalue().splitlines(), re.findall(r'print\(.*# (.*)', lines))
 
-    def test_threads_of_docs(self):
-        """The lines of LIBRARY.md that read with several threads give the windows in order."""
+    def test_many_of_docs(self):
+        """The lines of LIBRARY.md that read many windows give them in order."""
         with open(os.path.join(TOP, 'docs', 'LIBRARY.md'), encoding='utf-8') as file:
-            lines = re.search(r'```python\n(from concurrent.*?)```', file.read(), re.DOTALL)[1]
+            lines = re.search(r'```python\n(with delgunsai.open\(url.*?)```', file.read(), re.DOTALL)[1]
         with Cogserve({'a.tif': EXAMPLE}) as server:
             names = {'delgunsai': delgunsai, 'url': server.url('a.tif')}
             exec(lines, names)

@@ -326,7 +326,8 @@ class AtOnce(unittest.TestCase):
     def test_sent_once(self):
         """What was sent is neither told by the core nor sent again."""
         with Made(lambda request, _: served(request, TEXT)) as server, delgunsai.open(server.url()) as file:
-            with mock.patch.object(_core.Core, 'later', autospec=True, side_effect=_core.Core.later) as later:
+            with mock.patch.object(_core.Core, 'later', autospec=True, side_effect=_core.Core.later) as later, \
+                    mock.patch.object(_sources.Host, 'carry', return_value=None):
                 self.assertTrue(tall(file, 0) and tall(file, 500))
             known = [call.args[2] for call in later.call_args_list]
             self.assertTrue(any(known))
@@ -498,3 +499,32 @@ class Unneeded(unittest.TestCase):
                 self.assertTrue(right(file, 0, 0, 10) and right(file, 800, 800))
                 self.assertEqual(server.connections, 2)
         self.refused(late, 3, 408)
+
+
+class InPython(unittest.TestCase):
+    """The same of exchanges that the interpreter makes, as over TLS."""
+
+    def setUp(self):
+        carried = mock.patch.object(_sources.Host, 'carry', return_value=None)
+        carried.start()
+        self.addCleanup(carried.stop)
+
+
+class ForkedInPython(InPython, Forked):
+    pass
+
+
+class InterruptedInPython(InPython, Interrupted):
+    pass
+
+
+class AtOnceInPython(InPython, AtOnce):
+    pass
+
+
+class NothingInPython(InPython, Nothing):
+    pass
+
+
+class UnneededInPython(InPython, Unneeded):
+    pass

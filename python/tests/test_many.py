@@ -1,0 +1,191 @@
+"""Many windows by one call: what `read` gives of each, of one revision."""
+import itertools
+import os
+import signal
+import threading
+import time
+import unittest
+from unittest import mock
+
+import delgunsai
+import numpy
+from delgunsai import _core, _file, _sources
+from files import noise, plain, ten_files, windows_of
+from servers import Cogserve, Cutting, Made, Nginx, served
+from support import EXAMPLE, FOLDER, RASTERIO, TLS, needs
+
+SAMPLES = [noise(1000), noise(1000)[::-1].copy()]
+TEXTS = [plain(samples) for samples in SAMPLES]
+WINDOWS = [(x, y, 30 + x % 7, 40 + y % 5) for x, y in itertools.product(range(0, 950, 90), range(0, 950, 70))]
+
+
+def cut_out(samples, window):
+    x, y, width, height = window
+    return samples[y:y + height, x:x + width]
+
+
+class Many(unittest.TestCase):
+    def right(self, file, windows=WINDOWS, number=0, **words):
+        arrays = file.read_windows(windows, **words)
+        self.assertEqual(len(arrays), len(windows))
+        for array, window in zip(arrays, windows):
+            self.assertTrue(numpy.array_equal(array, cut_out(SAMPLES[number], window)), window)
+
+    def same_as_read(self, file, seed):
+        for level, sides in enumerate(file.levels):
+            windows = list(windows_of(sides, 40, seed + level))
+            arrays = file.read_windows(windows, level=level, connections=1 + seed % 5)
+            for array, (x, y, width, height) in zip(arrays, windows):
+                wanted = file.read(x=x, y=y, width=width, height=height, level=level)
+                self.assertEqual((array.dtype, array.shape), (wanted.dtype, wanted.shape))
+                self.assertTrue(numpy.array_equal(array, wanted))
+
+    @needs(RASTERIO, 'rasterio with GDAL')
+    def test_over_http(self):
+        with Cogserve(ten_files()) as server:
+            for seed, name in enumerate(ten_files()):
+                with self.subTest(name), delgunsai.open(server.url(name), blocks=66 if seed % 2 else 256) as file:
+                    self.same_as_read(file, seed)
+                    self.assertEqual(file.tag, f'"1-{seed + 1}"')
+
+    @needs(RASTERIO and TLS, 'rasterio with GDAL, nginx or openssl')
+    def test_over_https(self):
+        with Nginx(FOLDER) as server:
+            for seed, name in enumerate(ten_files()):
+                with self.subTest(name), delgunsai.open(server.url(name + '.tif'), context=server.context()) as file:
+                    self.same_as_read(file, seed)
+
+    def test_from_the_disk(self):
+        path = os.path.join(FOLDER, 'many.tif')
+        with open(path, 'wb') as out:
+            out.write(TEXTS[0])
+        with delgunsai.open_file(path) as file:
+            self.right(file)
+
+    def test_without_the_interpreter(self):
+        """All but the first windows of a connection are read by wire.c where that can be, and by the interpreter where it can't."""
+        with Made(lambda request, _: served(request, TEXTS[0])) as server, delgunsai.open(server.url()) as file:
+            with mock.patch.object(_file.File, '_told', autospec=True, side_effect=_file.File._told) as told:
+                self.right(file, connections=3)
+            self.assertEqual((told.call_count, server.connections), (3, 3))
+            self.right(file, connections=3)
+            self.assertEqual(server.connections, 3)
+        with Made(lambda request, _: served(request, TEXTS[0])) as server, delgunsai.open(server.url()) as file:
+            with mock.patch.object(_sources.Host, 'carry', return_value=None):
+                self.right(file)
+
+    def test_forms_of_windows(self):
+        with delgunsai.open_file(EXAMPLE) as file:
+            whole = file.read(x=0, y=0, width=64, height=64)
+            windows = [(1, 2, 3, 4), (50, 60, 14, 4), (0, 0, 64, 64)]
+            for given in windows, numpy.array(windows), numpy.array(windows, 'u1'), iter(windows), [numpy.array(one) for one in windows], \
+                    [[numpy.uint16(number) for number in window] for window in windows]:
+                for array, window in zip(file.read_windows(given), windows):
+                    self.assertTrue(numpy.array_equal(array, cut_out(whole, window)))
+            self.assertEqual(file.read_windows([]), [])
+            self.assertEqual(file.read_windows(numpy.zeros((0, 4), int)), [])
+            for wrong, kind in ((1, 2, 3), ValueError), ((1, 2, 3, 4, 5), ValueError), ((1, 2, 3, -4), ValueError), \
+                    ((1, 2, 3, 2 ** 32), ValueError), ((1, 2, 3, 2 ** 70), ValueError), ((1, 2, 3, 4.0), TypeError), ('abcd', TypeError):
+                with self.assertRaises(kind, msg=wrong):
+                    file.read_windows([(0, 0, 1, 1), wrong])
+            for count, kind in (0, ValueError), (65, ValueError), (1.5, TypeError):
+                with self.assertRaises(kind):
+                    file.read_windows(windows, connections=count)
+        self.assertRaises(ValueError, file.read_windows, [])
+
+    def test_faults(self):
+        """A window that the file hasn't is the exception that `read` gives, and the file is read on."""
+        with Made(lambda request, _: served(request, TEXTS[0])) as server, delgunsai.open(server.url()) as file:
+            for wrong in (990, 0, 11, 10), (0, 0, 2 ** 32 - 1, 2 ** 32 - 1), (2 ** 32 - 1, 0, 1, 1):
+                with self.assertRaises(delgunsai.FileFault) as alone:
+                    file.read(**dict(zip(('x', 'y', 'width', 'height'), wrong)))
+                for place in 0, 70, len(WINDOWS):
+                    windows = [*WINDOWS[:place], wrong, *WINDOWS[place:]]
+                    with self.assertRaises(type(alone.exception)) as seen:
+                        file.read_windows(windows)
+                    self.assertEqual(str(seen.exception), str(alone.exception))
+            with self.assertRaises(delgunsai.FileFault):
+                file.read_windows(WINDOWS, level=9)
+            self.right(file)
+
+    def test_replaced(self):
+        """All are of one revision, whenever the file is replaced."""
+        for at in range(1, 40):
+            with self.subTest(at=at), Made(lambda request, number: served(request, TEXTS[number >= at], b'"%d"' % (number >= at))) as server, \
+                    delgunsai.open(server.url(), blocks=66) as file:
+                arrays = file.read_windows(WINDOWS)
+                number = int(file.tag[1])
+                self.assertIn(number, (0, 1))
+                self.assertTrue(all(numpy.array_equal(array, cut_out(SAMPLES[number], window)) for array, window in zip(arrays, WINDOWS)))
+                self.assertEqual(number == 1 or server.requests < at, True)
+
+    def test_replaced_each_time(self):
+        with Made(lambda request, number: served(request, TEXTS[0], b'"%d"' % number)) as server, delgunsai.open(server.url()) as file:
+            with self.assertRaises(delgunsai.Lost) as seen:
+                file.read_windows(WINDOWS)
+            self.assertIn('the file was replaced 3 times while it was read', str(seen.exception))
+
+    @needs(RASTERIO, 'rasterio with GDAL')
+    def test_cut(self):
+        path = ten_files()['grey']
+        windows = list(windows_of((1500, 1100), 60, 3))
+        with delgunsai.open_file(path) as file, Cogserve(ten_files()) as server:
+            wanted = file.read_windows(windows)
+            for cut in range(0, 400, 7):
+                with Cutting(server.port, cut) as passing, delgunsai.open(passing.url('grey')) as other:
+                    other.read(x=0, y=0, width=1, height=1)
+                    passing.cut = cut
+                    arrays = other.read_windows(windows)
+                    self.assertTrue(all(map(numpy.array_equal, arrays, wanted)))
+                    self.assertEqual(passing.cuts, 2)
+                    passing.shutdown()
+
+    def test_signals(self):
+        """What a signal handler raises comes as it is; no thread is left, and the file is read on."""
+        def handle(*_):
+            raise TimeoutError('too late')
+        self.addCleanup(signal.signal, signal.SIGALRM, signal.signal(signal.SIGALRM, handle))
+        waits = [0.0]
+
+        def answer(request, _):
+            time.sleep(waits[-1])
+            return served(request, TEXTS[0])
+        with Made(answer) as server:
+            for connections in 1, 4:
+                file = delgunsai.open(server.url())
+                waits.append(0.3)
+                with self.assertRaisesRegex(TimeoutError, 'too late'):
+                    signal.setitimer(signal.ITIMER_REAL, 0.1)
+                    file.read_windows(WINDOWS, connections=connections)
+                signal.setitimer(signal.ITIMER_REAL, 0)
+                self.assertFalse([thread for thread in threading.enumerate() if 'ThreadPool' in thread.name])
+                waits.append(0.0)
+                self.right(file)
+                file.close()
+
+    def test_close_and_fork(self):
+        with Made(lambda request, _: served(request, TEXTS[0])) as server, delgunsai.open(server.url()) as file:
+            self.right(file, WINDOWS[:13])
+            before = server.connections
+            child = os.fork()
+            if child == 0:
+                holds = False
+                try:
+                    self.right(file)
+                    holds = True
+                finally:
+                    os._exit(not holds)
+            self.assertEqual(os.waitpid(child, 0)[1], 0)
+            self.assertEqual((before, server.connections), (4, 8))
+            self.right(file)
+            self.assertEqual(server.connections, 8)
+            sources = [file._source, *(other._source for other in file._others)]
+            file.close()
+            self.assertEqual([source._connection.sock for source in sources], [None] * 4)
+
+    def test_memory(self):
+        with Made(lambda request, _: served(request, TEXTS[0])) as server, delgunsai.open(server.url()) as file:
+            self.right(file)
+            with mock.patch.object(_core.Core, 'read', return_value=_core.Stop.MEMORY):
+                self.assertRaises(delgunsai.OutOfMemory, file.read_windows, WINDOWS)
+            self.right(file)
