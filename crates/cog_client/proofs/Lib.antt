@@ -4,6 +4,7 @@ pub mod AcceptLemmas
 pub mod RequestLemmas
 pub mod DeliverLemmas
 pub mod ProgressLemmas
+pub mod OwnFrontLemmas
 pub mod OwnLemmas
 pub mod WholeLemmas
 pub mod TruthLemmas

@@ -55,14 +55,14 @@ whole_seen s =
     ∙ ap (reply_seen s.reply) (take_all (length s.body) s.body (omega arith))
 
 -- the bytes a to b of a publication, as a 206 brings them, and all of them, as a 200 does
-abbrev part_of : Publication → ℕ → ℕ → SeenPiece
+abbrev pub part_of : Publication → ℕ → ℕ → SeenPiece
 part_of p a b = record { tag = p.tag; whole = false; first = a; complete = length p.file; body = slice_range p.file a (b + 1) }
 
-abbrev all_of : Publication → SeenPiece
+abbrev pub all_of : Publication → SeenPiece
 all_of p = record { tag = p.tag; whole = true; first = 0; complete = length p.file; body = p.file }
 
 -- what this server brings of it to a request for bytes of it under a tag, or none
-abbrev piece_for : Publication → Span → Option (List ℕ) → SeenPiece
+abbrev pub piece_for : Publication → Span → Option (List ℕ) → SeenPiece
 piece_for p s known = cond (is_current known p.tag) (part_of p s.first (min s.last (length p.file - 1))) (all_of p)
 
 -- the bytes a to b of a publication as a reply carries them
@@ -100,7 +100,7 @@ own_response answered c p span text own =
     (answered own.catalogue (closes c) (host_of c) (name_of c) [] span.first span.last (tag_of c) own.response own.can span.ascending).0 (subst P (sym (append-nil message)) own.answers)
     ∙ ap (λ o. ending (closes c) (response_to_client o span.first span.last (tag_of c))) own.has
 
-own_reading : RequestsAreAnswered → FrontsAreRead → (c : ClientState) (p : Publication) (span : Span) (text : List ℕ) → (own : IsOwnAnswer c p span text)
+pub own_reading : RequestsAreAnswered → FrontsAreRead → (c : ClientState) (p : Publication) (span : Span) (text : List ℕ) → (own : IsOwnAnswer c p span text)
     → (r : Result SeenPiece Why) → ReadsAnswer text r → (is_current (tag_of c) p.tag ≡ true → span.first < length p.file) → r ≡ Ok (piece_for p span (tag_of c))
 own_reading answered fronts c p span text own r reads begins =
     let tag = tag_of c in
@@ -169,7 +169,7 @@ takes p v piece tag complete = record {
 
 -- ---- what this server brings
 
-part_length : (p : Publication) (a b : ℕ) → a ≤ b → b < length p.file → length (part_of p a b).body ≡ b - a + 1
+pub part_length : (p : Publication) (a b : ℕ) → a ≤ b → b < length p.file → length (part_of p a b).body ≡ b - a + 1
 part_length p a b low high = omega (arith, length-take (b + 1 - a) (drop a p.file), length-drop a p.file)
 
 part_is : (p : Publication) (a b : ℕ) → a ≤ b → b < length p.file → IsOf p (part_of p a b)
@@ -184,7 +184,7 @@ part_is p a b low high =
     }
 
 -- it is what a server gives
-own_given : (p : Publication) (s : Span) (known : Option (List ℕ)) → (is_current known p.tag ≡ true → s.first < length p.file) → IsGiven p s known (piece_for p s known)
+pub own_given : (p : Publication) (s : Span) (known : Option (List ℕ)) → (is_current known p.tag ≡ true → s.first < length p.file) → IsGiven p s known (piece_for p s known)
 own_given p s known low = elim (cases_Bool (is_current known p.tag)) [
   | inl current ↦
       let some = low current in
@@ -440,15 +440,10 @@ module _ (lengths : LengthsAreKnown) where
         | inr differ ↦ other old new p span text what served d v is differ
       ]
 
-  pub own_are_served : RequestsAreAnswered → FrontsAreRead → PublishedIsNamed → OwnAnswersAreServed
-  own_are_served answered fronts named c p span text own knows = record {
-    named = named.named (name_of c) own.catalogue p own.has;
-    asked = own.asked;
-    ahead = own.ahead;
-    asks = own.asks;
-    read = λ r reads.
-        subst (λ r. IsOkAnd r (IsGiven p span (tag_of c))) (sym (own_reading answered fronts c p span text own r reads begins_in)) (own_given p span (tag_of c) begins_in);
-  }
+  -- what is asked for under p's tag, or under none, begins in its file
+  pub own_begins : PublishedIsNamed → (c : ClientState) (p : Publication) (span : Span) (text : List ℕ) → (own : IsOwnAnswer c p span text)
+      → (tag_of c ≡ Some p.tag → Knows p.file c) → is_current (tag_of c) p.tag ≡ true → span.first < length p.file
+  own_begins named c p span text own knows = at (revision_of c) refl own.asks
     where
       lawful : IsPublication p
       lawful = named.lawful (name_of c) own.catalogue p own.lawful own.has
@@ -464,5 +459,14 @@ module _ (lengths : LengthsAreKnown) where
           let held = knows (tag ∙ ap Some ((bytes_eq-Decides v.tag p.tag).0 equal)) in
           (asked_of_file p.file c v own.ahead span (known_length lengths p.file c v is held) held l).low
 
-      begins_in : is_current (tag_of c) p.tag ≡ true → span.first < length p.file
-      begins_in = at (revision_of c) refl own.asks
+  pub own_are_served : RequestsAreAnswered → FrontsAreRead → PublishedIsNamed → OwnAnswersAreServed
+  own_are_served answered fronts named c p span text own knows =
+      let begins = own_begins named c p span text own knows in
+      record {
+        named = named.named (name_of c) own.catalogue p own.has;
+        asked = own.asked;
+        ahead = own.ahead;
+        asks = own.asks;
+        read = λ r reads.
+            subst (λ r. IsOkAnd r (IsGiven p span (tag_of c))) (sym (own_reading answered fronts c p span text own r reads begins)) (own_given p span (tag_of c) begins);
+      }

@@ -1,10 +1,11 @@
 -- How much of a file a client still has to get for its query, counted in blocks, and what its calls make of that.
-use Rattle.std.specs.Prelude.{◌≡◌, ◌⊎◌, ℕ, zero, suc, ◌+◌, ◌-◌, ◌*◌, ◌<◌, ◌≤◌, true, false, min, not, if◌then◌else◌, List, [], ◌∷◌, length, sum_by, Option, Some, IfSome, IsSome, IsTrue, IsOkAnd, Result}
+use Rattle.std.specs.Prelude.{◌≡◌, ◌⊎◌, ℕ, zero, suc, ◌+◌, ◌-◌, ◌*◌, ◌<◌, ◌≤◌, true, false, min, not, if◌then◌else◌, List, [], ◌∷◌, length, take, sum_by, Option, Some, IfSome, IsSome, IsTrue, IsOkAnd, Result}
 use Rattle.std.specs.List.{filter, IsAmong}
 use Rattle.tiff_dir.specs.declared.query.Query.{Query}
 use Rattle.tiff_dir.specs.declared.span.Span.{Span}
 use Rattle.tiff_dir.specs.Needs.{Extent, ends_past}
 use Rattle.tiff_dir.specs.Query.{blocks_of_extent as touched, cost, needs}
+use Rattle.http_parts.specs.declared.limits.TheConstants.{HEAD_LIMIT}
 use Rattle.http_range.specs.Ask.{CanAsk, request_by}
 use Rattle.http_range.specs.declared.reading.Why.{Why}
 use Rattle.http_range.specs.Book.{Publication, Book, Catalogue, HasDistinctTags, In, IsCatalogue, published}
@@ -16,6 +17,7 @@ use Rattle.tiff_dir.specs.declared.limits.TheConstants.{BLOCK_SIZE}
 use Rattle.tiff_dir.specs.Block.{first_block, blocks, end_of}
 use Rattle.range_cache.specs.Numbers.{has, missing}
 use Rattle.range_cache.specs.Cache.{numbers}
+use Rattle.cached_reader.specs.declared.ahead.TheConstants.{MAX_BLOCKS}
 use Rattle.cached_reader.specs.Going.{AreTouched}
 use Rattle.cog_client.specs.declared.asking.Asking.{Asking}
 use Rattle.cog_client.specs.declared.delivered.Delivered.{Delivered}
@@ -144,6 +146,16 @@ pub record IsServed (c : ClientState) (p : Publication) (span : Span) (text : Li
 abbrev pub OwnAnswersAreServed : Type 0
 OwnAnswersAreServed = (c : ClientState) (p : Publication) (span : Span) (text : List ℕ) →
     IsOwnAnswer c p span text → (tag_of c ≡ Some p.tag → Knows p.file c) → IsServed c p span text
+
+-- room for a head, and for as many blocks as a client asks for at once
+abbrev pub answer_room : ℕ
+answer_room = HEAD_LIMIT + MAX_BLOCKS * BLOCK_SIZE
+
+-- So is each front of one that has such room.
+abbrev pub OwnFrontsAreServed : Type 0
+OwnFrontsAreServed = (c : ClientState) (p : Publication) (span : Span) (whole : List ℕ) (n : ℕ) →
+    answer_room ≤ n → IsOwnAnswer c p span whole → (tag_of c ≡ Some p.tag → Knows p.file c) →
+    IsServed c p span (take n whole)
 
 -- The client has p's revision then, and where it had it before, less is left.
 pub record BringsOn (p : Publication) (old new : ClientState) (what : Delivered) : Type 0 where

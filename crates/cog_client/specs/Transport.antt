@@ -1,5 +1,5 @@
 -- What a transport promises, and what fetching over it keeps.
-use Rattle.std.specs.Prelude.{◌≡◌, ℕ, zero, suc, ◌+◌, ◌⊎◌, Bool, IsTrue, List, Option, Some, None, ⊤}
+use Rattle.std.specs.Prelude.{◌≡◌, ℕ, zero, suc, ◌+◌, ◌⊎◌, Bool, IsTrue, List, take, Option, Some, None, ⊤}
 use Rattle.tiff_dir.specs.declared.query.Query.{Query}
 use Rattle.http_range.specs.Book.{Publication, Book, HasDistinctTags, In}
 use Rattle.http_range.specs.Honest.{IsPieceOfSome, ShowsOnly}
@@ -58,7 +58,12 @@ abbrev pub OrLost : (List ℕ → List ℕ → Type 0) → Coming
 OrLost answers request None = ⊤
 OrLost answers request (Some text) = answers request text
 
--- so it comes, and nothing was lost unless this is told
+-- all of the answer comes, up to so many bytes
+abbrev pub UpTo : ℕ → (List ℕ → List ℕ → Type 0) → Coming
+UpTo n answers request None = ⊥
+UpTo n answers request (Some bytes) = (whole : List ℕ) × answers request whole × (bytes ≡ take n whole)
+
+-- such a text comes of the answer, and nothing was lost unless this is told
 abbrev pub UnlessTold : Bool → Coming → Coming
 UnlessTold lost answers request came = answers request came × (came ≡ None → IsTrue lost)
 

@@ -6,7 +6,7 @@ ghost use Rattle.cog_client.specs.Client.{AgreementIsSeen, query_of, to_come, Cl
 ghost use Rattle.cog_client.specs.Report.{TruthIsTold};
 ghost use Rattle.cog_client.specs.FedClient.{AnswersBeginAnywhere, FrontsKeepAgreement};
 ghost use Rattle.cog_client.specs.Fed.{CaseIsOfHead, CutsAreStored, EdgesAreStored, EndTells, LeavesByHead, PartsAreNotStored};
-ghost use Rattle.cog_client.specs.Progress.{AnswersReport, AskingLeavesAsMuch, CostIsMost, DeliveryReports, GoingOnLeavesNoMore, IsOwnAnswer, IsServed, NeededAreAsked, OneRangeIsAsked, OpeningLeavesCost, OwnAnswersAreServed, RequestReports, ServedBringOn};
+ghost use Rattle.cog_client.specs.Progress.{AnswersReport, AskingLeavesAsMuch, CostIsMost, DeliveryReports, GoingOnLeavesNoMore, IsOwnAnswer, IsServed, NeededAreAsked, OneRangeIsAsked, OpeningLeavesCost, OwnAnswersAreServed, OwnFrontsAreServed, RequestReports, ServedBringOn};
 
 use cached_reader::looks_at_one_range;
 use cog_reader::{end_is_wanted, lengths_are_known, nothing_comes};
@@ -56,11 +56,13 @@ pub fn needed_are_asked()
 
 /// An answer that has all that a client asks for, or more, is never ignored, and leaves less where the client has the file's tag. A client
 /// without a revision reads the server's from then on, and so does one with another tag, for which any front of the whole file is enough.
-/// This server's answers are such.
+/// This server's answers are such, and so are their fronts of 4,096 bytes and 65 blocks.
 pub fn whole_answers_bring_on()
     ensures served { ServedBringOn }
     ensures own { OwnAnswersAreServed }
+    ensures fronts { OwnFrontsAreServed }
 {
+    heads_grow();
     lengths_are_known();
     clients_are_answered();
     fronts_are_read();

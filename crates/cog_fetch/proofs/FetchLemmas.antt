@@ -1,5 +1,5 @@
 -- One exchange more.
-use Rattle.std.proofs.Common.{ℕ, zero, suc, ◌+◌, Bool, true, List, Option, Some, None, refl, sym, subst, inl, inr, add-one}
+use Rattle.std.proofs.Common.{ℕ, zero, suc, ◌+◌, Bool, true, List, Some, None, refl, sym, subst, inl, inr, add-one}
 use Rattle.std.specs.Prelude.{IsTrue}
 use Rattle.cog_client.specs.Client.{ClientState}
 use Rattle.cog_client.specs.Transport.{AnswersOn, Coming, Fetches, FetchesOnce, StopsFetching, StopsOnce, TakesOrLoses, UnlessTold}

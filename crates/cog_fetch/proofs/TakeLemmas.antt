@@ -1,5 +1,5 @@
 -- Pieces that come one after another, and what an answer leaves of a client that reads one publication.
-use Rattle.std.proofs.Common.{◌≡◌, ℕ, ◌+◌, ◌≤◌, Bool, true, false, List, [], ◌++◌, Some, None, length, take, refl, sym, ap, subst, ◌∙◌, Result, Ok, Err, IfOk, OnErr, arith}
+use Rattle.std.proofs.Common.{◌≡◌, ℕ, ◌≤◌, Bool, true, false, List, [], ◌++◌, Some, None, length, take, sym, ap, subst, ◌∙◌, Result, Ok, Err, IfOk, OnErr}
 use Rattle.std.proofs.Math.Seq.{take-append_seam}
 use Rattle.std.proofs.lemmas.Bool.{false≢true}
 use Rattle.std.proofs.lemmas.List.{append_assoc, append-nil, nil_from_length, take_all}

@@ -6,7 +6,7 @@ use Rattle.cog_client.specs.Calls.{SameClient}
 use Rattle.cog_client.specs.Client.{ClientAgrees, ClientState, name_of}
 use Rattle.cog_client.specs.FedClient.{Fed}
 use Rattle.cog_client.specs.Keeps.{RequestsKeeping, StopsDelivery}
-use Rattle.cog_client.specs.Transport.{Coming, FetchesOnce}
+use Rattle.cog_client.specs.Transport.{Coming, FetchesOnce, UpTo}
 use Rattle.cog_fetch.specs.declared.taking.TheConstants.{ANSWER_LIMIT}
 
 -- In what follows speaks is what a source speaks for, rest what of its answer was still to come, and lost whether a loss is told by now.
@@ -72,8 +72,7 @@ TakenOf speaks answers lost request (Some bytes) = (whole : List ℕ) × answers
 
 -- all of an answer comes, up to the most that is taken
 abbrev pub AllOf : (List ℕ → List ℕ → Type 0) → Coming
-AllOf answers request None = ⊥
-AllOf answers request (Some bytes) = (whole : List ℕ) × answers request whole × (bytes ≡ take ANSWER_LIMIT whole)
+AllOf answers = UpTo ANSWER_LIMIT answers
 
 -- ---- one exchange
 

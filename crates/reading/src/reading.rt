@@ -78,7 +78,7 @@ impl<R: Eprint + Clock + AllocGlobal> Exchanges<'_, '_, R> {
             → OnOk result ((request : Option (List ℕ)) × RequestsKeeping client.old request client.new) }
 
         // It is asked for its request, and what comes of the answer is taken, as often as the source counts, and nothing else is done to it:
-        // what is asked where no exchange is left has no answer. Want of memory came in the last of them.
+        // what is asked where no exchange is left has no answer. Want of memory came in an exchange behind some such ones.
         ensures taken { P.count (source_of noted.old) < self.now.requests → OnOk result (FetchesAll
             (TakenOf (P.speaks_for (source_of noted.old)) (P.answers (source_of noted.old)) (P.has_lost (source_of noted.new)))
             (P.count (source_of noted.old)) (P.count (source_of noted.new)) client.old client.new) }

@@ -1,5 +1,5 @@
 -- What the answers of a server in memory show.
-use Rattle.std.proofs.Common.{◌≡◌, ℕ, List, [], ◌++◌, inl, inr, Option, Some, None, IfSome, IsSomeAnd, Result, Ok, Err, IfOk, sym, ap, ◌∙◌, subst, append-nil, append_assoc}
+use Rattle.std.proofs.Common.{◌≡◌, ℕ, ◌≤◌, List, [], ◌++◌, inl, inr, Option, Some, None, IfSome, IsSomeAnd, Result, Ok, Err, IfOk, sym, ap, ◌∙◌, subst, append-nil, append_assoc}
 use Rattle.std.proofs.lemmas.Option.{same_Some}
 use Rattle.http_range.specs.declared.reading.Why.{Why}
 use Rattle.http_range.specs.Piece.{SeenPiece}
@@ -7,10 +7,10 @@ use Rattle.http_range.specs.Book.{Publication, Book, In, Catalogue, published}
 use Rattle.http_range.specs.Honest.{IsFront, IsHonest, IsPieceOfBook, IsPieceOfSome}
 use Rattle.http_range.specs.Response.{Response, IsAnswer, text_of}
 use Rattle.http_range.specs.Laws.{FrontsAreRead}
-use Rattle.cog_client.specs.Client.{ahead_of, name_of}
-use Rattle.cog_client.specs.Progress.{OwnAnswersAreServed}
-use Rattle.cog_client.specs.Serves.{Serves}
-use Rattle.cog_client.specs.Transport.{IsTrueToAll, OrLost}
+use Rattle.cog_client.specs.Client.{ClientState, ahead_of}
+use Rattle.cog_client.specs.Progress.{IsOwnAnswer, IsServed, OwnAnswersAreServed, OwnFrontsAreServed, answer_room}
+use Rattle.cog_client.specs.Serves.{AsksBy, Serves}
+use Rattle.cog_client.specs.Transport.{IsTrueToAll, OrLost, UpTo}
 use Rattle.transports.specs.InMemory.{Has, IsAbout, IsAnswerAbout, StandsIn}
 
 -- the answer of a server that has the file, if it carries that file's tag or none
@@ -59,9 +59,10 @@ pub shown_more : {A E : Type 0} (r : Result A E) (items : A → List ℕ) (speak
 shown_more (Ok x) items speaks more less shows = λ book spoken. shows book (less book spoken)
 shown_more (Err e) items speaks more less shows = tt
 
--- a server that has the file serves what a client asks for
-pub server_serves : OwnAnswersAreServed → (catalogue : Catalogue) (name : List ℕ) (p : Publication) → Has catalogue name p → Serves (OrLost (IsAnswerAbout catalogue name)) p
-server_serves own catalogue name p has c span request text asks is = own c p span text (record {
+-- its answer about the file that it has, to what a client asks for
+own_answer : (catalogue : Catalogue) (name : List ℕ) (p : Publication) → Has catalogue name p → (c : ClientState) (span : _) (request text : List ℕ)
+    → AsksBy p c span request → IsAnswerAbout catalogue name request text → IsOwnAnswer c p span text
+own_answer catalogue name p has c span request text asks is = record {
   catalogue = catalogue;
   lawful = has.lawful;
   has = ap (λ n. published n catalogue) (sym asks.named ∙ has.named) ∙ has.there;
@@ -72,4 +73,14 @@ server_serves own catalogue name p has c span request text asks is = own c p spa
   response = is.response;
   answers = subst (λ m. IsAnswer catalogue m is.response) (same_Some _ _ asks.text) is.answers;
   shown = is.shown;
-}) asks.knows
+}
+
+-- a server that has the file serves what a client asks for
+pub server_serves : OwnAnswersAreServed → (catalogue : Catalogue) (name : List ℕ) (p : Publication) → Has catalogue name p → Serves (OrLost (IsAnswerAbout catalogue name)) p
+server_serves own catalogue name p has c span request text asks is = own c p span text (own_answer catalogue name p has c span request text asks is) asks.knows
+
+-- so do long fronts of its answers
+pub server_fronts_serve : OwnFrontsAreServed → (catalogue : Catalogue) (name : List ℕ) (p : Publication) (n : ℕ) → answer_room ≤ n → Has catalogue name p
+    → Serves (UpTo n (IsAnswerAbout catalogue name)) p
+server_fronts_serve own catalogue name p n enough has c span request text asks is =
+    subst (IsServed c p span) (sym is.2) (own c p span is.0 n enough (own_answer catalogue name p has c span request is.0 asks is.1) asks.knows)

@@ -6,17 +6,17 @@ ghost use Rattle.http_range.specs.Book.{Book, HasDistinctTags, In, Publication};
 ghost use Rattle.cog_client.specs.Client.{ClientAgrees, ClientState, name_of};
 ghost use Rattle.cog_client.specs.Keeps.{OpensKeeping};
 ghost use Rattle.transports.specs.InMemory.{Has};
-ghost use Rattle.transports.specs.Transports.{exchanges_of, has_lost, served_name, served_state};
+ghost use Rattle.transports.specs.Transports.{exchanges_of, has_lost, served_name, served_state, source_of};
 
 use super::LAST_TILE;
 use assertion_support::expect_eq;
 use cog_client::{Client, FetchError, Report, Transport};
-use cog_fetch::fetch;
+use cog_fetch::{answer_limit_is, fetch, fetch_pieces};
 use cog_server::Server;
 use fixtures_support::{f1, f2};
 use std::alloc::Global;
 use std::test::Fail;
-use transports::{InMemory, server_of_one, servers_in_memory_serve};
+use transports::{InMemory, InPieces, server_of_one, servers_in_memory_serve};
 
 /// Fetches from a server in memory. Where that has one of the files that the client may read, and no answer was lost, a report stands
 /// behind an opening by as many exchanges as the query costs, and one more: `reports` of `fetch`, whose premise such a server meets.
@@ -32,6 +32,23 @@ fn fetch_in_memory<'c>(
 {
     servers_in_memory_serve();
     fetch(client, transport, tries)
+}
+
+/// The same where its answers come in pieces: `reports` of `fetch_pieces`.
+fn fetch_in_pieces<'c>(
+    client: &'c mut Client,
+    pieces: &mut InPieces<'_, InMemory<'_>>,
+    tries: u32,
+) -> Result<Option<&'c Report>, FetchError>
+    requires { exchanges_of (source_of pieces.old) + tries < 2 ^ 64 }
+    ensures { (book : Book) (p : Publication) (q : AQuery) (before : ClientState) → HasDistinctTags book → In p book → p.name ≡ name_of before
+        → ClientAgrees before book → OpensKeeping q before client.old
+        → Has (served_state (source_of pieces.old)).catalogue (served_name (source_of pieces.old)) p
+        → has_lost (source_of pieces.new) ≡ false → cost p.file q + 1 ≤ tries → IfOk result (λ report. IsSome (option_copied report)) }
+{
+    servers_in_memory_serve();
+    answer_limit_is();
+    fetch_pieces(client, pieces, tries)
 }
 
 /// Whether a client of this name has its report of the last tile by three exchanges, and whether an answer was lost.
@@ -52,6 +69,17 @@ fn fetched(
 fn loses_nothing_of_its_own_file(rt: HostRuntime) -> Result<(), Fail> {
     let server = server_of_one(rt.alloc(), 1, b"a", f2(rt.alloc())?)?;
     expect_eq!(rt; fetched(rt.alloc(), &server, b"a", b"a")?, (true, false));
+    Ok(())
+}
+
+#[test]
+fn reports_of_pieces(rt: HostRuntime) -> Result<(), Fail> {
+    let server = server_of_one(rt.alloc(), 1, b"a", f2(rt.alloc())?)?;
+    let mut client = Client::new(rt.alloc(), b"cog.test", b"a", 66)?;
+    let mut pieces = InPieces::new(rt.alloc(), InMemory::new(&server, b"a"), &[1, 100, 7]);
+    client.open(LAST_TILE);
+    let reports = fetch_in_pieces(&mut client, &mut pieces, 3)?.is_some();
+    expect_eq!(rt; reports, true);
     Ok(())
 }
 
