@@ -7,8 +7,8 @@
 #include <stdbool.h>
 #include <stdint.h>
 #include <string.h>
-#include <strings.h>
 #include <sys/socket.h>
+#include <time.h>
 
 struct cog_client;
 struct cog_said { uint32_t kind, number; };
@@ -23,7 +23,8 @@ int64_t cog_client_report(struct cog_client *, struct cog_report *, uint8_t *roo
 int64_t cog_client_pixels(struct cog_client *, uint8_t *room, size_t length);
 void cog_swap_pairs(uint8_t *room, size_t length);
 
-enum { REQUESTS = 9, REQUEST_ROOM = 1024, TAG_ROOM = 64, HEAD_ROOM = 4096, EXCHANGES = 65536, DIGITS = 18 };
+enum { REQUESTS = 9, REQUEST_ROOM = 1024, TAG_ROOM = 64, HEAD_ROOM = 4096, FRONT = 65536, STATUS = 12, DIGITS = 18, EXCHANGES = 65536 };
+enum { SLICE = 100 };      /* milliseconds after which the interpreter may look for signals */
 enum { TOOK = 1, WINDOW = 1 };
 
 /* Where it stopped. */
@@ -33,17 +34,18 @@ enum {
     ELSE = 2,        /* the next exchange isn't begun: the connection isn't as it should be for it */
     ODD = 3,         /* the answer that begins in the room is no such part; nothing of it is taken */
     ENDED = 4,       /* an answer was taken whole, and brought no block */
-    BEFORE = 5,      /* the connection failed before an answer */
-    MIDST = 6,       /* the connection failed in the midst of one, whose front is taken */
-    INTERRUPTED = 7, /* by a signal: called again it goes on */
-    MEMORY = 8,      /* was wanted */
-    MANY = 9         /* exchanges without a report */
+    BEFORE = 5,      /* the connection failed before the status of an answer, or that is 408 */
+    HEADLESS = 6,    /* it failed in the rest of a head, of which nothing is taken */
+    MIDST = 7,       /* it failed in the midst of an answer, whose front is taken */
+    INTERRUPTED = 8, /* by a signal, or for one: called again it goes on */
+    MEMORY = 9,      /* was wanted */
+    MANY = 10        /* exchanges without a report */
 };
 
 enum phase { BETWEEN = 0, SENDING = 1, HEAD = 2, BODY = 3 };
 
 struct wire {
-    int32_t socket;        /* which doesn't block, unless any wait will do */
+    int32_t socket;
     int32_t timeout;       /* how many milliseconds a wait may take; -1: any */
     uint32_t depth;        /* how many requests that come later are sent at once, fewer than REQUESTS */
     uint32_t phase;        /* of an exchange */
@@ -53,8 +55,11 @@ struct wire {
     uint32_t bytes;
     uint32_t ahead;        /* whether the one that is answered was sent with an earlier one */
     uint32_t kept;         /* whether an answer to such a one was taken whole */
+    uint32_t asked;        /* whether the next window is asked for */
+    uint32_t exchanges;    /* how many there were for it */
     int32_t error;         /* why the connection failed; 0 at its end */
     struct cog_said said;  /* of the last answer */
+    int64_t until;         /* when the wait ends that goes on, by `now`; 0: none does */
     uint64_t left;         /* bytes of the answer that aren't taken */
     uint8_t *room;         /* what was received: the bytes from begin to end aren't taken */
     size_t size, begin, end;
@@ -62,20 +67,35 @@ struct wire {
     uint8_t texts[REQUESTS][REQUEST_ROOM];
 };
 
-/* A window of the batch, and the place for its samples. */
+/* A window of many, and the place for its samples. */
 struct want { uint32_t x, y, width, height; uint8_t *place; };
 
-/* Waits until the socket is ready. */
+/* Milliseconds, from 1 on. */
+static int64_t now(void) {
+    struct timespec time;
+    clock_gettime(CLOCK_MONOTONIC, &time);
+    return (int64_t)time.tv_sec * 1000 + time.tv_nsec / 1000000 + 1;
+}
+
+/* ---- the socket */
+
+/* Waits until the socket is ready, but for no longer than a slice at once. */
 static int32_t wait_for(struct wire *wire, short events, int32_t lost) {
     struct pollfd ready = {wire->socket, events, 0};
-    int count = poll(&ready, 1, wire->timeout);
+    if (wire->timeout >= 0 && wire->until == 0) wire->until = now() + wire->timeout;
+    int64_t rest = wire->timeout < 0 ? SLICE : wire->until - now();
+    int count = poll(&ready, 1, rest < 0 ? 0 : rest < SLICE ? (int)rest : SLICE);
     if (count > 0) return GOES_ON;
-    if (count < 0 && errno == EINTR) return INTERRUPTED;
-    wire->error = count == 0 ? ETIMEDOUT : errno;
+    if (count < 0 && errno != EINTR) {
+        wire->error = errno;
+        return lost;
+    }
+    if (wire->timeout < 0 || now() < wire->until) return INTERRUPTED;
+    wire->error = ETIMEDOUT;
     return lost;
 }
 
-/* What a call of the socket that gave no bytes means. */
+/* What a call of the socket that moved no byte means. */
 static int32_t failed(struct wire *wire, ssize_t count, short events, int32_t lost) {
     if (count < 0 && errno == EINTR) return INTERRUPTED;
     if (count < 0 && (errno == EAGAIN || errno == EWOULDBLOCK)) return wait_for(wire, events, lost);
@@ -91,9 +111,10 @@ static int32_t receive(struct wire *wire, int32_t lost) {
         wire->end -= wire->begin;
         wire->begin = 0;
     }
-    ssize_t count = recv(wire->socket, wire->room + wire->end, wire->size - wire->end, 0);
+    ssize_t count = recv(wire->socket, wire->room + wire->end, wire->size - wire->end, MSG_DONTWAIT);
     if (count <= 0) return failed(wire, count, POLLIN, lost);
     wire->end += (size_t)count;
+    wire->until = 0;
     return GOES_ON;
 }
 
@@ -102,6 +123,8 @@ static bool idle(const struct wire *wire) {
     struct pollfd ready = {wire->socket, POLLIN, 0};
     return wire->begin == wire->end && poll(&ready, 1, 0) == 0;
 }
+
+/* ---- requests */
 
 /* Begins an exchange: the request that is next, and those that come later. */
 static int32_t start(struct cog_client *client, struct wire *wire) {
@@ -142,12 +165,13 @@ static int32_t send_all(struct wire *wire) {
             length += wire->lengths[place] - skip;
             skip = 0;
         }
-        ssize_t count = send(wire->socket, text, length, MSG_NOSIGNAL);
+        ssize_t count = send(wire->socket, text, length, MSG_NOSIGNAL | MSG_DONTWAIT);
         if (count <= 0) {
             int32_t stop = failed(wire, count, POLLOUT, BEFORE);
             if (stop) return stop;
             continue;
         }
+        wire->until = 0;
         for (uint32_t done = (uint32_t)count; done > 0;) {
             uint32_t rest = wire->lengths[(wire->first + wire->sent) % REQUESTS] - wire->bytes, own = done < rest ? done : rest;
             wire->bytes = own == rest ? 0 : wire->bytes + own;
@@ -159,73 +183,127 @@ static int32_t send_all(struct wire *wire) {
     return GOES_ON;
 }
 
-/* The number that these bytes are, decimal digits alone; -1 if they are none. */
-static int64_t number(const uint8_t *at, const uint8_t *end) {
+/* ---- heads */
+
+/* Some bytes of a text. */
+struct text { const uint8_t *at, *end; };
+
+static bool is_text(struct text text, struct text other) {
+    return text.end - text.at == other.end - other.at && memcmp(text.at, other.at, (size_t)(other.end - other.at)) == 0;
+}
+
+/* Whether it is this name, in small or capital letters. */
+static bool is_named(struct text text, const char *name) {
+    for (; text.at < text.end && *name; text.at++, name++) {
+        uint8_t letter = *text.at >= 'A' && *text.at <= 'Z' ? *text.at | 32 : *text.at;
+        if (letter != (uint8_t)*name) return false;
+    }
+    return text.at == text.end && !*name;
+}
+
+/* The number that it is, decimal digits alone; -1 if it is none. */
+static int64_t number(struct text text) {
     int64_t value = 0;
-    if (at == end || end - at > DIGITS) return -1;
-    for (; at < end; at++) {
-        if (*at < '0' || *at > '9') return -1;
-        value = 10 * value + (*at - '0');
+    if (text.at == text.end || text.end - text.at > DIGITS) return -1;
+    for (; text.at < text.end; text.at++) {
+        if (*text.at < '0' || *text.at > '9') return -1;
+        value = 10 * value + (*text.at - '0');
     }
     return value;
 }
 
-/* How many bytes a request asks for; -1 if it doesn't say so. */
-static int64_t asked(const uint8_t *text, size_t length) {
-    static const char field[] = "\r\nRange: bytes=";
-    const uint8_t *end = text + length, *at = memmem(text, length, field, sizeof field - 1);
-    if (!at) return -1;
-    at += sizeof field - 1;
-    const uint8_t *dash = memchr(at, '-', (size_t)(end - at)), *stop = memchr(at, '\r', (size_t)(end - at));
-    if (!dash || !stop || dash > stop) return -1;
-    int64_t first = number(at, dash), last = number(dash + 1, stop);
-    return first < 0 || last < first ? -1 : last - first + 1;
+/* What a request has behind these words, up to the end of the line; empty, where it hasn't them. */
+static struct text field_of(struct text request, const char *words) {
+    const uint8_t *at = memmem(request.at, (size_t)(request.end - request.at), words, strlen(words));
+    if (!at) return (struct text){request.end, request.end};
+    at += strlen(words);
+    const uint8_t *end = memchr(at, '\r', (size_t)(request.end - at));
+    return (struct text){at, end ? end : request.end};
 }
 
-static bool is_named(const uint8_t *line, const uint8_t *colon, const char *name) {
-    return (size_t)(colon - line) == strlen(name) && !strncasecmp((const char *)line, name, strlen(name));
-}
+/* What the head of a part says. */
+struct part {
+    int64_t length;        /* of its body; -1: nothing */
+    int64_t first;         /* of its range; -1: nothing */
+    struct text tag;       /* empty, where none or several are there */
+    uint32_t tags;
+};
 
-/* The length of the body behind this head, as far as its last CR LF, of a part that leaves the connection open; -1 if it may be of another
- * answer (RFC 9112, section 6.3). */
-static int64_t body_of(const uint8_t *head, size_t length) {
-    static const char status[] = "HTTP/1.1 206 ";
-    const uint8_t *end = head + length;
-    int64_t body = -1;
-    if (length < sizeof status - 1 || memcmp(head, status, sizeof status - 1) || memchr(head, 0, length)) return -1;
-    for (const uint8_t *line = head, *stop; line < end; line = stop + 2) {
-        stop = memchr(line, '\r', (size_t)(end - line));
-        if (!stop || stop + 1 >= end || stop[1] != '\n' || memchr(line, '\n', (size_t)(stop - line)) || *line == ' ' || *line == '\t') return -1;
-        if (line == head) continue;
-        const uint8_t *colon = memchr(line, ':', (size_t)(stop - line));
-        if (!colon) return -1;
-        const uint8_t *from = colon + 1, *to = stop;
-        while (from < to && (*from == ' ' || *from == '\t')) from++;
-        while (from < to && (to[-1] == ' ' || to[-1] == '\t')) to--;
-        if (is_named(line, colon, "transfer-encoding")) return -1;
-        if (is_named(line, colon, "connection") && !is_named(from, to, "keep-alive")) return -1;
-        if (is_named(line, colon, "content-length")) {
-            if (body >= 0) return -1;
-            body = number(from, to);
-            if (body < 0) return -1;
-        }
+/* Takes a line of a head, and says whether it may be one of a part that leaves the connection open (RFC 9112, sections 5 and 6.3). */
+static bool take_line(struct text line, struct part *part) {
+    const uint8_t *colon = memchr(line.at, ':', (size_t)(line.end - line.at));
+    if (!colon || *line.at == ' ' || *line.at == '\t' || memchr(line.at, '\n', (size_t)(line.end - line.at))) return false;
+    struct text name = {line.at, colon}, value = {colon + 1, line.end};
+    while (value.at < value.end && (*value.at == ' ' || *value.at == '\t')) value.at++;
+    while (value.at < value.end && (value.end[-1] == ' ' || value.end[-1] == '\t')) value.end--;
+    if (is_named(name, "transfer-encoding")) return false;
+    if (is_named(name, "connection")) return is_named(value, "keep-alive");
+    if (is_named(name, "content-length")) {
+        bool again = part->length >= 0;
+        part->length = number(value);
+        return !again && part->length >= 0;
     }
-    return body;
+    if (is_named(name, "etag")) part->tag = part->tags++ ? (struct text){value.end, value.end} : value;
+    if (is_named(name, "content-range") && value.end - value.at > 6 && is_named((struct text){value.at, value.at + 6}, "bytes ")) {
+        const uint8_t *dash = memchr(value.at, '-', (size_t)(value.end - value.at));
+        if (part->first >= 0) return false;
+        part->first = dash ? number((struct text){value.at + 6, dash}) : -1;
+    }
+    return true;
 }
 
-/* Receives the head of an answer, and begins the answer where it is such a part, no longer than what was asked for. */
+/* Whether this head, up to its last CR LF, is that of such a part, and has a length. */
+static bool take_head(struct text head, struct part *part) {
+    static const char status[] = "HTTP/1.1 206 ";
+    size_t length = (size_t)(head.end - head.at);
+    if (length < sizeof status - 1 || memcmp(head.at, status, sizeof status - 1) || memchr(head.at, 0, length)) return false;
+    *part = (struct part){-1, -1, {head.end, head.end}, 0};
+    for (const uint8_t *line = head.at, *stop; line < head.end; line = stop + 2) {
+        stop = memchr(line, '\r', (size_t)(head.end - line));
+        if (!stop || stop + 1 >= head.end || stop[1] != '\n') return false;
+        if (line == head.at ? memchr(line, '\n', (size_t)(stop - line)) != NULL : !take_line((struct text){line, stop}, part)) return false;
+    }
+    return part->length >= 0;
+}
+
+/* Whether the body is one to be taken whole: no longer than what was asked for, and where it is long, of that place and revision. */
+static bool is_asked(const struct part *part, struct text request) {
+    struct text range = field_of(request, "\r\nRange: bytes="), tag = field_of(request, "\r\nIf-Range: ");
+    const uint8_t *dash = memchr(range.at, '-', (size_t)(range.end - range.at));
+    if (!dash) return false;
+    int64_t first = number((struct text){range.at, dash}), last = number((struct text){dash + 1, range.end});
+    if (first < 0 || last < first || part->length > last - first + 1) return false;
+    return part->length <= FRONT || (part->first == first && (tag.at == tag.end || is_text(part->tag, tag)));
+}
+
+/* ---- answers */
+
+/* Why a head isn't there, of which these bytes came. */
+static int32_t without_head(const struct wire *wire, int32_t stop) {
+    size_t came = wire->end - wire->begin;
+    if (stop != BEFORE || came == 0) return stop;
+    return wire->error == 0 ? ODD : came < STATUS ? BEFORE : HEADLESS;
+}
+
+/* Receives the head of an answer, and begins the answer where it is such a part. */
 static int32_t receive_head(struct cog_client *client, struct wire *wire) {
     const uint8_t *blank;
     while (!(blank = memmem(wire->room + wire->begin, wire->end - wire->begin, "\r\n\r\n", 4))) {
         if (wire->end - wire->begin >= HEAD_ROOM) return ODD;
+        if (wire->end - wire->begin >= STATUS && !memcmp(wire->room + wire->begin + 8, " 408", 4)) break;
         int32_t stop = receive(wire, BEFORE);
-        if (stop) return stop == BEFORE && wire->error != ETIMEDOUT && wire->begin < wire->end ? ODD : stop;
+        if (stop) return without_head(wire, stop);
     }
-    size_t head = (size_t)(blank + 4 - (wire->room + wire->begin));
-    int64_t body = head > HEAD_ROOM ? -1 : body_of(wire->room + wire->begin, head - 2);
-    if (body < 0 || body > asked(wire->texts[wire->first], wire->lengths[wire->first])) return ODD;
+    if (wire->end - wire->begin >= STATUS && !memcmp(wire->room + wire->begin + 8, " 408", 4)) {
+        wire->error = 0;
+        return BEFORE;
+    }
+    struct text head = {wire->room + wire->begin, blank + 2};
+    struct text request = {wire->texts[wire->first], wire->texts[wire->first] + wire->lengths[wire->first]};
+    struct part part;
+    if (head.end + 2 - head.at > HEAD_ROOM || !take_head(head, &part) || !is_asked(&part, request)) return ODD;
     cog_client_begin(client);
-    wire->left = head + (uint64_t)body;
+    wire->left = (uint64_t)(head.end + 2 - head.at) + (uint64_t)part.length;
     wire->phase = BODY;
     return GOES_ON;
 }
@@ -254,39 +332,59 @@ static int32_t finish(struct cog_client *client, struct wire *wire) {
     wire->sent--;
     wire->phase = BETWEEN;
     if (cog_client_end(client, &wire->said) < 0) return MEMORY;
-    return wire->said.kind == TOOK && wire->said.number > 0 ? GOES_ON : ENDED;
+    if (wire->said.kind != TOOK || wire->said.number == 0) return ENDED;
+    return ++wire->exchanges < EXCHANGES ? GOES_ON : MANY;
 }
 
-/* Exchanges until a report stands, or until it stops elsewhere. */
-int32_t delgunsai_ask(struct cog_client *client, struct wire *wire) {
-    for (uint32_t count = 0; count < EXCHANGES; count++) {
+/* ---- exchanges */
+
+static int32_t ask_until(struct cog_client *client, struct wire *wire, int64_t slice) {
+    for (;;) {
         int32_t stop = wire->phase == BETWEEN ? start(client, wire) : GOES_ON;
         if (!stop && wire->phase == SENDING) stop = send_all(wire);
         if (!stop && wire->phase == HEAD) stop = receive_head(client, wire);
         if (!stop) stop = receive_body(client, wire);
         if (!stop) stop = finish(client, wire);
         if (stop) return stop;
+        if (now() >= slice) return INTERRUPTED;
     }
-    return MANY;
+}
+
+/* Exchanges until a report stands, or until it stops elsewhere. */
+int32_t delgunsai_ask(struct cog_client *client, struct wire *wire) {
+    return ask_until(client, wire, now() + SLICE);
+}
+
+/* Whether the report that stands is of this window, with these samples, bits and tag, and its samples are laid into their place. */
+static bool take_window(struct cog_client *client, const struct want *want, const struct cog_report *like, const uint8_t *tag, size_t tag_length) {
+    struct cog_report report;
+    uint8_t room[TAG_ROOM];
+    size_t length = (size_t)want->width * want->height * like->samples * (like->bits / 8);
+    if (cog_client_report(client, &report, room, sizeof room) != (int64_t)tag_length || memcmp(room, tag, tag_length)) return false;
+    if (report.kind != WINDOW || report.width != want->width || report.height != want->height) return false;
+    if (report.samples != like->samples || report.bits != like->bits) return false;
+    return cog_client_pixels(client, want->place, length) == (int64_t)length;
 }
 
 /* Reads windows of a level, as long as each has as many samples and bits as this report tells, and this tag: `done` counts them. REPORT
- * where all are read, or the next one's report tells something else. */
+ * where all are read, or the report of the next one tells something else. */
 int32_t delgunsai_read(struct cog_client *client, struct wire *wire, const struct want *wants, uint32_t count, uint32_t level, uint32_t swapped,
                        const struct cog_report *like, const uint8_t *tag, size_t tag_length, uint32_t *done) {
-    for (; *done < count; ++*done) {
+    int64_t slice = now() + SLICE;
+    while (*done < count) {
         const struct want *want = wants + *done;
-        if (wire->phase == BETWEEN) cog_client_open_window(client, want->x, want->y, want->width, want->height, level);
-        int32_t stop = delgunsai_ask(client, wire);
+        if (!wire->asked) {
+            cog_client_open_window(client, want->x, want->y, want->width, want->height, level);
+            wire->asked = 1;
+            wire->exchanges = 0;
+        }
+        int32_t stop = ask_until(client, wire, slice);
         if (stop != REPORT) return stop;
-        struct cog_report report;
-        uint8_t room[TAG_ROOM];
-        size_t length = (size_t)want->width * want->height * like->samples * (like->bits / 8);
-        if (cog_client_report(client, &report, room, sizeof room) != (int64_t)tag_length || memcmp(room, tag, tag_length)) return REPORT;
-        if (report.kind != WINDOW || report.width != want->width || report.height != want->height) return REPORT;
-        if (report.samples != like->samples || report.bits != like->bits) return REPORT;
-        if (cog_client_pixels(client, want->place, length) != (int64_t)length) return REPORT;
-        if (swapped) cog_swap_pairs(want->place, length);
+        if (!take_window(client, want, like, tag, tag_length)) return REPORT;
+        if (swapped) cog_swap_pairs(want->place, (size_t)want->width * want->height * like->samples * (like->bits / 8));
+        wire->asked = 0;
+        ++*done;
+        if (*done < count && now() >= slice) return INTERRUPTED;
     }
     return REPORT;
 }

@@ -1,7 +1,7 @@
 """A file that is read by windows."""
 from __future__ import annotations
 
-import concurrent.futures
+import contextlib
 import ctypes
 import dataclasses
 import numbers
@@ -38,6 +38,10 @@ GREATEST = 2 ** 32 - 1
 LONGEST = 2 ** 31 // 1000                               # seconds that poll() takes
 
 
+class Stopped(Exception):
+    """Another thread of the same call has raised what it raises."""
+
+
 class File:
     """A file that is read by windows, each of one revision. One that was replaced is read as the new one from then on, and never mixed:
     `tag` tells which revision was read last, `read_tagged()` that of an array, and `same()` asks the server.
@@ -61,6 +65,7 @@ class File:
         self._core = Core(*self._client)
         self._lock = threading.RLock()
         self._busy = False
+        self._stop: Optional[threading.Event] = None
         self._tag: Optional[str] = None
         self._info: Optional[Info] = None
 
@@ -134,7 +139,8 @@ class File:
     def read_windows(self, windows: Iterable[Sequence[SupportsIndex]], *, level: SupportsIndex = 0,
                      connections: SupportsIndex = 4) -> List[NDArray[Any]]:
         """What `read` gives of each of these windows (x, y, width, height), in their order, all of one revision, which `tag` tells then. They
-        are read side by side over so many connections, 1 to 64, which stay open until `close`, each with as many blocks and a thread.
+        are read side by side over so many connections, 1 to 64, which stay open until `close`, each with as many blocks and a thread. The
+        arrays share memory, up to 4 MiB (8 of 16 bits) each time.
 
         >>> [a.shape for a in f.read_windows([(0, 0, 256, 256), (3000, 2000, 64, 32)])]   # doctest: +SKIP
         [(256, 256), (32, 64)]
@@ -205,12 +211,15 @@ class File:
             return lambda stop: reader._alone(reader._share, rows, share, level, arrays, stop)
 
         for _ in range(TRIES):
-            tags = _side_by_side(list(map(reading, readers, shares)))
+            tags = _side_by_side(list(map(reading, readers, shares)), [reader._source.abort for reader in readers])
             if len(tags) <= 1:
                 self._tag = tags.pop() if tags else self._tag
                 return arrays
             for reader in readers:
-                reader._core.forget()
+                if reader is self:
+                    reader._core.forget()
+                else:
+                    reader._alone(reader._core.forget)
         raise Lost(f'the file was replaced {TRIES} times while it was read')
 
     def _share(self, rows: NDArray[Any], share: NDArray[Any], level: int, arrays: List[Any], stop: threading.Event) -> Set[str]:
@@ -218,23 +227,27 @@ class File:
         tags: Set[str] = set()
         like: Optional[Tuple[_core.Report, str]] = None
         at = 0
-        while at < len(share) and not stop.is_set():
-            carried = None
-            if like is not None and self._source.carries():
-                some = share[at:at + SOME]
-                done, carried = self._some(rows, some, level, arrays, *like)
-                at += done
-                if done == len(some):
-                    continue
-            row = share[at]
-            if carried is None:
-                x, y, width, height = rows[row].tolist()
-                self._core.open_window(x, y, width, height, level)
-            report, tag = self._report(carried)
-            arrays[row] = self._core.pixels(report)
-            like = _core.Report.from_buffer_copy(report), tag
-            tags.add(tag)
-            at += 1
+        self._stop = stop
+        try:
+            while at < len(share) and not stop.is_set():
+                carried = None
+                if like is not None and self._source.carries():
+                    some = share[at:at + SOME]
+                    done, carried = self._some(rows, some, level, arrays, *like)
+                    at += done
+                    if done == len(some):
+                        continue
+                row = share[at]
+                if carried is None:
+                    x, y, width, height = rows[row].tolist()
+                    self._core.open_window(x, y, width, height, level)
+                report, tag = self._report(carried)
+                arrays[row] = self._core.pixels(report)
+                like = _core.Report.from_buffer_copy(report), tag
+                tags.add(tag)
+                at += 1
+        finally:
+            self._stop = None
         return tags
 
     def _some(self, rows: NDArray[Any], share: NDArray[Any], level: int, arrays: List[Any], like: _core.Report,
@@ -295,6 +308,8 @@ class File:
         failed: Optional[Exception] = None
         failures = restarts = 0
         for _ in range(_core.EXCHANGES):
+            if self._stop is not None and self._stop.is_set():
+                raise Stopped
             if carried is None and failures == 0 and restarts < TRIES:
                 carried = self._source.carry(self._core, self._core.ask)
             if carried is not None and carried.kind:
@@ -385,26 +400,50 @@ def _rows(windows: Iterable[Sequence[SupportsIndex]]) -> NDArray[Any]:
     return numpy.array([_numbers(x=x, y=y, width=width, height=height) for x, y, width, height in given], 'i8')
 
 
-def _side_by_side(shares: List[Callable[[threading.Event], Set[str]]]) -> Set[str]:
-    """Runs these at once, the first in this thread, and gives what all of them give. Where one raises the others are told to stop."""
+def _side_by_side(shares: List[Callable[[threading.Event], Set[str]]], aborts: List[Callable[[], None]]) -> Set[str]:
+    """Runs these at once, the first in this thread, and gives what all of them give. Where one raises the others are told to stop, and what
+    they wait for is ended; all have ended then."""
     stop = threading.Event()
+    tags: Set[str] = set()
+    errors: List[BaseException] = []
 
-    def run(share: Callable[[threading.Event], Set[str]]) -> Set[str]:
+    def run(share: Callable[[threading.Event], Set[str]]) -> None:
         try:
-            return share(stop)
-        except BaseException:
+            tags.update(share(stop))
+        except Stopped:
+            pass
+        except BaseException as error:
+            errors.append(error)
             stop.set()
-            raise
+            aborts[0]()                                    # what this thread waits for in the first of them
 
-    if len(shares) == 1:
-        return run(shares[0])
-    with concurrent.futures.ThreadPoolExecutor(len(shares) - 1) as pool:
-        others = [pool.submit(run, share) for share in shares[1:]]
-        try:
-            return run(shares[0]).union(*(other.result() for other in others))
-        except BaseException:
-            stop.set()
-            raise
+    def finish() -> None:
+        for thread, abort in zip(threads, aborts[1:]):
+            while thread.is_alive():
+                if stop.is_set():
+                    abort()
+                thread.join(0.05)
+
+    threads = [threading.Thread(target=run, args=(share,)) for share in shares[1:]]
+    try:
+        started = 0
+        with contextlib.suppress(RuntimeError):            # no more threads, as at the interpreter's end: this one reads what is left
+            for thread in threads:
+                thread.start()
+                started += 1
+        with contextlib.suppress(Stopped):
+            for share in shares[:1] + shares[1 + started:]:
+                tags.update(share(stop))
+        finish()
+        if errors:
+            raise errors[0]
+        return tags
+    except BaseException:
+        stop.set()
+        finish()
+        raise
+    finally:
+        errors.clear()                                     # whose frames hold this one, and the files
 
 
 _files: weakref.WeakSet[File] = weakref.WeakSet()

@@ -1,6 +1,7 @@
 """Where answers come from: a host, or a file of the disk."""
 from __future__ import annotations
 
+import contextlib
 import ctypes
 import encodings.idna                                    # which connect() imports: half done at a fork it would hang the child
 import errno
@@ -88,6 +89,9 @@ class Source(Protocol):
 
     def another(self) -> 'Source':
         """Another one to the same place, for use beside this one."""
+
+    def abort(self) -> None:
+        """Has an exchange that another thread waits for end soon, as where the connection ends."""
 
     def close(self) -> None:
         """Ends what is open."""
@@ -228,15 +232,14 @@ class Host:
         wire, stream = self._wire, self._connection.sock
         timeout = stream.gettimeout()
         wire.socket, wire.timeout = stream.fileno(), -1 if timeout is None else math.ceil(timeout * 1000)
-        wire.depth, wire.phase, wire.count, wire.kept, wire.begin, wire.end = self.depth, 0, 0, 0, 0, 0
+        wire.depth = self.depth
+        wire.phase = wire.count = wire.ahead = wire.kept = wire.asked = wire.exchanges = wire.until = wire.begin = wire.end = 0
         self._well = False                               # where a signal handler raises
         stop = run(wire)
         while stop == Stop.INTERRUPTED:
             stop = run(wire)
         self._losses = 0 if wire.kept else self._losses
-        if stop == Stop.ODD and self._room[wire.begin:wire.end][8:12] == b' 408':
-            stop, wire.error = Stop.BEFORE, 0
-        if stop in (Stop.BEFORE, Stop.MIDST, Stop.MEMORY, Stop.MANY):
+        if stop >= Stop.BEFORE:
             return self._broken(stop, core)
         self._begin, self._end, self.sent = wire.begin, wire.end, wire.requests() if wire.count else []
         self._begun, self._well = stop == Stop.ODD, True
@@ -244,12 +247,12 @@ class Host:
         return Carried(stop == Stop.REPORT, *((wire.said.kind, wire.said.number) if stop == Stop.ENDED else ()))
 
     def _broken(self, stop: int, core: Core) -> Carried:
-        """What is left where the connection failed: where it was kept for too long, nothing, as in `_first`."""
+        """What is left where the connection failed: nothing, where it was kept for too long (as in `_first`)."""
         wire = self._wire
         self._ahead, self.shared = wire.ahead > 0, wire.ahead > 0 or wire.count > 1
         late = wire.error == errno.ETIMEDOUT
         failed = socket.timeout('timed out') if late else OSError(wire.error, os.strerror(wire.error)) if wire.error else None
-        if stop in (Stop.BEFORE, Stop.MIDST):
+        if stop <= Stop.MIDST:
             self._lose(late)
         self.close()
         if stop == Stop.MEMORY:
@@ -258,9 +261,15 @@ class Host:
             raise Lost(f'no report in {_core.EXCHANGES} exchanges')
         if stop == Stop.BEFORE and (failed is None or isinstance(failed, ConnectionError) or late and self._ahead):
             return Carried(False)
-        if stop == Stop.BEFORE:
+        if stop != Stop.MIDST:
             core.begin()
         return Carried(False, *core.end(), failed)
+
+    def abort(self) -> None:
+        stream = self._connection.sock
+        if stream is not None:
+            with contextlib.suppress(OSError):
+                socket.socket.shutdown(stream, socket.SHUT_RDWR)       # not that of TLS, which another thread may be in
 
     def exchange(self, request: bytes, later: List[bytes], take: Take) -> None:
         well, self._well = self._well, False
@@ -431,6 +440,9 @@ class Disk:
 
     def another(self) -> 'Disk':
         return Disk(self.where)
+
+    def abort(self) -> None:
+        pass
 
     def close(self) -> None:
         pass

@@ -143,6 +143,10 @@ class Resets(bytes):
     """An answer behind which the connection is reset."""
 
 
+class Silent(bytes):
+    """An answer behind which nothing comes any more."""
+
+
 class Made(socketserver.ThreadingTCPServer):
     """Gives the answers that `answer` makes of a request and its number, from 1 on: bytes, or a list of them that are sent apart. It counts
     connections, requests and the bytes that were sent. With `Batching` the number is of the requests that came at once, of which the first
@@ -165,6 +169,13 @@ class Made(socketserver.ThreadingTCPServer):
         super().__exit__(*words)
 
 
+def reset(connection):
+    """Ends a connection so, behind what was sent."""
+    time.sleep(0.02)
+    connection.setsockopt(socket.SOL_SOCKET, socket.SO_LINGER, struct.pack('ii', 1, 0))
+    connection.close()
+
+
 class Making(socketserver.BaseRequestHandler):
     def handle(self):
         self.server.connections += 1
@@ -180,6 +191,11 @@ class Making(socketserver.BaseRequestHandler):
                         self.request.sendall(piece[at:at + 65536])
                         self.server.sent += len(piece[at:at + 65536])
                     time.sleep(0.001 if isinstance(answer, list) else 0)
+                if isinstance(answer, Resets):
+                    return reset(self.request)
+                while isinstance(answer, Silent):
+                    if not self.request.recv(65536):
+                        return
                 if isinstance(answer, Ends) or b'Connection: close' in text[:end]:
                     return
                 text = text[end:]
@@ -197,9 +213,7 @@ class Batching(socketserver.BaseRequestHandler):
                 answer = self.server.answer(text[:text.index(b'\r\n\r\n') + 4], text.count(b'\r\n\r\n'))
                 self.request.sendall(answer)
                 if isinstance(answer, Resets):
-                    time.sleep(0.02)
-                    self.request.setsockopt(socket.SOL_SOCKET, socket.SO_LINGER, struct.pack('ii', 1, 0))
-                    self.request.close()
+                    reset(self.request)
                 if isinstance(answer, (Ends, Resets)):
                     return
         except OSError:

@@ -1,10 +1,15 @@
 """Many windows by one call: what `read` gives of each, of one revision."""
+import contextlib
+import gc
 import itertools
 import os
 import signal
+import subprocess
+import sys
 import threading
 import time
 import unittest
+import weakref
 from unittest import mock
 
 import delgunsai
@@ -17,6 +22,8 @@ from support import EXAMPLE, FOLDER, RASTERIO, TLS, needs
 SAMPLES = [noise(1000), noise(1000)[::-1].copy()]
 TEXTS = [plain(samples) for samples in SAMPLES]
 WINDOWS = [(x, y, 30 + x % 7, 40 + y % 5) for x, y in itertools.product(range(0, 950, 90), range(0, 950, 70))]
+FIRST, LAST = (0, 990, 11, 11), (990, 0, 11, 11)
+"""Windows that pass a side, in the share of the first connection, and of the last."""
 
 
 def cut_out(samples, window):
@@ -119,6 +126,23 @@ class Many(unittest.TestCase):
                 self.assertTrue(all(numpy.array_equal(array, cut_out(SAMPLES[number], window)) for array, window in zip(arrays, WINDOWS)))
                 self.assertEqual(number == 1 or server.requests < at, True)
 
+    def test_of_two_revisions(self):
+        """A server that has another revision for each connection gives no windows of one."""
+        tags = {}
+
+        def answer(request, _):
+            return served(request, TEXTS[0], b'"%d"' % tags.setdefault(threading.get_ident(), len(tags)))
+        with Made(answer) as server, delgunsai.open(server.url()) as file:
+            with self.assertRaises(delgunsai.Lost) as seen:
+                file.read_windows(WINDOWS, connections=3)
+            self.assertIn('the file was replaced 3 times while it was read', str(seen.exception))
+            first = server.requests
+            with self.assertRaises(delgunsai.Lost):
+                file.read_windows(WINDOWS, connections=3)
+            self.assertEqual((len(tags), server.connections), (3, 3))
+            self.assertEqual(first % 3, 0, 'all was read three times')
+            self.right(file, connections=1)
+
     def test_replaced_each_time(self):
         with Made(lambda request, number: served(request, TEXTS[0], b'"%d"' % number)) as server, delgunsai.open(server.url()) as file:
             with self.assertRaises(delgunsai.Lost) as seen:
@@ -137,31 +161,96 @@ class Many(unittest.TestCase):
                     passing.cut = cut
                     arrays = other.read_windows(windows)
                     self.assertTrue(all(map(numpy.array_equal, arrays, wanted)))
-                    self.assertEqual(passing.cuts, 2)
+                    self.assertGreaterEqual(passing.cuts, 2)
                     passing.shutdown()
 
-    def test_signals(self):
-        """What a signal handler raises comes as it is; no thread is left, and the file is read on."""
+    def raises(self, seconds):
+        """Sets a deadline, which a signal handler raises, and gives when it was set."""
         def handle(*_):
             raise TimeoutError('too late')
         self.addCleanup(signal.signal, signal.SIGALRM, signal.signal(signal.SIGALRM, handle))
+        self.addCleanup(signal.setitimer, signal.ITIMER_REAL, 0)
+        signal.setitimer(signal.ITIMER_REAL, seconds)
+        return time.monotonic()
+
+    def test_signals(self):
+        """What a signal handler raises comes as it is and soon, whatever is waited for; no thread is left, and the file is read on."""
         waits = [0.0]
 
         def answer(request, _):
             time.sleep(waits[-1])
             return served(request, TEXTS[0])
-        with Made(answer) as server:
-            for connections in 1, 4:
-                file = delgunsai.open(server.url())
-                waits.append(0.3)
+        for carries, connections, timeout, kept in itertools.product((True, False), (1, 4), (20, None), (True, False)):
+            with self.subTest(carries=carries, connections=connections, timeout=timeout, kept=kept), Made(answer) as server, \
+                    delgunsai.open(server.url(), timeout=timeout) as file, contextlib.ExitStack() as patched:
+                if not carries:
+                    patched.enter_context(mock.patch.object(_sources.Host, 'carry', return_value=None))
+                if kept:
+                    file.read_windows(WINDOWS[:connections], connections=connections)
+                waits.append(2.0)
+                before = threading.active_count()
                 with self.assertRaisesRegex(TimeoutError, 'too late'):
-                    signal.setitimer(signal.ITIMER_REAL, 0.1)
+                    start = self.raises(0.2)
                     file.read_windows(WINDOWS, connections=connections)
-                signal.setitimer(signal.ITIMER_REAL, 0)
-                self.assertFalse([thread for thread in threading.enumerate() if 'ThreadPool' in thread.name])
+                self.assertLess(time.monotonic() - start, 1.5)
+                self.assertLessEqual(threading.active_count(), before + 2 * connections)      # the server's
+                self.assertFalse([thread for thread in threading.enumerate() if '_side_by_side' in thread.name])
                 waits.append(0.0)
                 self.right(file)
-                file.close()
+
+    def test_another_raises(self):
+        """Where one window is a fault, the windows of other connections aren't waited for."""
+        for fault, is_slow in (FIRST, lambda connection: connection > 0), (LAST, lambda connection: connection == 0):
+            connections, slow = {}, []
+
+            def answer(request, _):
+                connection = connections.setdefault(threading.get_ident(), len(connections))
+                time.sleep(3 if slow and is_slow(connection) else 0)
+                return served(request, TEXTS[0])
+            with Made(answer) as server, delgunsai.open(server.url(), timeout=20) as file:
+                file.read(x=0, y=0, width=1, height=1)
+                slow.append(True)
+                start = time.monotonic()
+                self.assertRaises(delgunsai.Outside, file.read_windows, [*WINDOWS, fault])
+                self.assertLess(time.monotonic() - start, 2)
+
+    def test_last_name(self):
+        """A file that isn't closed ends with its last name, behind a fault of one of many windows too."""
+        self.addCleanup(gc.enable)
+        gc.disable()
+        with Made(lambda request, _: served(request, TEXTS[0])) as server:
+            for fault, connections in itertools.product((FIRST, LAST), (1, 4)):
+                file = delgunsai.open(server.url())
+                with self.assertRaises(delgunsai.Outside):
+                    file.read_windows([*WINDOWS, fault], connections=connections)
+                there = [weakref.ref(one) for one in (file, *file._others)]
+                del file
+                self.assertEqual([one() for one in there], [None] * len(there), (fault, connections))
+
+    def test_after_the_main_thread(self):
+        """A thread that outlives the main one reads, too."""
+        path = os.path.join(FOLDER, 'late.tif')
+        with open(path, 'wb') as out:
+            out.write(TEXTS[0])
+        program = f"""
+import delgunsai, threading, time
+def work():
+    time.sleep(0.3)
+    with delgunsai.open_file({path!r}) as file:
+        print(len(file.read_windows([(x, 0, 9, 9) for x in range(40)])))
+threading.Thread(target=work).start()
+"""
+        done = subprocess.run([sys.executable, '-c', program], capture_output=True, text=True,
+                              env={**os.environ, 'PYTHONPATH': os.path.dirname(os.path.dirname(delgunsai.__file__))})
+        self.assertEqual((done.stdout, done.stderr), ('40\n', ''))
+
+    def test_without_threads(self):
+        """Where no thread can be had this one reads all."""
+        with open(os.path.join(FOLDER, 'many.tif'), 'wb') as out:
+            out.write(TEXTS[0])
+        with delgunsai.open_file(os.path.join(FOLDER, 'many.tif')) as file, \
+                mock.patch.object(threading.Thread, 'start', side_effect=RuntimeError("can't start new thread")):
+            self.right(file)
 
     def test_close_and_fork(self):
         with Made(lambda request, _: served(request, TEXTS[0])) as server, delgunsai.open(server.url()) as file:

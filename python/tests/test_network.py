@@ -18,7 +18,7 @@ import delgunsai
 import numpy
 from delgunsai import _core, _sources
 from files import noise, plain
-from servers import Batching, Ends, Made, Nginx, Resets, head, served
+from servers import Batching, Ends, Made, Nginx, Resets, Silent, head, served
 from support import CORE, EXAMPLE, FOLDER, HEAP, TLS, TOP, needs
 
 SAMPLES = noise(1000)
@@ -175,6 +175,36 @@ class Interrupted(unittest.TestCase):
             host.exchange(of_bytes(0), [], answer.extend)
             self.assertTrue(answer.endswith(b'\r\n\r\n' + TEXT[:10]))
             host.close()
+
+    def ticks(self, seconds):
+        """Has a signal handler that does nothing run so often, until the test ends."""
+        self.addCleanup(signal.signal, signal.SIGALRM, signal.signal(signal.SIGALRM, lambda *_: None))
+        self.addCleanup(signal.setitimer, signal.ITIMER_REAL, 0)
+        signal.setitimer(signal.ITIMER_REAL, seconds, seconds)
+
+    def test_timeout_between_signals(self):
+        """Signals don't make a wait longer, on a connection that is kept either."""
+        silent = []
+        with Made(lambda request, _: b'' if silent else served(request, TEXT)) as server, \
+                delgunsai.open(server.url(), timeout=0.4) as file:
+            self.assertTrue(right(file, 0, 0, 10))
+            silent.append(True)
+            self.ticks(0.03)
+            start = time.monotonic()
+            self.assertRaisesRegex(delgunsai.Lost, '3 exchanges: timed out', lambda: right(file, 700, 700, 10))
+            took = time.monotonic() - start
+            self.assertTrue(1.2 <= took < 3, took)
+
+    def test_signals_in_bodies(self):
+        """A handler that returns interrupts an answer, which goes on."""
+        def answer(request, _):
+            text = served(request, TEXT)
+            return [text[at:at + 4096] for at in range(0, len(text), 4096)]
+        with Made(answer) as server, delgunsai.open(server.url()) as file:
+            self.assertTrue(right(file, 0, 0, 10))
+            self.ticks(0.002)
+            self.assertTrue(all(right(file, x, x) for x in (200, 400, 600)))
+            self.assertEqual(server.connections, 1)
 
     def raises(self, kind, form=lambda handle: handle):
         """Sets a signal handler of a form that raises this error, until the test ends."""
@@ -499,6 +529,45 @@ class Unneeded(unittest.TestCase):
                 self.assertTrue(right(file, 0, 0, 10) and right(file, 800, 800))
                 self.assertEqual(server.connections, 2)
         self.refused(late, 3, 408)
+
+
+PLACES = 0, 5, 11, 12, 20, 150, 20000
+
+
+class Alike(unittest.TestCase):
+    """What comes of a kept connection that fails is the same without the interpreter and with it."""
+
+    def after(self, read, failure, once):
+        """What comes of this where the answers fail, or the next one alone: what is raised, and how the server was asked."""
+        failing = [False]
+
+        def answer(request, _):
+            text, fails = served(request, TEXT), failing[0]
+            failing[0] = fails and not once
+            return failure(text) if fails else text
+        with Made(answer) as server, delgunsai.open(server.url(), timeout=0.3) as file:
+            file.read(**cut_out(0, 0, 10))
+            failing[0], raised = True, ''
+            try:
+                self.assertTrue(read(file))
+            except delgunsai.Error as error:
+                raised = f'{type(error).__name__} {error}'.replace(server.url(), '')
+            source = file._source
+            return raised, server.requests, server.connections, source.depth, source._losses
+
+    def test_alike(self):
+        late = head(b'408 Request Timeout', b'Content-Length: 0')
+        failures = {f'{kind.__name__} behind {at}': lambda text, kind=kind, at=at: kind(text[:at])
+                    for kind, places in ((Ends, PLACES), (Resets, PLACES), (Silent, (0, 11, 12, 20000))) for at in places}
+        failures.update({f'{kind.__name__} of 408 behind {at}': lambda _, kind=kind, at=at: kind(late[:at])
+                         for kind, at in itertools.product((Ends, Resets, Silent), (12, 20, 100)) if kind is not Silent or at == 20})
+        for name, failure in failures.items():
+            for read, once in itertools.product((lambda file: right(file, 700, 700, 10), lambda file: tall(file, 500)), (False, True)):
+                seen = self.after(read, failure, once)
+                with mock.patch.object(_sources.Host, 'carry', return_value=None):
+                    wanted = self.after(read, failure, once)
+                with self.subTest(name, once=once):
+                    self.assertEqual(seen, wanted)
 
 
 class InPython(unittest.TestCase):
