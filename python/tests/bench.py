@@ -122,7 +122,7 @@ def by_calls(url, windows):
     import rasterio
     from rasterio.windows import Window
     with rasterio.open('/vsicurl/' + url) as file:
-        return [file.read(1, window=Window(*window)) for window in windows]
+        return [file.read(1 if file.count == 1 else None, window=Window(*window)) for window in windows]
 
 
 def by_threads(url, windows):
@@ -144,7 +144,8 @@ def at_once(row, urls, windows):
     for k in range(0, len(urls), 2):
         took = [seconds(by_one_call, urls[k], windows), seconds(by_calls, urls[k], windows), seconds(by_threads, urls[k + 1], windows)]
         best = [min(one, more) for one, (more, _) in zip(best, took)]
-        if not all(all(map(numpy.array_equal, took[0][1], arrays)) for _, arrays in took[1:]):
+        if not all(numpy.array_equal(mine, numpy.moveaxis(other, 0, -1) if other.ndim == 3 else other)
+                   for _, arrays in took[1:] for mine, other in zip(took[0][1], arrays)):
             sys.exit('python: a window differs')
     tell(f'{row}, all by one call', len(windows), *best[:2])
     print(f'  beside it rasterio in {CONNECTIONS} threads: {best[2]:.3f} s, {len(windows) / best[2]:.0f} in a second; the package has '
@@ -208,11 +209,12 @@ def forms(count):
         os.utime(path, (time.time() - 3600,) * 2)
         source = random.Random(1)
         windows = [(source.randint(0, width - SIDE), source.randint(0, HEIGHT - SIDE), SIDE, SIDE) for _ in range(count)]
-        names = [f'{k}.tif' for k in range(2 * SERIES)]
+        names = [f'{k}.tif' for k in range(4 * SERIES)]
         with Cogserve({name: path for name in names}) as server:
             urls = [server.url(name) for name in names]
             compare([f'loopback, {form}, in turn', 'the same again'], urls[:SERIES], windows)
-            compare([f'loopback, {form}, one after another', 'the same again'], urls[SERIES:], windows, way=apart)
+            compare([f'loopback, {form}, one after another', 'the same again'], urls[SERIES:2 * SERIES], windows, way=apart)
+            at_once(f'loopback, {form}', urls[2 * SERIES:], windows)
 
 
 def main(near=1000, far=200):

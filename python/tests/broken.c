@@ -13,6 +13,7 @@ struct record {
     uint32_t total, span;          /* requests, and the bytes that each asks for */
     uint32_t windows;              /* in which they are asked; 0: of one, without its samples */
     uint32_t size;                 /* of the room */
+    uint32_t timeout;              /* milliseconds */
 };
 struct cog_client { size_t begun, ended, fed, limit, each, span; };
 struct stream { int socket; const struct record *record; uint8_t *bytes; };
@@ -126,7 +127,7 @@ int main(void) {
         stream.socket = pair[1];
         struct cog_client client = {.span = record.span, .limit = record.windows ? 0 : record.total,
                                     .each = record.windows ? record.total / record.windows : 0};
-        struct wire wire = {.socket = pair[0], .timeout = 300, .depth = 8, .room = room, .size = record.size};
+        struct wire wire = {.socket = pair[0], .timeout = (int32_t)record.timeout, .depth = 8, .room = room, .size = record.size};
         pthread_create(&thread, NULL, serve, &stream);
         int32_t stop = run(&client, &wire, &record, &done);
         printf("%d %zu %zu %zu %u %zu\n", stop, client.fed, client.begun, client.ended, done, wire.end - wire.begin);

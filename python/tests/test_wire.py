@@ -33,10 +33,10 @@ def program():
     return place
 
 
-def run(streams, total=2, span=10, windows=0, size=ROOM):
+def run(streams, total=2, span=10, windows=0, size=ROOM, timeout=10000):
     """Where each of these streams stops, how many bytes were fed, answers begun and ended, windows read, and bytes left: (stream, step,
     whether it ends)."""
-    records = b''.join(struct.pack('<7I', len(stream), step, ends, total, span, windows, size) + stream for stream, step, ends in streams)
+    records = b''.join(struct.pack('<8I', len(stream), step, ends, total, span, windows, size, timeout) + stream for stream, step, ends in streams)
     done = subprocess.run([program()], input=records, capture_output=True, timeout=300)
     if done.returncode or done.stderr:
         raise AssertionError(done.stderr.decode())
@@ -57,7 +57,7 @@ class Broken(unittest.TestCase):
 
     def test_silence(self):
         """What comes no more is waited for as long as the timeout says."""
-        rows = run([(PART[:at], len(PART), 0) for at in (0, 5, 20, HEAD, HEAD + 3, len(PART))])
+        rows = run([(PART[:at], len(PART), 0) for at in (0, 5, 20, HEAD, HEAD + 3, len(PART))], timeout=300)
         self.assertEqual([row[0] for row in rows], [BEFORE, BEFORE, MIDST - 1, MIDST, MIDST, BEFORE])
 
     def test_many_requests(self):
