@@ -10,7 +10,7 @@ from delgunsai import _sources
 from servers import head
 from support import FOLDER, HERE
 
-REPORT, ODD, BEFORE, MIDST = 1, 3, 5, 7
+REPORT, ELSE, ODD, BEFORE, MIDST = 1, 2, 3, 5, 7
 ROOM = 1 << 17
 
 
@@ -69,7 +69,7 @@ class Broken(unittest.TestCase):
         for at in range(0, len(answers), 111):
             row, = run([(answers[:at], len(answers), 1)], 30, windows=10)
             self.assertEqual(row[4], row[3] // 3)
-            self.assertIn(row[0], (ODD, BEFORE, MIDST))
+            self.assertIn(row[0], (ELSE, ODD, BEFORE, MIDST))
 
     def test_odd(self):
         """Answers that aren't parts as a server of ranges sends them are left where they are, whole."""
