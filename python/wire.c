@@ -24,7 +24,7 @@ int64_t cog_client_pixels(struct cog_client *, uint8_t *room, size_t length);
 void cog_swap_pairs(uint8_t *room, size_t length);
 
 enum { REQUESTS = 9, REQUEST_ROOM = 1024, TAG_ROOM = 64, HEAD_ROOM = 4096, FRONT = 65536, STATUS = 12, DIGITS = 18, EXCHANGES = 65536 };
-enum { SLICE = 100 };      /* milliseconds after which the interpreter may look for signals */
+enum { SLICE = 100 };      /* after how many milliseconds the interpreter is let look for signals */
 enum { TOOK = 1, WINDOW = 1 };
 
 /* Where it stopped. */
@@ -32,10 +32,10 @@ enum {
     GOES_ON = 0,
     REPORT = 1,      /* nothing is asked: a report stands */
     ELSE = 2,        /* the next exchange isn't begun: the connection isn't as it should be for it */
-    ODD = 3,         /* the answer that begins in the room is no such part; nothing of it is taken */
+    ODD = 3,         /* the answer that begins in the room is no such part, or ended within its head; nothing of it is taken */
     ENDED = 4,       /* an answer was taken whole, and brought no block */
-    BEFORE = 5,      /* the connection failed before the status of an answer, or that is 408 */
-    HEADLESS = 6,    /* it failed in the rest of a head, of which nothing is taken */
+    BEFORE = 5,      /* the connection failed before the status of an answer was there, or that is 408 */
+    HEADLESS = 6,    /* it failed, or the wait was too long, behind the status and before the end of the head; nothing is taken */
     MIDST = 7,       /* it failed in the midst of an answer, whose front is taken */
     INTERRUPTED = 8, /* by a signal, or for one: called again it goes on */
     MEMORY = 9,      /* was wanted */
@@ -60,6 +60,7 @@ struct wire {
     int32_t error;         /* why the connection failed; 0 at its end */
     struct cog_said said;  /* of the last answer */
     int64_t until;         /* when the wait ends that goes on, by `now`; 0: none does */
+    int64_t slice;         /* when the interpreter is let in */
     uint64_t left;         /* bytes of the answer that aren't taken */
     uint8_t *room;         /* what was received: the bytes from begin to end aren't taken */
     size_t size, begin, end;
@@ -69,6 +70,7 @@ struct wire {
 
 /* A window of many, and the place for its samples. */
 struct want { uint32_t x, y, width, height; uint8_t *place; };
+_Static_assert(sizeof(struct want) == 16 + sizeof(uint8_t *), "as WANT of _core.py has it");
 
 /* Milliseconds, from 1 on. */
 static int64_t now(void) {
@@ -115,7 +117,7 @@ static int32_t receive(struct wire *wire, int32_t lost) {
     if (count <= 0) return failed(wire, count, POLLIN, lost);
     wire->end += (size_t)count;
     wire->until = 0;
-    return GOES_ON;
+    return now() < wire->slice ? GOES_ON : INTERRUPTED;
 }
 
 /* Whether the connection may carry a request: no byte came that wasn't asked for, nor its end. */
@@ -178,6 +180,7 @@ static int32_t send_all(struct wire *wire) {
             wire->sent += own == rest;
             done -= own;
         }
+        if (now() >= wire->slice) return INTERRUPTED;
     }
     wire->phase = HEAD;
     return GOES_ON;
@@ -338,7 +341,7 @@ static int32_t finish(struct cog_client *client, struct wire *wire) {
 
 /* ---- exchanges */
 
-static int32_t ask_until(struct cog_client *client, struct wire *wire, int64_t slice) {
+static int32_t ask(struct cog_client *client, struct wire *wire) {
     for (;;) {
         int32_t stop = wire->phase == BETWEEN ? start(client, wire) : GOES_ON;
         if (!stop && wire->phase == SENDING) stop = send_all(wire);
@@ -346,13 +349,14 @@ static int32_t ask_until(struct cog_client *client, struct wire *wire, int64_t s
         if (!stop) stop = receive_body(client, wire);
         if (!stop) stop = finish(client, wire);
         if (stop) return stop;
-        if (now() >= slice) return INTERRUPTED;
+        if (now() >= wire->slice) return INTERRUPTED;
     }
 }
 
 /* Exchanges until a report stands, or until it stops elsewhere. */
 int32_t delgunsai_ask(struct cog_client *client, struct wire *wire) {
-    return ask_until(client, wire, now() + SLICE);
+    wire->slice = now() + SLICE;
+    return ask(client, wire);
 }
 
 /* Whether the report that stands is of this window, with these samples, bits and tag, and its samples are laid into their place. */
@@ -370,7 +374,7 @@ static bool take_window(struct cog_client *client, const struct want *want, cons
  * where all are read, or the report of the next one tells something else. */
 int32_t delgunsai_read(struct cog_client *client, struct wire *wire, const struct want *wants, uint32_t count, uint32_t level, uint32_t swapped,
                        const struct cog_report *like, const uint8_t *tag, size_t tag_length, uint32_t *done) {
-    int64_t slice = now() + SLICE;
+    wire->slice = now() + SLICE;
     while (*done < count) {
         const struct want *want = wants + *done;
         if (!wire->asked) {
@@ -378,13 +382,13 @@ int32_t delgunsai_read(struct cog_client *client, struct wire *wire, const struc
             wire->asked = 1;
             wire->exchanges = 0;
         }
-        int32_t stop = ask_until(client, wire, slice);
+        int32_t stop = ask(client, wire);
         if (stop != REPORT) return stop;
         if (!take_window(client, want, like, tag, tag_length)) return REPORT;
         if (swapped) cog_swap_pairs(want->place, (size_t)want->width * want->height * like->samples * (like->bits / 8));
         wire->asked = 0;
         ++*done;
-        if (*done < count && now() >= slice) return INTERRUPTED;
+        if (*done < count && now() >= wire->slice) return INTERRUPTED;
     }
     return REPORT;
 }

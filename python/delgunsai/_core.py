@@ -50,7 +50,7 @@ class Wire(ctypes.Structure):
     """struct wire of wire.c."""
     _fields_ = [('socket', ctypes.c_int32), ('timeout', ctypes.c_int32),
                 *((name, ctypes.c_uint32) for name in ('depth', 'phase', 'count', 'first', 'sent', 'bytes', 'ahead', 'kept', 'asked', 'exchanges')),
-                ('error', ctypes.c_int32), ('said', Said), ('until', ctypes.c_int64), ('left', ctypes.c_uint64), ('room', ctypes.c_void_p),
+                ('error', ctypes.c_int32), ('said', Said), ('until', ctypes.c_int64), ('slice', ctypes.c_int64), ('left', ctypes.c_uint64), ('room', ctypes.c_void_p),
                 *((name, ctypes.c_size_t) for name in ('size', 'begin', 'end')),
                 ('lengths', ctypes.c_uint32 * REQUESTS), ('texts', ctypes.c_char * REQUEST_ROOM * REQUESTS)]
 
@@ -65,7 +65,7 @@ class Stop(enum.IntEnum):
     REPORT, ELSE, ODD, ENDED, BEFORE, HEADLESS, MIDST, INTERRUPTED, MEMORY, MANY = range(1, 11)
 
 
-WANT = numpy.dtype([(name, 'u4') for name in ('x', 'y', 'width', 'height')] + [('place', 'u8')])
+WANT = numpy.dtype([*((name, 'u4') for name in ('x', 'y', 'width', 'height')), ('place', numpy.uintp)])
 """struct want of wire.c."""
 
 

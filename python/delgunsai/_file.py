@@ -10,6 +10,7 @@ import os
 import re
 import ssl
 import threading
+import time
 import weakref
 from typing import Any, Callable, Iterable, List, NoReturn, Optional, Sequence, Set, SupportsIndex, Tuple, TypeVar, Union
 
@@ -20,7 +21,7 @@ from . import _core
 from ._core import Core, Piece
 from ._errors import Error, Lost, NotUsed, fault_of
 from ._info import Info, read_info
-from ._sources import Address, Carried, Disk, Host, Source, of_handler
+from ._sources import Address, Carried, Disk, Host, Source, Stopped, of_handler
 
 Result = TypeVar('Result')
 TRIES = 3
@@ -28,7 +29,7 @@ BAND = 1024
 """Rows that are read together of many windows: tiles of a band stay in the blocks."""
 SOME = 64
 EACH = 4
-"""How many windows share memory at most, and how many a connection is made for."""
+"""How many windows share memory at most, and how many there are to a connection, where it isn't the last one."""
 MOST_SAMPLES = 4_194_304
 CUT, REVISION, LENGTH = 1, 10, 11
 UNSATISFIABLE = 416
@@ -36,10 +37,6 @@ FRONT = 16
 PART = b'HTTP/1.1 206'
 GREATEST = 2 ** 32 - 1
 LONGEST = 2 ** 31 // 1000                               # seconds that poll() takes
-
-
-class Stopped(Exception):
-    """Another thread of the same call has raised what it raises."""
 
 
 class File:
@@ -65,7 +62,6 @@ class File:
         self._core = Core(*self._client)
         self._lock = threading.RLock()
         self._busy = False
-        self._stop: Optional[threading.Event] = None
         self._tag: Optional[str] = None
         self._info: Optional[Info] = None
 
@@ -139,8 +135,8 @@ class File:
     def read_windows(self, windows: Iterable[Sequence[SupportsIndex]], *, level: SupportsIndex = 0,
                      connections: SupportsIndex = 4) -> List[NDArray[Any]]:
         """What `read` gives of each of these windows (x, y, width, height), in their order, all of one revision, which `tag` tells then. They
-        are read side by side over so many connections, 1 to 64, which stay open until `close`, each with as many blocks and a thread. The
-        arrays share memory, up to 4 MiB (8 of 16 bits) each time.
+        are read side by side over up to so many connections, 1 to 64, each with as many blocks, which are kept until `close`. Up to 64 arrays
+        may lie in one piece of memory, of 4 MiB at most, or 8 MiB of 16 bits.
 
         >>> [a.shape for a in f.read_windows([(0, 0, 256, 256), (3000, 2000, 64, 32)])]   # doctest: +SKIP
         [(256, 256), (32, 64)]
@@ -179,6 +175,7 @@ class File:
             if not self._open:
                 raise ValueError('the file is closed')
             self._busy = True
+            self._source.begin()
             try:
                 return do(*words)
             except Error as error:
@@ -227,27 +224,23 @@ class File:
         tags: Set[str] = set()
         like: Optional[Tuple[_core.Report, str]] = None
         at = 0
-        self._stop = stop
-        try:
-            while at < len(share) and not stop.is_set():
-                carried = None
-                if like is not None and self._source.carries():
-                    some = share[at:at + SOME]
-                    done, carried = self._some(rows, some, level, arrays, *like)
-                    at += done
-                    if done == len(some):
-                        continue
-                row = share[at]
-                if carried is None:
-                    x, y, width, height = rows[row].tolist()
-                    self._core.open_window(x, y, width, height, level)
-                report, tag = self._report(carried)
-                arrays[row] = self._core.pixels(report)
-                like = _core.Report.from_buffer_copy(report), tag
-                tags.add(tag)
-                at += 1
-        finally:
-            self._stop = None
+        while at < len(share) and not stop.is_set():
+            carried = None
+            if like is not None and self._source.carries():
+                some = share[at:at + SOME]
+                done, carried = self._some(rows, some, level, arrays, *like)
+                at += done
+                if done == len(some):
+                    continue
+            row = share[at]
+            if carried is None:
+                x, y, width, height = rows[row].tolist()
+                self._core.open_window(x, y, width, height, level)
+            report, tag = self._report(carried)
+            arrays[row] = self._core.pixels(report)
+            like = _core.Report.from_buffer_copy(report), tag
+            tags.add(tag)
+            at += 1
         return tags
 
     def _some(self, rows: NDArray[Any], share: NDArray[Any], level: int, arrays: List[Any], like: _core.Report,
@@ -308,8 +301,6 @@ class File:
         failed: Optional[Exception] = None
         failures = restarts = 0
         for _ in range(_core.EXCHANGES):
-            if self._stop is not None and self._stop.is_set():
-                raise Stopped
             if carried is None and failures == 0 and restarts < TRIES:
                 carried = self._source.carry(self._core, self._core.ask)
             if carried is not None and carried.kind:
@@ -401,49 +392,76 @@ def _rows(windows: Iterable[Sequence[SupportsIndex]]) -> NDArray[Any]:
 
 
 def _side_by_side(shares: List[Callable[[threading.Event], Set[str]]], aborts: List[Callable[[], None]]) -> Set[str]:
-    """Runs these at once, the first in this thread, and gives what all of them give. Where one raises the others are told to stop, and what
-    they wait for is ended; all have ended then."""
+    """Runs these at once, the first in this thread, and gives what all of them give. Where one raises, the others are told to stop, and what
+    they wait for is ended. No thread is left at work."""
     stop = threading.Event()
     tags: Set[str] = set()
     errors: List[BaseException] = []
+    begun: List[None] = []
+    ended: List[None] = []
+
+    def end() -> None:
+        stop.set()
+        for abort in aborts:
+            abort()
 
     def run(share: Callable[[threading.Event], Set[str]]) -> None:
+        begun.append(None)
         try:
-            tags.update(share(stop))
+            if not stop.is_set():
+                tags.update(share(stop))
         except Stopped:
             pass
         except BaseException as error:
             errors.append(error)
-            stop.set()
-            aborts[0]()                                    # what this thread waits for in the first of them
+            end()
+        finally:
+            ended.append(None)
 
-    def finish() -> None:
-        for thread, abort in zip(threads, aborts[1:]):
-            while thread.is_alive():
-                if stop.is_set():
-                    abort()
-                thread.join(0.05)
-
-    threads = [threading.Thread(target=run, args=(share,)) for share in shares[1:]]
+    threads = [threading.Thread(target=run, args=(share,), name='read_windows') for share in shares[1:]]
     try:
-        started = 0
-        with contextlib.suppress(RuntimeError):            # no more threads, as at the interpreter's end: this one reads what is left
-            for thread in threads:
-                thread.start()
-                started += 1
+        started = _started(threads)
         with contextlib.suppress(Stopped):
             for share in shares[:1] + shares[1 + started:]:
                 tags.update(share(stop))
-        finish()
+        for thread in threads[:started]:
+            thread.join()
         if errors:
             raise errors[0]
         return tags
     except BaseException:
-        stop.set()
-        finish()
+        _end_all(end, lambda: len(ended) < len(begun))     # a thread that begins later stops at once
         raise
     finally:
         errors.clear()                                     # whose frames hold this one, and the files
+
+
+def _started(threads: List[threading.Thread]) -> int:
+    """Starts these threads, and says how many can be had: none at the interpreter's end."""
+    for count, thread in enumerate(threads):
+        try:
+            thread.start()
+        except RuntimeError as error:
+            if thread.ident is not None or of_handler(error):
+                raise
+            return count
+    return len(threads)
+
+
+def _end_all(end: Callable[[], None], at_work: Callable[[], bool]) -> None:
+    """Ends threads, whatever signal handlers raise meanwhile; the last of that is raised. A join that they interrupt may tell wrongly that
+    a thread has ended (bpo-45274)."""
+    raised: Optional[BaseException] = None
+    goes_on = True
+    while goes_on:
+        try:
+            end()
+            goes_on = at_work()
+            time.sleep(0.005 if goes_on else 0)
+        except BaseException as error:
+            raised = error
+    if raised is not None:
+        raise raised
 
 
 _files: weakref.WeakSet[File] = weakref.WeakSet()
@@ -452,6 +470,7 @@ _files: weakref.WeakSet[File] = weakref.WeakSet()
 def _forked() -> None:
     """In a process that was forked no thread holds a lock. A client that one was calling is left as it is, and another one begins."""
     for file in _files:
+        file._source.forked()
         if file._busy or not file._lock.acquire(blocking=False):
             file._begin()
         else:

@@ -14,6 +14,7 @@ import select
 import signal
 import socket
 import ssl
+import threading
 import traceback
 from types import CodeType
 from typing import BinaryIO, Callable, Iterator, List, NamedTuple, Optional, Protocol, Tuple, Type, Union
@@ -45,10 +46,14 @@ def _code_of(handler: object) -> Optional[CodeType]:
     return getattr(handler, '__code__', None) or getattr(getattr(handler, '__call__', None), '__code__', None)
 
 
-def of_handler(error: OSError) -> bool:
+def of_handler(error: Exception) -> bool:
     """Whether a signal handler raised this, as TimeoutError at a deadline: then it tells nothing of a connection or an answer."""
     handlers = {_code_of(signal.getsignal(number)) for number in signal.valid_signals()}
     return any(frame.f_code in handlers for frame, _ in traceback.walk_tb(error.__traceback__))
+
+
+class Stopped(Exception):
+    """Another part of the same call raised an exception: this part ends."""
 
 
 class Carried(NamedTuple):
@@ -58,9 +63,9 @@ class Carried(NamedTuple):
     """Whether a report stands; else the next exchange is to be made, or gone on with."""
     kind: int = 0
     number: int = 0
-    """What is said of the last answer, where it brought nothing; else 0."""
+    """What the core says of the last answer, where that was cut or brought nothing; else 0."""
     lost: Optional[Exception] = None
-    """Why the rest of it is lost."""
+    """Why the rest of it is lost; None too where the other end ended it."""
 
 
 class Source(Protocol):
@@ -91,7 +96,14 @@ class Source(Protocol):
         """Another one to the same place, for use beside this one."""
 
     def abort(self) -> None:
-        """Has an exchange that another thread waits for end soon, as where the connection ends."""
+        """Has what another thread asks for end, and each exchange raise Stopped, until `begin`. A connection that is being made is waited
+        for."""
+
+    def begin(self) -> None:
+        """Lets exchanges be made again."""
+
+    def forked(self) -> None:
+        """Tells that this is a process that was forked, in which no thread has a lock."""
 
     def close(self) -> None:
         """Ends what is open."""
@@ -218,6 +230,12 @@ class Host:
         self._wire = Wire(room=ctypes.addressof(Front.from_buffer(self._room)), size=PIECE)
         self._process = os.getpid()
         self.depth = DEPTH
+        self._aborted = False
+        self.forked()
+
+    def forked(self) -> None:
+        self._closing = threading.Lock()
+        """Of who ends the connection: its descriptor is another's then."""
 
     def another(self) -> 'Host':
         return Host(*self._words)
@@ -236,8 +254,11 @@ class Host:
         wire.phase = wire.count = wire.ahead = wire.kept = wire.asked = wire.exchanges = wire.until = wire.begin = wire.end = 0
         self._well = False                               # where a signal handler raises
         stop = run(wire)
-        while stop == Stop.INTERRUPTED:
+        while stop == Stop.INTERRUPTED and not self._aborted:
             stop = run(wire)
+        if self._aborted:
+            self.close()
+            raise Stopped
         self._losses = 0 if wire.kept else self._losses
         if stop >= Stop.BEFORE:
             return self._broken(stop, core)
@@ -266,14 +287,22 @@ class Host:
         return Carried(False, *core.end(), failed)
 
     def abort(self) -> None:
-        stream = self._connection.sock
-        if stream is not None:
-            with contextlib.suppress(OSError):
-                socket.socket.shutdown(stream, socket.SHUT_RDWR)       # not that of TLS, which another thread may be in
+        self._aborted = True
+        with self._closing, contextlib.suppress(OSError):
+            if self._connection.sock is not None and self._process == os.getpid():       # else it is the parent's
+                socket.socket.shutdown(self._connection.sock, socket.SHUT_RDWR)          # not that of TLS, in which its thread may be
+
+    def begin(self) -> None:
+        self._aborted = False
+
+    def _check_goes_on(self) -> None:
+        if self._aborted:
+            raise Stopped
 
     def exchange(self, request: bytes, later: List[bytes], take: Take) -> None:
         well, self._well = self._well, False
         begun, self._begun = self._begun, False
+        self._check_goes_on()
         if not well or self._process != os.getpid() or self.sent[:1] not in ([], [request]):
             self._process = os.getpid()                  # the connection stays the parent's: to close it here sends nothing, of TLS neither
             self.close()
@@ -319,7 +348,9 @@ class Host:
             later = []
         self._ahead = self.shared = False
         self.close()
+        self._check_goes_on()
         self._connection.connect()
+        self._check_goes_on()
         self._send([request, *later])
         return self._more()
 
@@ -403,7 +434,8 @@ class Host:
     def close(self) -> None:
         self.sent = []
         self._begin = self._end = 0
-        self._connection.close()
+        with self._closing:
+            self._connection.close()
 
 
 class Disk:
@@ -442,6 +474,12 @@ class Disk:
         return Disk(self.where)
 
     def abort(self) -> None:
+        pass
+
+    def begin(self) -> None:
+        pass
+
+    def forked(self) -> None:
         pass
 
     def close(self) -> None:

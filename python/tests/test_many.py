@@ -1,4 +1,5 @@
 """Many windows by one call: what `read` gives of each, of one revision."""
+import _thread
 import contextlib
 import gc
 import itertools
@@ -164,6 +165,13 @@ class Many(unittest.TestCase):
                     self.assertGreaterEqual(passing.cuts, 2)
                     passing.shutdown()
 
+    def ended(self):
+        """No thread of a call is left, but for one that is about to end."""
+        end = time.monotonic() + 1
+        while [thread for thread in threading.enumerate() if thread.name == 'read_windows']:
+            self.assertLess(time.monotonic(), end)
+            time.sleep(0.01)
+
     def raises(self, seconds):
         """Sets a deadline, which a signal handler raises, and gives when it was set."""
         def handle(*_):
@@ -194,25 +202,82 @@ class Many(unittest.TestCase):
                     file.read_windows(WINDOWS, connections=connections)
                 self.assertLess(time.monotonic() - start, 1.5)
                 self.assertLessEqual(threading.active_count(), before + 2 * connections)      # the server's
-                self.assertFalse([thread for thread in threading.enumerate() if '_side_by_side' in thread.name])
+                self.ended()
                 waits.append(0.0)
                 self.right(file)
 
     def test_another_raises(self):
-        """Where one window is a fault, the windows of other connections aren't waited for."""
-        for fault, is_slow in (FIRST, lambda connection: connection > 0), (LAST, lambda connection: connection == 0):
+        """Where one window is a fault, the windows of other connections aren't waited for, nor tried over another connection."""
+        for (fault, is_slow), carries, timeout in itertools.product(
+                ((FIRST, lambda connection: connection > 0), (LAST, lambda connection: connection not in (1, 2, 3))), (True, False), (20, None)):
             connections, slow = {}, []
 
             def answer(request, _):
-                connection = connections.setdefault(threading.get_ident(), len(connections))
+                connection = connections.setdefault(threading.current_thread(), len(connections))
                 time.sleep(3 if slow and is_slow(connection) else 0)
                 return served(request, TEXTS[0])
-            with Made(answer) as server, delgunsai.open(server.url(), timeout=20) as file:
+            with self.subTest(fault=fault, carries=carries, timeout=timeout), Made(answer) as server, \
+                    delgunsai.open(server.url(), timeout=timeout) as file, contextlib.ExitStack() as patched:
+                if not carries:
+                    patched.enter_context(mock.patch.object(_sources.Host, 'carry', return_value=None))
                 file.read(x=0, y=0, width=1, height=1)
                 slow.append(True)
                 start = time.monotonic()
                 self.assertRaises(delgunsai.Outside, file.read_windows, [*WINDOWS, fault])
                 self.assertLess(time.monotonic() - start, 2)
+                self.assertLessEqual(server.connections, 4)
+                slow.clear()
+                self.right(file)
+
+    def test_raised_again(self):
+        """What a handler raises while the threads are ended leaves none of them."""
+        waits = [0.0]
+
+        def answer(request, _):
+            time.sleep(waits[-1])
+            return served(request, TEXTS[0])
+        with Made(answer) as server, delgunsai.open(server.url(), timeout=20) as file:
+            self.right(file, WINDOWS[:32], connections=8)
+            waits.append(3.0)
+            with self.assertRaisesRegex(TimeoutError, 'too late'):
+                start = self.raises(0.2)
+                signal.setitimer(signal.ITIMER_REAL, 0.2, 0.004)
+                try:
+                    file.read_windows(WINDOWS, connections=8)
+                finally:
+                    signal.setitimer(signal.ITIMER_REAL, 0)
+            self.assertLess(time.monotonic() - start, 2)
+            self.ended()
+            waits.append(0.0)
+            self.right(file, connections=8)
+
+    def test_raised_by_a_start(self):
+        """A RuntimeError that a thread's start raises, though it runs, is a handler's."""
+        start = threading.Thread.start
+
+        def started(thread):
+            start(thread)
+            if thread.name == 'read_windows':
+                raise RuntimeError('of a handler')
+        with Made(lambda request, _: served(request, TEXTS[0])) as server, delgunsai.open(server.url()) as file:
+            with mock.patch.object(threading.Thread, 'start', started):
+                self.assertRaisesRegex(RuntimeError, 'of a handler', file.read_windows, WINDOWS)
+            self.right(file)
+
+    def test_interrupted_between_bytes(self):
+        """An interrupt that no wait sees comes within an answer that goes on and on."""
+        def answer(request, _):
+            text = served(request, TEXTS[0])
+            return [text[at:at + 16] for at in range(0, len(text), 16)] if slow else text
+        slow = []
+        with Made(answer) as server, delgunsai.open(server.url()) as file:
+            file.read(x=0, y=0, width=1, height=1)
+            slow.append(True)
+            start = time.monotonic()
+            threading.Timer(0.2, _thread.interrupt_main).start()
+            with self.assertRaises(KeyboardInterrupt):
+                file.read(x=700, y=700, width=10, height=10)
+            self.assertLess(time.monotonic() - start, 1)
 
     def test_last_name(self):
         """A file that isn't closed ends with its last name, behind a fault of one of many windows too."""
@@ -268,6 +333,21 @@ threading.Thread(target=work).start()
             self.assertEqual((before, server.connections), (4, 8))
             self.right(file)
             self.assertEqual(server.connections, 8)
+            child = os.fork()
+            if child == 0:                                   # a fault there ends nothing of the parent's
+                holds = False
+                try:
+                    file.read_windows([*WINDOWS, LAST])
+                except delgunsai.Outside:
+                    holds = True
+                finally:
+                    os._exit(not holds)
+            self.assertEqual(os.waitpid(child, 0)[1], 0)
+            before = server.connections
+            for reader in (file, *file._others):
+                reader._core.forget()
+            self.right(file)
+            self.assertEqual(server.connections, before)
             sources = [file._source, *(other._source for other in file._others)]
             file.close()
             self.assertEqual([source._connection.sock for source in sources], [None] * 4)

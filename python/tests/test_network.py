@@ -561,11 +561,21 @@ class Alike(unittest.TestCase):
                     for kind, places in ((Ends, PLACES), (Resets, PLACES), (Silent, (0, 11, 12, 20000))) for at in places}
         failures.update({f'{kind.__name__} of 408 behind {at}': lambda _, kind=kind, at=at: kind(late[:at])
                          for kind, at in itertools.product((Ends, Resets, Silent), (12, 20, 100)) if kind is not Silent or at == 20})
+        self.alike(failures, lambda seen: seen)
+
+    def test_parts_alike(self):
+        """So it is of parts that can't be used; how many of the requests behind one the server sees before the connection ends is chance."""
+        parts = {f'a part with {field}': lambda text, field=field: text.replace(b'ETag: "1"', field)
+                 for field in (b'ETag: "2"', b'ETag: W/"1"', b'A: b', b'ETag: "' + b'1' * 70 + b'"')}
+        parts['a part of another length'] = lambda text: text.replace(b'/%d' % len(TEXT), b'/%d' % (len(TEXT) + 1))
+        self.alike(parts, lambda seen: (seen[0], *seen[2:]))
+
+    def alike(self, failures, of):
         for name, failure in failures.items():
             for read, once in itertools.product((lambda file: right(file, 700, 700, 10), lambda file: tall(file, 500)), (False, True)):
-                seen = self.after(read, failure, once)
+                seen = of(self.after(read, failure, once))
                 with mock.patch.object(_sources.Host, 'carry', return_value=None):
-                    wanted = self.after(read, failure, once)
+                    wanted = of(self.after(read, failure, once))
                 with self.subTest(name, once=once):
                     self.assertEqual(seen, wanted)
 
