@@ -537,17 +537,17 @@ PLACES = 0, 5, 11, 12, 20, 150, 20000
 class Alike(unittest.TestCase):
     """What comes of a kept connection that fails is the same without the interpreter and with it."""
 
-    def after(self, read, failure, once):
-        """What comes of this where the answers fail, or the next one alone: what is raised, and how the server was asked."""
-        failing = [False]
+    def after(self, read, failure, place, once):
+        """What comes of this where the answers fail from this place on, or that one alone: what is raised, and how the server was asked."""
+        left = [-1]
 
         def answer(request, _):
-            text, fails = served(request, TEXT), failing[0]
-            failing[0] = fails and not once
+            text, fails = served(request, TEXT), left[0] == 1
+            left[0] -= left[0] > 1 or fails and once
             return failure(text) if fails else text
         with Made(answer) as server, delgunsai.open(server.url(), timeout=0.3) as file:
             file.read(**cut_out(0, 0, 10))
-            failing[0], raised = True, ''
+            left[0], raised = place, ''
             try:
                 self.assertTrue(read(file))
             except delgunsai.Error as error:
@@ -572,11 +572,12 @@ class Alike(unittest.TestCase):
 
     def alike(self, failures, of):
         for name, failure in failures.items():
-            for read, once in itertools.product((lambda file: right(file, 700, 700, 10), lambda file: tall(file, 500)), (False, True)):
-                seen = of(self.after(read, failure, once))
+            for (read, place), once in itertools.product(((lambda file: right(file, 700, 700, 10), 1), (lambda file: tall(file, 500), 1),
+                                                          (lambda file: tall(file, 500), 3)), (False, True)):
+                seen = of(self.after(read, failure, place, once))
                 with mock.patch.object(_sources.Host, 'carry', return_value=None):
-                    wanted = of(self.after(read, failure, once))
-                with self.subTest(name, once=once):
+                    wanted = of(self.after(read, failure, place, once))
+                with self.subTest(name, place=place, once=once):
                     self.assertEqual(seen, wanted)
 
 
