@@ -133,7 +133,7 @@ class File:
         return self._alone(self._window, self._core.open_columns, _numbers(x=x, y=y, width=width, height=height, columns=columns))
 
     def read_windows(self, windows: Iterable[Sequence[SupportsIndex]], *, level: SupportsIndex = 0,
-                     connections: SupportsIndex = 4) -> List[NDArray[Any]]:
+                     connections: SupportsIndex = 8) -> List[NDArray[Any]]:
         """What `read` gives of each of these windows (x, y, width, height), in their order, all of one revision, which `tag` tells then. They
         are read side by side over up to so many connections, 1 to 64, each with as many blocks, which are kept until `close`. Up to 64 arrays
         may lie in one piece of memory, of 4 MiB at most, or 8 MiB of 16 bits.

@@ -1,5 +1,6 @@
 """Windows beside rasterio, over loopback and over round trips of 40 ms."""
 import ctypes
+import functools
 import os
 import random
 import shutil
@@ -31,7 +32,8 @@ ROUND_TRIP = 40
 ROUNDS = 5
 SERIES = 3
 SHARES = 10
-CONNECTIONS = 4
+THREADS = 8, 4
+WAYS = 2 + len(THREADS)
 
 
 def written():
@@ -114,7 +116,7 @@ def spread(row, urls, windows):
 def by_one_call(url, windows):
     """The windows of a file of which nothing is kept, by one call of the package."""
     with delgunsai.open(url, blocks=4096) as file:
-        return file.read_windows(windows, connections=CONNECTIONS)
+        return file.read_windows(windows)
 
 
 def by_calls(url, windows):
@@ -125,12 +127,12 @@ def by_calls(url, windows):
         return [file.read(1 if file.count == 1 else None, window=Window(*window)) for window in windows]
 
 
-def by_threads(url, windows):
-    """The same in as many threads as the package has, each with a data set and a share of its own: windows of the same rows."""
+def by_threads(count, url, windows):
+    """The same in so many threads, each with a data set and a share of its own: windows of the same rows."""
     order = sorted(range(len(windows)), key=lambda number: windows[number][1])
-    shares = [order[k * len(order) // CONNECTIONS:(k + 1) * len(order) // CONNECTIONS] for k in range(CONNECTIONS)]
+    shares = [order[k * len(order) // count:(k + 1) * len(order) // count] for k in range(count)]
     arrays = [None] * len(windows)
-    with ThreadPoolExecutor(CONNECTIONS) as pool:
+    with ThreadPoolExecutor(count) as pool:
         for share, read in zip(shares, pool.map(lambda share: by_calls(url, [windows[number] for number in share]), shares)):
             for number, array in zip(share, read):
                 arrays[number] = array
@@ -140,16 +142,22 @@ def by_threads(url, windows):
 def at_once(row, urls, windows):
     """Reads all windows by one call, and by rasterio as one does it, one after another, and in threads, and tells how long the best of each
     took. GDAL keeps what it read of a URL, so each has its own."""
-    best = [float('inf')] * 3
-    for k in range(0, len(urls), 2):
-        took = [seconds(by_one_call, urls[k], windows), seconds(by_calls, urls[k], windows), seconds(by_threads, urls[k + 1], windows)]
-        best = [min(one, more) for one, (more, _) in zip(best, took)]
-        if not all(numpy.array_equal(mine, numpy.moveaxis(other, 0, -1) if other.ndim == 3 else other)
-                   for _, arrays in took[1:] for mine, other in zip(took[0][1], arrays)):
-            sys.exit('python: a window differs')
+    ways = [by_one_call, by_calls, *(functools.partial(by_threads, count) for count in THREADS)]
+    best = [float('inf')] * len(ways)
+    for k in range(0, len(urls), len(ways)):
+        first = None
+        for number, (way, url) in enumerate(zip(ways, urls[k:])):
+            more, arrays = seconds(way, url, windows)
+            best[number] = min(best[number], more)
+            first = first or arrays
+            if not all(numpy.array_equal(mine, numpy.moveaxis(other, 0, -1) if first is not arrays and other.ndim == 3 else other)
+                       for mine, other in zip(first, arrays)):
+                sys.exit('python: a window differs')
+            del arrays                                       # whose memory the next one gets
     tell(f'{row}, all by one call', len(windows), *best[:2])
-    print(f'  beside it rasterio in {CONNECTIONS} threads: {best[2]:.3f} s, {len(windows) / best[2]:.0f} in a second; the package has '
-          f'{best[2] / best[0]:.2f} times its rate', flush=True)
+    for count, other in zip(THREADS, best[2:]):
+        print(f'  beside it rasterio in {count} threads: {other:.3f} s, {len(windows) / other:.0f} in a second; the package has '
+              f'{other / best[0]:.2f} times its rate', flush=True)
 
 
 def offsets_of(path):
@@ -209,7 +217,7 @@ def forms(count):
         os.utime(path, (time.time() - 3600,) * 2)
         source = random.Random(1)
         windows = [(source.randint(0, width - SIDE), source.randint(0, HEIGHT - SIDE), SIDE, SIDE) for _ in range(count)]
-        names = [f'{k}.tif' for k in range(4 * SERIES)]
+        names = [f'{k}.tif' for k in range((2 + WAYS) * SERIES)]
         with Cogserve({name: path for name in names}) as server:
             urls = [server.url(name) for name in names]
             compare([f'loopback, {form}, in turn', 'the same again'], urls[:SERIES], windows)
@@ -224,14 +232,14 @@ def main(near=1000, far=200):
     source = random.Random(1)
     windows = [(source.randint(0, WIDTH - SIDE), source.randint(0, HEIGHT - SIDE), SIDE, SIDE) for _ in range(max(near, far))]
     path = written()
-    names = [f'{k}.tif' for k in range(4 * ROUNDS + SHARES + 3)]  # one for each round, since GDAL keeps what it read of a URL
+    names = [f'{k}.tif' for k in range((2 + WAYS) * ROUNDS + SHARES + 1 + WAYS)]  # one for each round, since GDAL keeps what it read of a URL
     with Cogserve({name: path for name in names}) as server:
         library, urls = compiled(), [server.url(name) for name in names[:2 * ROUNDS]]
         plans = [planned(url, path, windows[:near]) for url in urls]
         floors = [(Floor(server.port, plan), Compiled(library, server.port, plan)) for plan in plans]
         compare(['loopback, in turn', 'the same again'], urls[:ROUNDS], windows[:near], floors[:ROUNDS])
         compare(['loopback, one after another', 'the same again'], urls[ROUNDS:], windows[:near], floors[ROUNDS:], apart)
-        at_once('loopback', [server.url(name) for name in names[-2 * ROUNDS:]], windows[:near])
+        at_once('loopback', [server.url(name) for name in names[-WAYS * ROUNDS:]], windows[:near])
         forms(near)
         if TLS:
             beside_nginx(path, windows[:near])
@@ -241,7 +249,7 @@ def main(near=1000, far=200):
                                   f'127.0.0.1:{server.port}', str(ROUND_TRIP)], stdout=subprocess.PIPE)
         relay.stdout.readline()
         try:
-            urls = [f'http://127.0.0.1:{port}/{name}' for name in names[2 * ROUNDS + SHARES:][:3]]
+            urls = [f'http://127.0.0.1:{port}/{name}' for name in names[2 * ROUNDS + SHARES:][:1 + WAYS]]
             compare([f'round trips of {ROUND_TRIP} ms'], urls[:1], windows[:far])
             at_once(f'round trips of {ROUND_TRIP} ms', urls[1:], windows[:far])
         finally:

@@ -223,7 +223,7 @@ class Many(unittest.TestCase):
                 file.read(x=0, y=0, width=1, height=1)
                 slow.append(True)
                 start = time.monotonic()
-                self.assertRaises(delgunsai.Outside, file.read_windows, [*WINDOWS, fault])
+                self.assertRaises(delgunsai.Outside, file.read_windows, [*WINDOWS, fault], connections=4)
                 self.assertLess(time.monotonic() - start, 2)
                 self.assertLessEqual(server.connections, 4)
                 slow.clear()
@@ -319,25 +319,25 @@ threading.Thread(target=work).start()
 
     def test_close_and_fork(self):
         with Made(lambda request, _: served(request, TEXTS[0])) as server, delgunsai.open(server.url()) as file:
-            self.right(file, WINDOWS[:13])
+            self.right(file, WINDOWS[:13], connections=4)
             before = server.connections
             child = os.fork()
             if child == 0:
                 holds = False
                 try:
-                    self.right(file)
+                    self.right(file, connections=4)
                     holds = True
                 finally:
                     os._exit(not holds)
             self.assertEqual(os.waitpid(child, 0)[1], 0)
             self.assertEqual((before, server.connections), (4, 8))
-            self.right(file)
+            self.right(file, connections=4)
             self.assertEqual(server.connections, 8)
             child = os.fork()
             if child == 0:                                   # a fault there ends nothing of the parent's
                 holds = False
                 try:
-                    file.read_windows([*WINDOWS, LAST])
+                    file.read_windows([*WINDOWS, LAST], connections=4)
                 except delgunsai.Outside:
                     holds = True
                 finally:
@@ -346,7 +346,7 @@ threading.Thread(target=work).start()
             before = server.connections
             for reader in (file, *file._others):
                 reader._core.forget()
-            self.right(file)
+            self.right(file, connections=4)
             self.assertEqual(server.connections, before)
             sources = [file._source, *(other._source for other in file._others)]
             file.close()
