@@ -1,7 +1,6 @@
 """A file that is read by windows."""
 from __future__ import annotations
 
-import contextlib
 import ctypes
 import dataclasses
 import numbers
@@ -10,7 +9,6 @@ import os
 import re
 import ssl
 import threading
-import time
 import weakref
 from typing import Any, Callable, Iterable, List, NoReturn, Optional, Sequence, Set, SupportsIndex, Tuple, TypeVar, Union
 
@@ -19,9 +17,11 @@ from numpy.typing import NDArray
 
 from . import _core
 from ._core import Core, Piece
+from ._disk import Disk
 from ._errors import Error, Lost, NotUsed, fault_of
 from ._info import Info, read_info
-from ._sources import Address, Carried, Disk, Host, Source, Stopped, of_handler
+from ._sources import Address, Carried, Host, Source, of_handler
+from ._threads import side_by_side
 
 Result = TypeVar('Result')
 TRIES = 3
@@ -208,7 +208,7 @@ class File:
             return lambda stop: reader._alone(reader._share, rows, share, level, arrays, stop)
 
         for _ in range(TRIES):
-            tags = _side_by_side(list(map(reading, readers, shares)), [reader._source.abort for reader in readers])
+            tags = side_by_side(list(map(reading, readers, shares)), [reader._source.abort for reader in readers])
             if len(tags) <= 1:
                 self._tag = tags.pop() if tags else self._tag
                 return arrays
@@ -389,79 +389,6 @@ def _rows(windows: Iterable[Sequence[SupportsIndex]]) -> NDArray[Any]:
     if rows.dtype.kind in 'iu' and rows.ndim == 2 and rows.shape[1] == 4 and rows.min() >= 0 and rows.max() <= GREATEST:
         return rows.astype('i8')
     return numpy.array([_numbers(x=x, y=y, width=width, height=height) for x, y, width, height in given], 'i8')
-
-
-def _side_by_side(shares: List[Callable[[threading.Event], Set[str]]], aborts: List[Callable[[], None]]) -> Set[str]:
-    """Runs these at once, the first in this thread, and gives what all of them give. Where one raises, the others are told to stop, and what
-    they wait for is ended. No thread is left at work."""
-    stop = threading.Event()
-    tags: Set[str] = set()
-    errors: List[BaseException] = []
-    begun: List[None] = []
-    ended: List[None] = []
-
-    def end() -> None:
-        stop.set()
-        for abort in aborts:
-            abort()
-
-    def run(share: Callable[[threading.Event], Set[str]]) -> None:
-        begun.append(None)
-        try:
-            if not stop.is_set():
-                tags.update(share(stop))
-        except Stopped:
-            pass
-        except BaseException as error:
-            errors.append(error)
-            end()
-        finally:
-            ended.append(None)
-
-    threads = [threading.Thread(target=run, args=(share,), name='read_windows') for share in shares[1:]]
-    try:
-        started = _started(threads)
-        with contextlib.suppress(Stopped):
-            for share in shares[:1] + shares[1 + started:]:
-                tags.update(share(stop))
-        for thread in threads[:started]:
-            thread.join()
-        if errors:
-            raise errors[0]
-        return tags
-    except BaseException:
-        _end_all(end, lambda: len(ended) < len(begun))     # a thread that begins later stops at once
-        raise
-    finally:
-        errors.clear()                                     # whose frames hold this one, and the files
-
-
-def _started(threads: List[threading.Thread]) -> int:
-    """Starts these threads, and says how many can be had: none at the interpreter's end."""
-    for count, thread in enumerate(threads):
-        try:
-            thread.start()
-        except RuntimeError as error:
-            if thread.ident is not None or of_handler(error):
-                raise
-            return count
-    return len(threads)
-
-
-def _end_all(end: Callable[[], None], at_work: Callable[[], bool]) -> None:
-    """Ends threads, whatever signal handlers raise meanwhile; the last of that is raised. A join that they interrupt may tell wrongly that
-    a thread has ended (bpo-45274)."""
-    raised: Optional[BaseException] = None
-    goes_on = True
-    while goes_on:
-        try:
-            end()
-            goes_on = at_work()
-            time.sleep(0.005 if goes_on else 0)
-        except BaseException as error:
-            raised = error
-    if raised is not None:
-        raise raised
 
 
 _files: weakref.WeakSet[File] = weakref.WeakSet()

@@ -1,4 +1,4 @@
-"""Where answers come from: a host, or a file of the disk."""
+"""Where answers come from: a host, or what else is a source."""
 from __future__ import annotations
 
 import contextlib
@@ -17,7 +17,7 @@ import ssl
 import threading
 import traceback
 from types import CodeType
-from typing import BinaryIO, Callable, Iterator, List, NamedTuple, Optional, Protocol, Tuple, Type, Union
+from typing import Callable, List, NamedTuple, Optional, Protocol, Tuple, Type
 from urllib.parse import urlsplit
 
 from . import _core
@@ -436,75 +436,3 @@ class Host:
         self._begin = self._end = 0
         with self._closing:
             self._connection.close()
-
-
-class Disk:
-    """A file of the disk, which answers by ranges as a server would. Its tag is of its place, its length and its last change. An answer
-    is handed on only where the file didn't change while it was read."""
-
-    depth, shared = 0, False
-    sent: List[bytes] = []
-    final: Tuple[Type[OSError], ...] = (FileNotFoundError, IsADirectoryError, NotADirectoryError, PermissionError)
-
-    def __init__(self, path: Union[str, os.PathLike[str]]) -> None:
-        name = os.fsdecode(path)
-        with open(path, 'rb'):
-            pass
-        self.where = name if os.path.isabs(name) else os.path.join(os.getcwd(), name)
-
-    def exchange(self, request: bytes, later: List[bytes], take: Take) -> None:
-        with open(self.where, 'rb', buffering=0) as file:
-            state = os.fstat(file.fileno())
-            size = state.st_size
-            tag = b'"%x-%x-%x"' % (state.st_ino, size, state.st_mtime_ns)
-            pieces = list(_answer(request, tag, size, file))
-            after = os.fstat(file.fileno())
-            if (after.st_size, after.st_mtime_ns) != (size, state.st_mtime_ns):
-                raise OSError('the file changed while it was read')
-        for piece in pieces:
-            take(piece)
-
-    def carries(self) -> bool:
-        return False
-
-    def carry(self, core: Core, run: Callable[[Wire], int]) -> Optional[Carried]:
-        return None
-
-    def another(self) -> 'Disk':
-        return Disk(self.where)
-
-    def abort(self) -> None:
-        pass
-
-    def begin(self) -> None:
-        pass
-
-    def forked(self) -> None:
-        pass
-
-    def close(self) -> None:
-        pass
-
-
-def _answer(request: bytes, tag: bytes, size: int, file: BinaryIO) -> Iterator[bytes]:
-    """The answer to a request of the core: a part, or the front of the file where it has another tag."""
-    if request.startswith(b'HEAD '):
-        same = b'\r\nIf-None-Match: ' + tag + b'\r\n' in request
-        status = b'304 Not Modified' if same else b'200 OK'
-        yield b'HTTP/1.1 %s\r\nETag: %s\r\nContent-Length: %d\r\n\r\n' % (status, tag, size)
-        return
-    first, last = map(int, RANGE.findall(request)[0])
-    condition = re.findall(rb'\r\nIf-Range: (.*?)\r\n', request)
-    other = bool(condition) and condition[0] != tag          # which goes before the range (RFC 9110, section 13.2.2)
-    if first >= size and not (other and size):
-        yield b'HTTP/1.1 416 Range Not Satisfiable\r\nContent-Range: bytes */%d\r\nContent-Length: 0\r\n\r\n' % size
-        return
-    if other:
-        yield b'HTTP/1.1 200 OK\r\nETag: %s\r\nContent-Length: %d\r\n\r\n' % (tag, size)
-        yield file.read(FRONT)
-        return
-    last = min(last, size - 1)
-    yield b'HTTP/1.1 206 Partial Content\r\nETag: %s\r\nContent-Range: bytes %d-%d/%d\r\nContent-Length: %d\r\n\r\n' % (
-        tag, first, last, size, last - first + 1)
-    file.seek(first)
-    yield file.read(last - first + 1)

@@ -11,7 +11,7 @@ from unittest import mock
 
 import delgunsai
 import numpy
-from delgunsai import _sources
+from delgunsai import _disk
 from files import plain
 from servers import Batching, Cogserve, Cutting, Made, Nginx, Resets, served
 from support import EXAMPLE, FOLDER, RASTERIO, TLS, free_port, needs
@@ -162,7 +162,7 @@ class Replaced(unittest.TestCase):
         place = os.path.join(FOLDER, 'changing-bytes')
         with open(place, 'wb') as file:
             file.write(b'old' * 1000)
-        disk, pieces = _sources.Disk(place), []
+        disk, pieces = _disk.Disk(place), []
         for request in b'GET /file HTTP/1.1\r\nHost: disk\r\nRange: bytes=0-2999\r\n\r\n', b'HEAD /file HTTP/1.1\r\nHost: disk\r\n\r\n':
             with overwritten(place, b'new' * 1000), self.assertRaises(OSError):
                 disk.exchange(request, [], pieces.append)

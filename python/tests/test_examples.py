@@ -7,7 +7,7 @@ import re
 import unittest
 
 import delgunsai
-from delgunsai import _errors, _file, _info, _sources
+from delgunsai import _disk, _errors, _file, _info, _sources, _threads
 from servers import Cogserve
 from support import EXAMPLE, TOP
 
@@ -35,7 +35,7 @@ class Examples(unittest.TestCase):
         self.assertEqual([array.tolist() for array in names['arrays']], parts)
 
     def test_docstrings(self):
-        for module in delgunsai, _errors, _file, _info, _sources:
+        for module in delgunsai, _disk, _errors, _file, _info, _sources, _threads:
             self.assertEqual(doctest.testmod(module).failed, 0)
 
     def test_example_of_docs(self):

@@ -1,12 +1,7 @@
 """Processes that are forked, servers that bring nothing, and answers that nobody needs."""
-import contextlib
-import functools
-import itertools
 import os
 import re
 import signal
-import socket
-import ssl
 import subprocess
 import sys
 import threading
@@ -18,7 +13,7 @@ import delgunsai
 import numpy
 from delgunsai import _core, _sources
 from files import noise, plain
-from servers import Batching, Ends, Made, Nginx, Resets, Silent, head, served
+from servers import Batching, Ends, Made, Nginx, Resets, head, served
 from support import CORE, EXAMPLE, FOLDER, HEAP, TLS, TOP, needs
 
 SAMPLES = noise(1000)
@@ -138,161 +133,6 @@ class Forked(unittest.TestCase):
         program = 'import delgunsai, sys; sys.exit("encodings.idna" not in sys.modules)'
         folder = os.path.dirname(os.path.dirname(delgunsai.__file__))
         self.assertEqual(subprocess.run([sys.executable, '-c', program], env={**os.environ, 'PYTHONPATH': folder}).returncode, 0)
-
-
-class Interrupted(unittest.TestCase):
-    """Calls that a signal interrupts."""
-
-    def test_signal_handlers(self):
-        """A signal handler that uses the file of the call that it interrupts is refused; the call goes on."""
-        def answer(request, _):
-            time.sleep(0.3)
-            return served(request, TEXT)
-        for use in lambda file: right(file, 0, 0, 10), lambda file: file.close(), lambda file: file.same():
-            def read():
-                refused = []
-
-                def handle(*_):
-                    with self.assertRaises(RuntimeError):
-                        use(file)
-                    refused.append(True)
-                signal.signal(signal.SIGUSR1, handle)
-                threading.Timer(0.1, os.kill, (os.getpid(), signal.SIGUSR1)).start()
-                return right(file, 0, 0, 10) and refused == [True]
-            with Made(answer) as server, delgunsai.open(server.url()) as file:
-                self.assertEqual(os.waitpid(as_forked(read), 0)[1], 0)
-
-    def test_interrupted(self):
-        """Where the program gives an answer up, the server left no request unanswered."""
-        def interrupted(_):
-            raise KeyboardInterrupt
-        with Made(lambda request, _: served(request, TEXT)) as server:
-            host, answer = _sources.Host(_sources.Address(server.url()), 5, None), bytearray()
-            for first in range(0, 2000, 100):
-                with self.assertRaises(KeyboardInterrupt):
-                    host.exchange(of_bytes(first), [of_bytes(first + 10)], interrupted)
-            self.assertGreater(host.depth, 0)
-            host.exchange(of_bytes(0), [], answer.extend)
-            self.assertTrue(answer.endswith(b'\r\n\r\n' + TEXT[:10]))
-            host.close()
-
-    def ticks(self, seconds):
-        """Has a signal handler that does nothing run so often, until the test ends."""
-        self.addCleanup(signal.signal, signal.SIGALRM, signal.signal(signal.SIGALRM, lambda *_: None))
-        self.addCleanup(signal.setitimer, signal.ITIMER_REAL, 0)
-        signal.setitimer(signal.ITIMER_REAL, seconds, seconds)
-
-    def test_timeout_between_signals(self):
-        """Signals don't make a wait longer, on a connection that is kept either."""
-        silent = []
-        with Made(lambda request, _: b'' if silent else served(request, TEXT)) as server, \
-                delgunsai.open(server.url(), timeout=0.4) as file:
-            self.assertTrue(right(file, 0, 0, 10))
-            silent.append(True)
-            self.ticks(0.03)
-            start = time.monotonic()
-            self.assertRaisesRegex(delgunsai.Lost, '3 exchanges: timed out', lambda: right(file, 700, 700, 10))
-            took = time.monotonic() - start
-            self.assertTrue(1.2 <= took < 3, took)
-
-    def test_signals_in_bodies(self):
-        """A handler that returns interrupts an answer, which goes on."""
-        def answer(request, _):
-            text = served(request, TEXT)
-            return [text[at:at + 4096] for at in range(0, len(text), 4096)]
-        with Made(answer) as server, delgunsai.open(server.url()) as file:
-            self.assertTrue(right(file, 0, 0, 10))
-            self.ticks(0.002)
-            self.assertTrue(all(right(file, x, x) for x in (200, 400, 600)))
-            self.assertEqual(server.connections, 1)
-
-    def raises(self, kind, form=lambda handle: handle):
-        """Sets a signal handler of a form that raises this error, until the test ends."""
-        def handle(*_):
-            raise kind('too late')
-        self.addCleanup(signal.signal, signal.SIGALRM, signal.signal(signal.SIGALRM, form(handle)))
-        self.addCleanup(signal.setitimer, signal.ITIMER_REAL, 0)
-
-    def test_deadlines(self):
-        """An error that a signal handler raises is no lost answer: it comes as it is, nothing is asked again, and the file is read
-        on."""
-        kinds, places = (TimeoutError, ConnectionResetError, ssl.SSLError), ('new', 'kept', 'ahead')
-        for kind, cut, place in itertools.product(kinds, (0, 5, 100), places):
-            left = [1000]
-
-            def answer(request, _):
-                left[0] -= 1
-                return served(request, TEXT)[:None if left[0] >= 0 else cut]
-            with self.subTest(place, kind=kind, cut=cut), Made(answer) as server, delgunsai.open(server.url(), timeout=5) as file:
-                self.assertTrue(place == 'new' or right(file, 0, 0, 10))
-                left[0] = int(place == 'ahead')
-                self.raises(kind)
-                with self.assertRaisesRegex(kind, 'too late'):
-                    signal.setitimer(signal.ITIMER_REAL, 0.1)
-                    tall(file, 500)
-                self.assertLessEqual(server.connections, 1)
-                left[0] = 1000
-                self.assertTrue(tall(file, 500) and file.same() and tall(file, 200))
-                self.assertGreater(file._source.depth, 0)
-
-    def test_deadline_of_same(self):
-        waits = [0.5]
-
-        def answer(request, _):
-            time.sleep(waits.pop() if waits and request.startswith(b'HEAD ') else 0)
-            return served(request, TEXT)
-        with Made(answer) as server, delgunsai.open(server.url(), timeout=5) as file:
-            self.assertTrue(right(file, 0, 0, 10))
-            self.raises(TimeoutError)
-            with self.assertRaisesRegex(TimeoutError, 'too late'):
-                signal.setitimer(signal.ITIMER_REAL, 0.1)
-                file.same()
-            self.assertTrue(file.same() and tall(file, 500))
-
-    def test_deadline_at_an_address(self):
-        """The next address of a host is tried after an error of the network alone."""
-        with Made(lambda request, _: served(request, TEXT)) as server, contextlib.ExitStack() as opened:
-            full = opened.enter_context(socket.create_server(('127.0.0.1', 0), backlog=0))
-            for _ in range(3):                               # more than are let wait
-                waiting = opened.enter_context(socket.socket())
-                waiting.setblocking(False)
-                waiting.connect_ex(full.getsockname())
-            found = [(socket.AF_INET, socket.SOCK_STREAM, 0, '', place) for place in (full.getsockname(), server.server_address)]
-            with mock.patch.object(socket, 'getaddrinfo', return_value=found), delgunsai.open(server.url(), timeout=5) as file:
-                self.raises(TimeoutError)
-                with self.assertRaisesRegex(TimeoutError, 'too late'):
-                    signal.setitimer(signal.ITIMER_REAL, 0.1)
-                    right(file, 0, 0, 10)
-                self.assertEqual(server.connections, 0)
-                opened.close()
-                self.assertTrue(right(file, 0, 0, 10))
-
-    def test_deadline_of_a_handshake(self):
-        with Made(lambda *_: b'') as server, delgunsai.open(server.url().replace('http', 'https'), timeout=0.2) as file:
-            self.raises(TimeoutError)
-            with self.assertRaisesRegex(TimeoutError, 'too late'):
-                signal.setitimer(signal.ITIMER_REAL, 0.1)
-                file.levels
-            self.assertRaisesRegex(delgunsai.Lost, 'timed out', lambda: file.levels)
-
-    def test_deadline_on_the_disk(self):
-        """Of a handler of whatever form."""
-        class Deadline:
-            def __init__(self, handle):
-                self.handle = handle
-
-            def __call__(self, *words):
-                self.handle(*words)
-
-            def tell(self, *words):
-                self(*words)
-        for form in (lambda handle: handle, functools.partial, Deadline, lambda handle: Deadline(handle).tell,
-                     lambda handle: functools.partial(Deadline.tell, Deadline(handle))):
-            self.raises(TimeoutError, form)
-            with self.subTest(form=form), delgunsai.open_file(EXAMPLE) as file:
-                with mock.patch.object(os, 'fstat', lambda _: signal.raise_signal(signal.SIGALRM)):
-                    self.assertRaisesRegex(TimeoutError, 'too late', lambda: file.levels)
-                self.assertEqual(file.levels[0], (64, 64))
 
 
 class AtOnce(unittest.TestCase):
@@ -529,82 +369,3 @@ class Unneeded(unittest.TestCase):
                 self.assertTrue(right(file, 0, 0, 10) and right(file, 800, 800))
                 self.assertEqual(server.connections, 2)
         self.refused(late, 3, 408)
-
-
-PLACES = 0, 5, 11, 12, 20, 150, 20000
-
-
-class Alike(unittest.TestCase):
-    """What comes of a kept connection that fails is the same without the interpreter and with it."""
-
-    def after(self, read, failure, place, once):
-        """What comes of this where the answers fail from this place on, or that one alone: what is raised, and how the server was asked."""
-        left = [-1]
-
-        def answer(request, _):
-            text, fails = served(request, TEXT), left[0] == 1
-            left[0] -= left[0] > 1 or fails and once
-            return failure(text) if fails else text
-        with Made(answer) as server, delgunsai.open(server.url(), timeout=0.3) as file:
-            file.read(**cut_out(0, 0, 10))
-            left[0], raised = place, ''
-            try:
-                self.assertTrue(read(file))
-            except delgunsai.Error as error:
-                raised = f'{type(error).__name__} {error}'.replace(server.url(), '')
-            source = file._source
-            return raised, server.requests, server.connections, source.depth, source._losses
-
-    def test_alike(self):
-        late = head(b'408 Request Timeout', b'Content-Length: 0')
-        failures = {f'{kind.__name__} behind {at}': lambda text, kind=kind, at=at: kind(text[:at])
-                    for kind, places in ((Ends, PLACES), (Resets, PLACES), (Silent, (0, 11, 12, 20000))) for at in places}
-        failures.update({f'{kind.__name__} of 408 behind {at}': lambda _, kind=kind, at=at: kind(late[:at])
-                         for kind, at in itertools.product((Ends, Resets, Silent), (12, 20, 100)) if kind is not Silent or at == 20})
-        self.alike(failures, lambda seen: seen)
-
-    def test_parts_alike(self):
-        """So it is of parts that can't be used; how many of the requests behind one the server sees before the connection ends is chance."""
-        parts = {f'a part with {field}': lambda text, field=field: text.replace(b'ETag: "1"', field)
-                 for field in (b'ETag: "2"', b'ETag: W/"1"', b'A: b', b'ETag: "' + b'1' * 70 + b'"')}
-        parts['a part of another length'] = lambda text: text.replace(b'/%d' % len(TEXT), b'/%d' % (len(TEXT) + 1))
-        self.alike(parts, lambda seen: (seen[0], *seen[2:]))
-
-    def alike(self, failures, of):
-        for name, failure in failures.items():
-            for (read, place), once in itertools.product(((lambda file: right(file, 700, 700, 10), 1), (lambda file: tall(file, 500), 1),
-                                                          (lambda file: tall(file, 500), 3)), (False, True)):
-                seen = of(self.after(read, failure, place, once))
-                with mock.patch.object(_sources.Host, 'carry', return_value=None):
-                    wanted = of(self.after(read, failure, place, once))
-                with self.subTest(name, place=place, once=once):
-                    self.assertEqual(seen, wanted)
-
-
-class InPython(unittest.TestCase):
-    """The same of exchanges that the interpreter makes, as over TLS."""
-
-    def setUp(self):
-        carried = mock.patch.object(_sources.Host, 'carry', return_value=None)
-        carried.start()
-        self.addCleanup(carried.stop)
-
-
-class ForkedInPython(InPython, Forked):
-    pass
-
-
-class InterruptedInPython(InPython, Interrupted):
-    pass
-
-
-class AtOnceInPython(InPython, AtOnce):
-    pass
-
-
-class NothingInPython(InPython, Nothing):
-    pass
-
-
-class UnneededInPython(InPython, Unneeded):
-    pass

@@ -46,7 +46,7 @@ class Refused(unittest.TestCase):
         self.assertRaises(TypeError, delgunsai.open_file, number)
         shutil.copy(EXAMPLE, place)
         with delgunsai.open_file(place) as file:
-            with mock.patch('delgunsai._sources.open', create=True, side_effect=PermissionError):
+            with mock.patch('delgunsai._disk.open', create=True, side_effect=PermissionError):
                 with self.assertRaises(PermissionError):
                     delgunsai.open_file(place)
                 with self.assertRaises(PermissionError):

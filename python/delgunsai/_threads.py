@@ -1,0 +1,82 @@
+"""Parts of one call, each in a thread."""
+from __future__ import annotations
+
+import contextlib
+import threading
+import time
+from typing import Callable, List, Optional, Set
+
+from ._sources import Stopped, of_handler
+
+
+def side_by_side(shares: List[Callable[[threading.Event], Set[str]]], aborts: List[Callable[[], None]]) -> Set[str]:
+    """Runs these at once, the first in this thread, and gives what all of them give. Where one raises, the others are told to stop, and what
+    they wait for is ended. No thread is left at work."""
+    stop = threading.Event()
+    tags: Set[str] = set()
+    errors: List[BaseException] = []
+    begun: List[None] = []
+    ended: List[None] = []
+
+    def end() -> None:
+        stop.set()
+        for abort in aborts:
+            abort()
+
+    def run(share: Callable[[threading.Event], Set[str]]) -> None:
+        begun.append(None)
+        try:
+            if not stop.is_set():
+                tags.update(share(stop))
+        except Stopped:
+            pass
+        except BaseException as error:
+            errors.append(error)
+            end()
+        finally:
+            ended.append(None)
+
+    threads = [threading.Thread(target=run, args=(share,), name='read_windows') for share in shares[1:]]
+    try:
+        started = _started(threads)
+        with contextlib.suppress(Stopped):
+            for share in shares[:1] + shares[1 + started:]:
+                tags.update(share(stop))
+        for thread in threads[:started]:
+            thread.join()
+        if errors:
+            raise errors[0]
+        return tags
+    except BaseException:
+        _end_all(end, lambda: len(ended) < len(begun))     # a thread that begins later stops at once
+        raise
+    finally:
+        errors.clear()                                     # whose frames hold this one, and the files
+
+
+def _started(threads: List[threading.Thread]) -> int:
+    """Starts these threads, and says how many can be had: none at the interpreter's end."""
+    for count, thread in enumerate(threads):
+        try:
+            thread.start()
+        except RuntimeError as error:
+            if thread.ident is not None or of_handler(error):
+                raise
+            return count
+    return len(threads)
+
+
+def _end_all(end: Callable[[], None], at_work: Callable[[], bool]) -> None:
+    """Ends threads, whatever signal handlers raise meanwhile; the last of that is raised. A join that they interrupt may tell wrongly that
+    a thread has ended (bpo-45274)."""
+    raised: Optional[BaseException] = None
+    goes_on = True
+    while goes_on:
+        try:
+            end()
+            goes_on = at_work()
+            time.sleep(0.005 if goes_on else 0)
+        except BaseException as error:
+            raised = error
+    if raised is not None:
+        raise raised
