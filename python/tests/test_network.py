@@ -360,6 +360,23 @@ class Unneeded(unittest.TestCase):
                 self.assertTrue(right(file, 0, 0, 10) and right(file, 800, 800))
         self.refused(head(b'103 Early Hints') * 100, 3, 103)
 
+    def test_unasked(self):
+        """What comes behind an answer, with it or later, isn't taken for the answer to the next request."""
+        wrong, seen = plain(SAMPLES ^ 255), []
+        with Made(lambda request, _: seen.append(request) or served(request, TEXT)) as server, delgunsai.open(server.url()) as file:
+            self.assertTrue(right(file, 0, 0, 10))
+            first = len(seen)
+            self.assertTrue(right(file, 700, 700, 10))
+        for join in (lambda answer, more: answer + more), (lambda answer, more: [answer, more]):
+            def answer(request, number):
+                text = served(request, TEXT)
+                return join(text, served(seen[first], wrong)) if number == first else text
+            with Made(answer) as server, delgunsai.open(server.url()) as file:
+                self.assertTrue(right(file, 0, 0, 10))
+                time.sleep(0.1)
+                self.assertTrue(right(file, 700, 700, 10))
+                self.assertEqual(server.connections, 2)
+
     def test_idle_for_too_long(self):
         """408 on a connection that was kept is no answer, and on a new one it is."""
         late = Ends(head(b'408 Request Timeout', b'Content-Length: 0', b'Connection: close'))
