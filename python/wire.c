@@ -360,7 +360,8 @@ int32_t delgunsai_ask(struct cog_client *client, struct wire *wire) {
 }
 
 /* Whether the report that stands is of this window, with these samples, bits and tag, and its samples are laid into their place. */
-static bool take_window(struct cog_client *client, const struct want *want, const struct cog_report *like, const uint8_t *tag, size_t tag_length) {
+static bool take_window(struct cog_client *client, const struct want *want, const struct cog_report *like, const uint8_t *tag,
+                        size_t tag_length) {
     struct cog_report report;
     uint8_t room[TAG_ROOM];
     size_t length = (size_t)want->width * want->height * like->samples * (like->bits / 8);

@@ -49,8 +49,9 @@ class Report(ctypes.Structure):
 class Wire(ctypes.Structure):
     """struct wire of wire.c."""
     _fields_ = [('socket', ctypes.c_int32), ('timeout', ctypes.c_int32),
-                *((name, ctypes.c_uint32) for name in ('depth', 'phase', 'count', 'first', 'sent', 'bytes', 'ahead', 'kept', 'asked', 'exchanges')),
-                ('error', ctypes.c_int32), ('said', Said), ('until', ctypes.c_int64), ('slice', ctypes.c_int64), ('left', ctypes.c_uint64), ('room', ctypes.c_void_p),
+                *((name, ctypes.c_uint32) for name in ('depth', 'phase', 'count', 'first', 'sent', 'bytes', 'ahead', 'kept')),
+                *((name, ctypes.c_uint32) for name in ('asked', 'exchanges')), ('error', ctypes.c_int32), ('said', Said),
+                *((name, ctypes.c_int64) for name in ('until', 'slice')), ('left', ctypes.c_uint64), ('room', ctypes.c_void_p),
                 *((name, ctypes.c_size_t) for name in ('size', 'begin', 'end')),
                 ('lengths', ctypes.c_uint32 * REQUESTS), ('texts', ctypes.c_char * REQUEST_ROOM * REQUESTS)]
 

@@ -3,6 +3,7 @@ from __future__ import annotations
 
 import os
 import re
+import threading
 from typing import BinaryIO, Callable, Iterator, List, Optional, Tuple, Type, Union
 
 from ._core import Core, Wire
@@ -44,13 +45,13 @@ class Disk:
     def another(self) -> 'Disk':
         return Disk(self.where)
 
-    def abort(self) -> None:
+    def begin(self, call: Optional[threading.Event] = None) -> None:
         pass
 
-    def begin(self) -> None:
+    def abort(self, call: threading.Event) -> None:
         pass
 
-    def forked(self) -> None:
+    def forked(self, busy: bool) -> None:
         pass
 
     def close(self) -> None:

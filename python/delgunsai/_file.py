@@ -224,6 +224,7 @@ class File:
         tags: Set[str] = set()
         like: Optional[Tuple[_core.Report, str]] = None
         at = 0
+        self._source.begin(stop)
         while at < len(share) and not stop.is_set():
             carried = None
             if like is not None and self._source.carries():
@@ -397,7 +398,7 @@ _files: weakref.WeakSet[File] = weakref.WeakSet()
 def _forked() -> None:
     """In a process that was forked no thread holds a lock. A client that one was calling is left as it is, and another one begins."""
     for file in _files:
-        file._source.forked()
+        file._source.forked(file._busy)
         if file._busy or not file._lock.acquire(blocking=False):
             file._begin()
         else:

@@ -95,15 +95,15 @@ class Source(Protocol):
     def another(self) -> 'Source':
         """Another one to the same place, for use beside this one."""
 
-    def abort(self) -> None:
-        """Has what another thread asks for end, and each exchange raise Stopped, until `begin`. A connection that is being made is waited
-        for."""
+    def begin(self, call: Optional[threading.Event] = None) -> None:
+        """Tells of which call the exchanges are that come."""
 
-    def begin(self) -> None:
-        """Lets exchanges be made again."""
+    def abort(self, call: threading.Event) -> None:
+        """Has what another thread asks for in this call end, and each of its exchanges raise Stopped. A connection that is being made is
+        waited for."""
 
-    def forked(self) -> None:
-        """Tells that this is a process that was forked, in which no thread has a lock."""
+    def forked(self, busy: bool) -> None:
+        """Tells that this is a process that was forked, in which no thread has a lock, and whether an exchange may have been made."""
 
     def close(self) -> None:
         """Ends what is open."""
@@ -230,12 +230,16 @@ class Host:
         self._wire = Wire(room=ctypes.addressof(Front.from_buffer(self._room)), size=PIECE)
         self._process = os.getpid()
         self.depth = DEPTH
+        self._call: Optional[threading.Event] = None
         self._aborted = False
-        self.forked()
-
-    def forked(self) -> None:
         self._closing = threading.Lock()
-        """Of who ends the connection: its descriptor is another's then."""
+        """Of who ends the connection: its descriptor may be another's then."""
+
+    def forked(self, busy: bool) -> None:
+        self._closing = threading.Lock()
+        if busy:                                         # a handler's fork: the call that goes on here has no share of the parent's stream
+            self._wire.socket = -1
+            self._connection.close()
 
     def another(self) -> 'Host':
         return Host(*self._words)
@@ -286,14 +290,16 @@ class Host:
             core.begin()
         return Carried(False, *core.end(), failed)
 
-    def abort(self) -> None:
-        self._aborted = True
+    def begin(self, call: Optional[threading.Event] = None) -> None:
+        self._call, self._aborted = call, False
+
+    def abort(self, call: threading.Event) -> None:
         with self._closing, contextlib.suppress(OSError):
+            if self._call is not call:
+                return
+            self._aborted = True
             if self._connection.sock is not None and self._process == os.getpid():       # else it is the parent's
                 socket.socket.shutdown(self._connection.sock, socket.SHUT_RDWR)          # not that of TLS, in which its thread may be
-
-    def begin(self) -> None:
-        self._aborted = False
 
     def _check_goes_on(self) -> None:
         if self._aborted:
@@ -304,8 +310,8 @@ class Host:
         begun, self._begun = self._begun, False
         self._check_goes_on()
         if not well or self._process != os.getpid() or self.sent[:1] not in ([], [request]):
-            self._process = os.getpid()                  # the connection stays the parent's: to close it here sends nothing, of TLS neither
-            self.close()
+            self.close()                                 # the connection stays a parent's: to close it here sends nothing, of TLS neither
+            self._process = os.getpid()
             later = []                                   # not at once after a failure (RFC 9112, section 9.3.2), nor after others
             begun = False
         if not begun:
@@ -313,6 +319,7 @@ class Host:
         goes_on = False
         try:
             goes_on = self._receive(self._more() if begun else self._first(request, later), request, take)
+            self._check_goes_on()
             if goes_on:
                 self.sent.pop(0)
                 self._losses = 0 if self._ahead else self._losses
@@ -356,7 +363,7 @@ class Host:
 
     def _lose(self, late: bool = False) -> None:
         """Counts that the server left requests unanswered, or this one in part, where it was sent with others."""
-        if self.shared:
+        if self.shared and not self._aborted:
             self._losses += 1
             self.depth = 0 if late or self._losses >= LOSSES else self.depth
 

@@ -2,6 +2,7 @@
 from __future__ import annotations
 
 import contextlib
+import os
 import threading
 import time
 from typing import Callable, List, Optional, Set
@@ -9,21 +10,28 @@ from typing import Callable, List, Optional, Set
 from ._sources import Stopped, of_handler
 
 
-def side_by_side(shares: List[Callable[[threading.Event], Set[str]]], aborts: List[Callable[[], None]]) -> Set[str]:
+Share = Callable[[threading.Event], Set[str]]
+Abort = Callable[[threading.Event], None]
+
+
+def side_by_side(shares: List[Share], aborts: List[Abort]) -> Set[str]:
     """Runs these at once, the first in this thread, and gives what all of them give. Where one raises, the others are told to stop, and what
     they wait for is ended. No thread is left at work."""
     stop = threading.Event()
+    process = os.getpid()
     tags: Set[str] = set()
     errors: List[BaseException] = []
     begun: List[None] = []
     ended: List[None] = []
 
-    def end() -> None:
+    def end() -> bool:
+        """Says whether a thread is at work still; one that begins later stops at once, and a process that was forked has none."""
         stop.set()
         for abort in aborts:
-            abort()
+            abort(stop)
+        return len(ended) < len(begun) and os.getpid() == process
 
-    def run(share: Callable[[threading.Event], Set[str]]) -> None:
+    def run(share: Share) -> None:
         begun.append(None)
         try:
             if not stop.is_set():
@@ -38,17 +46,23 @@ def side_by_side(shares: List[Callable[[threading.Event], Set[str]]], aborts: Li
 
     threads = [threading.Thread(target=run, args=(share,), name='read_windows') for share in shares[1:]]
     try:
-        started = _started(threads)
-        with contextlib.suppress(Stopped):
-            for share in shares[:1] + shares[1 + started:]:
-                tags.update(share(stop))
-        for thread in threads[:started]:
-            thread.join()
-        if errors:
-            raise errors[0]
-        return tags
+        try:
+            started = _started(threads)
+            with contextlib.suppress(Stopped):
+                for share in shares[:1] + shares[1 + started:]:
+                    tags.update(share(stop))
+            for thread in threads[:started]:
+                thread.join()
+            if os.getpid() != process:
+                raise RuntimeError('a signal handler made a process, in which the interrupted call has no threads')
+            if errors:
+                raise errors[0]
+            return tags
+        except BaseException:
+            _end_all(end)
+            raise
     except BaseException:
-        _end_all(end, lambda: len(ended) < len(begun))     # a thread that begins later stops at once
+        _end_all(end)                                      # where another exception came before that
         raise
     finally:
         errors.clear()                                     # whose frames hold this one, and the files
@@ -66,17 +80,19 @@ def _started(threads: List[threading.Thread]) -> int:
     return len(threads)
 
 
-def _end_all(end: Callable[[], None], at_work: Callable[[], bool]) -> None:
+def _end_all(end: Callable[[], bool]) -> None:
     """Ends threads, whatever signal handlers raise meanwhile; the last of that is raised. A join that they interrupt may tell wrongly that
     a thread has ended (bpo-45274)."""
     raised: Optional[BaseException] = None
     goes_on = True
     while goes_on:
         try:
-            end()
-            goes_on = at_work()
+            goes_on = end()
             time.sleep(0.005 if goes_on else 0)
         except BaseException as error:
             raised = error
-    if raised is not None:
-        raise raised
+    try:
+        if raised is not None:
+            raise raised
+    finally:
+        del raised                                         # whose frames hold this one

@@ -37,7 +37,7 @@ WAYS = 2 + len(THREADS)
 
 
 def written():
-    """A file of 59 MB in plain tiles of 256 by 256, with its smaller levels; it is old, as served files are."""
+    """A file of 58 MB in plain tiles of 256 by 256, with its smaller levels; it is old, as served files are."""
     path = os.path.join(FOLDER, 'bench.tif')
     subprocess.run([*TRANSLATE, *PLAIN, '-co', f'BLOCKSIZE={SIDE}', '-outsize', str(WIDTH), str(HEIGHT), EXAMPLE, path], check=True)
     os.utime(path, (time.time() - 3600,) * 2)

@@ -1,7 +1,7 @@
 /* wire.c over a stub of the core that asks for bytes of a file, some at once, each request known beforehand. It reads records from standard
- * input: a head of words and a stream, which the other end of the connection sends once it is asked, so many bytes at a time, or of windows
- * answer by answer, and then ends, or stays silent. For each it prints where the exchanges stop, how many bytes were fed, answers begun and ended, windows read, and
- * how many bytes are left in the room. */
+ * input: a head of words and a stream, which the other end of the connection sends once it is asked, so many bytes at a time, or of
+ * windows answer by answer, and then ends, or stays silent. For each it prints where the exchanges stop, how many bytes were fed,
+ * answers begun and ended, windows read, and how many bytes are left in the room. */
 #include "wire.c"
 #include <pthread.h>
 #include <stdio.h>

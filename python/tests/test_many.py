@@ -309,6 +309,37 @@ threading.Thread(target=work).start()
                               env={**os.environ, 'PYTHONPATH': os.path.dirname(os.path.dirname(delgunsai.__file__))})
         self.assertEqual((done.stdout, done.stderr), ('40\n', ''))
 
+    def test_fork_of_a_handler(self):
+        """A signal handler may fork: the child, in which the call has no threads, ends it, and the parent goes on with it."""
+        program = """
+import delgunsai, os, signal, sys
+children = []
+def handle(*_):
+    children.append(os.fork())
+    if children[-1] == 0 and sys.argv[2] == 'exits':
+        sys.exit(7)
+signal.signal(signal.SIGALRM, handle)
+with delgunsai.open(sys.argv[1], timeout=5) as file:
+    file.read_windows([(x, 0, 9, 9) for x in range(40)], connections=4)
+    signal.setitimer(signal.ITIMER_REAL, 0.3)
+    try:
+        arrays = file.read_windows([(x, 500, 9, 9) for x in range(0, 990, 10)], connections=4)
+    except Exception:
+        sys.exit(7 if children[-1] == 0 else 1)
+    statuses = [os.waitstatus_to_exitcode(os.waitpid(child, 0)[1]) for child in children]
+    print(len(children), sum(int(array.sum()) for array in arrays), statuses)
+"""
+        wanted = sum(int(cut_out(SAMPLES[0], (x, 500, 9, 9)).sum()) for x in range(0, 990, 10))
+
+        def answer(request, _):
+            time.sleep(0.1)
+            return served(request, TEXTS[0])
+        for way in 'exits', 'goes on':
+            with self.subTest(way), Made(answer) as server:
+                done = subprocess.run([sys.executable, '-c', program, server.url(), way], capture_output=True, text=True, timeout=30,
+                                      env={**os.environ, 'PYTHONPATH': os.path.dirname(os.path.dirname(delgunsai.__file__))})
+                self.assertEqual((done.stdout, done.stderr), (f'1 {wanted} [7]\n', ''))
+
     def test_without_threads(self):
         """Where no thread can be had this one reads all."""
         with open(os.path.join(FOLDER, 'many.tif'), 'wb') as out:
