@@ -208,24 +208,27 @@ class Many(unittest.TestCase):
 
     def test_another_raises(self):
         """Where one window is a fault, the windows of other connections aren't waited for, nor tried over another connection."""
-        for (fault, is_slow), carries, timeout in itertools.product(
-                ((FIRST, lambda connection: connection > 0), (LAST, lambda connection: connection not in (1, 2, 3))), (True, False), (20, None)):
+        for (fault, is_slow), carries, windows in itertools.product(
+                ((FIRST, lambda connection: connection > 0), (LAST, lambda connection: connection not in (1, 2, 3))), (True, False),
+                (WINDOWS, [(x, 0, 20, 1000) for x in range(0, 980, 40)])):
+            timeout = 20 if carries else None
             connections, slow = {}, []
 
             def answer(request, _):
                 connection = connections.setdefault(threading.current_thread(), len(connections))
                 time.sleep(3 if slow and is_slow(connection) else 0)
                 return served(request, TEXTS[0])
-            with self.subTest(fault=fault, carries=carries, timeout=timeout), Made(answer) as server, \
+            with self.subTest(fault=fault, carries=carries, windows=len(windows)), Made(answer) as server, \
                     delgunsai.open(server.url(), timeout=timeout) as file, contextlib.ExitStack() as patched:
                 if not carries:
                     patched.enter_context(mock.patch.object(_sources.Host, 'carry', return_value=None))
                 file.read(x=0, y=0, width=1, height=1)
                 slow.append(True)
                 start = time.monotonic()
-                self.assertRaises(delgunsai.Outside, file.read_windows, [*WINDOWS, fault], connections=4)
+                self.assertRaises(delgunsai.Outside, file.read_windows, [*windows, fault], connections=4)
                 self.assertLess(time.monotonic() - start, 2)
                 self.assertLessEqual(server.connections, 4)
+                self.assertEqual([one._source._losses for one in (file, *file._others)], [0] * 4, "what is given up is no loss of the server's")
                 slow.clear()
                 self.right(file)
 
