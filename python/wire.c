@@ -33,7 +33,7 @@ enum {
     REPORT = 1,      /* nothing is asked: a report stands */
     ELSE = 2,        /* the next exchange isn't begun: the connection isn't as it should be for it */
     ODD = 3,         /* the answer that begins in the room is no such part, or ended within its head; nothing of it is taken */
-    ENDED = 4,       /* an answer was taken whole, and brought no block */
+    ENDED = 4,       /* an answer was taken whole, and brought no block: if it isn't a restart, its connection carries no other request */
     BEFORE = 5,      /* the connection failed before the status of an answer was there, or that is 408 */
     HEADLESS = 6,    /* it failed, or the wait was too long, behind the status and before the end of the head; nothing is taken */
     MIDST = 7,       /* it failed in the midst of an answer, whose front is taken */

@@ -54,6 +54,9 @@ class Disk:
     def forked(self, busy: bool) -> None:
         pass
 
+    def settle(self, used: bool) -> None:
+        pass
+
     def close(self) -> None:
         pass
 

@@ -352,14 +352,16 @@ class File:
 
     def _brought(self, request: bytes, kind: int, number: int, lost: Optional[Exception]) -> Tuple[int, Optional[Exception]]:
         """What is said of the answer to this request, and why it brought nothing."""
-        if kind == _core.IGNORED:
-            refusal = NotUsed(number, _status_of(self._front))
-            if number != CUT and number < REVISION and not self._source.shared and not _tells_another(refusal, request):
-                raise refusal
-            return kind, lost or refusal
-        if kind == _core.TOOK and number == 0:
+        used = kind == _core.RESTARTED or kind == _core.TOOK and number > 0
+        self._source.settle(used)
+        if used:
+            return kind, None
+        if kind == _core.TOOK:
             return kind, lost or EOFError('the last one ends before its first block')
-        return kind, None
+        refusal = NotUsed(number, _status_of(self._front))
+        if number != CUT and number < REVISION and not self._source.shared and not _tells_another(refusal, request):
+            raise refusal
+        return kind, lost or refusal
 
     def _feed(self, piece: Piece) -> None:
         if len(self._front) < FRONT:

@@ -105,6 +105,10 @@ class Source(Protocol):
     def forked(self, busy: bool) -> None:
         """Tells that this is a process that was forked, in which no thread has a lock, and whether an exchange may have been made."""
 
+    def settle(self, used: bool) -> None:
+        """Takes whether the last answer was used. The connection of one that wasn't ends: what is left of that answer would be read as the
+        next one. The next request then goes alone."""
+
     def close(self) -> None:
         """Ends what is open."""
 
@@ -223,7 +227,7 @@ class Host:
         self._ahead = self.shared = False
         """Whether the request that is answered was sent with an earlier one; with others."""
         self._well = True
-        """Whether the last exchange left the connection open, or as the request has it, ended."""
+        """Whether the last answer was used and left the connection open, or the request has it ended."""
         self._losses = 0
         self._begun = False
         """Whether the room has the front of the answer to the request that is answered."""
@@ -267,7 +271,7 @@ class Host:
         if stop >= Stop.BEFORE:
             return self._broken(stop, core)
         self._begin, self._end, self.sent = wire.begin, wire.end, wire.requests() if wire.count else []
-        self._begun, self._well = stop == Stop.ODD, True
+        self._begun, self._well = stop == Stop.ODD, stop != Stop.ENDED
         self._ahead, self.shared = wire.ahead > 0, wire.ahead > 0 or wire.count > (stop == Stop.ODD)
         return Carried(stop == Stop.REPORT, *((wire.said.kind, wire.said.number) if stop == Stop.ENDED else ()))
 
@@ -325,7 +329,7 @@ class Host:
                 self._losses = 0 if self._ahead else self._losses
             else:
                 self._lose()
-            self._well = goes_on or CLOSE in request
+            self._well = CLOSE in request
         except OSError as error:
             if not of_handler(error):
                 self._lose(late=isinstance(error, LATE))
@@ -358,6 +362,8 @@ class Host:
         self._check_goes_on()
         self._connection.connect()
         self._check_goes_on()
+        if self._is_unasked():
+            raise ConnectionError('bytes came before the first request')
         self._send([request, *later])
         return self._more()
 
@@ -387,6 +393,24 @@ class Host:
         poll = select.poll()
         poll.register(self._connection.sock, select.POLLIN)
         return not poll.poll(0)
+
+    def _is_unasked(self) -> bool:
+        """Whether bytes came on a new connection. Those of TLS may be no more than a session's ticket, so they are read."""
+        stream = self._connection.sock
+        poll = select.poll()
+        poll.register(stream, select.POLLIN)
+        if not poll.poll(0):
+            return False
+        if not isinstance(stream, ssl.SSLSocket):
+            return len(stream.recv(1, socket.MSG_PEEK)) > 0
+        timeout = stream.gettimeout()
+        stream.settimeout(0)
+        try:
+            return len(stream.recv(1)) > 0
+        except ssl.SSLWantReadError:
+            return False
+        finally:
+            stream.settimeout(timeout)
 
     def _beginning(self) -> memoryview:
         """The next bytes that came, the status of an answer whole, unless the connection ends before."""
@@ -437,6 +461,11 @@ class Host:
                 return not head.closes
             piece = self._more()
         return False
+
+    def settle(self, used: bool) -> None:
+        if not used:
+            self.close()
+        self._well = self._connection.sock is not None
 
     def close(self) -> None:
         self.sent = []

@@ -14,6 +14,7 @@ struct record {
     uint32_t windows;              /* in which they are asked; 0: of one, without its samples */
     uint32_t size;                 /* of the room */
     uint32_t timeout;              /* milliseconds */
+    uint32_t unasked;              /* whether the stream is sent before anything is asked */
 };
 struct cog_client { size_t begun, ended, fed, limit, each, span; };
 struct stream { int socket; const struct record *record; uint8_t *bytes; };
@@ -91,7 +92,7 @@ static void answer_at_once(const struct stream *stream) {
 static void *serve(void *word) {
     const struct stream *stream = word;
     uint8_t asked[4096];
-    if (stream->record->windows) answer_each(stream); else answer_at_once(stream);
+    if (stream->record->windows) answer_each(stream); else if (!stream->record->unasked) answer_at_once(stream);
     if (stream->record->ends) shutdown(stream->socket, SHUT_WR);
     while (recv(stream->socket, asked, sizeof asked, 0) > 0) { }
     return NULL;
@@ -125,6 +126,7 @@ int main(void) {
         uint8_t *room = malloc(record.size);
         if (fread(stream.bytes, 1, record.length, stdin) != record.length || socketpair(AF_UNIX, SOCK_STREAM, 0, pair)) return 1;
         stream.socket = pair[1];
+        if (record.unasked && send(pair[1], stream.bytes, record.length, MSG_NOSIGNAL) != (ssize_t)record.length) return 1;
         struct cog_client client = {.span = record.span, .limit = record.windows ? 0 : record.total,
                                     .each = record.windows ? record.total / record.windows : 0};
         struct wire wire = {.socket = pair[0], .timeout = (int32_t)record.timeout, .depth = 8, .room = room, .size = record.size};

@@ -36,6 +36,13 @@ class Cogserve:
         self.process.kill()
         self.process.wait()
 
+def certify(certificate, key):
+    """Writes a certificate of localhost, and its key."""
+    subprocess.run(['openssl', 'req', '-x509', '-newkey', 'ec', '-pkeyopt', 'ec_paramgen_curve:prime256v1', '-nodes', '-days', '2',
+                    '-subj', '/CN=localhost', '-addext', 'subjectAltName=DNS:localhost', '-keyout', key, '-out', certificate],
+                   check=True, capture_output=True)
+
+
 class Nginx:
     """nginx, of a folder: with TLS, or without as Debian sets it up."""
 
@@ -46,9 +53,7 @@ class Nginx:
         self.certificate = os.path.join(self.folder, 'certificate')
         key = os.path.join(self.folder, 'key')
         if secure:
-            subprocess.run(['openssl', 'req', '-x509', '-newkey', 'ec', '-pkeyopt', 'ec_paramgen_curve:prime256v1', '-nodes', '-days', '2',
-                            '-subj', '/CN=localhost', '-addext', 'subjectAltName=DNS:localhost', '-keyout', key, '-out', self.certificate],
-                           check=True, capture_output=True)
+            certify(self.certificate, key)
         ways = f'keepalive_requests 100000; ssl_certificate {self.certificate}; ssl_certificate_key {key};' if secure else (
             'sendfile on; tcp_nopush on;')
         places = ' '.join(f'{kind}_temp_path {self.folder}/{kind};' for kind in ('client_body', 'proxy', 'fastcgi', 'uwsgi', 'scgi'))
@@ -148,15 +153,16 @@ class Silent(bytes):
 
 
 class Made(socketserver.ThreadingTCPServer):
-    """Gives the answers that `answer` makes of a request and its number, from 1 on: bytes, or a list of them that are sent apart. It counts
-    connections, requests and the bytes that were sent. With `Batching` the number is of the requests that came at once, of which the first
-    is answered alone."""
+    """Gives the answers that `answer` makes of a request and its number, from 1 on: bytes, or a list of them that are sent apart, with a
+    pause of so many seconds after each. It counts connections, requests and the bytes that were sent. With `Batching` the number is of the
+    requests that came at once, of which the first is answered alone."""
     daemon_threads = True
     allow_reuse_address = True
     request_queue_size = 64
 
-    def __init__(self, answer, handler=None):
+    def __init__(self, answer, handler=None, pause=0.001):
         self.answer = answer
+        self.pause = pause
         self.connections = self.requests = self.sent = 0
         super().__init__(('127.0.0.1', 0), handler or Making)
         threading.Thread(target=self.serve_forever, kwargs={'poll_interval': 0.01}, daemon=True).start()
@@ -167,6 +173,25 @@ class Made(socketserver.ThreadingTCPServer):
     def __exit__(self, *words):
         self.shutdown()
         super().__exit__(*words)
+
+
+class Secure(Made):
+    """The same over TLS."""
+
+    def __init__(self, *words, **more):
+        folder = tempfile.mkdtemp(dir=FOLDER)
+        self.certificate, key = os.path.join(folder, 'certificate'), os.path.join(folder, 'key')
+        certify(self.certificate, key)
+        self.tls = ssl.SSLContext(ssl.PROTOCOL_TLS_SERVER)
+        self.tls.load_cert_chain(self.certificate, key)
+        super().__init__(*words, **more)
+
+    def url(self, name='a'):
+        return f'https://localhost:{self.server_address[1]}/{name}'
+
+    def get_request(self):
+        connection, address = super().get_request()
+        return self.tls.wrap_socket(connection, server_side=True), address
 
 
 def reset(connection):
@@ -190,7 +215,7 @@ class Making(socketserver.BaseRequestHandler):
                     for at in range(0, len(piece), 65536):
                         self.request.sendall(piece[at:at + 65536])
                         self.server.sent += len(piece[at:at + 65536])
-                    time.sleep(0.001 if isinstance(answer, list) else 0)
+                    time.sleep(self.server.pause if isinstance(answer, list) else 0)
                 if isinstance(answer, Resets):
                     return reset(self.request)
                 while isinstance(answer, Silent):

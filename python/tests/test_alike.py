@@ -64,6 +64,7 @@ class InPython(unittest.TestCase):
     """The same of exchanges that the interpreter makes, as over TLS."""
 
     def setUp(self):
+        super().setUp()
         carried = mock.patch.object(_sources.Host, 'carry', return_value=None)
         carried.start()
         self.addCleanup(carried.stop)

@@ -33,10 +33,11 @@ def program():
     return place
 
 
-def run(streams, total=2, span=10, windows=0, size=ROOM, timeout=10000):
+def run(streams, total=2, span=10, windows=0, size=ROOM, timeout=10000, unasked=0):
     """Where each of these streams stops, how many bytes were fed, answers begun and ended, windows read, and bytes left: (stream, step,
     whether it ends)."""
-    records = b''.join(struct.pack('<8I', len(stream), step, ends, total, span, windows, size, timeout) + stream for stream, step, ends in streams)
+    records = b''.join(struct.pack('<9I', len(stream), step, ends, total, span, windows, size, timeout, unasked) + stream
+                       for stream, step, ends in streams)
     done = subprocess.run([program()], input=records, capture_output=True, timeout=300)
     if done.returncode or done.stderr:
         raise AssertionError(done.stderr.decode())
@@ -119,9 +120,11 @@ class Broken(unittest.TestCase):
             self.assertEqual(fed, [True, span < 65536, span < 65536, span < 65536, span < 65536, True, span < 65536])
 
     def test_unasked(self):
-        """Bytes behind the last answer stay."""
+        """Bytes after the last answer stay, and after those that come before the first request none is sent."""
         both = PART + answer(1)
         self.assertEqual(run([(both + b'more', 1 << 20, 1)]), [(REPORT, len(both), 2, 2, 0, 4)])
+        self.assertEqual(run([(PART, 1 << 20, 0), (b'H', 1 << 20, 0), (b'', 1 << 20, 0)], unasked=1, timeout=300),
+                         [(ELSE, 0, 0, 0, 0, 0)] * 2 + [(BEFORE, 0, 0, 0, 0, 0)])
 
     def test_mutated(self):
         """Of heads that are changed at random, each that is taken ends, and leaves the connection, as Python has it."""
