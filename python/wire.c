@@ -10,6 +10,8 @@
 #include <sys/socket.h>
 #include <time.h>
 
+enum { ABI = 1 };          /* of this file's calls and structs: a change of theirs changes it here and in _core.py */
+
 struct cog_client;
 struct cog_said { uint32_t kind, number; };
 struct cog_report { uint32_t kind, width, height, samples, bits, fault, field; };
@@ -71,6 +73,10 @@ struct wire {
 /* A window of many, and the place for its samples. */
 struct want { uint32_t x, y, width, height; uint8_t *place; };
 _Static_assert(sizeof(struct want) == 16 + sizeof(uint8_t *), "as WANT of _core.py has it");
+
+/* What the package compares with its own when it loads the library. */
+uint32_t delgunsai_abi(void) { return ABI; }
+size_t delgunsai_wire_size(void) { return sizeof(struct wire); }
 
 /* Milliseconds, from 1 on. */
 static int64_t now(void) {

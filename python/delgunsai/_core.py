@@ -16,6 +16,8 @@ NO_REPORT, WINDOW, INFO, FAULT = 0, 1, 2, 3
 TOOK, RESTARTED, IGNORED = 1, 2, 3
 SAME, OTHER, UNKNOWN = 1, 2, 3
 
+ABI = 1
+"""That of wire.c."""
 REQUESTS, REQUEST_ROOM, TAG_ROOM = 9, 1024, 64
 AHEAD = 64
 EXCHANGES = 65536
@@ -70,11 +72,19 @@ WANT = numpy.dtype([*((name, 'u4') for name in ('x', 'y', 'width', 'height')), (
 """struct want of wire.c."""
 
 
+def _check(library: ctypes.CDLL, path: pathlib.Path) -> None:
+    """Refuses a library of other sources than these: its calls would write past what is handed to them."""
+    calls = [getattr(library, name, None) for name in ('delgunsai_abi', 'delgunsai_wire_size')]
+    if [call and call() for call in calls] != [ABI, ctypes.sizeof(Wire)]:
+        raise ImportError(f'{path} is of another version than the modules beside it: `pip install` the package again')
+
+
 def _load() -> ctypes.CDLL:
     path = pathlib.Path(__file__).parent / 'libdelgunsai.so'
     if not path.exists():
         raise ImportError(f'{path} is missing: `pip install ./python` compiles it')
     library = ctypes.CDLL(str(path))
+    _check(library, path)
     held = ctypes.PyDLL(str(path))       # keeps the interpreter's lock in short calls: beside a busy thread it takes up to 5 ms to get it back
     client, text, room, number = ctypes.POINTER(Handle), ctypes.c_char_p, ctypes.c_void_p, ctypes.c_uint32
     calls = {

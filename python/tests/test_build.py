@@ -57,6 +57,24 @@ class Built(unittest.TestCase):
         self.refused('missing: libdelgunsai_c.a: set DELGUNSAI_CORE', DELGUNSAI_CORE='')
         self.refused('missing: rt: put the kit', DELGUNSAI_HEAP='', CC=shutil.which('cc'), PATH=self.place)
 
+    def test_library_of_other_sources(self):
+        """It isn't loaded where its number or its struct is another one, or where it says neither."""
+        wire = os.path.join(self.source, 'wire.c')
+        with open(wire) as file:
+            text = file.read()
+        for here, there in (('ABI = 1 ', 'ABI = 2 '), ('REQUESTS = 9', 'REQUESTS = 8'), ('delgunsai_abi', 'delgunsai_number'),
+                            ('delgunsai_wire_size', 'delgunsai_size')):
+            self.assertIn(here, text)
+            with open(wire, 'w') as file:
+                file.write(text.replace(here, there))
+            place = tempfile.mkdtemp(dir=self.place)
+            self.assertEqual(self.pip('--target', place, self.source).returncode, 0)
+            done = subprocess.run([sys.executable, '-c', 'import delgunsai'], capture_output=True, text=True,
+                                  env={**os.environ, 'PYTHONPATH': place})
+            library = os.path.join(place, 'delgunsai/libdelgunsai.so')
+            self.assertEqual(done.stderr.splitlines()[-1], f'ImportError: {library} is of another version than the modules beside it: '
+                                                           '`pip install` the package again')
+
     def test_editable(self):
         """The sources themselves are imported, with the library beside them."""
         done = self.pip('--prefix', os.path.join(self.place, 'prefix'), '--editable', self.source)
