@@ -34,6 +34,8 @@ DEPTH = 8
 LOSSES = 3
 RANGE = re.compile(rb'\r\nRange: bytes=([0-9]+)-([0-9]+)\r\n')
 CLOSE = b'\r\nConnection: close\r\n'
+BARE = re.compile(rb'(?<!\r)\n')
+"""The end of a line that is LF alone, which the core takes too: the head may have ended there, before CR LF CR LF."""
 LATE = (socket.timeout, TimeoutError)                    # one class from Python 3.10 on
 Take = Callable[[Piece], None]
 """Takes a piece, which has other bytes once the call returned."""
@@ -161,8 +163,8 @@ class _Head:
         lengths = [value for name, value in fields if name == b'content-length']
         empty = request.startswith(b'HEAD ') or head[8:12] in (b' 204', b' 304')
         known = len(lengths) == 1 and lengths[0].isdigit() and len(lengths[0]) < 20
-        coded = any(name == b'transfer-encoding' for name, _ in fields)
-        self.length: Optional[int] = None if coded else 0 if empty else int(lengths[0]) if known else None
+        unclear = any(name == b'transfer-encoding' for name, _ in fields) or BARE.search(head) is not None
+        self.length: Optional[int] = None if unclear else 0 if empty else int(lengths[0]) if known else None
         """How many bytes follow the head; None where it doesn't say so, and then none is of use."""
         self.closes = not head.startswith(b'HTTP/1.1') or CLOSE in request or any(
             name == b'connection' and b'close' in [word.strip(b' \t') for word in value.split(b',')] for name, value in fields)
@@ -440,7 +442,8 @@ class Host:
             before = len(front)
             front += piece[:HEAD_ROOM - before]
             end = front.find(b'\r\n\r\n')
-            if end >= 0 and front.startswith(b'HTTP/1.1 1') and interim < INTERIM:       # the answer follows (RFC 9110, section 15.2)
+            passes = end >= 0 and front.startswith(b'HTTP/1.1 1') and interim < INTERIM and not BARE.search(front[:end])
+            if passes:                                     # the answer follows (RFC 9110, section 15.2)
                 self._begin -= len(piece) - (end + 4 - before)
                 front, interim = b'', interim + 1
             elif end >= 0 or len(front) == HEAD_ROOM or not piece:

@@ -21,6 +21,7 @@ FIRST, REFUSED, NEXT = (10, 10, 10, 10), (700, 700, 10, 10), (300, 300, 10, 10)
 TALL = (600, 0, 100, 1000)
 WINDOWS = [(x, y, 10, 10) for x, y in itertools.product(range(10, 1000, 128), range(10, 1000, 128))]
 PAUSE = 0.05
+BLOCK = 16384
 
 
 def short(request):
@@ -125,6 +126,23 @@ class Refused(Place):
             with self.subTest(name, way=way), self.forging(len(first), change, following[1], cut) as server, self.open(server) as file:
                 self.assertTrue(self.right(file, FIRST) and self.right(file, TALL))
                 self.assertEqual(server.connections, 2)
+
+    def test_lines_that_end_in_lf(self):
+        """Samples that end a head, and a forged answer after them, where the true head ends in LF alone."""
+        window = (700, 762, 4, 4)                           # whose samples lie in the second block of its tile
+        first, (asked,) = self.asked(FIRST, window)
+        begin, last = map(int, re.search(rb'bytes=([0-9]+)-([0-9]+)', asked).groups())
+        second = asked.replace(b'bytes=%d-' % begin, b'bytes=%d-' % (begin + BLOCK))
+        end = b'\r\nContent-Length: %d\r\n\r\n' % (BLOCK - 27)
+        body = (end.ljust(BLOCK, b'\7') + served(second, FORGED, TAG))[:last + 1 - begin]
+        head = served(asked, TEXT, TAG).split(b'\r\n\r\n')[0].replace(b'\r\n', b'\n') + b'\n\n'
+
+        def answer(request, number):
+            if number != len(first) + 1:
+                return served(request, TEXT, TAG)
+            return [head + body[:BLOCK], body[BLOCK:]]
+        with self.server(answer, pause=PAUSE) as server, self.open(server) as file:
+            self.assertTrue(self.right(file, FIRST) and self.right(file, window))
 
     def test_many(self):
         """By `read_windows` too, nothing is asked on a connection after an answer that isn't used."""
